@@ -1,0 +1,91 @@
+#!/usr/bin/env python3
+"""Times `rio9 replay`: texts that are no record, by their length, and records of many messages.
+
+Wants Python 3 and the built program (`cd crates/rio9 && rt run -- replay < stdin` builds it). It prints, for each input,
+its length, the seconds that it took and the most memory that the program had, beside the length of the input.
+"""
+import os
+import subprocess
+import sys
+import tempfile
+import time
+
+ROOT = os.path.dirname(os.path.dirname(os.path.dirname(os.path.abspath(__file__))))
+PROGRAM = os.path.join(ROOT, "crates", "rio9", "out", "rio9")
+
+
+def number(value, size):
+    return value.to_bytes(size, "little")
+
+
+def message(kind, tag, body):
+    return number(7 + len(body), 4) + bytes([kind]) + number(tag, 2) + body
+
+
+def string(text):
+    return number(len(text), 2) + text
+
+
+OPENING = [
+    message(100, 0xFFFF, number(65560, 4) + string(b"9P2000")),
+    message(104, 1, number(0, 4) + number(0xFFFFFFFF, 4) + string(b"u") + string(b"")),
+]
+
+ROUND = [
+    message(110, 1, number(0, 4) + number(1, 4) + number(1, 2) + string(b"draw")),
+    message(120, 1, number(1, 4)),
+    message(124, 1, number(0, 4)),
+]
+
+
+def record(count):
+    lines = [b"rio9 1", b"B 1"]
+    lines += [b"M 1 " + m.hex().encode() for m in OPENING]
+    around = [b"M 1 " + m.hex().encode() for m in ROUND]
+    lines += [around[k % 3] for k in range(count)]
+    return b"\n".join(lines) + b"\nE 1\n"
+
+
+def most_memory(process):
+    """The most resident bytes that a program had so far; 0 once it has ended."""
+    with open(f"/proc/{process.pid}/status") as status:
+        for line in status:
+            if line.startswith("VmHWM:"):
+                return int(line.split()[1]) * 1024
+    return 0
+
+
+def measure(text, status):
+    """Seconds of one run, and the most memory, looked at while it runs."""
+    with tempfile.TemporaryFile() as given, tempfile.TemporaryFile() as out:
+        given.write(text)
+        given.seek(0)
+        begun = time.perf_counter()
+        process = subprocess.Popen([PROGRAM, "replay"], stdin=given, stdout=out, stderr=subprocess.DEVNULL)
+        memory = 0
+        while process.poll() is None:
+            memory = max(memory, most_memory(process))
+            time.sleep(0.0002)
+        seconds = time.perf_counter() - begun
+    if process.returncode != status:
+        sys.exit(f"status {process.returncode} in place of {status}")
+    return seconds, memory
+
+
+def show(name, text, status, messages=0, rounds=5):
+    runs = [measure(text, status) for _ in range(rounds)]
+    seconds, memory = min(run[0] for run in runs), max(run[1] for run in runs)
+    row = f"{name:>24} {len(text):>11} bytes {seconds:8.4f} s {seconds / len(text) * 1e9:8.2f} ns/byte"
+    row += f" {memory / 1e6:8.1f} MB, {memory / len(text):6.2f} of the input"
+    print(row + (f", {messages / seconds:,.0f} messages/s" if messages else ""))
+
+
+def main():
+    for size in (10**4, 10**5, 10**6, 10**7, 10**8):
+        show("junk behind a record", record(3) + b"junk\n" * (size // 5), 2)
+    for count in (10**4, 10**5, 4 * 10**5):
+        show(f"{count} messages", record(count), 0, count)
+
+
+if __name__ == "__main__":
+    main()

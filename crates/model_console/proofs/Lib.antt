@@ -1,0 +1,4 @@
+pub mod Bounds
+pub mod Ends
+mod Keeping
+mod Rows

@@ -1,0 +1,2 @@
+pub mod Rest
+mod Rows

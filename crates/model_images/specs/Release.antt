@@ -1,0 +1,129 @@
+-- What lives, and what goes when a reference goes (draw(3)). An image lives while an id refers to it, or a screen on it or
+-- with it as fill. A screen lives while an id or a window on it refers to it.
+use Rattle.std.specs.Prelude.{ℕ, zero, suc, ◌==◌, ◌+◌, ◌*◌, Bool, true, false, not, ◌&&◌, ◌||◌, List, [], ◌∷◌, ◌++◌, length, filter, slice_set, Option, Some, None, Ok, if◌then◌else◌}
+use Rattle.std.specs.Option.{option_map_or}
+use Rattle.std.specs.List.{list_any, fold}
+use Rattle.model_text.specs.Outcome.{Outcome, ◌>>=◌, value_or_refuse}
+use Rattle.model_images.specs.declared.ImageId.{ImageId}
+use Rattle.model_images.specs.declared.ScreenId.{ScreenId}
+use Rattle.model_images.specs.declared.Tie.{Tie}
+use Rattle.model_images.specs.declared.Screen.{Screen as Filled}
+use Rattle.model_images.specs.declared.Thing.{Thing}
+use Rattle.model_images.specs.declared.Thing.TheVariants.{Image, Screen}
+use Rattle.model_images.specs.Book.{Book, image_id, screen_id, screen_of, image_of, fill_of}
+
+abbrev pub same_thing : Thing → Thing → Bool
+same_thing (Image i) (Image j) = i == j
+same_thing (Screen s) (Screen t) = s == t
+same_thing (Image i) (Screen s) = false
+same_thing (Screen s) (Image i) = false
+
+-- there is a screen, and it is on this image or has it as fill
+abbrev pub refers_to : ℕ → Option Filled → Bool
+refers_to i None = false
+refers_to i (Some s) = (s.image == i) || (s.fill == i)
+
+-- something refers to it
+abbrev pub is_used : Book → Thing → Bool
+is_used book (Image i) =
+    list_any (λ e. e.image == i) book.image_ids || list_any (refers_to i) book.screens
+is_used book (Screen s) =
+    list_any (λ e. e.screen == s) book.screen_ids || list_any (λ w. w.screen == s) book.windows
+
+-- what it refers to itself: a window to its screen, and a screen to its image and then to its fill
+abbrev pub references : Book → Thing → List Thing
+references book (Image i) = option_map_or (λ s. Screen s ∷ []) (screen_of book i) []
+references book (Screen s) = Image (image_of book s) ∷ Image (fill_of book s) ∷ []
+
+-- the book once it has gone
+abbrev pub without : Book → Thing → Book
+without book (Image i) = record book { windows = filter (λ w. not (w.image == i)) book.windows }
+without book (Screen s) = record book { screens = slice_set book.screens s None; spare = book.spare ++ s ∷ [] }
+
+-- a book, and the images and screens that have gone, in their order
+pub record Freed : Type 0 where
+  pub book : Book
+  pub gone : List Thing
+
+abbrev pub with_gone : Freed → Thing → Freed
+with_gone freed thing = record { book = without freed.book thing; gone = freed.gone ++ thing ∷ [] }
+
+abbrev pub has_gone : Freed → Thing → Bool
+has_gone freed thing = list_any (same_thing thing) freed.gone
+
+-- Each of these things has lost a reference. One to which nothing refers goes, and then what it referred to has lost a
+-- reference, before the other things are looked at.
+abbrev pub settled : ℕ → Freed → List Thing → Freed
+settled zero freed things = freed
+settled (suc steps) freed [] = freed
+settled (suc steps) freed (thing ∷ things) =
+    elim (is_used freed.book thing || has_gone freed thing) [
+      | true ↦ settled steps freed things
+      | false ↦ settled steps (with_gone freed thing) (references freed.book thing ++ things)
+    ]
+
+-- Enough steps: a screen goes once and has two images, and each of these and of the first things may have a screen.
+abbrev pub steps_for : Book → List Thing → ℕ
+steps_for book things = 2 * length things + 4 * length book.screens
+
+abbrev pub released : Freed → List Thing → Freed
+released freed things = settled (steps_for freed.book things) freed things
+
+-- ---- freeing
+
+abbrev pub is_image_id : (client id : ℕ) → ImageId → Bool
+is_image_id client id e = (e.client == client) && (e.id == id)
+
+abbrev pub is_screen_id : (client id : ℕ) → ScreenId → Bool
+is_screen_id client id e = (e.client == client) && (e.id == id)
+
+abbrev pub without_image_id : Book → (client id : ℕ) → Book
+without_image_id book client id = record book { image_ids = filter (λ e. not (is_image_id client id e)) book.image_ids }
+
+abbrev pub without_screen_id : Book → (client id : ℕ) → Book
+without_screen_id book client id =
+    record book { screen_ids = filter (λ e. not (is_screen_id client id e)) book.screen_ids }
+
+-- an image id goes
+abbrev pub freed_image_id : Freed → ImageId → Freed
+freed_image_id freed e =
+    released (record freed { book = without_image_id freed.book e.client e.id }) (Image e.image ∷ [])
+
+-- a screen id goes
+abbrev pub freed_screen_id : Freed → ScreenId → Freed
+freed_screen_id freed e =
+    released (record freed { book = without_screen_id freed.book e.client e.id }) (Screen e.screen ∷ [])
+
+abbrev pub nothing_freed : Book → Freed
+nothing_freed book = record { book = book; gone = [] }
+
+-- the ties end that pass a test
+abbrev pub with_ties_ended : (Tie → Bool) → Freed → Freed
+with_ties_ended ends freed =
+    record freed { book = record freed.book { ties = filter (λ t. not (ends t)) freed.book.ties } }
+
+abbrev pub is_tied_by : (client id : ℕ) → Tie → Bool
+is_tied_by client id t = (t.client == client) && (t.id == id)
+
+-- 0 is the display for all but the manager, and none of their own
+abbrev pub own_image_id : Book → ℕ → ℕ → Option ImageId
+own_image_id book client id = if (id == 0) && not (client == 0) then None else image_id book client id
+
+-- an image id is freed, and the ties end that it made: 4 where the connection does not know it
+unfoldable pub free_id : Book → ℕ → ℕ → Outcome Freed
+free_id book client id = do
+  e ← value_or_refuse (own_image_id book client id) 4
+  Ok (with_ties_ended (is_tied_by client id) (freed_image_id (nothing_freed book) e))
+
+-- a screen id is freed: 5 where the connection does not know it
+unfoldable pub free_screen : Book → ℕ → ℕ → Outcome Freed
+free_screen book client id = do
+  e ← value_or_refuse (screen_id book client id) 5
+  Ok (freed_screen_id (nothing_freed book) e)
+
+-- a connection ends: its image ids are freed in ascending order, then its screen ids, and its ties end
+unfoldable pub leave : Book → ℕ → Freed
+leave book client =
+    let images = fold freed_image_id (nothing_freed book) (filter (λ e. e.client == client) book.image_ids) in
+    let screens = fold freed_screen_id images (filter (λ e. e.client == client) book.screen_ids) in
+    with_ties_ended (λ t. t.client == client) screens

@@ -1,0 +1,55 @@
+//! Definitions: what the ids of connections and the names of the draw device refer to, and what goes when a reference goes
+//! (draw(3)). No code.
+#![tactic(auto)]
+
+use r9_text::Bytes;
+
+/// An image id of a connection, and, where it was made by a name, the number of that name's tie.
+#[derive(Clone, Copy, PartialEq, Eq, Debug)]
+pub struct ImageId {
+    pub client: u32,
+    pub id: u32,
+    pub image: u32,
+    pub tie: Option<u64>,
+}
+
+/// A screen id of a connection. It is in the public space where it is public.
+#[derive(Clone, Copy, PartialEq, Eq, Debug)]
+pub struct ScreenId {
+    pub client: u32,
+    pub id: u32,
+    pub screen: u32,
+    pub public: bool,
+}
+
+/// A name's tie to an image, with the id by which it was made. Each tie has a number of its own, so that a name that is tied
+/// anew is another tie.
+#[derive(Debug, Drop)]
+pub struct Tie {
+    pub name: Bytes,
+    pub number: u64,
+    pub image: u32,
+    pub client: u32,
+    pub id: u32,
+}
+
+/// An image made a screen, and the image that fills what its windows uncover.
+#[derive(Clone, Copy, PartialEq, Eq, Debug)]
+pub struct Screen {
+    pub image: u32,
+    pub fill: u32,
+}
+
+/// An image that is a window, and the screen on which it stands.
+#[derive(Clone, Copy, PartialEq, Eq, Debug)]
+pub struct OnScreen {
+    pub image: u32,
+    pub screen: u32,
+}
+
+/// What goes when nothing refers to it any more.
+#[derive(Clone, Copy, PartialEq, Eq, Debug)]
+pub enum Thing {
+    Image(u32),
+    Screen(u32),
+}

@@ -1,0 +1,3 @@
+pub mod Pointer
+pub mod Queue
+pub mod Happening

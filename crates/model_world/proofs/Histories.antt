@@ -1,0 +1,35 @@
+-- A history and one event more.
+use Rattle.std.proofs.Common.{◌≡◌, ℕ, List, [], ◌∷◌, ◌++◌, Option, Some, None, refl, sym, ap, ◌∙◌}
+use Rattle.r9_event.specs.declared.event.Event.{Event}
+use Rattle.r9_event.specs.declared.event.Event.TheVariants.{Begin, Msg, Take, End, Stop}
+use Rattle.r9_event.specs.declared.event.Opening.{Opening}
+use Rattle.model_world.specs.Map.{lookup}
+use Rattle.model_world.specs.Session.{Session}
+use Rattle.model_world.specs.World.{World, opened}
+use Rattle.model_world.specs.Replay.{step, served, world_from, waiting_from, waiting_after, replies_from}
+
+pub world_from-push : (world : World) (events : List Event) (event : Event) → world_from world (events ++ event ∷ []) ≡ (step (world_from world events) event).world
+world_from-push world [] event = refl
+world_from-push world (e ∷ events) event = world_from-push (step world e).world events event
+
+pub waiting_from-push : (world : World) (events : List Event) (event : Event) (c : ℕ) (waiting : List ℕ)
+    → waiting_from world (events ++ event ∷ []) c waiting ≡ waiting_after c (waiting_from world events c waiting) event (step (world_from world events) event).replies
+waiting_from-push world [] event c waiting = refl
+waiting_from-push world (e ∷ events) event c waiting =
+    waiting_from-push (step world e).world events event c (waiting_after c waiting e (step world e).replies)
+
+-- each event leaves the opening
+served_opening : (world : World) (c : ℕ) (bytes : List ℕ) (session : Option Session) → (served world c bytes session).world.opening ≡ world.opening
+served_opening world c bytes None = refl
+served_opening world c bytes (Some session) = refl
+
+step_opening : (world : World) (event : Event) → (step world event).world.opening ≡ world.opening
+step_opening world (Begin c) = refl
+step_opening world (Msg c bytes mark) = served_opening world c bytes (lookup world.sessions c)
+step_opening world (Take c) = refl
+step_opening world (End c) = refl
+step_opening world Stop = refl
+
+pub world_from-opening : (world : World) (events : List Event) → (world_from world events).opening ≡ world.opening
+world_from-opening world [] = refl
+world_from-opening world (e ∷ events) = world_from-opening (step world e).world events ∙ step_opening world e

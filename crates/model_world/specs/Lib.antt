@@ -1,0 +1,9 @@
+pub mod Map
+pub mod Session
+pub mod Refusal
+pub mod Fids
+pub mod Walking
+pub mod Reading
+pub mod Answer
+pub mod World
+pub mod Replay

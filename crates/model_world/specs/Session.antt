@@ -1,0 +1,32 @@
+-- What a server keeps of a session (intro(5)).
+use Rattle.std.specs.Prelude.{ℕ, Bool, false, List, [], Option, None}
+use Rattle.model_tree.specs.Node.{Node}
+
+-- the stats of a directory's listing that are left, and the offset of the read that goes on with them (read(5))
+pub record Kept : Type 0 where
+  pub left : List (List ℕ)
+  pub next : ℕ
+
+-- a fid: its file, the mode that it is open with, and what it keeps of a listing
+pub record Fid : Type 0 where
+  pub node : Node
+  pub mode : Option ℕ
+  pub kept : Option Kept
+
+-- a fid that stands for a file and is not open
+abbrev pub fid_at : Node → Fid
+fid_at node = record { node = node; mode = None; kept = None }
+
+-- the greatest size of a message, whether a version is agreed, and the fids
+pub record Session : Type 0 where
+  pub msize : ℕ
+  pub agreed : Bool
+  pub fids : List (ℕ × Fid)
+
+-- the greatest size of a message that the server takes
+abbrev pub max_msize : ℕ
+max_msize = 65560
+
+-- a session that has agreed on nothing
+abbrev pub fresh : Session
+fresh = record { msize = max_msize; agreed = false; fids = [] }

@@ -1,0 +1,3 @@
+mod LineLaws
+mod Shortened
+mod Ending

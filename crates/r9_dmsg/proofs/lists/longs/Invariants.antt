@@ -1,0 +1,13 @@
+use Rattle.std.proofs.Common.{◌≡◌, ◌≤◌, ◌*◌, ◌++◌, length}
+use Rattle.std.specs.Int.{w32}
+use Rattle.model_dmsg.specs.Reading.{numbers_of}
+use Rattle.r9_dmsg.proofs.lists.longs.Given as goal
+
+abbrev pub invariant-numbers : goal.invariant-numbers
+invariant-numbers l = record {
+  room : l.left * 4 ≤ length l.rest;
+  whole : l.items.items ++ numbers_of w32 l.left l.rest ≡ numbers_of w32 l.count l.bytes;
+}
+
+abbrev pub decreases-numbers : goal.decreases-numbers
+decreases-numbers l = l.left

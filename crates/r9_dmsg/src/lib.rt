@@ -1,0 +1,14 @@
+//! The messages that a client writes to the draw device (draw(3)): the one that stands first in bytes.
+#![tactic(auto)]
+
+mod fields;
+mod letters;
+mod lists;
+mod message;
+mod reading;
+
+pub use message::{Dmsg, DmsgFault};
+pub use reading::next_msg;
+
+#[cfg(test)]
+mod tests;

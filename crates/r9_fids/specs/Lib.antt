@@ -1,0 +1,2 @@
+pub mod Fids
+pub mod Lending

@@ -1,0 +1,107 @@
+-- One character more of a string.
+use Rattle.std.proofs.Common.{◌≡◌, ℕ, suc, ◌+◌, ◌<◌, ◌≤◌, ℤ, pos, ◌+ℤ◌, List, [], ◌∷◌, ◌++◌, length, get_or, drop, map, refl, sym, ap, ◌∙◌, append_assoc, append-nil, arith}
+use Rattle.std.specs.Prelude.{nat_lt, Bool, true, false, Ok, Err}
+use Rattle.std.specs.List.{sum_by, list_all}
+use borrow.Author.Tests.{ltb-true}
+use Rattle.std.proofs.Math.Seq.{drop-cons}
+use Rattle.std.proofs.lemmas.Int.{ints}
+use Rattle.std.proofs.lemmas.List.{drop_all}
+use Rattle.std.proofs.lemmas.List.Sums.{sum_by-cons, AllPass-from_list_all}
+use Rattle.r9_geom.specs.declared.Point.{Point}
+use Rattle.model_fonts.specs.declared.Cell.{Cell}
+use Rattle.model_fonts.specs.declared.Piece.{Piece}
+use Rattle.r9_geom.specs.Geometry.{IsNearBy}
+use Rattle.model_fonts.specs.Font.{Font, Layout, layout, cell, piece, pieces, advanced}
+
+-- the characters of the indices from one on
+abbrev pub from : List Cell → List ℕ → ℕ → List Cell
+from cells indices i = map (cell cells) (drop i indices)
+
+from-step : (cells : List Cell) (indices : List ℕ) (i : ℕ) → i < length indices → from cells indices i ≡ cell cells (get_or indices i 0) ∷ from cells indices (i + 1)
+from-step cells indices i h =
+    let e : suc i ≡ i + 1 = omega arith in
+    ap (map (cell cells)) (drop-cons indices i 0 h) ∙ ap (λ j. cell cells (get_or indices i 0) ∷ map (cell cells) (drop j indices)) e
+
+pub one_more : (ascent : ℕ) (cells : List Cell) (indices : List ℕ) (i : ℕ) (pen source : Point) (so_far whole : List Piece) → i < length indices
+    → so_far ++ pieces ascent pen source (from cells indices i) ≡ whole
+    → let c : Cell = cell cells (get_or indices i 0) in
+    (so_far ++ piece ascent pen source c ∷ []) ++ pieces ascent (advanced pen c.width) (advanced source c.width) (from cells indices (i + 1)) ≡ whole
+unfolding pieces
+one_more ascent cells indices i pen source so_far whole h e =
+    append_assoc so_far _ _ ∙ ap (λ cs. so_far ++ pieces ascent pen source cs) (sym (from-step cells indices i h)) ∙ e
+
+pub no_more : (ascent : ℕ) (cells : List Cell) (indices : List ℕ) (i : ℕ) (pen source : Point) (so_far whole : List Piece) → length indices ≤ i
+    → so_far ++ pieces ascent pen source (from cells indices i) ≡ whole → so_far ≡ whole
+unfolding pieces
+no_more ascent cells indices i pen source so_far whole h e =
+    sym (append-nil so_far) ∙ ap (λ ys. so_far ++ pieces ascent pen source (map (cell cells) ys)) (sym (drop_all i indices h)) ∙ e
+
+pub same_point : (p q : Point) → p.x ≡ q.x → p.y ≡ q.y → p ≡ q
+same_point p q x y = λ i. record { x = x i; y = y i }
+
+pub same_piece : (a b : Piece) → a.r ≡ b.r → a.sp ≡ b.sp → a.mp ≡ b.mp → a ≡ b
+same_piece a b r sp mp = λ i. record { r = r i; sp = sp i; mp = mp i }
+
+widths : (cells : List Cell) (indices : List ℕ) (i : ℕ) → i < length indices
+    → sum_by (λ (c : Cell). c.width) (from cells indices i) ≡ (cell cells (get_or indices i 0)).width + sum_by (λ (c : Cell). c.width) (from cells indices (i + 1))
+widths cells indices i h = ap (sum_by (λ (c : Cell). c.width)) (from-step cells indices i h) ∙ sum_by-cons (λ (c : Cell). c.width) (cell cells (get_or indices i 0)) (from cells indices (i + 1))
+
+further : (x : ℤ) (width rest all : ℕ) → all ≡ width + rest → (x +ℤ pos width) +ℤ pos rest ≡ x +ℤ pos all
+further x width rest all e = omega (arith, ints)
+
+no_further : (x : ℤ) (n : ℕ) → n ≡ 0 → x ≡ x +ℤ pos n
+no_further x n e = omega (arith, ints)
+
+pub moved_on : (cells : List Cell) (indices : List ℕ) (i : ℕ) (pen end : Point) → i < length indices
+    → advanced pen (sum_by (λ (c : Cell). c.width) (from cells indices i)) ≡ end
+    → advanced (advanced pen (cell cells (get_or indices i 0)).width) (sum_by (λ (c : Cell). c.width) (from cells indices (i + 1))) ≡ end
+moved_on cells indices i pen end h e =
+    same_point _ _ (further pen.x _ _ _ (widths cells indices i h)) refl ∙ e
+
+pub arrived : (cells : List Cell) (indices : List ℕ) (i : ℕ) (pen end : Point) → length indices ≤ i
+    → advanced pen (sum_by (λ (c : Cell). c.width) (from cells indices i)) ≡ end → pen ≡ end
+arrived cells indices i pen end h e =
+    same_point _ _ (no_further pen.x _ (ap (λ (ys : List ℕ). sum_by (λ (c : Cell). c.width) (map (cell cells) ys)) (drop_all i indices h))) refl ∙ e
+
+pub next_laid : (ascent : ℕ) (cells : List Cell) (indices : List ℕ) (i : ℕ) (pen source : Point) (so_far whole : List Piece) (k : ℕ) (grown : List Piece) (one : Piece) (pen' source' : Point)
+    → i < length indices → k ≡ get_or indices i 0 → grown ≡ so_far ++ one ∷ [] → one ≡ piece ascent pen source (cell cells k)
+    → pen' ≡ advanced pen (cell cells k).width → source' ≡ advanced source (cell cells k).width
+    → so_far ++ pieces ascent pen source (from cells indices i) ≡ whole → grown ++ pieces ascent pen' source' (from cells indices (i + 1)) ≡ whole
+next_laid ascent cells indices i pen source so_far whole k grown one pen' source' h at grows is pen_is source_is e =
+    rw (grows, is, pen_is, source_is, at) (one_more ascent cells indices i pen source so_far whole h e)
+
+pub next_end : (cells : List Cell) (indices : List ℕ) (i : ℕ) (pen end : Point) (k : ℕ) (pen' : Point) → i < length indices → k ≡ get_or indices i 0 → pen' ≡ advanced pen (cell cells k).width
+    → advanced pen (sum_by (λ (c : Cell). c.width) (from cells indices i)) ≡ end → advanced pen' (sum_by (λ (c : Cell). c.width) (from cells indices (i + 1))) ≡ end
+next_end cells indices i pen end k pen' h at pen_is e = rw (pen_is, at) (moved_on cells indices i pen end h e)
+
+pub is_in_cells : (n : ℕ) (indices : List ℕ) (i k : ℕ) → i < length indices → k ≡ get_or indices i 0 → list_all (λ j. nat_lt j n) indices ≡ true → k < n
+is_in_cells n indices i k h at all =
+    let told : nat_lt (get_or indices i 0) n ≡ true = AllPass-from_list_all (λ j. nat_lt j n) indices all i 0 h in
+    omega (arith, at, ltb-true)
+
+pub same_layout : (a b : Layout) → a.pieces ≡ b.pieces → a.end ≡ b.end → a ≡ b
+same_layout a b pieces end = λ i. record { pieces = pieces i; end = end i }
+
+pub nearer : (n m : ℕ) (p : Point) → n ≤ m → IsNearBy n p → IsNearBy m p
+nearer n m p h k = record {
+  left = omega (arith, ints, k.left);
+  right = omega (arith, ints, k.right);
+  top = omega (arith, ints, k.top);
+  bottom = omega (arith, ints, k.bottom);
+}
+
+pub refused_by : (font : Font) (cells : List Cell) (b : Bool) (p sp : Point) (indices : List ℕ) → b ≡ list_all (λ i. nat_lt i (length cells)) indices
+    → cells ≡ font.cells → b ≡ false → layout font p sp indices ≡ Err 15
+unfolding layout
+refused_by font cells b p sp indices told same lacks =
+    let e : list_all (λ i. nat_lt i (length font.cells)) indices ≡ false = ap (λ (cs : List Cell). list_all (λ i. nat_lt i (length cs)) indices) (sym same) ∙ sym told ∙ lacks in
+    rw e refl
+
+pub laid_by : (font : Font) (cells others : List Cell) (ascent : ℕ) (b : Bool) (p sp : Point) (indices : List ℕ) (l : Layout)
+    → b ≡ list_all (λ i. nat_lt i (length cells)) indices → cells ≡ font.cells → b ≡ true → others ≡ font.cells → ascent ≡ font.ascent
+    → l ≡ record { pieces = pieces ascent p sp (map (cell others) indices); end = advanced p (sum_by (λ (c : Cell). c.width) (map (cell others) indices)) }
+    → layout font p sp indices ≡ Ok l
+unfolding layout
+laid_by font cells others ascent b p sp indices l told same has_all same_too high is =
+    let e : list_all (λ i. nat_lt i (length font.cells)) indices ≡ true = ap (λ (cs : List Cell). list_all (λ i. nat_lt i (length cs)) indices) (sym same) ∙ sym told ∙ has_all in
+    rw (e, is, same_too, high) refl

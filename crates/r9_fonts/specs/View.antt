@@ -1,0 +1,14 @@
+-- A layout of the code as one of the definitions, and what a refusal says.
+use Rattle.std.specs.Prelude.{ℕ}
+use Rattle.model_fonts.specs.Font as model
+use Rattle.r9_fonts.specs.declared.font.FontFault.{FontFault}
+use Rattle.r9_fonts.specs.declared.font.FontFault.TheVariants as fault
+use Rattle.r9_fonts.specs.declared.layout.Layout.{Layout}
+
+abbrev pub layout_of : Layout → model.Layout
+layout_of l = record { pieces = l.pieces; end = l.end }
+
+-- a fact about the number of a refusal, where it is one
+abbrev pub IfRefused : FontFault → (ℕ → Type 0) → Type 0
+IfRefused (fault.Refused n) P = P n
+IfRefused fault.Memory P = Unit {0}

@@ -1,0 +1,6 @@
+mod Maps
+mod States
+mod Halls
+mod Listings
+mod Walks
+mod Readings

@@ -1,0 +1,23 @@
+use Rattle.std.proofs.Common.{rules, ◌≡◌, ℕ, List, ap, ◌∙◌}
+use Rattle.std.specs.Prelude.{[]}
+use Rattle.std.specs.Map.{set_value}
+use Rattle.std.specs.BTreeMap.{insert_entry}
+use Rattle.std.specs.Ordering.{nat_cmp}
+use Rattle.std.specs.Option.{unwrap_or}
+use Rattle.model_world.specs.Map.{is_key, lookup}
+use Rattle.r9_hall.specs.StateView.{waiting}
+use Rattle.r9_hall.proofs.Maps.{on_ok, with-others, and-others}
+use Rattle.r9_hall.proofs.state.keep.Goals as goal
+
+pub returns-in-Some-clause-others : goal.returns-in-Some-clause-others
+returns-in-Some-clause-others c = on_ok c.push_all.result (λ other apart.
+    let written : (c.get_mut.follows.lender c.push_all.new.self).entries ≡ set_value (is_key c.args.session) c.args.outboxes.now.entries c.push_all.new.self = search rules in
+    ap (λ es. waiting es other) written ∙ ap (λ found. unwrap_or found []) (with-others c.args.outboxes.now.entries c.args.session other c.push_all.new.self apart))
+
+pub returns-clause-others : goal.returns-clause-others
+returns-clause-others c = λ other apart.
+    let kept : c.get_mut.follows.lender-at-none.entries ≡ c.args.outboxes.now.entries = search rules in
+    let found : c.insert.new.self.entries ≡ insert_entry nat_cmp c.get_mut.follows.lender-at-none.entries c.args.session c.in_ok-held.held = c.in_ok-insert.ensures.entries in
+    ap (λ es. waiting es other) found
+    ∙ ap (λ found. unwrap_or found []) (and-others c.get_mut.follows.lender-at-none.entries c.args.session other c.in_ok-held.held apart)
+    ∙ ap (λ es. waiting es other) kept

@@ -1,0 +1,14 @@
+//! Session records: histories as text, written and read, and which event may come next.
+#![tactic(auto)]
+
+mod line;
+mod reading;
+mod roll;
+mod writing;
+
+pub use reading::{JournalFault, read_record};
+pub use roll::Roll;
+pub use writing::{entry_len, write_entry, write_reply};
+
+#[cfg(test)]
+mod tests;

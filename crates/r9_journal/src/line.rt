@@ -1,0 +1,118 @@
+//! The event that a line of a record tells.
+
+ghost use Rattle.std.specs.Prelude.{◌≡◌, None, Some, IfOk};
+ghost use Rattle.std.specs.Option.{option_map};
+ghost use Rattle.model_text.specs.Hex.{unhex};
+ghost use Rattle.r9_journal.specs.Reading.{cut, numeral, exclaimed, message_by, message_of_line, event_by, event_of};
+
+use r9_event::Event;
+use r9_memory::Memory;
+use r9_text::{read_decimal, read_hex};
+use std::alloc::Global;
+
+/// What stands before the first such byte, and behind it.
+pub fn cut(mark: u8, text: &[u8]) -> Option<(&[u8], &[u8])>
+    ensures { option_map (λ parts. (parts.0.now, parts.1.now)) result ≡ cut mark text.now }
+{
+    for (at, byte) in text.iter().enumerate() {
+        if *byte == mark {
+            return Some((&text[..at], &text[at + 1..]));
+        }
+    }
+    None
+}
+
+/// The number below 2^32 whose decimal digits a word is.
+#[tactic(auto, unfolding(crate::specs::Reading::numeral))]
+fn numeral(word: &[u8]) -> Option<u32>
+    ensures { result ≡ numeral word.now }
+{
+    let number = read_decimal(word)?;
+    if number < 1 << 32 {
+        Some(number as u32)
+    } else {
+        None
+    }
+}
+
+/// The number behind an exclamation mark.
+fn exclaimed(word: &[u8]) -> Option<u32>
+    ensures { result ≡ exclaimed word.now }
+{
+    match word {
+        [b'!', digits @ ..] => numeral(digits),
+        _ => None,
+    }
+}
+
+/// A message by its digits, and by what stands behind a blank where there is one.
+#[tactic(auto, unfolding(crate::specs::Reading::message_by))]
+fn message_by(alloc: Global, session: u32, text: &[u8]) -> Result<Option<Event>, Memory>
+    ensures { IfOk result (λ event. event ≡ message_by session text.now (cut 32 text.now)) }
+{
+    match cut(b' ', text) {
+        None => {
+            let Some(bytes) = read_hex(alloc, text)? else {
+                return Ok(None);
+            };
+            Ok(Some(Event::Msg {
+                session,
+                bytes,
+                mark: None,
+            }))
+        }
+        Some((digits, mark)) => {
+            let Some(bytes) = read_hex(alloc, digits)? else {
+                return Ok(None);
+            };
+            let Some(mark) = exclaimed(mark) else {
+                return Ok(None);
+            };
+            Ok(Some(Event::Msg {
+                session,
+                bytes,
+                mark: Some(mark),
+            }))
+        }
+    }
+}
+
+/// The message that the part of a line behind its letter tells.
+#[tactic(auto, unfolding(crate::specs::Reading::message_of_line))]
+fn message_of_line(alloc: Global, text: &[u8]) -> Result<Option<Event>, Memory>
+    ensures { IfOk result (λ event. event ≡ message_of_line text.now) }
+{
+    let Some((session, rest)) = cut(b' ', text) else {
+        return Ok(None);
+    };
+    let Some(session) = numeral(session) else {
+        return Ok(None);
+    };
+    message_by(alloc, session, rest)
+}
+
+/// The event of a letter and what stands behind the blank.
+#[tactic(auto, unfolding(crate::specs::Reading::event_by))]
+fn event_by(alloc: Global, letter: &[u8], rest: &[u8]) -> Result<Option<Event>, Memory>
+    ensures { IfOk result (λ event. event ≡ event_by letter.now rest.now) }
+{
+    match letter {
+        b"B" => Ok(numeral(rest).map(|session| Event::Begin { session })),
+        b"T" => Ok(numeral(rest).map(|session| Event::Take { session })),
+        b"E" => Ok(numeral(rest).map(|session| Event::End { session })),
+        b"M" => message_of_line(alloc, rest),
+        _ => Ok(None),
+    }
+}
+
+/// The event that a line, without its newline, tells.
+#[tactic(auto, unfolding(crate::specs::Reading::event_by_parts))]
+pub fn event_of(alloc: Global, line: &[u8]) -> Result<Option<Event>, Memory>
+    ensures { IfOk result (λ event. event ≡ event_of line.now) }
+{
+    match cut(b' ', line) {
+        None if line == b"X".as_slice() => Ok(Some(Event::Stop)),
+        None => Ok(None),
+        Some((letter, rest)) => event_by(alloc, letter, rest),
+    }
+}

@@ -1,0 +1,95 @@
+//! Reading a session record.
+
+ghost use Rattle.std.specs.Prelude.{◌≡◌, ◌≤◌, ◌<◌, ◌-◌, ◌++◌, ℕ, List, IfOk, IfSome, IfNone, MatchResult, Some, length};
+ghost use Rattle.std.specs.Option.{option_copied};
+ghost use Rattle.model_event.specs.Legal.{Allowed, IsLegal, roll_of};
+ghost use Rattle.model_record.specs.Record.{IsRecord, IsBadAt, record_of};
+ghost use Rattle.r9_event.specs.declared.event.Event.{Event};
+ghost use Rattle.r9_journal.specs.Reading.{event_of, behind_header};
+
+use crate::line::{cut, event_of};
+use crate::roll::Roll;
+use r9_event::{Entries, Event};
+use r9_memory::Memory;
+use std::alloc::Global;
+use thiserror::Error;
+
+/// A text of so many bytes is no record.
+const TEXT_LIMIT: usize = 1 << 30;
+
+const HEADER: &[u8] = b"rio9 1";
+
+/// Why no record was read.
+#[derive(Clone, Copy, Debug, PartialEq, Eq, Error)]
+pub enum JournalFault {
+    /// The text is no record, and goes wrong at this place: the offset in bytes of the first line that does not fit.
+    #[error("bad record at byte {0}")]
+    Bad(u64),
+    /// There was no memory.
+    #[error("out of memory")]
+    Memory,
+}
+
+impl From<Memory> for JournalFault {
+    ghost use Rattle.std.specs.Prelude.{◌≡◌};
+    ghost use Rattle.r9_journal.specs.declared.reading.JournalFault.TheVariants as fault;
+
+    ghost from_gives = { λ _ e. e ≡ fault.Memory };
+
+    fn from(_: Memory) -> Self {
+        JournalFault::Memory
+    }
+}
+
+/// What stands behind the header, where a text begins with it.
+#[tactic(auto, unfolding(crate::specs::Reading::behind_header))]
+fn behind_header(text: &[u8]) -> Option<&[u8]>
+    ensures { option_copied result ≡ behind_header text.now }
+{
+    let (header, rest) = cut(b'\n', text)?;
+    if header == HEADER { Some(rest) } else { None }
+}
+
+/// The event that a line tells, where it may come next.
+fn fitting_event(alloc: Global, roll: &Roll, line: &[u8]) -> Result<Option<Event>, Memory>
+    ensures fits { IfOk result (λ found. IfSome found (λ event. (event_of line.now ≡ Some event) × Allowed roll.now event)) }
+    ensures none { IfOk result (λ found. IfNone found ((event : Event) → event_of line.now ≡ Some event → Allowed roll.now event → ⊥)) }
+{
+    match event_of(alloc, line)? {
+        Some(event) if roll.allows(&event) => Ok(Some(event)),
+        _ => Ok(None),
+    }
+}
+
+/// The history whose record a text is (a header line, and a line for each event).
+pub fn read_record(alloc: Global, text: &[u8]) -> Result<Entries, JournalFault>
+    // What is read has this text as its record.
+    ensures found { IfOk result (IsRecord text.now) }
+    // A record is read, unless memory runs out, and it is the record of no other history.
+    ensures only { (events : List Event) → IsRecord text.now events →
+        MatchResult result (λ read. read ≡ events) (λ fault. fault ≡ JournalFault.Memory) }
+    // What is no record goes wrong at the place that is told.
+    ensures bad { (place : ℕ) → result ≡ Err (JournalFault.Bad place) → IsBadAt text.now place }
+{
+    if text.len() >= TEXT_LIMIT {
+        return Err(JournalFault::Bad(TEXT_LIMIT as u64));
+    }
+    let Some(mut rest) = behind_header(text) else {
+        return Err(JournalFault::Bad(0));
+    };
+    let mut roll = Roll::new(alloc);
+    let mut entries = Entries::new(alloc);
+    'lines: while !rest.is_empty() {
+        let place = (text.len() - rest.len()) as u64;
+        let Some((line, behind)) = cut(b'\n', rest) else {
+            return Err(JournalFault::Bad(place));
+        };
+        let Some(event) = fitting_event(alloc, &roll, line)? else {
+            return Err(JournalFault::Bad(place));
+        };
+        roll.enter(&event)?;
+        entries.push(event)?;
+        rest = behind;
+    }
+    Ok(entries)
+}

@@ -1,0 +1,12 @@
+//! Composition of rows of packed colours, and of raw pixels of the layouts that displays use, a block of pixels at a
+//! time in lanes. No call takes memory.
+#![tactic(auto)]
+
+mod block;
+mod layout;
+mod raw;
+mod row;
+
+pub use layout::{Layout, MaskLayout};
+pub use raw::comp_raw_row;
+pub use row::comp_row;

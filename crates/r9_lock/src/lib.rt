@@ -1,0 +1,15 @@
+//! One value that threads take turns at, with one history of the entries that the turns made.
+#![tactic(auto)]
+
+mod bell;
+mod chronicle;
+mod pass;
+mod rule;
+mod shared;
+#[cfg(test)]
+mod tests;
+mod view;
+
+pub use chronicle::{Acted, Chronicle};
+pub use pass::Pass;
+pub use shared::{Shared, Spent};

@@ -1,0 +1,4 @@
+pub mod PackedLemmas
+pub mod PlaneLemmas
+pub mod RowLemmas
+pub mod RunLemmas

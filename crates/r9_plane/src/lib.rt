@@ -1,0 +1,12 @@
+//! Packed pixels of a rectangle: a map from its points to raw pixels, in the layout of image(6).
+#![tactic(auto)]
+
+mod packed;
+mod plane;
+mod rows;
+mod runs;
+#[cfg(test)]
+mod tests;
+
+pub use plane::Plane;
+pub use rows::row_bytes;

@@ -1,0 +1,194 @@
+// Pixels side by side in packed bytes, of 1, 2, 4, 8, 16, 24 or 32 bits.
+
+ghost use Rattle.std.specs.Prelude.{◌≡◌, ◌≢◌, ℕ, ◌+◌, ◌*◌, ◌/◌, ◌<◌, ◌≤◌, ◌^◌, IsTrue, IfOk, length, slice_index, vec_len};
+ghost use Rattle.model_pixel.specs.Channels.{is_depth, repeated};
+ghost use Rattle.model_pixel.specs.Rows.{raw_at};
+
+use super::packed::{read, write};
+use r9_memory::Memory;
+use std::alloc::Global;
+
+// No memory holds so many pixels.
+pub const MOST_PIXELS: usize = 1 << 58;
+
+fn read_run_of<const DEPTH: u32>(bytes: &[u8], first: usize, raws: &mut [u32])
+    requires depth { IsTrue (is_depth DEPTH) }
+    requires numbers { first + length raws.old < 2 ^ 63 }
+    requires within { (first + length raws.old) * DEPTH ≤ 8 * length bytes.now }
+    ensures value { (i : ℕ) → i < length raws.old → slice_index raws.new i ≡ raw_at DEPTH bytes.now (first + i) }
+    ensures range { (i : ℕ) → i < length raws.old → slice_index raws.new i < 2 ^ DEPTH }
+{
+    for (i, raw) in raws.iter_mut().enumerate() {
+        *raw = read(bytes, DEPTH, first + i);
+    }
+}
+
+/// Raw pixels from number `first` on.
+pub fn read_run(bytes: &[u8], depth: u32, first: usize, raws: &mut [u32])
+    requires depth { IsTrue (is_depth depth) }
+    requires numbers { first + length raws.old < 2 ^ 63 }
+    requires within { (first + length raws.old) * depth ≤ 8 * length bytes.now }
+    ensures value { (i : ℕ) → i < length raws.old → slice_index raws.new i ≡ raw_at depth bytes.now (first + i) }
+    ensures range { (i : ℕ) → i < length raws.old → slice_index raws.new i < 2 ^ depth }
+{
+    match depth {
+        1 => read_run_of::<1>(bytes, first, raws),
+        2 => read_run_of::<2>(bytes, first, raws),
+        4 => read_run_of::<4>(bytes, first, raws),
+        8 => read_run_of::<8>(bytes, first, raws),
+        16 => read_run_of::<16>(bytes, first, raws),
+        24 => read_run_of::<24>(bytes, first, raws),
+        _ => read_run_of::<32>(bytes, first, raws),
+    }
+}
+
+fn write_run_of<const DEPTH: u32>(bytes: &mut [u8], first: usize, raws: &[u32])
+    requires depth { IsTrue (is_depth DEPTH) }
+    requires numbers { first + length raws.now < 2 ^ 63 }
+    requires within { (first + length raws.now) * DEPTH ≤ 8 * length bytes.old }
+    requires raws { (i : ℕ) → i < length raws.now → slice_index raws.now i < 2 ^ DEPTH }
+    ensures written { (i : ℕ) → i < length raws.now → raw_at DEPTH bytes.new (first + i) ≡ slice_index raws.now i }
+    ensures others { (n : ℕ) → ((i : ℕ) → i < length raws.now → n ≢ first + i) → raw_at DEPTH bytes.new n ≡ raw_at DEPTH bytes.old n }
+{
+    for (i, raw) in raws.iter().enumerate() {
+        write(bytes, DEPTH, first + i, *raw);
+    }
+}
+
+/// Writes raw pixels from number `first` on, and no other.
+pub fn write_run(bytes: &mut [u8], depth: u32, first: usize, raws: &[u32])
+    requires depth { IsTrue (is_depth depth) }
+    requires numbers { first + length raws.now < 2 ^ 63 }
+    requires within { (first + length raws.now) * depth ≤ 8 * length bytes.old }
+    requires raws { (i : ℕ) → i < length raws.now → slice_index raws.now i < 2 ^ depth }
+    ensures written { (i : ℕ) → i < length raws.now → raw_at depth bytes.new (first + i) ≡ slice_index raws.now i }
+    ensures others { (n : ℕ) → ((i : ℕ) → i < length raws.now → n ≢ first + i) → raw_at depth bytes.new n ≡ raw_at depth bytes.old n }
+{
+    match depth {
+        1 => write_run_of::<1>(bytes, first, raws),
+        2 => write_run_of::<2>(bytes, first, raws),
+        4 => write_run_of::<4>(bytes, first, raws),
+        8 => write_run_of::<8>(bytes, first, raws),
+        16 => write_run_of::<16>(bytes, first, raws),
+        24 => write_run_of::<24>(bytes, first, raws),
+        _ => write_run_of::<32>(bytes, first, raws),
+    }
+}
+
+fn copy_small(
+    bytes: &mut [u8],
+    depth: u32,
+    first: usize,
+    count: usize,
+    from: &[u8],
+    from_first: usize,
+)
+    requires depth { IsTrue (is_depth depth) }
+    requires numbers { first + count < 2 ^ 63 }
+    requires from_numbers { from_first + count < 2 ^ 63 }
+    requires within { (first + count) * depth ≤ 8 * length bytes.old }
+    requires from { (from_first + count) * depth ≤ 8 * length from.now }
+    ensures written { (i : ℕ) → i < count → raw_at depth bytes.new (first + i) ≡ raw_at depth from.now (from_first + i) }
+    ensures others { (n : ℕ) → ((i : ℕ) → i < count → n ≢ first + i) → raw_at depth bytes.new n ≡ raw_at depth bytes.old n }
+{
+    for i in 0..count {
+        write(bytes, depth, first + i, read(from, depth, from_first + i));
+    }
+}
+
+fn copy_whole(
+    bytes: &mut [u8],
+    depth: u32,
+    first: usize,
+    count: usize,
+    from: &[u8],
+    from_first: usize,
+)
+    requires depth { IsTrue (is_depth depth) }
+    requires whole { 8 ≤ depth }
+    requires numbers { first + count < 2 ^ 63 }
+    requires from_numbers { from_first + count < 2 ^ 63 }
+    requires within { (first + count) * depth ≤ 8 * length bytes.old }
+    requires from { (from_first + count) * depth ≤ 8 * length from.now }
+    ensures written { (i : ℕ) → i < count → raw_at depth bytes.new (first + i) ≡ raw_at depth from.now (from_first + i) }
+    ensures others { (n : ℕ) → ((i : ℕ) → i < count → n ≢ first + i) → raw_at depth bytes.new n ≡ raw_at depth bytes.old n }
+{
+    let size = depth as usize / 8;
+    let start = first * size;
+    let from_start = from_first * size;
+    let len = count * size;
+    bytes[start..start + len].copy_from_slice(&from[from_start..from_start + len]);
+}
+
+/// Copies `count` pixels from other packed ones of the same depth, there from number `from_first` on, here from
+/// number `first` on.
+pub fn copy_run(
+    bytes: &mut [u8],
+    depth: u32,
+    first: usize,
+    count: usize,
+    from: &[u8],
+    from_first: usize,
+)
+    requires depth { IsTrue (is_depth depth) }
+    requires numbers { first + count < 2 ^ 63 }
+    requires from_numbers { from_first + count < 2 ^ 63 }
+    requires within { (first + count) * depth ≤ 8 * length bytes.old }
+    requires from { (from_first + count) * depth ≤ 8 * length from.now }
+    ensures written { (i : ℕ) → i < count → raw_at depth bytes.new (first + i) ≡ raw_at depth from.now (from_first + i) }
+    ensures others { (n : ℕ) → ((i : ℕ) → i < count → n ≢ first + i) → raw_at depth bytes.new n ≡ raw_at depth bytes.old n }
+{
+    if depth < 8 {
+        copy_small(bytes, depth, first, count, from, from_first);
+    } else {
+        copy_whole(bytes, depth, first, count, from, from_first);
+    }
+}
+
+fn fill_whole<const DEPTH: u32>(bytes: &mut [u8], count: usize, raw: u32)
+    requires depth { IsTrue (is_depth DEPTH) }
+    requires count { count * DEPTH ≤ 8 * length bytes.old }
+    requires raw { raw < 2 ^ DEPTH }
+    ensures { (n : ℕ) → n < count → raw_at DEPTH bytes.new n ≡ raw }
+{
+    for n in 0..count {
+        write(bytes, DEPTH, n, raw);
+    }
+}
+
+// A byte of small pixels, all of one raw value.
+fn byte_of(depth: u32, raw: u32) -> u8
+    requires depth { IsTrue (is_depth depth) }
+    requires small { depth < 8 }
+    requires raw { raw < 2 ^ depth }
+    ensures { result ≡ repeated (8 / depth) depth raw }
+{
+    let repeated = match depth {
+        1 => raw * 0b1111_1111,
+        2 => raw * 0b0101_0101,
+        _ => raw * 0b0001_0001,
+    };
+    repeated as u8
+}
+
+/// So many packed pixels, all of one raw value.
+pub fn filled(alloc: Global, depth: u32, count: usize, raw: u32) -> Result<Vec<u8>, Memory>
+    requires depth { IsTrue (is_depth depth) }
+    requires count { count < MOST_PIXELS }
+    requires raw { raw < 2 ^ depth }
+    ensures size { IfOk result (λ bytes. count * depth ≤ 8 * vec_len bytes) }
+    ensures pixels { IfOk result (λ bytes. (n : ℕ) → n < count → raw_at depth bytes.items n ≡ raw) }
+{
+    if depth < 8 {
+        let size = (count * depth as usize).div_ceil(8);
+        return Ok(vec![in alloc; byte_of(depth, raw); size]?);
+    }
+    let mut bytes = vec![in alloc; 0; count * (depth as usize / 8)]?;
+    match depth {
+        8 => fill_whole::<8>(&mut bytes, count, raw),
+        16 => fill_whole::<16>(&mut bytes, count, raw),
+        24 => fill_whole::<24>(&mut bytes, count, raw),
+        _ => fill_whole::<32>(&mut bytes, count, raw),
+    }
+    Ok(bytes)
+}

@@ -1,0 +1,164 @@
+//! Tiles of 32 by 32 raw pixels, kept in one growing table.
+#![tactic(auto)]
+
+ghost use Rattle.std.specs.Prelude.{◌≡◌, ◌+◌, ◌<◌, ◌≤◌, ◌==◌, ◌&&◌, ◌||◌, ◌^◌, ℕ, false, if◌then◌else◌, length, max, not, slice_set, IsTrue, OnErr, OnOk};
+ghost use Rattle.r9_geom.specs.declared.Point.{Point as Spot};
+ghost use Rattle.r9_geom.specs.Geometry.{holds, is_point};
+ghost use Rattle.r9_store.specs.Tiles.{cell, held, is_held, pixel, place_of, spare};
+
+use r9_geom::{Point, distance};
+use r9_memory::Memory;
+use slab::Slab;
+use std::alloc::Global;
+use std::marker::Model;
+
+/// The number of a tile.
+#[derive(Clone, Copy, Debug, PartialEq, Eq)]
+pub struct TileNo(usize);
+
+impl Model for TileNo {
+    ghost Value = { ℕ };
+
+    ghost view = { λ t. t.0 };
+
+    ghost inverse = { λ n. record { 0 = n } };
+}
+
+// How many pixels a tile has.
+const PIXELS: usize = 1024;
+
+/// How many tiles there are at most, held and spare together. Room for more counts as no memory.
+pub const MOST_TILES: usize = 4_294_967_295;
+
+/// Tiles, some of them held and the others spare. A tile that is taken is 0 everywhere.
+#[derive(Drop)]
+pub struct Store {
+    tiles: Slab<[u32; PIXELS]>,
+    // How many tiles may be held.
+    room: usize,
+}
+
+impl Model for Store {
+    ghost use Rattle.r9_store.specs.Tiles.{Tiles, tiles_code};
+    ghost use Rattle.r9_store.specs.Sound.{IsSound};
+
+    ghost Value = { Tiles };
+
+    ghost coded = { tiles_code };
+
+    ghost view = { λ store. record { slots = store.tiles.slots; room = store.room } };
+
+    ghost invariant = { λ store. IsSound store.tiles store.room };
+}
+
+impl Store {
+    /// No tile held, and none spare.
+    pub fn new(alloc: Global) -> Self
+        ensures none { (t : ℕ) → is_held result t ≡ false }
+        ensures held { held result ≡ 0 }
+        ensures spare { spare result ≡ 0 }
+    {
+        Store {
+            tiles: Slab::new(alloc),
+            room: 0,
+        }
+    }
+
+    /// Makes room, so that at least so many tiles are spare.
+    pub fn reserve(&mut self, tiles: usize) -> Result<(), Memory>
+        ensures spare { OnOk result (spare self.new ≡ max (spare self.old) tiles) }
+        ensures most { OnOk result (held self.old + tiles ≤ MOST_TILES) }
+        ensures kept { self.new.slots ≡ self.old.slots }
+        ensures err { OnErr result (self.new ≡ self.old) }
+    {
+        let held = self.tiles.len();
+        if tiles > MOST_TILES - held {
+            return Err(Memory);
+        }
+        self.tiles.reserve(tiles)?;
+        self.room = self.room.max(held + tiles);
+        Ok(())
+    }
+
+    /// Takes a spare tile, which is 0 everywhere. It takes no memory.
+    pub fn take(&mut self) -> TileNo
+        requires { 0 < spare self.old }
+        ensures free { is_held self.old result ≡ false }
+        ensures taken { (u : ℕ) → is_held self.new u ≡ ((u == result) || is_held self.old u) }
+        ensures blank { (p : Spot) → pixel self.new result p ≡ 0 }
+        ensures pixels { (u : ℕ) (p : Spot) → pixel self.new u p ≡ pixel self.old u p }
+        ensures held { held self.new ≡ held self.old + 1 }
+        ensures spare { spare self.new + 1 ≡ spare self.old }
+    {
+        TileNo(self.tiles.insert_reserved([0; PIXELS]))
+    }
+
+    /// Gives a tile back, which is spare then. It takes no memory.
+    pub fn give(&mut self, t: TileNo)
+        requires { IsTrue (is_held self.old t) }
+        ensures given { (u : ℕ) → is_held self.new u ≡ (not (u == t) && is_held self.old u) }
+        ensures pixels { (u : ℕ) (p : Spot) → pixel self.new u p ≡ (if u == t then 0 else pixel self.old u p) }
+        ensures held { held self.new + 1 ≡ held self.old }
+        ensures spare { spare self.new ≡ spare self.old + 1 }
+    {
+        let _ = self.tiles.remove(t.0);
+    }
+
+    /// The raw pixel of a tile at a point, counted from its upper left corner.
+    pub fn get(&self, t: TileNo, p: Point) -> u32
+        requires held { IsTrue (is_held self.now t) }
+        requires inside { IsTrue (holds cell p) }
+        ensures { result ≡ pixel self.now t p }
+    {
+        self.tiles[t.0][place_of(p)]
+    }
+
+    /// Puts a raw pixel into a tile at a point, counted from its upper left corner, and changes nothing else.
+    pub fn put(&mut self, t: TileNo, p: Point, raw: u32)
+        requires held { IsTrue (is_held self.old t) }
+        requires inside { IsTrue (holds cell p) }
+        ensures pixels { (u : ℕ) (q : Spot) → pixel self.new u q ≡ (if (u == t) && is_point q p then raw else pixel self.old u q) }
+        ensures same { (u : ℕ) → is_held self.new u ≡ is_held self.old u }
+        ensures held { held self.new ≡ held self.old }
+        ensures spare { spare self.new ≡ spare self.old }
+    {
+        put_at(&mut self.tiles[t.0], place_of(p), raw);
+    }
+
+    /// How many tiles are held.
+    pub fn held(&self) -> usize
+        ensures value { result ≡ held self.now }
+        ensures most { result + spare self.now ≤ MOST_TILES }
+    {
+        let _ = &self.room;
+        self.tiles.len()
+    }
+
+    /// How many tiles are spare.
+    pub fn spare(&self) -> usize
+        ensures { result ≡ spare self.now }
+    {
+        self.room - self.tiles.len()
+    }
+}
+
+// Puts a pixel into a tile at a place.
+fn put_at(tile: &mut [u32; PIXELS], place: usize, raw: u32)
+    requires { place < PIXELS }
+    ensures pixels { tile.new ≡ slice_set tile.old place raw }
+    ensures len { length tile.old ≡ PIXELS }
+{
+    tile[place] = raw;
+}
+
+// Where the pixel of a point stands among those of its tile, row by row.
+fn place_of(p: Point) -> usize
+    requires { IsTrue (holds cell p) }
+    ensures value { result ≡ place_of p }
+    ensures inside { result < PIXELS }
+{
+    (32 * distance(0, p.y) + distance(0, p.x)) as usize
+}
+
+#[cfg(test)]
+mod tests;

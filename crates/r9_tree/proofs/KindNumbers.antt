@@ -1,0 +1,32 @@
+-- A kind is found by its number.
+use Rattle.std.proofs.Common.{◌≡◌, refl}
+use Rattle.model_tree.specs.declared.Kind.{Kind}
+use Rattle.model_tree.specs.declared.Kind.TheVariants.{Device, Draw, New, Connection, Ctl, Data, Refresh, Mousein, Kbdin, Screen, Snarf, DeviceWctl, Wsys, Window, Cons, Consctl, Label, Mouse, Text, Wctl, Winid, Winname, Picture, Listed}
+use Rattle.model_tree.specs.Node.{row, kind_numbered}
+
+pub kind_numbered_number : (kind : Kind) → kind_numbered (row kind).number ≡ kind
+unfolding kind_numbered row
+kind_numbered_number Device = refl
+kind_numbered_number Draw = refl
+kind_numbered_number New = refl
+kind_numbered_number Connection = refl
+kind_numbered_number Ctl = refl
+kind_numbered_number Data = refl
+kind_numbered_number Refresh = refl
+kind_numbered_number Mousein = refl
+kind_numbered_number Kbdin = refl
+kind_numbered_number Screen = refl
+kind_numbered_number Snarf = refl
+kind_numbered_number DeviceWctl = refl
+kind_numbered_number Wsys = refl
+kind_numbered_number Window = refl
+kind_numbered_number Cons = refl
+kind_numbered_number Consctl = refl
+kind_numbered_number Label = refl
+kind_numbered_number Mouse = refl
+kind_numbered_number Text = refl
+kind_numbered_number Wctl = refl
+kind_numbered_number Winid = refl
+kind_numbered_number Winname = refl
+kind_numbered_number Picture = refl
+kind_numbered_number Listed = refl

@@ -1,0 +1,7 @@
+mod Finds
+mod KindNumbers
+mod Listed
+mod Named
+mod Placed
+mod Put
+pub mod Sized

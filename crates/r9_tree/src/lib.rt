@@ -1,0 +1,28 @@
+//! The served tree of files: walks, qids, stats, listings and permissions (draw(3), rio(4)).
+#![tactic(auto)]
+
+ghost use Rattle.std.specs.Prelude.{◌≡◌, ◌++◌, List, ℕ, length};
+ghost use Rattle.std.specs.List.{All};
+ghost use Rattle.model_tree.specs.Node.{Node as ModelNode};
+ghost use Rattle.model_tree.specs.Tree.{View as ModelView};
+ghost use Rattle.model_tree.specs.Listing.{stats, IsSized, first_length};
+
+mod node;
+mod rows;
+mod stats;
+mod walking;
+
+pub use model_tree::Kind;
+pub use node::{Node, TreeView};
+pub use rows::{kind_of, may, qid};
+pub use stats::{listing, stat};
+pub use walking::{check_live, root_of, walk};
+
+/// A listing is cut at whole stats: each begins with two bytes that give the length of what follows.
+pub fn listings_tell_their_pieces()
+    ensures sized { (view : ModelView) (node : ModelNode) → All IsSized (stats view node) }
+    ensures first { (piece rest : List ℕ) → IsSized piece → first_length (piece ++ rest) ≡ length piece }
+{}
+
+#[cfg(test)]
+mod tests;

@@ -1,0 +1,10 @@
+mod Digits
+mod Bounds
+mod Pushed
+mod Steps
+mod Naming
+mod Collecting
+mod Four
+mod Settled
+mod Gathering
+mod Spelled

@@ -1,0 +1,167 @@
+#!/usr/bin/env python3
+"""Writes a session record and its reply lines as a capture that Wireshark's 9P dissector reads.
+
+    tools/wireshark.py RECORD REPLIES OUT.pcap
+    tshark -r OUT.pcap -Y 9p
+    tshark -r OUT.pcap -Y _ws.malformed
+
+Each session of the record becomes one TCP connection to port 564, with its handshake, the messages of
+the record in one direction, the replies in the other, and its end. The messages are counted on standard
+error. What the dissector thinks of them is a check from outside: it shares nothing with this program.
+
+Needs: Python 3.8 or later, its standard library alone. To read the capture: tshark (Wireshark 3.6 or
+later). The dissector learns from a version message that a connection speaks 9P2000, so a record whose
+session begins without one is shown poorly.
+
+Lines other than `M` and `E` of the record, and all that follows a line `S n` of the replies (an image
+file), are left out. A reply stands behind the message that it answers, or, where it waited, behind the
+message that let it be answered.
+"""
+
+import struct
+import sys
+
+SERVER = bytes([10, 9, 0, 1])
+CLIENT = bytes([10, 9, 0, 2])
+PORT_9P = 564
+FIRST_CLIENT_PORT = 40000
+MOST_OF_A_SEGMENT = 32000
+
+FIN, SYN, PUSH, ACK = 1, 2, 8, 16
+
+PCAP_HEADER = struct.pack("<IHHiIII", 0xA1B2C3D4, 2, 4, 0, 0, 262144, 101)
+
+
+def checksum(data):
+    """The internet checksum of some bytes."""
+    if len(data) % 2:
+        data += b"\0"
+    total = sum(struct.unpack(f">{len(data) // 2}H", data))
+    while total > 0xFFFF:
+        total = (total & 0xFFFF) + (total >> 16)
+    return 0xFFFF - total
+
+
+class Capture:
+    """Packets in the order of their time, a millisecond apart."""
+
+    def __init__(self):
+        self.packets = [PCAP_HEADER]
+        self.time = 0
+
+    def add(self, packet):
+        """Adds an IP packet."""
+        seconds, thousandths = divmod(self.time, 1000)
+        self.packets.append(struct.pack("<IIII", seconds, thousandths * 1000, len(packet), len(packet)) + packet)
+        self.time += 1
+
+    def bytes(self):
+        return b"".join(self.packets)
+
+
+class Connection:
+    """One session's TCP connection. A client and a server each count the bytes that they have sent."""
+
+    def __init__(self, capture, session):
+        self.capture = capture
+        self.port = FIRST_CLIENT_PORT + session % 20000
+        self.sent = {True: 1000, False: 5000}
+        self.segment(True, SYN, b"", 1)
+        self.segment(False, SYN | ACK, b"", 1)
+        self.segment(True, ACK)
+
+    def segment(self, from_client, flags, data=b"", counts=0):
+        """Sends one segment; `counts` is what it adds to the sender's sequence beside its data."""
+        source, target = (CLIENT, SERVER) if from_client else (SERVER, CLIENT)
+        ports = (self.port, PORT_9P) if from_client else (PORT_9P, self.port)
+        acknowledged = self.sent[not from_client] if flags & ACK else 0
+
+        def header(check):
+            return struct.pack(">HHIIBBHHH", *ports, self.sent[from_client], acknowledged, 0x50, flags, 65535, check, 0)
+
+        pseudo = source + target + struct.pack(">BBH", 0, 6, 20 + len(data))
+        tcp = header(checksum(pseudo + header(0) + data)) + data
+
+        def address(check):
+            return struct.pack(">BBHHHBBH", 0x45, 0, 20 + len(tcp), 0, 0x4000, 64, 6, check) + source + target
+
+        self.capture.add(address(checksum(address(0))) + tcp)
+        self.sent[from_client] += len(data) + counts
+
+    def message(self, from_client, data):
+        for at in range(0, len(data), MOST_OF_A_SEGMENT):
+            self.segment(from_client, PUSH | ACK, data[at : at + MOST_OF_A_SEGMENT])
+
+    def end(self):
+        self.segment(True, FIN | ACK, b"", 1)
+        self.segment(False, FIN | ACK, b"", 1)
+        self.segment(True, ACK)
+
+
+def tag_of(message):
+    return struct.unpack("<H", message[5:7])[0]
+
+
+def read_replies(text):
+    """The replies of a file of reply lines, each with its session."""
+    replies = []
+    for line in text.split(b"\n"):
+        words = line.split(b" ")
+        if words[0] == b"S":
+            break
+        if words[0] == b"R":
+            replies.append((int(words[1]), bytes.fromhex(words[2].decode())))
+    return replies
+
+
+def write_capture(record, replies):
+    """The capture of a record and its replies, and how many messages of each direction it has."""
+    capture, connections, asked = Capture(), {}, set()
+    left, counts = list(reversed(replies)), [0, 0]
+
+    def connection(session):
+        if session not in connections:
+            connections[session] = Connection(capture, session)
+        return connections[session]
+
+    def answer(all_of_them):
+        while left and (all_of_them or (left[-1][0], tag_of(left[-1][1])) in asked):
+            session, reply = left.pop()
+            asked.discard((session, tag_of(reply)))
+            connection(session).message(False, reply)
+            counts[1] += 1
+
+    for line in record.split(b"\n"):
+        words = line.split(b" ")
+        if words[0] == b"M":
+            session, message = int(words[1]), bytes.fromhex(words[2].decode())
+            connection(session).message(True, message)
+            asked.add((session, tag_of(message)))
+            counts[0] += 1
+            answer(False)
+        elif words[0] == b"E" and int(words[1]) in connections:
+            answer(False)
+            connections.pop(int(words[1])).end()
+    answer(True)
+    for session in list(connections):
+        connections.pop(session).end()
+    return capture.bytes(), counts
+
+
+def main(words):
+    if len(words) != 3:
+        sys.stderr.write("usage: wireshark.py RECORD REPLIES OUT.pcap\n")
+        return 1
+    with open(words[0], "rb") as file:
+        record = file.read()
+    with open(words[1], "rb") as file:
+        replies = read_replies(file.read())
+    capture, counts = write_capture(record, replies)
+    with open(words[2], "wb") as file:
+        file.write(capture)
+    sys.stderr.write(f"{counts[0]} messages, {counts[1]} replies\n")
+    return 0
+
+
+if __name__ == "__main__":
+    sys.exit(main(sys.argv[1:]))
