@@ -1,9 +1,9 @@
 #!/bin/sh
 # How many draw messages are read in a second. Makes a program in a temporary folder beside copies of the crates, builds it and
-# times it: bench/draw/run.sh [ROUNDS], from the top of the repository.
+# times it: run.sh [ROUNDS].
 set -e
 rounds=${1:-20000000}
-top=$(pwd)
+top=$(cd "$(dirname "$0")/../.." && pwd)
 work=$(mktemp -d)
 trap 'rm -rf "$work"' EXIT
 mkdir "$work/crates"
