@@ -9,14 +9,8 @@ pixman=$(pkg-config --cflags --libs pixman-1)
 room=$(mktemp -d)
 trap 'rm -rf "$room"' EXIT
 
-crates='r9_geom model_pixel r9_memory r9_chan r9_plane r9_kern r9_mem'
-for crate in $crates; do
-	mkdir -p "$room/crates/$crate"
-	for part in src specs proofs; do
-		if [ -d "$root/crates/$crate/$part" ]; then cp -r "$root/crates/$crate/$part" "$room/crates/$crate/"; fi
-	done
-	grep "^$crate:" "$root/crates.txt" >> "$room/crates.txt"
-done
+. "$here/../copy_crates.sh"
+copy_crates "$room" r9_geom model_pixel r9_memory r9_chan r9_plane r9_kern r9_mem
 echo 'pixel_calls staticlib: r9_geom r9_memory r9_chan r9_plane r9_kern r9_mem model_pixel' >> "$room/crates.txt"
 calls=$room/crates/pixel_calls
 mkdir -p "$calls/src" "$calls/proofs/pixels_load"

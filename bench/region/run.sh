@@ -7,13 +7,8 @@ root=$(cd "$here/../.." && pwd)
 room=$(mktemp -d)
 trap 'rm -rf "$room"' EXIT
 
-for crate in r9_geom r9_memory r9_region; do
-	mkdir -p "$room/crates/$crate"
-	for part in src specs proofs; do
-		if [ -d "$root/crates/$crate/$part" ]; then cp -r "$root/crates/$crate/$part" "$room/crates/$crate/"; fi
-	done
-	grep "^$crate:" "$root/crates.txt" >>"$room/crates.txt"
-done
+. "$here/../copy_crates.sh"
+copy_crates "$room" r9_geom r9_memory r9_region
 echo 'region_calls: r9_geom r9_memory r9_region' >>"$room/crates.txt"
 mkdir -p "$room/crates/region_calls/src"
 cp "$here/calls.rt.txt" "$room/crates/region_calls/src/main.rt"
