@@ -1,8 +1,8 @@
 -- What lives, and what goes when a reference goes (draw(3)). An image lives while an id refers to it, or a screen on it or
 -- with it as fill. A screen lives while an id or a window on it refers to it.
-use Rattle.std.specs.Prelude.{ℕ, zero, suc, ◌==◌, ◌+◌, ◌*◌, Bool, true, false, not, ◌&&◌, ◌||◌, List, [], ◌∷◌, ◌++◌, length, filter, slice_set, Option, Some, None, Ok, if◌then◌else◌}
+use Rattle.std.specs.Prelude.{ℕ, zero, suc, ◌==◌, ◌<◌, ◌+◌, ◌*◌, Bool, true, false, not, ◌&&◌, ◌||◌, List, [], ◌∷◌, ◌++◌, length, filter, slice_set, Option, Some, None, Ok, if◌then◌else◌}
 use Rattle.std.specs.Option.{option_map_or}
-use Rattle.std.specs.List.{list_any, fold}
+use Rattle.std.specs.List.{list_any, fold, AllByRecursion}
 use Rattle.model_text.specs.Outcome.{Outcome, ◌>>=◌, value_or_refuse}
 use Rattle.model_images.specs.declared.ImageId.{ImageId}
 use Rattle.model_images.specs.declared.ScreenId.{ScreenId}
@@ -68,6 +68,18 @@ steps_for book things = 2 * length things + 4 * length book.screens
 
 abbrev pub released : Freed → List Thing → Freed
 released freed things = settled (steps_for freed.book things) freed things
+
+-- a screen that is named has a number that was given out, of which there are n
+abbrev pub IsNumbered : ℕ → Thing → Type 0
+IsNumbered n (Image i) = Unit {0}
+IsNumbered n (Screen s) = s < n
+
+-- so have the screens of all windows
+abbrev pub AreWindowsNumbered : Book → Type 0
+AreWindowsNumbered book = AllByRecursion (λ w. w.screen < length book.screens) book.windows
+
+abbrev pub AreNumbered : Book → List Thing → Type 0
+AreNumbered book things = AllByRecursion (IsNumbered (length book.screens)) things
 
 -- ---- freeing
 

@@ -1,0 +1,45 @@
+-- The place of an id among ids that ascend.
+use Rattle.std.proofs.Common.{◌≡◌, ℕ, suc, ◌+◌, ◌≤◌, Bool, true, false, cond, List, [], ◌∷◌, length, Option, Some, None, refl, ap, ◌∙◌, arith}
+use Rattle.std.specs.Prelude.{nat_lt, not, if◌then◌else◌}
+use Rattle.std.specs.Option.{unwrap_or}
+use Rattle.std.specs.List.{position_or_len, insert}
+use borrow.Author.Tests.{ltb-false}
+use Rattle.model_images.specs.declared.ImageId.{ImageId}
+use Rattle.model_images.specs.declared.ScreenId.{ScreenId}
+use Rattle.model_images.specs.Book.{comes_before, put_image_id, put_screen_id}
+
+bounded : (b : Bool) (n m : ℕ) → n ≤ m → cond b (1 + n) 0 ≤ suc m
+bounded true n m h = omega arith
+bounded false n m h = omega arith
+
+pub position-within : {X : Type 0} (p : X → Bool) (xs : List X) → position_or_len p xs ≤ length xs
+position-within p [] = omega arith
+position-within p (x ∷ xs) = bounded (not (p x)) _ (length xs) (position-within p xs)
+
+inserted : {X : Type 0} (b : Bool) (n : ℕ) (x e : X) (xs rest : List X) → insert xs n e ≡ rest
+    → insert (x ∷ xs) (cond (not b) (1 + n) 0) e ≡ (if b then e ∷ x ∷ xs else x ∷ rest)
+inserted true n x e xs rest h = refl
+inserted false n x e xs rest h =
+    let more : 1 + n ≡ suc n = omega arith in
+    rw more (ap (λ ys. x ∷ ys) h)
+
+at_most : (i n : ℕ) (b : Bool) → nat_lt i n ≡ b → i ≤ n → unwrap_or (cond b (Some i) None) n ≡ i
+at_most i n true e h = refl
+at_most i n false e h = omega (arith, ltb-false)
+
+pub place_or_end : {X : Type 0} (p : X → Bool) (xs : List X) (found : Option ℕ) (place : ℕ)
+    → found ≡ cond (nat_lt (position_or_len p xs) (length xs)) (Some (position_or_len p xs)) None
+    → place ≡ unwrap_or found (length xs) → place ≡ position_or_len p xs
+place_or_end p xs found place is chosen =
+    chosen ∙ ap (λ (o : Option ℕ). unwrap_or o (length xs)) is ∙ at_most (position_or_len p xs) (length xs) _ refl (position-within p xs)
+
+pub place_within : {X : Type 0} (p : X → Bool) (xs : List X) (place : ℕ) → place ≡ position_or_len p xs → place ≤ length xs
+place_within p xs place is = omega (arith, is, position-within p xs)
+
+pub put_image_id-at : (e : ImageId) (xs : List ImageId) → insert xs (position_or_len (λ (x : ImageId). comes_before e.client e.id x.client x.id) xs) e ≡ put_image_id e xs
+put_image_id-at e [] = refl
+put_image_id-at e (x ∷ xs) = inserted (comes_before e.client e.id x.client x.id) _ x e xs (put_image_id e xs) (put_image_id-at e xs)
+
+pub put_screen_id-at : (e : ScreenId) (xs : List ScreenId) → insert xs (position_or_len (λ (x : ScreenId). comes_before e.client e.id x.client x.id) xs) e ≡ put_screen_id e xs
+put_screen_id-at e [] = refl
+put_screen_id-at e (x ∷ xs) = inserted (comes_before e.client e.id x.client x.id) _ x e xs (put_screen_id e xs) (put_screen_id-at e xs)

@@ -1,0 +1,20 @@
+//! What the image ids, the screen ids and the names of the draw device refer to, and what goes when a reference goes
+//! (draw(3)).
+#![tactic(auto)]
+
+mod adding;
+mod book;
+mod fault;
+mod freed;
+mod freeing;
+mod lists;
+mod release;
+
+pub use adding::MOST_NAME;
+pub use book::Book;
+pub use fault::BookFault;
+pub use freed::Freed;
+pub use model_images::Thing;
+
+#[cfg(test)]
+mod tests;
