@@ -1,5 +1,5 @@
 -- The state of the server, and what an event makes of it.
-use Rattle.std.specs.Prelude.{◌≡◌, ◌<◌, ◌≤◌, ◌++◌, ◌∷◌, ℕ, Bool, true, false, IsFalse, List, [], length, Option, Some, None}
+use Rattle.std.specs.Prelude.{◌≡◌, ◌≤◌, ℕ, List, [], length, Option, Some, None}
 use Rattle.std.specs.Option.{unwrap_or}
 use Rattle.r9_event.specs.declared.event.Event.{Event}
 use Rattle.r9_event.specs.declared.event.Event.TheVariants.{Msg}
@@ -12,6 +12,7 @@ use Rattle.model_world.specs.Answer.{answer}
 use Rattle.model_world.specs.World.{World}
 use Rattle.model_world.specs.Replay.{step, waiting_after}
 use Rattle.r9_hall.specs.declared.state.State.TheInside as state
+use Rattle.r9_hall.specs.declared.world.World.TheInside as world
 
 -- the sessions that live, and what waits to be taken, by session
 pub record State : Type 0 where
@@ -19,7 +20,7 @@ pub record State : Type 0 where
   pub outboxes : List (ℕ × List ℕ)
 
 abbrev pub state_of : state.Inside → State
-state_of s = record { sessions = s.sessions.entries; outboxes = s.outboxes.entries }
+state_of s = record { sessions = s.sessions; outboxes = s.outboxes.entries }
 
 -- what waits for a session; nothing where it has no outbox
 abbrev pub waiting : List (ℕ × List ℕ) → ℕ → List ℕ
@@ -34,13 +35,24 @@ IsServed before c bytes frame after = served_by (lookup before c)
     served_by None = (frame ≡ None) × (after ≡ before)
     served_by (Some session) = (frame ≡ Some (spelling_of_r (answer session bytes).reply)) × (after ≡ with before c (answer session bytes).session)
 
+abbrev pub world_with : Opening → List (ℕ × Session) → World
+world_with opening sessions = record { opening = opening; sessions = sessions }
+
 abbrev pub world_of : Opening → State → World
-world_of opening s = record { opening = opening; sessions = s.sessions }
+world_of opening s = world_with opening s.sessions
+
+abbrev pub world_value : world.Inside → World
+world_value w = world_with w.opening w.sessions
 
 -- a message has a size, a kind and a tag
 abbrev pub IsWhole : Event → Type 0
 IsWhole (Msg c bytes mark) = 7 ≤ length bytes
 IsWhole _ = Unit {0}
+
+-- the sessions after an event, and the replies to it, are those of a step of the world under an opening
+pub record IsTurn (opening : Opening) (before : List (ℕ × Session)) (event : Event) (replies : List Reply) (after : List (ℕ × Session)) : Type 0 where
+  pub world : (step (world_with opening before) event).world ≡ world_with opening after
+  pub replies_are : (step (world_with opening before) event).replies ≡ replies
 
 -- the state after an event, and the replies to it, are those of a step of the world
 pub record IsAfter (opening : Opening) (before : State) (event : Event) (replies : List Reply) (after : State) : Type 0 where

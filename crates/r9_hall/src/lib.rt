@@ -1,4 +1,4 @@
-//! The core of the server: a journal of events, and the state in which it ends.
+//! The core of the server: a journal of events, and the state in which it ends; and that state alone.
 #![tactic(auto)]
 
 mod answer;
@@ -8,9 +8,12 @@ mod listing;
 mod reading;
 mod refusal;
 mod session;
+mod sessions;
 mod state;
+mod world;
 
 pub use hall::Hall;
+pub use world::World;
 
 #[cfg(test)]
 mod tests;

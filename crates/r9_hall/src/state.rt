@@ -1,23 +1,22 @@
 //! The state of the server: its sessions, and what waits for them to be taken.
 
-ghost use Rattle.std.specs.Prelude.{◌≡◌, ◌≤◌, ◌++◌, ℕ, [], length, Option, IfOk, OnOk};
-ghost use Rattle.r9_event.specs.declared.event.Event.{Event};
+ghost use Rattle.std.specs.Prelude.{◌≡◌, ◌==◌, ◌++◌, ℕ, [], if◌then◌else◌, IfOk, OnOk};
 ghost use Rattle.r9_event.specs.declared.event.Opening.{Opening};
-ghost use Rattle.r9_hall.specs.StateView.{waiting, State, IsServed, IsAfter, IsWhole};
+ghost use Rattle.model_world.specs.Replay.{bytes_for, waiting_after};
+ghost use Rattle.r9_hall.specs.StateView.{waiting, IsAfter, IsWhole};
 
-use crate::session::Session;
+use crate::sessions::Sessions;
 use r9_event::{Event, Replies, Reply};
 use r9_memory::Memory;
 use r9_text::Bytes;
-use r9_wire::{Rmsg, write_r};
 use std::alloc::Global;
 use std::collections::BTreeMap;
 use std::marker::Model;
 
-/// The live sessions by number, and the bytes that wait for each session to be taken.
+/// The live sessions, and the bytes that wait for each session to be taken.
 #[derive(Drop)]
 pub struct State {
-    sessions: BTreeMap<u32, Session>,
+    sessions: Sessions,
     outboxes: BTreeMap<u32, Bytes>,
 }
 
@@ -47,13 +46,50 @@ fn keep(
     Ok(())
 }
 
+/// Adds replies to what waits for their sessions.
+fn keep_all(
+    alloc: Global,
+    outboxes: &mut BTreeMap<u32, Bytes>,
+    replies: &[Reply],
+) -> Result<(), Memory>
+    ensures { OnOk result ((c : ℕ) → waiting outboxes.new.entries c ≡ waiting outboxes.old.entries c ++ bytes_for c replies.now) }
+{
+    for reply in replies {
+        keep(alloc, outboxes, reply.session, reply.bytes.as_slice())?;
+    }
+    Ok(())
+}
+
+/// Drops what waits for a session.
+fn take(outboxes: &mut BTreeMap<u32, Bytes>, session: u32)
+    ensures { (c : ℕ) → waiting outboxes.new.entries c ≡ (if session == c then [] else waiting outboxes.old.entries c) }
+{
+    outboxes.remove(&session);
+}
+
+/// Makes of what waits what an event and the replies to it leave.
+fn post(
+    alloc: Global,
+    outboxes: &mut BTreeMap<u32, Bytes>,
+    event: &Event,
+    replies: &[Reply],
+) -> Result<(), Memory>
+    ensures { OnOk result ((c : ℕ) → waiting outboxes.new.entries c ≡ waiting_after c (waiting outboxes.old.entries c) event.now replies.now) }
+{
+    match event {
+        Event::Take { session } => take(outboxes, *session),
+        _ => keep_all(alloc, outboxes, replies)?,
+    }
+    Ok(())
+}
+
 impl State {
     /// No sessions.
     pub fn new(alloc: Global) -> Self
         ensures { result ≡ record { sessions = []; outboxes = [] } }
     {
         State {
-            sessions: BTreeMap::new(alloc),
+            sessions: Sessions::new(alloc),
             outboxes: BTreeMap::new(alloc),
         }
     }
@@ -68,76 +104,13 @@ impl State {
         }
     }
 
-    /// The bytes of the reply to a message, or None where its session does not live.
-    fn reply(&mut self, alloc: Global, session: u32, bytes: &[u8]) -> Result<Option<Bytes>, Memory>
-        requires { 7 ≤ length bytes.now }
-        ensures sessions { IfOk result (λ frame. IsServed self.old.sessions session bytes.now frame self.new.sessions) }
-        ensures outboxes { self.new.outboxes ≡ self.old.outboxes }
-    {
-        let Some(session) = self.sessions.get_mut(&session) else {
-            return Ok(None);
-        };
-        let reply = session.answer(alloc, bytes)?;
-        let mut frame = Bytes::new(alloc);
-        write_r(alloc, &reply, &mut frame)?;
-        Ok(Some(frame))
-    }
-
-    /// What a message gives: its reply, which waits from now on.
-    fn serve(&mut self, alloc: Global, session: u32, bytes: &[u8]) -> Result<Replies, Memory>
-        requires { 7 ≤ length bytes.now }
-        ensures { IfOk result (λ replies. (opening : Opening) (mark : Option ℕ) → IsAfter opening self.old (Event.Msg session bytes.now mark) replies self.new) }
-    {
-        let mut replies = Replies::new(alloc);
-        if let Some(bytes) = self.reply(alloc, session, bytes)? {
-            keep(alloc, &mut self.outboxes, session, bytes.as_slice())?;
-            replies.push(Reply { session, bytes })?;
-        }
-        Ok(replies)
-    }
-
-    fn begin(&mut self, alloc: Global, session: u32) -> Result<(), Memory>
-        ensures { OnOk result ((opening : Opening) → IsAfter opening self.old (Event.Begin session) [] self.new) }
-    {
-        self.sessions.insert(session, Session::fresh(alloc))?;
-        Ok(())
-    }
-
-    fn take(&mut self, session: u32)
-        ensures { (opening : Opening) → IsAfter opening self.old (Event.Take session) [] self.new }
-    {
-        self.outboxes.remove(&session);
-    }
-
-    fn end(&mut self, session: u32)
-        ensures { (opening : Opening) → IsAfter opening self.old (Event.End session) [] self.new }
-    {
-        self.sessions.remove(&session);
-    }
-
     /// Carries out an event, and gives the replies to it. Nothing is said of the state where memory ran out.
     pub fn carry_out(&mut self, alloc: Global, event: &Event) -> Result<Replies, Memory>
         requires { IsWhole event.now }
         ensures { IfOk result (λ replies. (opening : Opening) → IsAfter opening self.old event.now replies self.new) }
     {
-        match event {
-            Event::Begin { session } => {
-                self.begin(alloc, *session)?;
-                Ok(Replies::new(alloc))
-            }
-            Event::Msg { session, bytes, .. } => {
-                let replies = self.serve(alloc, *session, bytes.as_slice())?;
-                Ok(replies)
-            }
-            Event::Take { session } => {
-                self.take(*session);
-                Ok(Replies::new(alloc))
-            }
-            Event::End { session } => {
-                self.end(*session);
-                Ok(Replies::new(alloc))
-            }
-            Event::Stop => Ok(Replies::new(alloc)),
-        }
+        let replies = self.sessions.step(alloc, event)?;
+        post(alloc, &mut self.outboxes, event, replies.as_slice())?;
+        Ok(replies)
     }
 }

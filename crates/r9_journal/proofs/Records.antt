@@ -1,5 +1,5 @@
 -- Fronts of a text that are records, and where the longest of them ends.
-use Rattle.std.proofs.Common.{◌≡◌, ◌≢◌, ◌⊎◌, ℕ, zero, suc, ◌+◌, ◌-◌, ◌<◌, ◌≤◌, ◌^◌, inl, inr, Bool, true, false, cond, not, eqb, codes, List, [], ◌∷◌, ◌++◌, length, take, drop, Option, Some, None, IfSome, Result, Err, refl, sym, ap, subst, ◌∙◌, append_assoc, arith}
+use Rattle.std.proofs.Common.{◌≡◌, ℕ, zero, suc, ◌+◌, ◌-◌, ◌<◌, ◌≤◌, ◌^◌, inl, inr, Bool, true, false, cond, not, eqb, codes, List, [], ◌∷◌, ◌++◌, length, take, drop, Option, Some, None, IfSome, Result, Err, refl, sym, ap, subst, ◌∙◌, append_assoc, arith}
 use Rattle.std.specs.List.{AllByRecursion, Contains, filter, flat_map}
 use Rattle.std.specs.Str.{bytes_eq}
 use Rattle.std.proofs.lemmas.List.{append-nil, length-append, length-take, take-append-drop, take_at}
@@ -9,7 +9,7 @@ use Rattle.model_text.proofs.Fields.{want_some, bind_some}
 use Rattle.model_event.specs.Legal.{Roll, Allowed, AllowedFrom, IsLegal, no_sessions, roll_after, roll_from, roll_of}
 use Rattle.model_event.proofs.Rolls.{roll_from-push, AllowedFrom-push}
 use Rattle.model_record.specs.Line.{line, event_text, event_line}
-use Rattle.model_record.specs.Record.{record_of, text_limit, IsRecord, IsFront, IsFirstBad, IsBadAt}
+use Rattle.model_record.specs.Record.{record_of, text_limit, IsRecord, IsFront, IsBadAt}
 use Rattle.r9_event.specs.declared.event.Event.{Event}
 use Rattle.r9_event.specs.declared.event.Event.TheVariants.{Begin, Msg, Take, End, Stop}
 use Rattle.r9_journal.specs.Reading.{IsSmall, cut, event_of, behind_header}
@@ -51,7 +51,7 @@ small_event roll (Take c) small allowed = omega (arith, allowed.1.1, small.0)
 small_event roll (End c) small allowed = low_of roll.live small.1 c allowed.1
 small_event roll Stop small allowed = tt
 
-small_after : (roll : Roll) (e : Event) → IsSmallRoll roll → Allowed roll e → IsSmallRoll (roll_after roll e)
+pub small_after : (roll : Roll) (e : Event) → IsSmallRoll roll → Allowed roll e → IsSmallRoll (roll_after roll e)
 small_after roll (Begin c) small allowed = (allowed.1.1, low-push roll.live c small.1 allowed.1.1)
 small_after roll (Msg c bytes mark) small allowed = small
 small_after roll (Take c) small allowed = small
@@ -62,7 +62,7 @@ small_from : (roll : Roll) (events : List Event) → IsSmallRoll roll → Allowe
 small_from roll [] small legal = small
 small_from roll (e ∷ events) small legal = small_from (roll_after roll e) events (small_after roll e small legal.0) legal.1
 
-none_small : IsSmallRoll no_sessions
+pub none_small : IsSmallRoll no_sessions
 none_small = (omega arith, tt)
 
 -- ---- lines
@@ -70,10 +70,10 @@ none_small = (omega arith, tt)
 line_then : (e : Event) (more : List ℕ) → event_line e ++ more ≡ event_text e ++ 10 ∷ more
 line_then e more = append_assoc (event_text e) (10 ∷ []) more
 
-cut_line : (e : Event) (more : List ℕ) → IsSmall e → cut 10 (event_line e ++ more) ≡ Some (event_text e, more)
+pub cut_line : (e : Event) (more : List ℕ) → IsSmall e → cut 10 (event_line e ++ more) ≡ Some (event_text e, more)
 cut_line e more small = ap (λ (t : List ℕ). cut 10 t) (line_then e more) ∙ cut_again 10 (event_text e) more (event_text_lacks e small)
 
-pair_of : (x y : List ℕ × List ℕ) → Some x ≡ Some y → (x.0 ≡ y.0) × (x.1 ≡ y.1)
+pub pair_of : (x y : List ℕ × List ℕ) → Some x ≡ Some y → (x.0 ≡ y.0) × (x.1 ≡ y.1)
 pair_of x y e = let same : x ≡ y = cc in (ap (λ (p : List ℕ × List ℕ). p.0) same, ap (λ (p : List ℕ × List ℕ). p.1) same)
 
 event_is : (x y : Event) → Some x ≡ Some y → x ≡ y
@@ -117,7 +117,7 @@ no_longer roll small (x ∷ xs) (y ∷ ys) A B legal others e stuck =
     let more : length FY ≤ length FX = no_longer (roll_after roll x) (small_after roll x small legal.0) xs ys A B legal.1 legal_ys same.1 stuck in
     omega (arith, length-append (event_line x) FX, length-append (event_line y) FY, ap (λ (z : Event). length (event_line z)) same.0)
 
-some_line : (e : Event) → 0 < length (event_line e)
+pub some_line : (e : Event) → 0 < length (event_line e)
 some_line e = omega (arith, length-append (event_text e) (10 ∷ []))
 
 same_events : (roll : Roll) → IsSmallRoll roll → (xs ys : List Event) → AllowedFrom roll xs → AllowedFrom roll ys → flat_map event_line xs ≡ flat_map event_line ys → xs ≡ ys
@@ -147,7 +147,7 @@ header_again rest = refl
 list_is : (x y : List ℕ) → Some x ≡ Some y → x ≡ y
 list_is x y e = cc
 
-same_behind : (A B : List ℕ) → line (codes "rio9 1") ++ A ≡ line (codes "rio9 1") ++ B → A ≡ B
+pub same_behind : (A B : List ℕ) → line (codes "rio9 1") ++ A ≡ line (codes "rio9 1") ++ B → A ≡ B
 same_behind A B e = list_is A B (sym (header_again A) ∙ ap (λ (t : List ℕ). behind_header t) e ∙ header_again B)
 
 record_then : (events : List Event) (rest : List ℕ) → record_of events ++ rest ≡ line (codes "rio9 1") ++ (flat_map event_line events ++ rest)

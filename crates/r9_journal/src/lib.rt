@@ -6,7 +6,7 @@ mod reading;
 mod roll;
 mod writing;
 
-pub use reading::{JournalFault, read_record};
+pub use reading::{JournalFault, Record, read_record};
 pub use roll::Roll;
 pub use writing::{entry_len, write_entry, write_reply};
 

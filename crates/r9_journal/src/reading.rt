@@ -1,6 +1,6 @@
 //! Reading a session record.
 
-ghost use Rattle.std.specs.Prelude.{◌≡◌, ◌≤◌, ◌<◌, ◌-◌, ◌++◌, ℕ, List, IfOk, IfSome, IfNone, MatchResult, Some, length};
+ghost use Rattle.std.specs.Prelude.{◌≡◌, ◌≤◌, ◌<◌, ◌-◌, ◌++◌, ◌∷◌, [], ℕ, List, IfOk, OnErr, IfSome, IfNone, MatchResult, Some, length};
 ghost use Rattle.std.specs.Option.{option_copied};
 ghost use Rattle.model_event.specs.Legal.{Allowed, IsLegal, roll_of};
 ghost use Rattle.model_record.specs.Record.{IsRecord, IsBadAt, record_of};
@@ -12,6 +12,7 @@ use crate::roll::Roll;
 use r9_event::{Entries, Event};
 use r9_memory::Memory;
 use std::alloc::Global;
+use std::marker::Model;
 use thiserror::Error;
 
 /// A text of so many bytes is no record.
@@ -61,6 +62,73 @@ fn fitting_event(alloc: Global, roll: &Roll, line: &[u8]) -> Result<Option<Event
     }
 }
 
+/// A text that is the record of a history, from which the events are taken one after the other. Contracts see it as those
+/// that were not taken. It holds the text and nothing beside.
+#[derive(Debug, Drop)]
+pub struct Record<'a> {
+    lines: &'a [u8],
+}
+
+impl<'a> Model for Record<'a> {
+    ghost use Rattle.std.specs.Prelude.{List};
+    ghost use Rattle.r9_event.specs.declared.event.Event.{Event};
+    ghost use Rattle.r9_journal.specs.Rest.{AreLinesOf, events_in};
+
+    ghost Value = { List Event };
+
+    ghost view = { λ r. events_in r.lines.now };
+
+    ghost invariant = { λ r. AreLinesOf (events_in r.lines.now) r.lines.now };
+}
+
+impl<'a> Record<'a> {
+    /// The record that a text is (a header line, and a line for each event). The whole text is checked.
+    pub fn check(alloc: Global, text: &'a [u8]) -> Result<Record<'a>, JournalFault>
+        // What is found has this text as its record.
+        ensures found { IfOk result (IsRecord text.now) }
+        // A record is found, unless memory runs out, and it is the record of no other history.
+        ensures only { (events : List Event) → IsRecord text.now events →
+            MatchResult result (λ found. found ≡ events) (λ fault. fault ≡ JournalFault.Memory) }
+        // What is no record goes wrong at the place that is told.
+        ensures bad { (place : ℕ) → result ≡ Err (JournalFault.Bad place) → IsBadAt text.now place }
+    {
+        if text.len() >= TEXT_LIMIT {
+            return Err(JournalFault::Bad(TEXT_LIMIT as u64));
+        }
+        let Some(lines) = behind_header(text) else {
+            return Err(JournalFault::Bad(0));
+        };
+        let mut roll = Roll::new(alloc);
+        let mut rest = lines;
+        'lines: while !rest.is_empty() {
+            let place = (text.len() - rest.len()) as u64;
+            let Some((line, behind)) = cut(b'\n', rest) else {
+                return Err(JournalFault::Bad(place));
+            };
+            let Some(event) = fitting_event(alloc, &roll, line)? else {
+                return Err(JournalFault::Bad(place));
+            };
+            roll.enter(&event)?;
+            rest = behind;
+        }
+        Ok(Record { lines })
+    }
+
+    /// Takes the first event. For want of memory it stays the first.
+    pub fn pop_first(&mut self, alloc: Global) -> Result<Option<Event>, Memory>
+        ensures first { IfOk result (λ found. IfSome found (λ event. self.old ≡ event ∷ self.new)) }
+        ensures none { IfOk result (λ found. IfNone found (self.old ≡ [])) }
+        ensures err { OnErr result (self.new ≡ self.old) }
+    {
+        let Some((line, behind)) = cut(b'\n', self.lines) else {
+            return Ok(None);
+        };
+        let event = event_of(alloc, line)?;
+        self.lines = behind;
+        Ok(event)
+    }
+}
+
 /// The history whose record a text is (a header line, and a line for each event).
 pub fn read_record(alloc: Global, text: &[u8]) -> Result<Entries, JournalFault>
     // What is read has this text as its record.
@@ -71,25 +139,10 @@ pub fn read_record(alloc: Global, text: &[u8]) -> Result<Entries, JournalFault>
     // What is no record goes wrong at the place that is told.
     ensures bad { (place : ℕ) → result ≡ Err (JournalFault.Bad place) → IsBadAt text.now place }
 {
-    if text.len() >= TEXT_LIMIT {
-        return Err(JournalFault::Bad(TEXT_LIMIT as u64));
-    }
-    let Some(mut rest) = behind_header(text) else {
-        return Err(JournalFault::Bad(0));
-    };
-    let mut roll = Roll::new(alloc);
+    let mut left = Record::check(alloc, text)?;
     let mut entries = Entries::new(alloc);
-    'lines: while !rest.is_empty() {
-        let place = (text.len() - rest.len()) as u64;
-        let Some((line, behind)) = cut(b'\n', rest) else {
-            return Err(JournalFault::Bad(place));
-        };
-        let Some(event) = fitting_event(alloc, &roll, line)? else {
-            return Err(JournalFault::Bad(place));
-        };
-        roll.enter(&event)?;
+    'events: while let Some(event) = left.pop_first(alloc)? {
         entries.push(event)?;
-        rest = behind;
     }
     Ok(entries)
 }

@@ -1,9 +1,9 @@
-use Rattle.std.proofs.Common.{length}
-use Rattle.r9_journal.proofs.Records.{IsRead}
+use Rattle.std.proofs.Common.{◌++◌, length}
+use Rattle.model_record.specs.Record.{IsRecord}
 use Rattle.r9_journal.proofs.reading.read_record.Given as goal
 
-abbrev pub invariant-lines : goal.invariant-lines
-invariant-lines l = IsRead l.fn.text l.entries l.rest l.roll
+abbrev pub invariant-events : goal.invariant-events
+invariant-events l = IsRecord l.fn.text (l.entries ++ l.left)
 
-abbrev pub decreases-lines : goal.decreases-lines
-decreases-lines l = length l.rest
+abbrev pub decreases-events : goal.decreases-events
+decreases-events l = length l.left

@@ -1,0 +1,78 @@
+use Rattle.std.proofs.Common.{◌≡◌, ℕ, length, List, [], ◌∷◌, ◌++◌, refl, Option, Some, IfSome, IfNone, sym, ap, subst, arith}
+use Rattle.std.proofs.lemmas.List.{length-append}
+use Rattle.model_event.specs.Legal.{Allowed}
+use Rattle.model_record.specs.Record.{record_of, IsBadAt, IsRecord}
+use Rattle.r9_event.specs.declared.event.Event.{Event}
+use Rattle.r9_journal.specs.Reading.{event_of}
+use Rattle.r9_journal.proofs.Records.{begins, reads_on, read_all, open_bad, line_bad, headless_bad, shorter, place_is, not_both}
+use Rattle.r9_journal.proofs.Rest.{all_told, told_again, are_lines}
+use Rattle.r9_journal.proofs.reading.Record.check.Goals as goal
+
+pub returns-in_default-clause-only : goal.returns-in_default-clause-only
+returns-in_default-clause-only c = λ events is.
+    absurd (not_both _ 0 events (headless_bad _ c.if-text-ge-TEXT_LIMIT.false (sym c.in_default.ensures)) is)
+
+pub returns-in_default-clause-bad : goal.returns-in_default-clause-bad
+returns-in_default-clause-bad c = λ place e.
+    subst (λ (n : ℕ). IsBadAt c.args.text.now n) (place_is _ 0 place e) (headless_bad _ c.if-text-ge-TEXT_LIMIT.false (sym c.in_default.ensures))
+
+pub lines-init : goal.lines-init
+lines-init c = ([], begins _ _ _ _ c.if-text-ge-TEXT_LIMIT.false refl c.new-roll.ensures (sym c.in-Some.ensures))
+
+pub overflow_sub-place : goal.overflow_sub-place
+overflow_sub-place c = omega (arith, ap length c.lines.invariant.1.parts, length-append (record_of c.lines.invariant.0) c.lines.rest.now)
+
+pub returns-in_default-cut-clause-only : goal.returns-in_default-cut-clause-only
+returns-in_default-cut-clause-only c = λ events is.
+    absurd (not_both _ _ events (open_bad _ _ _ _ c.lines.invariant.1 (grind (arith, c.lines-test.true, c.is_empty.ensures)) (sym c.in_default-cut.ensures)) is)
+
+pub returns-in_default-cut-clause-bad : goal.returns-in_default-cut-clause-bad
+returns-in_default-cut-clause-bad c = λ place e.
+    subst (λ (n : ℕ). IsBadAt c.args.text.now n) (place_is _ _ place e)
+    (open_bad _ _ _ _ c.lines.invariant.1 (grind (arith, c.lines-test.true, c.is_empty.ensures)) (sym c.in_default-cut.ensures))
+
+pub returns-in_default-2-clause-only : goal.returns-in_default-2-clause-only
+returns-in_default-2-clause-only c = λ events is.
+    let none =
+    subst (λ (o : Option Event). IfNone o ((event : Event) → event_of c.in-Some-cut.line.now ≡ Some event → Allowed c.lines.roll event → ⊥))
+    c.in_default-2.is c.in_ok-event.ensures.none in
+    absurd (not_both _ _ events (line_bad _ _ _ _ _ _ c.lines.invariant.1 (grind (arith, c.lines-test.true, c.is_empty.ensures)) (sym c.in-Some-cut.ensures) none) is)
+
+pub returns-in_default-2-clause-bad : goal.returns-in_default-2-clause-bad
+returns-in_default-2-clause-bad c = λ place e.
+    let none =
+    subst (λ (o : Option Event). IfNone o ((event : Event) → event_of c.in-Some-cut.line.now ≡ Some event → Allowed c.lines.roll event → ⊥))
+    c.in_default-2.is c.in_ok-event.ensures.none in
+    subst (λ (n : ℕ). IsBadAt c.args.text.now n) (place_is _ _ place e)
+    (line_bad _ _ _ _ _ _ c.lines.invariant.1 (grind (arith, c.lines-test.true, c.is_empty.ensures)) (sym c.in-Some-cut.ensures) none)
+
+pub lines-smaller : goal.lines-smaller
+lines-smaller c = shorter _ _ _ (sym c.in-Some-cut.ensures)
+
+pub lines-preserved : goal.lines-preserved
+lines-preserved c =
+    let fits =
+    subst (λ (o : Option Event). IfSome o (λ event. (event_of c.in-Some-cut.line.now ≡ Some event) × Allowed c.lines.roll event)) c.in-Some-2.is c.in_ok-event.ensures.fits in
+    (c.lines.invariant.0 ++ c.in-Some-2.event ∷ [], reads_on _ _ _ _ _ _ _ _ c.in-Some-2.event c.lines.invariant.1 (sym c.in-Some-cut.ensures) fits refl c.in_ok-enter.ensures.entered)
+
+pub lines-smaller-in_ok-enter : goal.lines-smaller-in_ok-enter
+lines-smaller-in_ok-enter c = shorter _ _ _ (sym c.in-Some-cut.ensures)
+
+pub lines-preserved-in_ok-enter : goal.lines-preserved-in_ok-enter
+lines-preserved-in_ok-enter c =
+    let fits =
+    subst (λ (o : Option Event). IfSome o (λ event. (event_of c.in-Some-cut.line.now ≡ Some event) × Allowed c.lines.roll event)) c.in-Some-2.is c.in_ok-event.ensures.fits in
+    (c.lines.invariant.0 ++ c.in-Some-2.event ∷ [], reads_on _ _ _ _ _ _ _ _ c.in-Some-2.event c.lines.invariant.1 (sym c.in-Some-cut.ensures) fits refl c.in_ok-enter.ensures.entered)
+
+pub invariant_of-result : goal.invariant_of-result
+invariant_of-result c =
+    let whole = read_all _ _ _ _ c.lines.invariant.1 (grind (arith, c.lines-test.false, c.is_empty.ensures)) in
+    told_again _ _ (are_lines _ _ _ whole (sym c.in-Some.ensures))
+
+pub returns-clause-found : goal.returns-clause-found
+returns-clause-found c =
+    let whole = read_all _ _ _ _ c.lines.invariant.1 (grind (arith, c.lines-test.false, c.is_empty.ensures)) in
+    subst (λ (events : List Event). IsRecord c.args.text.now events) (sym (all_told _ _ (are_lines _ _ _ whole (sym c.in-Some.ensures)))) whole
+
+pub returns-clause-only : goal.returns-clause-only
+returns-clause-only c = λ events is. all_told _ _ (are_lines _ _ _ is (sym c.in-Some.ensures))
