@@ -9,7 +9,7 @@ Each session of the record becomes one TCP connection to port 564, with its hand
 the record in one direction, the replies in the other, and its end. The messages are counted on standard
 error. What the dissector thinks of them is a check from outside: it shares nothing with this program.
 
-Needs: Python 3.8 or later, its standard library alone. To read the capture: tshark (Wireshark 3.6 or
+Needs: Python 3.9 or later, its standard library alone. To read the capture: tshark (Wireshark 3.6 or
 later). The dissector learns from a version message that a connection speaks 9P2000, so a record whose
 session begins without one is shown poorly.
 
@@ -20,6 +20,8 @@ message that let it be answered.
 
 import struct
 import sys
+
+import formats
 
 SERVER = bytes([10, 9, 0, 1])
 CLIENT = bytes([10, 9, 0, 2])
@@ -102,22 +104,10 @@ def tag_of(message):
     return struct.unpack("<H", message[5:7])[0]
 
 
-def read_replies(text):
-    """The replies of a file of reply lines, each with its session."""
-    replies = []
-    for line in text.split(b"\n"):
-        words = line.split(b" ")
-        if words[0] == b"S":
-            break
-        if words[0] == b"R":
-            replies.append((int(words[1]), bytes.fromhex(words[2].decode())))
-    return replies
-
-
 def write_capture(record, replies):
     """The capture of a record and its replies, and how many messages of each direction it has."""
     capture, connections, asked = Capture(), {}, set()
-    left, counts = list(reversed(replies)), [0, 0]
+    left, counts = list(reversed(replies.messages)), [0, 0]
 
     def connection(session):
         if session not in connections:
@@ -131,17 +121,15 @@ def write_capture(record, replies):
             connection(session).message(False, reply)
             counts[1] += 1
 
-    for line in record.split(b"\n"):
-        words = line.split(b" ")
-        if words[0] == b"M":
-            session, message = int(words[1]), bytes.fromhex(words[2].decode())
-            connection(session).message(True, message)
-            asked.add((session, tag_of(message)))
+    for event in record:
+        if event.kind == formats.MESSAGE:
+            connection(event.session).message(True, event.message)
+            asked.add((event.session, tag_of(event.message)))
             counts[0] += 1
             answer(False)
-        elif words[0] == b"E" and int(words[1]) in connections:
+        elif event.kind == formats.END and event.session in connections:
             answer(False)
-            connections.pop(int(words[1])).end()
+            connections.pop(event.session).end()
     answer(True)
     for session in list(connections):
         connections.pop(session).end()
@@ -155,8 +143,12 @@ def main(words):
     with open(words[0], "rb") as file:
         record = file.read()
     with open(words[1], "rb") as file:
-        replies = read_replies(file.read())
-    capture, counts = write_capture(record, replies)
+        replies = file.read()
+    try:
+        capture, counts = write_capture(formats.read_record(record), formats.read_replies(replies))
+    except formats.BadText as error:
+        sys.stderr.write(f"wireshark.py: {error}\n")
+        return 1
     with open(words[2], "wb") as file:
         file.write(capture)
     sys.stderr.write(f"{counts[0]} messages, {counts[1]} replies\n")

@@ -1,0 +1,146 @@
+#!/usr/bin/env python3
+"""Writes a picture of what `rio9 replay` gives, as a PNG file.
+
+    tools/picture.py middle.png --size 128x96 --chan x8r8g8b8 < replies
+    tools/picture.py middle.png --size 128x96 --chan x8r8g8b8 --read 1 < replies
+    tools/picture.py screen.png < replies
+
+With --size and --chan it is the data of an Rread, the last one or the one that --read counts from 1: the
+rows of a rectangle that a draw message `r` asked for (draw(3)), whose left edge stands at a whole byte.
+Without them it is the image file (image(6)) behind the line `S n`. Colours are widened to 8 bits by
+repeating their bits; where there is alpha, the PNG has it, and colours are divided by it.
+
+It is outside the proof. Needs: Python 3.9 or later, its standard library alone.
+"""
+
+import argparse
+import re
+import struct
+import sys
+import zlib
+
+import formats
+import record
+
+HEADER_BYTES = 60
+
+
+class NoPicture(Exception):
+    """The input has no such picture. It tells why."""
+
+
+def chosen_read(replies, number):
+    """The data of the Rread of this number, counted from 1, or of the last one where it is None."""
+    found = [record.read_message(message) for _, message in replies.messages]
+    reads = [data for message, _, data in filter(None, found) if message.name == "Rread"]
+    at = len(reads) if number is None else number
+    if not 1 <= at <= len(reads):
+        raise NoPicture(f"there are {len(reads)} Rreads")
+    return reads[at - 1]
+
+
+def read_image_file(data):
+    """Channels, left and right edge, height and rows of an image file."""
+    fields = data[:HEADER_BYTES].decode().split()
+    if len(data) < HEADER_BYTES or len(fields) != 5:
+        raise NoPicture("no image file")
+    left, upper, right, lower = map(int, fields[1:])
+    return formats.channels_word(fields[0]), left, right, lower - upper, data[HEADER_BYTES:]
+
+
+def raw_pixels(row, bits, left, right):
+    """The pixels of a row of a rectangle, as numbers."""
+    if bits >= 8:
+        size = bits // 8
+        return [int.from_bytes(row[at : at + size], "little") for at in range(0, size * (right - left), size)]
+    whole, last = int.from_bytes(row, "big"), 8 * len(row) - bits
+    begin = left * bits % 8
+    return [whole >> last - begin - at & (1 << bits) - 1 for at in range(0, bits * (right - left), bits)]
+
+
+def widened(value, bits):
+    """A channel of some bits as one of 8, its bits repeated from the top."""
+    return int((f"{value:0{bits}b}" * 8)[:8], 2)
+
+
+def colour(pixel, channels):
+    """Red, green, blue and alpha of a pixel."""
+    found = {}
+    for letter, bits in reversed(channels):
+        found[letter] = widened(pixel & (1 << bits) - 1, bits)
+        pixel >>= bits
+    grey = found.get("k", 0)
+    red, green, blue = (found.get(letter, grey) for letter in "rgb")
+    return red, green, blue, found.get("a", 255)
+
+
+def png_bytes(pixel, channels, has_alpha):
+    """A pixel as the PNG has it."""
+    red, green, blue, alpha = colour(pixel, channels)
+    if not has_alpha:
+        return bytes([red, green, blue])
+    divided = [min(255, (part * 255 + alpha // 2) // alpha) if alpha else 0 for part in (red, green, blue)]
+    return bytes([*divided, alpha])
+
+
+def png_chunk(kind, data):
+    return struct.pack(">I", len(data)) + kind + data + struct.pack(">I", zlib.crc32(kind + data))
+
+
+def picture(word, left, right, height, rows):
+    """The PNG file of rows of pixels."""
+    channels, bits = formats.channels(word), formats.depth(word)
+    row_bytes, width = formats.row_bytes(bits, left, right), right - left
+    if bits > 8 and bits % 8 or bits < 8 and 8 % bits:
+        raise NoPicture(f"pixels of {bits} bits")
+    if width <= 0 or height <= 0 or len(rows) != row_bytes * height:
+        raise NoPicture(f"{len(rows)} bytes for {width}x{height}, which takes {row_bytes * height}")
+    has_alpha = any(letter == "a" for letter, _ in channels)
+    seen, lines = {}, []
+    for at in range(0, len(rows), row_bytes):
+        pixels = raw_pixels(rows[at : at + row_bytes], bits, left, right)
+        for pixel in set(pixels) - seen.keys():
+            seen[pixel] = png_bytes(pixel, channels, has_alpha)
+        lines.append(b"\0" + b"".join(seen[pixel] for pixel in pixels))
+    header = struct.pack(">IIBBBBB", width, height, 8, 6 if has_alpha else 2, 0, 0, 0)
+    chunks = [(b"IHDR", header), (b"IDAT", zlib.compress(b"".join(lines), 9)), (b"IEND", b"")]
+    return b"\x89PNG\r\n\x1a\n" + b"".join(png_chunk(kind, data) for kind, data in chunks)
+
+
+def size_of(text):
+    if not re.fullmatch(r"[0-9]+x[0-9]+", text):
+        raise ValueError(f"no size: {text}")
+    return tuple(map(int, text.split("x")))
+
+
+def chosen_picture(replies, options):
+    """The PNG file that the options choose."""
+    if options.size is not None:
+        width, height = options.size
+        return picture(options.chan, 0, width, height, chosen_read(replies, options.read))
+    if replies.screen is None:
+        raise NoPicture("no line `S n`, and no --size of an Rread")
+    return picture(*read_image_file(replies.screen))
+
+
+def main(words):
+    parser = argparse.ArgumentParser(prog="picture.py", description=__doc__.split("\n")[0])
+    parser.add_argument("out", help="the PNG file")
+    parser.add_argument("--size", type=size_of, metavar="WxH", help="width and height of what an Rread has")
+    parser.add_argument("--chan", type=formats.channels_word, metavar="C", help="its channels")
+    parser.add_argument("--read", type=int, metavar="N", help="the Nth Rread, not the last one")
+    options = parser.parse_args(words)
+    if (options.size is None) != (options.chan is None) or options.read is not None and options.size is None:
+        parser.error("an Rread has no size and channels of its own: give --size and --chan")
+    try:
+        png = chosen_picture(formats.read_replies(sys.stdin.buffer.read()), options)
+    except (NoPicture, formats.BadText, ValueError) as error:
+        sys.stderr.write(f"picture.py: {error}\n")
+        return 1
+    with open(options.out, "wb") as file:
+        file.write(png)
+    return 0
+
+
+if __name__ == "__main__":
+    sys.exit(main(sys.argv[1:]))

@@ -1,0 +1,759 @@
+#!/usr/bin/env python3
+"""Writes session records from readable lines, and explains records and reply lines in such lines.
+
+    tools/record.py write < shapes.txt > shapes.record
+    tools/record.py explain < shapes.record
+    tools/record.py explain < shapes.replies
+
+What explain gives for a record is what write takes, and write gives the same record back, byte for byte.
+Explained replies are for reading alone. This tool is outside the proof: it shares nothing with the program,
+and nothing in it is proved; tools/test_record.py tests it. Needs: Python 3.9 or later, its standard library.
+
+The readable lines. A word that begins with `#` begins a comment.
+
+    session 1                                       session 1 begins
+    1 Tversion msize=65560 version=9P2000           it sends a message of intro(5): the fields by name
+    1 Twalk fid=0 newfid=1 draw new                 a list stands last, its members as words
+    1 Twrite tag=7 fid=2 offset=0 mark=1            memory runs out after one draw message
+        d dst=0 src=5 mask=1 r=0,0,10,10 sp=0,0 mp=0,0
+        y id=5 r=0,0,4,1                            the bytes of a write stand beneath it, indented: messages
+        hex 000000ff 0000ff00                       of draw(3), bytes in hex, and text
+        text "ab\\n"
+    1 hex 0700000064ffff                            any bytes as a message, its size first
+    1 take                                          what waits for session 1 is taken
+    1 end                                           session 1 ends
+    stop                                            memory runs out for good
+
+What may be left out: a tag that is 1, or NOTAG in Tversion; afid NOFID; uname ""; a mark. Text of other
+characters than letters, digits and ._/+:- stands in quotation marks, as in JSON. A number may be hex, with 0x.
+A rectangle is its left, upper, right and lower edge; a point x and y; channels are as x8r8g8b8 (image(6));
+an operator is its name in draw(2) or its number.
+
+A write's bytes do not tell what they are for. Explain follows the walks and opens of a session, believing each
+that can succeed, and shows the writes to a file named `data` as draw messages up to the first bytes that are
+none. The rows behind `y` are cut by the channels that the image was made with; those of the display are the
+option --chan C (x8r8g8b8). So the words for a write may be wrong where a session was refused something; its
+bytes are exact in any case.
+"""
+
+import argparse
+import json
+import re
+import sys
+from dataclasses import dataclass
+from typing import Callable, Optional
+
+import formats
+from formats import BEGIN, END, MESSAGE, STOP, TAKE, BadText, Event
+
+# Bytes to values: what fields take theirs from.
+
+
+class NotWhole(Exception):
+    """The bytes end too early, or spell no such thing."""
+
+
+class Cursor:
+    """A place in bytes."""
+
+    def __init__(self, data):
+        self.data, self.at = data, 0
+
+    def take(self, count):
+        """The next bytes."""
+        if self.left() < count:
+            raise NotWhole
+        self.at += count
+        return self.data[self.at - count : self.at]
+
+    def number(self, size, signed=False):
+        return int.from_bytes(self.take(size), "little", signed=signed)
+
+    def left(self):
+        return len(self.data) - self.at
+
+
+# Fields: how they stand in bytes and in words.
+
+
+@dataclass(frozen=True)
+class Form:
+    """How a value stands in bytes (take, put) and in a word (say, hear). What is no value raises ValueError."""
+
+    take: Callable
+    put: Callable
+    say: Callable
+    hear: Callable
+
+
+def number(size, signed=False, hexadecimal=False, words=None):
+    """A number of some bytes; `words` names some of its values."""
+    words = words or {}
+    values = {word: value for value, word in words.items()}
+    digits = f"0x{{:0{2 * size}x}}" if hexadecimal else "{}"
+
+    def hear(word):
+        return values[word] if word in values else hear_number(word)
+
+    return Form(
+        take=lambda cursor: cursor.number(size, signed),
+        put=lambda value: number_bytes(value, size, signed),
+        say=lambda value: words.get(value) or digits.format(value),
+        hear=hear,
+    )
+
+
+def hear_number(word):
+    try:
+        return int(word, 0)
+    except ValueError:
+        raise ValueError(f"no number: {word}") from None
+
+
+def number_bytes(value, size, signed=False):
+    try:
+        return value.to_bytes(size, "little", signed=signed)
+    except OverflowError:
+        raise ValueError(f"{value} does not fit in {size} bytes") from None
+
+
+def numbers(count):
+    """As many signed numbers of four bytes, with commas between: a point or a rectangle."""
+
+    def hear(word):
+        values = tuple(hear_number(part) for part in word.split(","))
+        if len(values) != count:
+            raise ValueError(f"{count} numbers are wanted: {word}")
+        return values
+
+    return Form(
+        take=lambda cursor: tuple(cursor.number(4, True) for _ in range(count)),
+        put=lambda values: b"".join(number_bytes(value, 4, True) for value in values),
+        say=lambda values: ",".join(map(str, values)),
+        hear=hear,
+    )
+
+
+def text(size, errors="strict"):
+    """A text behind its length of `size` bytes. In 9P it is UTF-8; the errors of a draw name go through as they are."""
+
+    def take(cursor):
+        try:
+            return cursor.take(cursor.number(size)).decode("utf-8", errors)
+        except UnicodeDecodeError:
+            raise NotWhole from None
+
+    def put(value):
+        data = value.encode("utf-8", errors)
+        return number_bytes(len(data), size) + data
+
+    return Form(take, put, say_text, hear_text)
+
+
+PLAIN_WORD = re.compile(r"[A-Za-z0-9._/+:-]+")
+
+
+def say_text(value):
+    if PLAIN_WORD.fullmatch(value):
+        return value
+    printable = re.sub(r"[\n\t]", "", value).isprintable()
+    return json.dumps(value, ensure_ascii=not printable)
+
+
+def hear_text(word):
+    return json.loads(word) if word.startswith('"') else word
+
+
+def say_qid(value):
+    return f"{'directory' if value[0] == 0x80 else 'file' if value[0] == 0 else value[0]}:{value[1]}"
+
+
+def take_qid(cursor):
+    kind, _version, path = cursor.number(1), cursor.number(4), cursor.number(8)
+    return kind, path
+
+
+def say_channels(word):
+    return formats.channels_text(word) or f"0x{word:08x}"
+
+
+def hear_channels(word):
+    return hear_number(word) if word[0].isdigit() else formats.channels_word(word)
+
+
+OPERATORS = ["Clear", "DoutS", "SoutD", "DxorS", "DinS", "D", "DatopS", "DoverS", "SinD", "SatopD", "S", "SoverD"]
+NOTAG, NOFID = 0xFFFF, 0xFFFFFFFF
+
+BYTE, SHORT, LONG, HUGE = number(1), number(2), number(4), number(8)
+SIGNED_BYTE = number(1, signed=True)
+TAG, FID = number(2, words={NOTAG: "NOTAG"}), number(4, words={NOFID: "NOFID"})
+MODE = number(1, words={0: "read", 1: "write", 2: "readwrite"})
+BITS, COLOUR = number(4, hexadecimal=True), number(4, hexadecimal=True)
+OPERATOR = number(1, words=dict(enumerate(OPERATORS)))
+CHANNELS = Form(LONG.take, LONG.put, say_channels, hear_channels)
+POINT, RECTANGLE = numbers(2), numbers(4)
+STRING, NAME = text(2), text(1, "surrogateescape")
+QID = Form(take_qid, None, say_qid, None)
+
+REQUIRED = object()
+
+
+@dataclass(frozen=True)
+class Field:
+    """A field of a message. `usual` is its value where it is left out; of a list `count` names the field that
+    tells how many it has, and `most` is how many it may have."""
+
+    name: str
+    form: Form
+    usual: object = REQUIRED
+    count: Optional[str] = None
+    most: int = 0xFFFF
+
+
+def shown(fields):
+    """The fields that stand in words: all but those that count a list."""
+    counts = {field.count for field in fields}
+    return [field for field in fields if field.name not in counts]
+
+
+def take_fields(fields, cursor):
+    """The values of fields, by name."""
+    values = {}
+    for field in fields:
+        if field.count is None:
+            values[field.name] = field.form.take(cursor)
+        elif values[field.count] <= field.most:
+            values[field.name] = [field.form.take(cursor) for _ in range(values[field.count])]
+        else:
+            raise NotWhole
+    return values
+
+
+def put_fields(fields, values):
+    """The bytes of fields."""
+    values = dict(values)
+    for field in fields:
+        if field.count is not None:
+            values[field.count] = len(values[field.name])
+            if values[field.count] > field.most:
+                raise ValueError(f"more than {field.most} {field.name}")
+    lists = [values[field.name] if field.count else [values[field.name]] for field in fields]
+    return b"".join(field.form.put(value) for field, members in zip(fields, lists) for value in members)
+
+
+def say_fields(fields, values):
+    """The words of fields; a list's members come last."""
+    words, members = [], []
+    for field in shown(fields):
+        value = values[field.name]
+        if field.count is not None:
+            members += [field.form.say(member) for member in value]
+        elif field.usual is REQUIRED or value != field.usual:
+            words.append(f"{field.name}={field.form.say(value)}")
+    return words + members
+
+
+def hear_fields(fields, words):
+    """The values that words give to fields."""
+    given, members, values = {}, [value for key, value in words if key is None], {}
+    for key, value in words:
+        if key in given:
+            raise ValueError(f"{key} stands twice")
+        if key is not None:
+            given[key] = value
+    for field in shown(fields):
+        if field.count is not None:
+            values[field.name], members = [field.form.hear(member) for member in members], []
+        elif field.name in given:
+            values[field.name] = field.form.hear(given.pop(field.name))
+        elif field.usual is not REQUIRED:
+            values[field.name] = field.usual
+        else:
+            raise ValueError(f"{field.name} is missing")
+    for extra in [*given, *members]:
+        raise ValueError(f"what is {extra}?")
+    return values
+
+
+# The messages of 9P2000 (intro(5)).
+
+
+@dataclass(frozen=True)
+class Message:
+    """A message of 9P2000. Behind its fields it may have bytes; `data` is the size of their count."""
+
+    name: str
+    kind: int
+    fields: tuple
+    data: int = 0
+
+
+T_MESSAGES = [
+    Message("Tversion", 100, (Field("msize", LONG), Field("version", STRING))),
+    Message("Tauth", 102, (Field("afid", FID), Field("uname", STRING, ""), Field("aname", STRING))),
+    Message(
+        "Tattach",
+        104,
+        (Field("fid", FID), Field("afid", FID, NOFID), Field("uname", STRING, ""), Field("aname", STRING)),
+    ),
+    Message("Tflush", 108, (Field("oldtag", TAG),)),
+    Message(
+        "Twalk",
+        110,
+        (Field("fid", FID), Field("newfid", FID), Field("n", SHORT), Field("names", STRING, count="n", most=16)),
+    ),
+    Message("Topen", 112, (Field("fid", FID), Field("mode", MODE))),
+    Message("Tcreate", 114, (Field("fid", FID), Field("name", STRING), Field("perm", BITS), Field("mode", MODE))),
+    Message("Tread", 116, (Field("fid", FID), Field("offset", HUGE), Field("count", LONG))),
+    Message("Twrite", 118, (Field("fid", FID), Field("offset", HUGE)), data=4),
+    Message("Tclunk", 120, (Field("fid", FID),)),
+    Message("Tremove", 122, (Field("fid", FID),)),
+    Message("Tstat", 124, (Field("fid", FID),)),
+    Message("Twstat", 126, (Field("fid", FID),), data=2),
+]
+
+R_MESSAGES = [
+    Message("Rversion", 101, (Field("msize", LONG), Field("version", STRING))),
+    Message("Rattach", 105, (Field("qid", QID),)),
+    Message("Rerror", 107, (Field("ename", STRING),)),
+    Message("Rflush", 109, ()),
+    Message("Rwalk", 111, (Field("n", SHORT), Field("qids", QID, count="n"))),
+    Message("Ropen", 113, (Field("qid", QID), Field("iounit", LONG))),
+    Message("Rread", 117, (), data=4),
+    Message("Rwrite", 119, (Field("count", LONG),)),
+    Message("Rclunk", 121, ()),
+    Message("Rstat", 125, (), data=2),
+]
+
+BY_KIND = {message.kind: message for message in T_MESSAGES + R_MESSAGES}
+BY_NAME = {message.name: message for message in T_MESSAGES}
+
+STAT = (
+    Field("type", SHORT),
+    Field("dev", LONG),
+    Field("qid", QID),
+    Field("mode", BITS),
+    Field("atime", LONG),
+    Field("mtime", LONG),
+    Field("length", HUGE),
+    Field("name", STRING),
+    Field("uid", STRING),
+    Field("gid", STRING),
+    Field("muid", STRING),
+)
+
+
+def line_fields(message):
+    """The fields of a message's line: its own, its tag, and the mark where memory runs out."""
+    tag = Field("tag", TAG, NOTAG if message.name in ("Tversion", "Rversion") else 1)
+    return (tag, *message.fields, Field("mark", SHORT, None))
+
+
+def read_message(data):
+    """The message that bytes spell, the values of its line, and its data; None where they spell none."""
+    cursor = Cursor(data)
+    try:
+        size, kind, tag = cursor.number(4), cursor.number(1), cursor.number(2)
+        message = BY_KIND.get(kind)
+        if message is None or size != len(data):
+            return None
+        values = take_fields(message.fields, cursor)
+        payload = cursor.take(cursor.number(message.data)) if message.data else b""
+    except NotWhole:
+        return None
+    return (message, {"tag": tag, "mark": None, **values}, payload) if cursor.left() == 0 else None
+
+
+def write_message(message, values, payload):
+    """The bytes of a message."""
+    body = put_fields(message.fields, values)
+    if message.data:
+        body += number_bytes(len(payload), message.data) + payload
+    elif payload:
+        raise ValueError(f"{message.name} has no bytes beneath it")
+    return number_bytes(7 + len(body), 4) + bytes([message.kind]) + TAG.put(values["tag"]) + body
+
+
+# The messages of the draw device (draw(3)).
+
+STRING_FIELDS = (
+    Field("dst", LONG),
+    Field("src", LONG),
+    Field("font", LONG),
+    Field("p", POINT),
+    Field("clipr", RECTANGLE),
+    Field("sp", POINT),
+    Field("n", SHORT),
+)
+INDICES = Field("indices", SHORT, count="n")
+ID = Field("id", LONG)
+
+LETTERS = {
+    # Makes an image, or a window on a screen.
+    "b": (
+        ID,
+        Field("screen", LONG),
+        Field("refresh", BYTE),
+        Field("chan", CHANNELS),
+        Field("repl", BYTE),
+        Field("r", RECTANGLE),
+        Field("clipr", RECTANGLE),
+        Field("color", COLOUR),
+    ),
+    # Makes an image a screen.
+    "A": (ID, Field("image", LONG), Field("fill", LONG), Field("public", BYTE)),
+    # Sets repl and the clip rectangle.
+    "c": (Field("dst", LONG), Field("repl", BYTE), Field("clipr", RECTANGLE)),
+    # Draws.
+    "d": (
+        Field("dst", LONG),
+        Field("src", LONG),
+        Field("mask", LONG),
+        Field("r", RECTANGLE),
+        Field("sp", POINT),
+        Field("mp", POINT),
+    ),
+    # Switches messages for finding faults on and off.
+    "D": (Field("debug", BYTE),),
+    # Frees an image id, and a screen id.
+    "f": (ID,),
+    "F": (ID,),
+    # Makes an image a font.
+    "i": (ID, Field("n", LONG), Field("ascent", BYTE)),
+    # Loads a character into a font.
+    "l": (
+        Field("cache", LONG),
+        Field("src", LONG),
+        Field("index", SHORT),
+        Field("r", RECTANGLE),
+        Field("sp", POINT),
+        Field("left", SIGNED_BYTE),
+        Field("width", BYTE),
+    ),
+    # Ties a name to an image, or unties it.
+    "N": (ID, Field("in", BYTE), Field("name", NAME)),
+    # Makes an id for a named image.
+    "n": (ID, Field("name", NAME)),
+    # Moves a window.
+    "o": (ID, Field("rmin", POINT), Field("scr", POINT)),
+    # Sets the operator of the next drawing.
+    "O": (Field("op", OPERATOR),),
+    # Reads pixels.
+    "r": (ID, Field("r", RECTANGLE)),
+    # Draws a string, and a string on a background.
+    "s": (*STRING_FIELDS, INDICES),
+    "x": (*STRING_FIELDS, Field("bg", LONG), Field("bgp", POINT), INDICES),
+    # Makes an id for a public screen.
+    "S": (ID, Field("chan", CHANNELS)),
+    # Moves windows to the top or the bottom.
+    "t": (Field("top", BYTE), Field("n", SHORT), Field("ids", LONG, count="n")),
+    # Shows what was drawn.
+    "v": (),
+    # Writes pixels; their rows stand behind it.
+    "y": (ID, Field("r", RECTANGLE)),
+}
+
+
+# Writing records.
+
+WORD = re.compile(r'(?:([a-z]+)=)?("(?:[^"\\]|\\.)*"|[^\s"#=]+)(?=\s|$)')
+
+
+def words_of(line):
+    """The words of a line, each with its key or None, without the comment."""
+    words, rest = [], line.strip()
+    while rest and not rest.startswith("#"):
+        found = WORD.match(rest)
+        if not found:
+            raise ValueError(f"no word: {rest}")
+        words.append(found.groups())
+        rest = rest[found.end() :].lstrip()
+    return words
+
+
+@dataclass
+class Block:
+    """A line that is not indented, and the bytes that stand beneath it."""
+
+    line: int
+    words: list
+    payload: bytes = b""
+
+
+def write(readable):
+    """The record of readable lines."""
+    blocks = []
+    for line, content in enumerate(readable.split("\n"), 1):
+        try:
+            words = words_of(content)
+            if words and not content[0].isspace():
+                blocks.append(Block(line, words))
+            elif words and blocks:
+                blocks[-1].payload += payload_of(words)
+            elif words:
+                raise ValueError("an indented line belongs to the message above it")
+        except ValueError as error:
+            raise BadText(line, error) from None
+    return formats.write_record([event_of(block) for block in blocks])
+
+
+def payload_of(words):
+    """The bytes of an indented line."""
+    (key, first), rest = words[0], words[1:]
+    if key is None and first in LETTERS:
+        return first.encode() + put_fields(LETTERS[first], hear_fields(LETTERS[first], rest))
+    loose = [value for key, value in rest if key is None]
+    if key is not None or len(loose) < len(rest) or first not in ("hex", "text"):
+        raise ValueError(f"no draw message, text or hex: {first}")
+    return hex_bytes(loose) if first == "hex" else "".join(map(hear_text, loose)).encode()
+
+
+def hex_bytes(words):
+    return bytes.fromhex("".join(words))
+
+
+def event_of(block):
+    try:
+        event = hear_event(block.words, block.payload)
+        if event.kind != MESSAGE and block.payload:
+            raise ValueError("only a message has bytes beneath it")
+        fault = formats.fault_of(event)
+        if fault:
+            raise ValueError(fault)
+        return event
+    except ValueError as error:
+        raise BadText(block.line, error) from None
+
+
+def hear_event(words, payload):
+    values = [value for _, value in words]
+    if values == ["stop"]:
+        return Event(STOP)
+    if len(values) == 2 and values[0] == "session":
+        return Event(BEGIN, hear_number(values[1]))
+    if len(values) < 2 or not values[0].isdecimal():
+        raise ValueError("no event: session N, N Tmessage, N hex, N take, N end or stop is wanted")
+    session, name, rest = int(values[0]), values[1], words[2:]
+    if name in ("take", "end") and not rest:
+        return Event(TAKE if name == "take" else END, session)
+    if name == "hex":
+        return hear_hex(session, rest)
+    if name not in BY_NAME:
+        raise ValueError(f"no event or message: {name}")
+    message = BY_NAME[name]
+    fields = hear_fields(line_fields(message), rest)
+    return Event(MESSAGE, session, write_message(message, fields, payload), fields["mark"])
+
+
+HEX_FIELDS = (Field("mark", SHORT, None), Field("digits", Form(None, None, str, str), count="n"))
+
+
+def hear_hex(session, words):
+    fields = hear_fields(HEX_FIELDS, words)
+    return Event(MESSAGE, session, hex_bytes(fields["digits"]), fields["mark"])
+
+
+# Explaining.
+
+INDENT = "    "
+BYTES_ON_A_LINE = 64
+
+
+@dataclass
+class File:
+    """What a fid is believed to be: the names from its attach on, and whether it is open."""
+
+    names: tuple
+    is_open: bool = False
+
+    def connection(self):
+        """The number of the draw connection whose data this is; None where it is no open data file."""
+        if self.is_open and len(self.names) >= 2 and self.names[-1] == "data":
+            return self.names[-2]
+        return None
+
+
+class Explainer:
+    """What is believed of the sessions."""
+
+    def __init__(self, display):
+        self.display = display  # the channels of the display
+        self.files = {}  # by session, files by fid
+        self.images = {}  # channels by connection and image id; a connection is its session and number
+        self.named = {}  # channels of named images
+
+
+def explain(text, display=formats.channels_word("x8r8g8b8")):
+    """The readable lines of a record, or of a run's output."""
+    if formats.is_record(text):
+        explainer = Explainer(display)
+        lines = [line for event in formats.read_record(text) for line in explain_event(explainer, event)]
+    else:
+        lines = explain_replies(formats.read_replies(text))
+    return "".join(line + "\n" for line in lines)
+
+
+def explain_event(explainer, event):
+    if event.kind == BEGIN:
+        return [f"session {event.session}"]
+    if event.kind == STOP:
+        return ["stop"]
+    if event.kind != MESSAGE:
+        return [f"{event.session} {'take' if event.kind == TAKE else 'end'}"]
+    found = read_message(event.message)
+    if found is None or found[0] not in T_MESSAGES:
+        fields = {"mark": event.mark, "digits": [event.message.hex()]}
+        return [" ".join([str(event.session), "hex", *say_fields(HEX_FIELDS, fields)])]
+    message, fields, payload = found
+    line = message_line(event.session, message, {**fields, "mark": event.mark})
+    file = follow(explainer, event.session, message.name, fields)
+    connection = file.connection() if message.name == "Twrite" and file else None
+    if connection is None:
+        return [line, *payload_lines(payload, len(payload))]
+    return [line, *draw_lines(explainer, (event.session, connection), payload)]
+
+
+def message_line(session, message, fields):
+    return " ".join([str(session), message.name, *say_fields(line_fields(message), fields)])
+
+
+def follow(explainer, session, name, fields):
+    """Keeps what a message does to its session's fids where it succeeds. Gives the file of the message's fid."""
+    files = explainer.files.setdefault(session, {})
+    fid = fields.get("fid")
+    file = files.get(fid)
+    if name == "Tversion":
+        files.clear()
+    elif name == "Tattach" and file is None:
+        files[fid] = File(())
+    elif name == "Twalk" and file is not None and not file.is_open:
+        newfid, names = fields["newfid"], walked(file.names, fields["names"])
+        if newfid == fid or newfid not in files:
+            files[newfid] = File(names)
+    elif name == "Topen" and file is not None:
+        file.is_open = True
+    elif name in ("Tclunk", "Tremove"):
+        files.pop(fid, None)
+    return file
+
+
+def walked(names, steps):
+    for step in steps:
+        names = names[:-1] if step == ".." else (*names, step)
+    return names
+
+
+def payload_lines(payload, bytes_on_a_line):
+    """The lines of bytes that are no draw messages."""
+    if not payload:
+        return []
+    try:
+        content = payload.decode()
+        if re.sub(r"[\n\t]", "", content).isprintable():
+            return [f"{INDENT}text {json.dumps(content, ensure_ascii=False)}"]
+    except UnicodeDecodeError:
+        pass
+    return hex_lines(payload, bytes_on_a_line)
+
+
+def hex_lines(data, bytes_on_a_line):
+    return [f"{INDENT}hex {data[at : at + bytes_on_a_line].hex()}" for at in range(0, len(data), bytes_on_a_line)]
+
+
+def draw_lines(explainer, connection, payload):
+    """The lines of draw messages; what begins no whole one is shown in hex to its end."""
+    lines, cursor = [], Cursor(payload)
+    while cursor.left():
+        begin = cursor.at
+        letter = chr(cursor.number(1))
+        try:
+            fields = take_fields(LETTERS[letter], cursor)
+        except (KeyError, NotWhole):
+            return lines + hex_lines(payload[begin:], len(payload))
+        lines.append(" ".join([INDENT + letter, *say_fields(LETTERS[letter], fields)]))
+        keep_image(explainer, connection, letter, fields)
+        if letter == "y":
+            lines += take_rows(cursor, fields["r"], channels_of(explainer, connection, fields["id"]))
+    return lines
+
+
+def channels_of(explainer, connection, image):
+    """The channels of a connection's image, None where they are not known. Image 0 is the display."""
+    return explainer.display if image == 0 else explainer.images.get((connection, image))
+
+
+def keep_image(explainer, connection, letter, fields):
+    """Keeps what a draw message tells of the channels of images."""
+    image, images = (connection, fields.get("id")), explainer.images
+    if letter == "b":
+        images.setdefault(image, fields["chan"])
+    elif letter == "N" and fields["in"]:
+        explainer.named.setdefault(fields["name"], channels_of(explainer, *image))
+    elif letter == "N":
+        explainer.named.pop(fields["name"], None)
+    elif letter == "n":
+        is_window = fields["name"].startswith("window.")
+        images.setdefault(image, explainer.display if is_window else explainer.named.get(fields["name"]))
+    elif letter == "f":
+        images.pop(image, None)
+
+
+def take_rows(cursor, r, channels):
+    """The rows behind a `y`, each on a line; all that is left where they cannot be cut."""
+    left, upper, right, lower = r
+    row = 0
+    if channels is not None and formats.channels(channels):
+        row = formats.row_bytes(formats.depth(channels), left, right)
+    if row <= 0 or lower <= upper or row * (lower - upper) > cursor.left():
+        return hex_lines(cursor.take(cursor.left()), len(cursor.data))
+    return hex_lines(cursor.take(row * (lower - upper)), row)
+
+
+def explain_replies(replies):
+    lines = []
+    for session, data in replies.messages:
+        found = read_message(data)
+        if found is None or found[0] not in R_MESSAGES:
+            lines.append(f"{session} hex {data.hex()}")
+            continue
+        message, fields, payload = found
+        lines.append(message_line(session, message, fields))
+        lines += stat_lines(payload) or payload_lines(payload, BYTES_ON_A_LINE)
+    if replies.screen is not None:
+        lines.append(f"screen of {len(replies.screen)} bytes: {' '.join(replies.screen[:60].decode().split())}")
+    return lines
+
+
+def stat_lines(payload):
+    """The lines of stats (stat(5)), if the bytes are a stat or a list of them."""
+    lines, cursor = [], Cursor(payload)
+    try:
+        while cursor.left():
+            stat = Cursor(cursor.take(cursor.number(2)))
+            lines.append(" ".join([INDENT + "stat", *say_fields(STAT, take_fields(STAT, stat))]))
+            if stat.left():
+                return []
+    except NotWhole:
+        return []
+    return lines
+
+
+def main(words):
+    parser = argparse.ArgumentParser(prog="record.py", description=__doc__.split("\n")[0])
+    parser.add_argument("job", choices=["write", "explain"])
+    parser.add_argument("--chan", type=formats.channels_word, default="x8r8g8b8", help="the display's channels")
+    options = parser.parse_args(words)
+    data = sys.stdin.buffer.read()
+    try:
+        if options.job == "write":
+            sys.stdout.buffer.write(write(data.decode()))
+        else:
+            sys.stdout.buffer.write(explain(data, options.chan).encode())
+    except (BadText, UnicodeDecodeError) as error:
+        sys.stderr.write(f"record.py: {error}\n")
+        return 1
+    return 0
+
+
+if __name__ == "__main__":
+    sys.exit(main(sys.argv[1:]))
