@@ -77,3 +77,8 @@ frame_parts limit bytes frame e =
     let f = frame_of limit bytes frame e in
     let len = (frame_lawful limit bytes frame e).0 in
     sym (take-append-drop (size_of bytes) bytes) ∙ ap (λ (front : List ℕ). front ++ drop (size_of bytes) bytes) f.frame_is ∙ ap (λ (n : ℕ). frame ++ drop n bytes) (sym len)
+
+pub frame_within : (limit : ℕ) (bytes frame : List ℕ) → first limit bytes ≡ Frame frame → length frame ≤ length bytes
+frame_within limit bytes frame e =
+    let f = frame_of limit bytes frame e in
+    omega (arith, (frame_lawful limit bytes frame e).0, f.whole)

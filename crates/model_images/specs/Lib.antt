@@ -1,3 +1,2 @@
 pub mod Book
 pub mod Release
-pub mod Numbers

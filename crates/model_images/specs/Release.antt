@@ -1,8 +1,8 @@
 -- What lives, and what goes when a reference goes (draw(3)). An image lives while an id refers to it, or a screen on it or
 -- with it as fill. A screen lives while an id or a window on it refers to it.
-use Rattle.std.specs.Prelude.{ℕ, zero, suc, ◌==◌, ◌<◌, ◌+◌, ◌*◌, Bool, true, false, not, ◌&&◌, ◌||◌, List, [], ◌∷◌, ◌++◌, length, filter, slice_set, Option, Some, None, Ok, if◌then◌else◌}
+use Rattle.std.specs.Prelude.{◌≡◌, is_some, ℕ, zero, suc, ◌==◌, ◌+◌, ◌*◌, Bool, true, false, not, ◌&&◌, ◌||◌, List, [], ◌∷◌, ◌++◌, length, filter, slice_set, Option, Some, None, Ok, if◌then◌else◌}
 use Rattle.std.specs.Option.{option_map_or}
-use Rattle.std.specs.List.{list_any, fold, AllByRecursion}
+use Rattle.std.specs.List.{list_any, fold}
 use Rattle.model_text.specs.Outcome.{Outcome, ◌>>=◌, value_or_refuse}
 use Rattle.model_images.specs.declared.ImageId.{ImageId}
 use Rattle.model_images.specs.declared.ScreenId.{ScreenId}
@@ -10,7 +10,7 @@ use Rattle.model_images.specs.declared.Tie.{Tie}
 use Rattle.model_images.specs.declared.Screen.{Screen as Filled}
 use Rattle.model_images.specs.declared.Thing.{Thing}
 use Rattle.model_images.specs.declared.Thing.TheVariants.{Image, Screen}
-use Rattle.model_images.specs.Book.{Book, image_id, screen_id, screen_of, image_of, fill_of}
+use Rattle.model_images.specs.Book.{Book, owner, image_id, screen_id, screen_of, screen_numbered, image_of, fill_of}
 
 abbrev pub same_thing : Thing → Thing → Bool
 same_thing (Image i) (Image j) = i == j
@@ -68,18 +68,6 @@ steps_for book things = 2 * length things + 4 * length book.screens
 
 abbrev pub released : Freed → List Thing → Freed
 released freed things = settled (steps_for freed.book things) freed things
-
--- a screen that is named has a number that was given out, of which there are n
-abbrev pub IsNumbered : ℕ → Thing → Type 0
-IsNumbered n (Image i) = Unit {0}
-IsNumbered n (Screen s) = s < n
-
--- so have the screens of all windows
-abbrev pub AreWindowsNumbered : Book → Type 0
-AreWindowsNumbered book = AllByRecursion (λ w. w.screen < length book.screens) book.windows
-
-abbrev pub AreNumbered : Book → List Thing → Type 0
-AreNumbered book things = AllByRecursion (IsNumbered (length book.screens)) things
 
 -- ---- freeing
 
@@ -139,3 +127,48 @@ leave book client =
     let images = fold freed_image_id (nothing_freed book) (filter (λ e. e.client == client) book.image_ids) in
     let screens = fold freed_screen_id images (filter (λ e. e.client == client) book.screen_ids) in
     with_ties_ended (λ t. t.client == client) screens
+
+-- ---- what frees nothing that is used
+
+-- a screen that is used is there
+abbrev pub HasScreens : Book → Type 0
+HasScreens book = (s : ℕ) → is_used book (Screen s) ≡ true → is_some (screen_numbered book s) ≡ true
+
+-- each thing stands once in the list
+abbrev pub IsOnce : List Thing → Type 0
+IsOnce [] = Unit {0}
+IsOnce (thing ∷ things) = (list_any (same_thing thing) things ≡ false) × IsOnce things
+
+-- What went from a book: it was used before, nothing refers to it any more, and it went once. What is used was used before.
+pub record IsFreed (book : Book) (freed : Freed) : Type 0 where
+  pub used : (thing : Thing) → is_used freed.book thing ≡ true → is_used book thing ≡ true
+  pub gone_used : (thing : Thing) → has_gone freed thing ≡ true → is_used book thing ≡ true
+  pub gone_unused : (thing : Thing) → has_gone freed thing ≡ true → is_used freed.book thing ≡ false
+  pub once : IsOnce freed.gone
+  pub screens : HasScreens freed.book
+
+-- ---- in which order things go
+
+-- a thing refers to another: a window to its screen, a screen to its image and to its fill
+abbrev pub refers : Book → Thing → Thing → Bool
+refers book (Image w) (Screen s) = list_any (λ e. (e.image == w) && (e.screen == s)) book.windows
+refers book (Screen s) (Image i) = refers_to i (screen_numbered book s)
+refers book (Image w) (Image i) = false
+refers book (Screen s) (Screen t) = false
+
+-- each thing goes after all that refer to it
+abbrev pub IsInOrder : Book → (before : List Thing) → List Thing → Type 0
+IsInOrder book before [] = Unit {0}
+IsInOrder book before (thing ∷ things) =
+    ((other : Thing) → refers book other thing ≡ true → list_any (same_thing other) before ≡ true)
+    × IsInOrder book (thing ∷ before) things
+
+-- the windows and the screens that have not gone are as before
+pub record KeepsRest (book : Book) (freed : Freed) : Type 0 where
+  pub windows : freed.book.windows ≡ filter (λ w. not (has_gone freed (Image w.image))) book.windows
+  pub screens : (s : ℕ) → screen_numbered freed.book s ≡ (if has_gone freed (Screen s) then None else screen_numbered book s)
+
+-- the image ids of the other connections, the display's among them where the connection is not the manager's, are as before
+abbrev pub KeepsOthers : Book → ℕ → Book → Type 0
+KeepsOthers book client after =
+    (other id : ℕ) → (owner other id == client) ≡ false → image_id after other id ≡ image_id book other id

@@ -2,18 +2,16 @@
 //! (draw(3)). No code: the functions have laws as their contracts, and no bodies.
 #![tactic(auto)]
 
-ghost use Rattle.std.specs.Prelude.{◌≡◌, ◌<◌, ◌≤◌, ℕ, Bool, List, Option, length, IfOk, IfSome};
-ghost use Rattle.model_images.specs.Book.{Book, empty_book, new_screen, add_screen, add_id, add_named, tie, untie};
-ghost use Rattle.model_images.specs.Numbers.{NamesGivenScreens};
-ghost use Rattle.model_images.specs.Release.{AreNumbered, AreWindowsNumbered, Freed, free_id, free_screen, leave, released, settled, steps_for};
-ghost use Rattle.model_images.specs.declared.Thing.{Thing as Gone};
+ghost use Rattle.std.specs.Prelude.{◌≡◌, ℕ, Ok, []};
+ghost use Rattle.model_images.specs.Book.{Book};
+ghost use Rattle.model_images.specs.Release.{Freed, HasScreens, IsFreed, IsInOrder, KeepsOthers, KeepsRest, free_id, free_screen, leave};
 
 use r9_text::Bytes;
 
 /// An image id of a connection, and, where it was made by a name, the number of that name's tie.
 #[derive(Clone, Copy, PartialEq, Eq, Debug)]
 pub struct ImageId {
-    pub client: u32,
+    pub client: u64,
     pub id: u32,
     pub image: u32,
     pub tie: Option<u64>,
@@ -22,7 +20,7 @@ pub struct ImageId {
 /// A screen id of a connection. It is in the public space where it is public.
 #[derive(Clone, Copy, PartialEq, Eq, Debug)]
 pub struct ScreenId {
-    pub client: u32,
+    pub client: u64,
     pub id: u32,
     pub screen: u32,
     pub public: bool,
@@ -35,7 +33,7 @@ pub struct Tie {
     pub name: Bytes,
     pub number: u64,
     pub image: u32,
-    pub client: u32,
+    pub client: u64,
     pub id: u32,
 }
 
@@ -60,22 +58,26 @@ pub enum Thing {
     Screen(u32),
 }
 
-/// The steps of a release are enough: more of them change nothing, where the screens that windows and things name have numbers
-/// that were given out.
-pub fn steps_are_enough()
-    ensures { (freed : Freed) (things : List Gone) (steps : ℕ) → AreWindowsNumbered freed.book → AreNumbered freed.book things → steps_for freed.book things ≤ steps → settled steps freed things ≡ released freed things }
+/// What goes where an image id is freed.
+pub fn free_id_frees()
+    ensures freed { (book : Book) (client id : ℕ) (freed : Freed) → HasScreens book → free_id book client id ≡ Ok freed → IsFreed book freed }
+    ensures others { (book : Book) (client id : ℕ) (freed : Freed) → free_id book client id ≡ Ok freed → KeepsOthers book client freed.book }
+    ensures order { (book : Book) (client id : ℕ) (freed : Freed) → free_id book client id ≡ Ok freed → IsInOrder book [] freed.gone }
+    ensures rest { (book : Book) (client id : ℕ) (freed : Freed) → free_id book client id ≡ Ok freed → KeepsRest book freed }
 {}
 
-/// A book goes on naming only screens whose numbers were given out.
-pub fn screens_stay_numbered()
-    ensures none { NamesGivenScreens empty_book }
-    ensures new_screen { (book : Book) (client id : ℕ) (public : Bool) (image fill : ℕ) → NamesGivenScreens book → IfOk (new_screen book client id public image fill) NamesGivenScreens }
-    ensures add_screen { (book : Book) (client id screen : ℕ) (public : Bool) → screen < length book.screens → NamesGivenScreens book → IfOk (add_screen book client id screen public) NamesGivenScreens }
-    ensures add_id { (book : Book) (client id image : ℕ) (screen : Option ℕ) → IfSome screen (λ s. s < length book.screens) → NamesGivenScreens book → IfOk (add_id book client id image screen) NamesGivenScreens }
-    ensures add_named { (book : Book) (client id : ℕ) (name : List ℕ) → NamesGivenScreens book → IfOk (add_named book client id name) NamesGivenScreens }
-    ensures tied { (book : Book) (client id : ℕ) (name : List ℕ) → NamesGivenScreens book → IfOk (tie book client id name) NamesGivenScreens }
-    ensures untied { (book : Book) (client id : ℕ) (name : List ℕ) → NamesGivenScreens book → IfOk (untie book client id name) NamesGivenScreens }
-    ensures free_id { (book : Book) (client id : ℕ) → NamesGivenScreens book → IfOk (free_id book client id) (λ freed. NamesGivenScreens freed.book) }
-    ensures free_screen { (book : Book) (client id : ℕ) → NamesGivenScreens book → IfOk (free_screen book client id) (λ freed. NamesGivenScreens freed.book) }
-    ensures left { (book : Book) (client : ℕ) → NamesGivenScreens book → NamesGivenScreens (leave book client).book }
+/// What goes where a screen id is freed.
+pub fn free_screen_frees()
+    ensures freed { (book : Book) (client id : ℕ) (freed : Freed) → HasScreens book → free_screen book client id ≡ Ok freed → IsFreed book freed }
+    ensures others { (book : Book) (client id : ℕ) (freed : Freed) → free_screen book client id ≡ Ok freed → KeepsOthers book client freed.book }
+    ensures order { (book : Book) (client id : ℕ) (freed : Freed) → free_screen book client id ≡ Ok freed → IsInOrder book [] freed.gone }
+    ensures rest { (book : Book) (client id : ℕ) (freed : Freed) → free_screen book client id ≡ Ok freed → KeepsRest book freed }
+{}
+
+/// What goes where a connection ends.
+pub fn leave_frees()
+    ensures freed { (book : Book) (client : ℕ) → HasScreens book → IsFreed book (leave book client) }
+    ensures others { (book : Book) (client : ℕ) → KeepsOthers book client (leave book client).book }
+    ensures order { (book : Book) (client : ℕ) → IsInOrder book [] (leave book client).gone }
+    ensures rest { (book : Book) (client : ℕ) → KeepsRest book (leave book client) }
 {}

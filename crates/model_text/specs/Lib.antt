@@ -4,3 +4,4 @@ pub mod Reading
 pub mod Field
 pub mod Word
 pub mod Outcome
+pub mod Map

@@ -85,7 +85,7 @@ gone = refl
 
 -- a connection that has ended, before what is no directory
 ended : walk view (record { kind = Ctl; connection = 2; serial = 0; root = 0 }) (codes "x") ≡ Err 34
-unfolding walk check_live
+unfolding walk check_live row
 ended = refl
 
 -- a qid names a file within a session

@@ -1,5 +1,5 @@
 -- The tree of files as a session sees it (draw(3), rio(4)).
-use Rattle.std.specs.Prelude.{ℕ, ◌==◌, Bool, not, ◌&&◌, List, [], ◌∷◌, ◌++◌, map, codes, Ok, if◌then◌else◌}
+use Rattle.std.specs.Prelude.{ℕ, ◌==◌, Bool, not, ◌&&◌, nat_le, List, [], ◌∷◌, ◌++◌, map, codes, Ok, if◌then◌else◌}
 use Rattle.std.specs.List.{find, list_any}
 use Rattle.std.specs.Option.{option_map_or}
 use Rattle.std.specs.Map.{lookup}
@@ -111,8 +111,13 @@ above view node kind = root_of node.root
 abbrev pub is_gone : View → Node → Bool
 is_gone view node = not (node.serial == 0) && not view.live
 
+-- the directory of a connection, and its files
+abbrev pub is_of_connection : Kind → Bool
+is_of_connection kind = nat_le 4 (row kind).number && nat_le (row kind).number 7
+
+-- a connection that a node belongs to is gone
 abbrev pub is_ended : View → Node → Bool
-is_ended view node = not (node.connection == 0) && not (list_any (λ n. n == node.connection) view.connections)
+is_ended view node = is_of_connection node.kind && not (list_any (λ n. n == node.connection) view.connections)
 
 -- 42 the window is gone, 34 the connection is
 unfoldable pub check_live : View → Node → Outcome (Unit {0})

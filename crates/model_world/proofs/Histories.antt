@@ -3,10 +3,10 @@ use Rattle.std.proofs.Common.{◌≡◌, ℕ, List, [], ◌∷◌, ◌++◌, Opt
 use Rattle.r9_event.specs.declared.event.Event.{Event}
 use Rattle.r9_event.specs.declared.event.Event.TheVariants.{Begin, Msg, Take, End, Stop}
 use Rattle.r9_event.specs.declared.event.Opening.{Opening}
-use Rattle.model_world.specs.Map.{lookup}
+use Rattle.model_text.specs.Map.{lookup}
 use Rattle.model_world.specs.Session.{Session}
 use Rattle.model_world.specs.World.{World, opened}
-use Rattle.model_world.specs.Replay.{step, served, world_from, waiting_from, waiting_after, replies_from}
+use Rattle.model_world.specs.Replay.{step, served, ended, world_from, waiting_from, waiting_after, replies_from}
 
 pub world_from-push : (world : World) (events : List Event) (event : Event) → world_from world (events ++ event ∷ []) ≡ (step (world_from world events) event).world
 world_from-push world [] event = refl
@@ -19,15 +19,19 @@ waiting_from-push world (e ∷ events) event c waiting =
     waiting_from-push (step world e).world events event c (waiting_after c waiting e (step world e).replies)
 
 -- each event leaves the opening
-served_opening : (world : World) (c : ℕ) (bytes : List ℕ) (session : Option Session) → (served world c bytes session).world.opening ≡ world.opening
-served_opening world c bytes None = refl
-served_opening world c bytes (Some session) = refl
+served_opening : (world : World) (c : ℕ) (bytes : List ℕ) (mark : Option ℕ) (session : Option Session) → (served world c bytes mark session).world.opening ≡ world.opening
+served_opening world c bytes mark None = refl
+served_opening world c bytes mark (Some session) = refl
+
+ended_opening : (world : World) (c : ℕ) (session : Option Session) → (ended world c session).opening ≡ world.opening
+ended_opening world c None = refl
+ended_opening world c (Some session) = refl
 
 step_opening : (world : World) (event : Event) → (step world event).world.opening ≡ world.opening
 step_opening world (Begin c) = refl
-step_opening world (Msg c bytes mark) = served_opening world c bytes (lookup world.sessions c)
+step_opening world (Msg c bytes mark) = served_opening world c bytes mark (lookup world.sessions c)
 step_opening world (Take c) = refl
-step_opening world (End c) = refl
+step_opening world (End c) = ended_opening world c (lookup world.sessions c)
 step_opening world Stop = refl
 
 pub world_from-opening : (world : World) (events : List Event) → (world_from world events).opening ≡ world.opening

@@ -1,18 +1,37 @@
--- A session's fids, and what a message leaves (intro(5)).
-use Rattle.std.specs.Prelude.{ℕ, ◌==◌, ◌||◌, Bool, false, is_some, nat_le, List, [], length}
+-- A session's fids, what a message leaves, and what goes with a fid (intro(5), clunk(5)).
+use Rattle.std.specs.Prelude.{ℕ, ◌==◌, ◌&&◌, ◌||◌, Bool, false, not, is_some, nat_le, List, [], length, filter, Ok, Err}
+use Rattle.std.specs.List.{fold, list_any}
 use Rattle.model_text.specs.Outcome.{Outcome, value_or_refuse}
+use Rattle.model_text.specs.Map.{lookup, with, and, without}
 use Rattle.model_wire.specs.Message.{R, no_fid}
+use Rattle.model_tree.specs.declared.Kind.{Kind}
+use Rattle.model_tree.specs.declared.Kind.TheVariants.{Ctl, Data, Refresh}
+use Rattle.model_tree.specs.Node.{row}
 use Rattle.model_tree.specs.Tree.{View}
-use Rattle.model_world.specs.Map.{lookup, with, and}
 use Rattle.model_world.specs.Session.{Fid, Session}
+use Rattle.model_world.specs.Outside.{Outside}
 
--- what a message leaves of its session, and its reply
+-- what a message that stays within its session leaves of it, and the reply
 pub record Done : Type 0 where
   pub session : Session
   pub reply : R
 
 abbrev pub done : Session → R → Done
 done session reply = record { session = session; reply = reply }
+
+-- what a message leaves of its session and of the outside, and the reply
+pub record Left (S : Type 0) : Type 0 where
+  pub session : Session
+  pub rest : S
+  pub reply : R
+
+abbrev pub left : {S : Type 0} → Session × S → R → Left S
+left after reply = record { session = after.0; rest = after.1; reply = reply }
+
+-- nothing outside has changed
+abbrev pub beside : {S : Type 0} → S → Outcome Done → Outcome (Left S)
+beside rest (Ok d) = Ok (record { session = d.session; rest = rest; reply = d.reply })
+beside rest (Err n) = Err n
 
 -- 32 where there is no such fid
 abbrev pub fid_of : Session → ℕ → Outcome Fid
@@ -33,6 +52,40 @@ is_bound session n = (n == no_fid) || is_some (lookup session.fids n)
 abbrev pub is_full : Session → Bool
 is_full session = nat_le 1024 (length session.fids)
 
--- what walks and listings depend on: there are no connections to the draw device and no windows yet
-abbrev pub bare_view : View
-bare_view = record { connections = []; host = 0; windows = []; live = false }
+-- what walks and listings depend on: the session's connections; there are no windows yet
+abbrev pub view_of : Session → View
+view_of session = record { connections = session.connections; host = 0; windows = []; live = false }
+
+-- ---- connections, which live while a fid is open on one of their files
+
+abbrev pub is_kind : Kind → Kind → Bool
+is_kind a b = (row a).number == (row b).number
+
+-- it is open, and its file is of this kind
+abbrev pub is_open_on : Kind → Fid → Bool
+is_open_on kind fid = is_some fid.mode && is_kind kind fid.node.kind
+
+-- it keeps a connection alive
+abbrev pub keeps : ℕ → Fid → Bool
+keeps connection fid =
+    (fid.node.connection == connection) && (is_open_on Ctl fid || is_open_on Data fid || is_open_on Refresh fid)
+
+-- some fid keeps the connection alive
+abbrev pub is_kept : Session → ℕ → Bool
+is_kept session connection = list_any (λ entry. keeps connection entry.1) session.fids
+
+-- the connections that no fid keeps alive any more end, in ascending order
+unfoldable pub settled : {S : Type 0} → Outside S → Session → S → Session × S
+settled outside session rest = (
+  record session { connections = filter (is_kept session) session.connections },
+  fold outside.leave rest (filter (λ n. not (is_kept session n)) session.connections),
+)
+
+-- a fid goes, and with it the connection that it alone kept alive
+abbrev pub clunked : {S : Type 0} → Outside S → Session → S → ℕ → Session × S
+clunked outside session rest n = settled outside (record session { fids = without session.fids n }) rest
+
+-- all fids go, and all connections end
+abbrev pub cleared : {S : Type 0} → Outside S → Session → S → Session × S
+cleared outside session rest =
+    (record session { fids = []; connections = [] }, fold outside.leave rest session.connections)

@@ -1,5 +1,5 @@
-pub mod Map
 pub mod Session
+pub mod Outside
 pub mod Refusal
 pub mod Fids
 pub mod Walking
@@ -7,3 +7,5 @@ pub mod Reading
 pub mod Answer
 pub mod World
 pub mod Replay
+pub mod Links
+pub mod Cut

@@ -1,14 +1,18 @@
 -- Reading and writing what is open (read(5), write(5)).
-use Rattle.std.specs.Prelude.{ℕ, ◌+◌, ◌-◌, ◌==◌, ◌&&◌, ◌||◌, Bool, false, not, min, is_none, List, length, drop, Option, Some, None, Ok, Err, if◌then◌else◌}
+use Rattle.std.specs.Prelude.{ℕ, ◌+◌, ◌-◌, ◌==◌, ◌&&◌, Bool, false, not, min, nat_lt, is_none, List, [], length, drop, Option, Some, None, Ok, Err, if◌then◌else◌}
 use Rattle.std.specs.List.{concat}
 use Rattle.std.specs.Option.{option_map_or}
+use Rattle.model_imgfile.specs.ImageFile.{file_part}
 use Rattle.model_text.specs.Outcome.{Outcome, ◌>>=◌, refuse_if}
-use Rattle.model_wire.specs.Message.{Rread}
-use Rattle.model_tree.specs.Node.{reads, is_directory}
+use Rattle.model_wire.specs.Message.{R, Rread, Rwrite}
+use Rattle.model_tree.specs.declared.Kind.TheVariants.{Ctl, Data, Screen}
+use Rattle.model_tree.specs.Node.{Node, reads, writes, is_directory}
 use Rattle.model_tree.specs.Tree.{check_live}
 use Rattle.model_tree.specs.Listing.{stats, fitting}
 use Rattle.model_world.specs.Session.{Kept, Fid, Session}
-use Rattle.model_world.specs.Fids.{Done, done, fid_of, with_fid, bare_view}
+use Rattle.model_world.specs.Outside.{Outside}
+use Rattle.model_world.specs.Refusal.{refusal}
+use Rattle.model_world.specs.Fids.{Left, left, fid_of, with_fid, view_of, is_kind}
 
 -- only the read that follows the last one goes on
 abbrev pub goes_on : Option Kept → (offset : ℕ) → Outcome Kept
@@ -43,19 +47,68 @@ directory_read anew fid offset count =
 abbrev pub is_open_for : (ℕ → Bool) → Fid → Bool
 is_open_for test fid = option_map_or test fid.mode false
 
--- A read is answered by at most what a message holds. What is open for reading is a directory.
-unfoldable pub read_answer : Session → (tag fid offset count : ℕ) → Outcome Done
-read_answer session tag number offset count = do
-  fid ← fid_of session number
-  _ ← refuse_if (is_none fid.mode) 37
-  _ ← refuse_if (not (is_open_for reads fid) || not (is_directory fid.node)) 38
-  _ ← check_live bare_view fid.node
-  got ← directory_read (stats bare_view fid.node) fid offset (min count (session.msize - 11))
-  Ok (done (with_fid session number got.0) (Rread tag got.1))
+-- so many bytes tell what ctl describes
+abbrev pub ctl_len : ℕ
+ctl_len = 144
 
--- Nothing opens for writing yet, so each write is refused.
-unfoldable pub write_answer : Session → (fid : ℕ) → Outcome Done
-write_answer session number = do
+-- ctl tells all at its front, and nothing behind it
+unfoldable pub ctl_read : {S : Type 0} → Outside S → S → Node → (offset count : ℕ) → Outcome (List ℕ)
+ctl_read outside rest node offset count =
+    if not (offset == 0) then Ok []
+    else refuse_if (nat_lt count ctl_len) 25 >>= λ _. outside.read_ctl rest node.connection
+
+-- What a file gives, and what is left outside. The screen is told anew by each read. A read of refresh would wait, and no read
+-- may wait yet.
+abbrev pub file_read : {S : Type 0} → Outside S → S → Node → (offset count : ℕ) → Outcome (List ℕ × S)
+file_read outside rest node offset count =
+    if is_kind Ctl node.kind then (ctl_read outside rest node offset count >>= λ bytes. Ok (bytes, rest))
+    else if is_kind Data node.kind then outside.read_data rest node.connection count
+    else if is_kind Screen node.kind then Ok (file_part (outside.screen rest) offset count, rest)
+    else Err 45
+
+-- what a read leaves of the session and outside, and the bytes that it gives
+pub record Given (S : Type 0) : Type 0 where
+  pub session : Session
+  pub rest : S
+  pub bytes : List ℕ
+
+abbrev pub given_by : {S : Type 0} → Session → S → List ℕ → Given S
+given_by session rest bytes = record { session = session; rest = rest; bytes = bytes }
+
+-- a directory gives of its listing, and the fid keeps the rest of it
+abbrev pub node_read : {S : Type 0} → Outside S → Session → S → (number : ℕ) → Fid → (offset count : ℕ) → Outcome (Given S)
+node_read outside session rest number fid offset count =
+    if is_directory fid.node
+    then (directory_read (stats (view_of session) fid.node) fid offset count >>= λ got. Ok (given_by (with_fid session number got.0) rest got.1))
+    else file_read outside rest fid.node offset count >>= λ got. Ok (given_by session got.1 got.0)
+
+-- A read is answered by at most what a message holds.
+unfoldable pub read_answer : {S : Type 0} → Outside S → Session → S → (tag fid offset count : ℕ) → Outcome (Left S)
+read_answer outside session rest tag number offset count = do
   fid ← fid_of session number
   _ ← refuse_if (is_none fid.mode) 37
-  Err 38
+  _ ← refuse_if (not (is_open_for reads fid)) 38
+  _ ← check_live (view_of session) fid.node
+  got ← node_read outside session rest number fid offset (min count (session.msize - 11))
+  Ok (left (got.session, got.rest) (Rread tag got.bytes))
+
+-- What a write leaves outside, and the refusal of one that may leave something all the same. What opens for writing is ctl and
+-- data.
+abbrev pub file_written : {S : Type 0} → Outside S → S → Node → List ℕ → Option ℕ → Outcome (S × Option ℕ)
+file_written outside rest node bytes mark =
+    if is_kind Ctl node.kind then (outside.write_ctl rest node.connection bytes >>= λ next. Ok (next, None))
+    else if is_kind Data node.kind then Ok (outside.write_data rest node.connection bytes mark)
+    else Err 38
+
+abbrev pub write_reply : (tag count : ℕ) → Option ℕ → R
+write_reply tag count None = Rwrite tag count
+write_reply tag count (Some n) = refusal tag n
+
+unfoldable pub write_answer : {S : Type 0} → Outside S → Session → S → (tag fid : ℕ) → List ℕ → Option ℕ → Outcome (Left S)
+write_answer outside session rest tag number bytes mark = do
+  fid ← fid_of session number
+  _ ← refuse_if (is_none fid.mode) 37
+  _ ← refuse_if (not (is_open_for writes fid)) 38
+  _ ← check_live (view_of session) fid.node
+  after ← file_written outside rest fid.node bytes mark
+  Ok (left (session, after.0) (write_reply tag (length bytes) after.1))

@@ -1,24 +1,36 @@
 -- The texts of the refusals, by their numbers.
-use Rattle.std.specs.Prelude.{◌==◌, ℕ, List, codes, if◌then◌else◌}
+use Rattle.std.specs.Prelude.{◌==◌, ℕ, nat_lt, List, [], ◌∷◌, codes, if◌then◌else◌}
 use Rattle.model_wire.specs.Message.{R, Rerror}
 
+abbrev pub text_in : List (ℕ × List ℕ) → ℕ → List ℕ
+text_in [] n = []
+text_in (row ∷ rows) n = if row.0 == n then row.1 else text_in rows n
+
+-- those of the draw device
+abbrev pub draw_texts : List (ℕ × List ℕ)
+draw_texts =
+    (1, codes "short draw message") ∷ (2, codes "unknown draw message") ∷ (3, codes "unsupported draw message")
+    ∷ (4, codes "unknown id for draw image") ∷ (5, codes "unknown id for draw screen") ∷ (6, codes "image id in use")
+    ∷ (7, codes "screen id in use") ∷ (8, codes "bad channel descriptor") ∷ (9, codes "bad rectangle") ∷ (10, codes "image too large")
+    ∷ (11, codes "image parameters incompatible with screen") ∷ (12, codes "readimage outside image")
+    ∷ (13, codes "writeimage outside image") ∷ (18, codes "named image no longer valid")
+    ∷ (20, codes "image not a window") ∷ (21, codes "bad compositing operator")
+    ∷ (22, codes "images not on one screen") ∷ (23, codes "bad draw argument")
+    ∷ (24, codes "image memory allocation failed") ∷ (25, codes "draw read too short") ∷ (26, codes "no draw data")
+    ∷ (27, codes "unknown draw control request") ∷ []
+
+-- those of files
+abbrev pub file_texts : List (ℕ × List ℕ)
+file_texts =
+    (30, codes "bad message") ∷ (31, codes "version first") ∷ (32, codes "unknown fid") ∷ (33, codes "fid in use")
+    ∷ (34, codes "file does not exist") ∷ (35, codes "not a directory") ∷ (36, codes "fid is open")
+    ∷ (37, codes "fid not open") ∷ (38, codes "permission denied") ∷ (39, codes "bad offset")
+    ∷ (40, codes "no authentication") ∷ (41, codes "unknown id in attach") ∷ (42, codes "window deleted")
+    ∷ (43, codes "file in use") ∷ (44, codes "too many fids") ∷ (45, codes "too many blocked reads")
+    ∷ (46, codes "read too short") ∷ (48, codes "msize too small") ∷ []
+
 unfoldable pub refusal_text : ℕ → List ℕ
-refusal_text n = if n == 30 then codes "bad message"
-    else if n == 31 then codes "version first"
-    else if n == 32 then codes "unknown fid"
-    else if n == 33 then codes "fid in use"
-    else if n == 34 then codes "file does not exist"
-    else if n == 35 then codes "not a directory"
-    else if n == 36 then codes "fid is open"
-    else if n == 37 then codes "fid not open"
-    else if n == 38 then codes "permission denied"
-    else if n == 39 then codes "bad offset"
-    else if n == 40 then codes "no authentication"
-    else if n == 41 then codes "unknown id in attach"
-    else if n == 42 then codes "window deleted"
-    else if n == 44 then codes "too many fids"
-    else if n == 46 then codes "read too short"
-    else codes "msize too small"
+refusal_text n = if nat_lt n 30 then text_in draw_texts n else text_in file_texts n
 
 abbrev pub refusal : (tag number : ℕ) → R
 refusal tag number = Rerror tag (refusal_text number)

@@ -7,11 +7,12 @@ use Rattle.r9_event.specs.declared.event.Opening.{Opening}
 use Rattle.r9_event.specs.declared.event.Reply.{Reply}
 use Rattle.model_wire.specs.Spelling.{spelling_of_r}
 use Rattle.model_event.specs.Journal.{Journal}
-use Rattle.model_world.specs.Map.{lookup, with, and, without}
+use Rattle.model_text.specs.Map.{lookup, with, and, without}
 use Rattle.model_world.specs.Session.{Session, fresh}
-use Rattle.model_world.specs.Fids.{Done}
+use Rattle.model_draw.specs.World as draw
+use Rattle.model_world.specs.Fids.{Left, cleared}
 use Rattle.model_world.specs.Answer.{answer}
-use Rattle.model_world.specs.World.{World, opened}
+use Rattle.model_world.specs.World.{World, opened, device_for}
 
 -- the world after an event, and the replies to it in their order
 pub record Turn : Type 0 where
@@ -21,23 +22,31 @@ pub record Turn : Type 0 where
 abbrev pub silent : World → Turn
 silent world = record { world = world; replies = [] }
 
-abbrev pub replied_by : World → ℕ → Done → Turn
-replied_by world c left = record {
-  world = record world { sessions = with world.sessions c left.session };
-  replies = record { session = c; bytes = spelling_of_r left.reply } ∷ [];
+abbrev pub replied_by : World → ℕ → Left draw.World → Turn
+replied_by world c after = record {
+  world = record world { device = after.rest; sessions = with world.sessions c after.session };
+  replies = record { session = c; bytes = spelling_of_r after.reply } ∷ [];
 }
 
 -- a message is answered by its session, if it lives
-abbrev pub served : World → ℕ → List ℕ → Option Session → Turn
-served world c bytes None = silent world
-served world c bytes (Some session) = replied_by world c (answer session bytes)
+abbrev pub served : World → ℕ → List ℕ → Option ℕ → Option Session → Turn
+served world c bytes mark None = silent world
+served world c bytes mark (Some session) = replied_by world c (answer (device_for c) session world.device bytes mark)
 
--- One turn of the server. A mark has no effect before there is a draw device.
+-- a session ends, and its connections with it
+abbrev pub ended : World → ℕ → Option Session → World
+ended world c None = world
+ended world c (Some session) = record world {
+  device = (cleared (device_for c) session world.device).1;
+  sessions = without world.sessions c;
+}
+
+-- One turn of the server.
 abbrev pub step : World → Event → Turn
 step world (Begin c) = silent (record world { sessions = and world.sessions c fresh })
-step world (Msg c bytes mark) = served world c bytes (lookup world.sessions c)
+step world (Msg c bytes mark) = served world c bytes mark (lookup world.sessions c)
 step world (Take c) = silent world
-step world (End c) = silent (record world { sessions = without world.sessions c })
+step world (End c) = silent (ended world c (lookup world.sessions c))
 step world Stop = silent world
 
 abbrev pub world_from : World → List Event → World
@@ -59,6 +68,17 @@ replies opening events = replies_from (opened opening) events
 -- the world in which a journal ends
 abbrev pub world_at : Journal → World
 world_at journal = replay journal.opening journal.events
+
+-- ---- marks
+
+-- the event as a history has it: with the mark where memory ran out in its data write
+abbrev pub with_mark : Event → ℕ → Event
+with_mark (Msg c bytes mark) k = Msg c bytes (Some k)
+with_mark event k = event
+
+abbrev pub marked : Event → Option ℕ → Event
+marked event None = event
+marked event (Some k) = with_mark event k
 
 -- ---- what waits to be taken
 

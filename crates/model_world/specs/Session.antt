@@ -17,11 +17,14 @@ pub record Fid : Type 0 where
 abbrev pub fid_at : Node → Fid
 fid_at node = record { node = node; mode = None; kept = None }
 
--- the greatest size of a message, whether a version is agreed, and the fids
+-- The greatest size of a message; whether a version is agreed; the fids; the connections to the draw device that live, in
+-- ascending order; and how many it ever made, whose numbers are from 1 to that.
 pub record Session : Type 0 where
   pub msize : ℕ
   pub agreed : Bool
   pub fids : List (ℕ × Fid)
+  pub connections : List ℕ
+  pub made : ℕ
 
 -- the greatest size of a message that the server takes
 abbrev pub max_msize : ℕ
@@ -29,4 +32,4 @@ max_msize = 65560
 
 -- a session that has agreed on nothing
 abbrev pub fresh : Session
-fresh = record { msize = max_msize; agreed = false; fids = [] }
+fresh = record { msize = max_msize; agreed = false; fids = []; connections = []; made = 0 }

@@ -1,11 +1,15 @@
 -- Attaching, walking and opening (attach(5), walk(5), open(5)).
-use Rattle.std.specs.Prelude.{ℕ, ◌==◌, ◌&&◌, ◌||◌, Bool, not, is_some, List, [], ◌∷◌, length, map, Option, Some, None, Ok, Err, if◌then◌else◌}
+use Rattle.std.specs.Prelude.{ℕ, ◌+◌, ◌==◌, ◌&&◌, ◌||◌, Bool, not, is_some, nat_le, List, [], ◌∷◌, ◌++◌, length, map, Option, Some, None, Ok, Err, if◌then◌else◌}
+use Rattle.std.specs.List.{list_any}
 use Rattle.model_text.specs.Outcome.{Outcome, ◌>>=◌, refuse_if}
 use Rattle.model_wire.specs.Message.{Rattach, Rwalk, Ropen, no_fid}
 use Rattle.model_tree.specs.Node.{Node, qid, may, is_directory}
-use Rattle.model_tree.specs.Tree.{root_of, check_live, walk}
+use Rattle.model_tree.specs.declared.Kind.TheVariants.{New, Ctl, Data, Refresh, Screen}
+use Rattle.model_tree.specs.Tree.{View, root_of, check_live, walk}
 use Rattle.model_world.specs.Session.{Fid, Session, fid_at}
-use Rattle.model_world.specs.Fids.{Done, done, fid_of, with_fid, and_fid, is_bound, is_full, bare_view}
+use Rattle.model_text.specs.Map.{with}
+use Rattle.model_world.specs.Outside.{Outside}
+use Rattle.model_world.specs.Fids.{Done, done, Left, left, fid_of, with_fid, and_fid, is_bound, is_full, view_of, is_kind, is_open_on}
 
 -- ---- attach
 
@@ -28,9 +32,9 @@ walk_on (Err n) further = ([], Some n)
 walk_on (Ok next) further = after_node next (further next)
 
 -- the nodes of a walk of several names, as far as it goes, and the refusal of the name that it stops at
-abbrev pub walked : Node → List (List ℕ) → List Node × Option ℕ
-walked node [] = ([], None)
-walked node (name ∷ names) = walk_on (walk bare_view node name) (λ next. walked next names)
+abbrev pub walked : View → Node → List (List ℕ) → List Node × Option ℕ
+walked view node [] = ([], None)
+walked view node (name ∷ names) = walk_on (walk view node name) (λ next. walked view next names)
 
 abbrev pub last : Node → List Node → Node
 last node [] = node
@@ -54,19 +58,60 @@ walk_answer session tag fid newfid names = do
   _ ← refuse_if (is_some from.mode) 36
   _ ← refuse_if (not (newfid == fid) && is_bound session newfid) 33
   _ ← refuse_if (not (newfid == fid) && is_full session) 44
-  walk_ended session tag fid newfid from.node (walked from.node names)
+  walk_ended session tag fid newfid from.node (walked (view_of session) from.node names)
 
 -- ---- open
 
--- the files that open today: directories
+-- the files that open today: directories, those of the draw device, and the screen
 abbrev pub is_built : Node → Bool
-is_built node = is_directory node
+is_built node =
+    is_directory node || is_kind New node.kind || is_kind Ctl node.kind || is_kind Data node.kind || is_kind Refresh node.kind || is_kind Screen node.kind
 
--- what its permissions forbid does not open, nor what is not built yet
-unfoldable pub open_answer : Session → (tag fid mode : ℕ) → Outcome Done
-open_answer session tag number mode = do
+-- so many connections of a session live at once at most, and so many may be made
+abbrev pub most_at_once : ℕ
+most_at_once = 4
+
+abbrev pub most_made : ℕ
+most_made = 67108863
+
+-- The session has all its connections, or the one ctl of a connection is open already.
+abbrev pub is_taken : Session → Node → Bool
+is_taken session node =
+    (is_kind New node.kind && nat_le most_at_once (length session.connections))
+    || (is_kind Ctl node.kind && list_any (λ entry. (entry.1.node.connection == node.connection) && is_open_on Ctl entry.1) session.fids)
+
+-- the ctl of a connection, which an open of new becomes
+abbrev pub ctl_of : Node → ℕ → Node
+ctl_of node connection = record { kind = Ctl; connection = connection; serial = 0; root = node.root }
+
+-- a connection begins, and its ctl is open
+abbrev pub opened_new : {S : Type 0} → Outside S → Session → S → (tag number mode : ℕ) → Fid → Left S
+opened_new outside session rest tag number mode fid =
+    let n = session.made + 1 in
+    let ctl = ctl_of fid.node n in
+    left (
+      record session {
+        fids = with session.fids number (record fid { node = ctl; mode = Some mode });
+        connections = session.connections ++ n ∷ [];
+        made = n;
+      },
+      outside.connect rest n,
+    )
+    (Ropen tag (qid ctl) 0)
+
+abbrev pub opened : {S : Type 0} → Outside S → Session → S → (tag number mode : ℕ) → Fid → Left S
+opened outside session rest tag number mode fid =
+    if is_kind New fid.node.kind then opened_new outside session rest tag number mode fid
+    else left (with_fid session number (record fid { mode = Some mode }), rest) (Ropen tag (qid fid.node) 0)
+
+-- 38 what its permissions forbid does not open, nor what is not built yet; 43 what is taken; 44 no number is left for another
+-- connection
+unfoldable pub open_answer : {S : Type 0} → Outside S → Session → S → (tag fid mode : ℕ) → Outcome (Left S)
+open_answer outside session rest tag number mode = do
   fid ← fid_of session number
   _ ← refuse_if (is_some fid.mode) 36
-  _ ← check_live bare_view fid.node
+  _ ← check_live (view_of session) fid.node
   _ ← refuse_if (not (may fid.node mode) || not (is_built fid.node)) 38
-  Ok (done (with_fid session number (record fid { mode = Some mode })) (Ropen tag (qid fid.node) 0))
+  _ ← refuse_if (is_taken session fid.node) 43
+  _ ← refuse_if (is_kind New fid.node.kind && nat_le most_made session.made) 44
+  Ok (opened outside session rest tag number mode fid)

@@ -1,2 +1,4 @@
 mod Loops
 mod Told
+mod Numbers
+mod Asked

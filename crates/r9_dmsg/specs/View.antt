@@ -1,6 +1,7 @@
 -- Messages of the code as those of the definitions, and what reading answers.
-use Rattle.std.specs.Prelude.{◌≡◌, Bool, true, false, Option, Some, None, Result, Ok, Err}
+use Rattle.std.specs.Prelude.{◌≡◌, ◌^◌, Bool, true, false, Option, Some, None, Result, Ok, Err}
 use Rattle.std.specs.Option.{option_map}
+use Rattle.r9_geom.specs.Geometry.{IsNearBy, IsRectNearBy}
 use Rattle.model_dmsg.specs.Message as model
 use Rattle.model_dmsg.specs.Reading.{First, IsMessage, IsShort, IsUnknown, IsUnsupported}
 use Rattle.r9_dmsg.specs.declared.message.Dmsg.{Dmsg}
@@ -52,3 +53,12 @@ Tells (Err fault.Short) first = first ≡ IsShort
 Tells (Err fault.Unknown) first = first ≡ IsUnknown
 Tells (Err fault.Unsupported) first = first ≡ IsUnsupported
 Tells (Err fault.Memory) first = option_map may_fill (message_in first) ≡ Some true
+
+-- the numbers of its rectangles and points are of 32 bits
+abbrev pub IsNearMessage : Dmsg → Type 0
+IsNearMessage (d.LowB id screenid refresh chan repl r clipr color) = IsRectNearBy (2 ^ 31) r × IsRectNearBy (2 ^ 31) clipr
+IsNearMessage (d.LowC dstid repl clipr) = IsRectNearBy (2 ^ 31) clipr
+IsNearMessage (d.LowD dstid srcid maskid dstr srcp maskp) = IsRectNearBy (2 ^ 31) dstr × IsNearBy (2 ^ 31) srcp × IsNearBy (2 ^ 31) maskp
+IsNearMessage (d.LowR id r) = IsRectNearBy (2 ^ 31) r
+IsNearMessage (d.LowY id r) = IsRectNearBy (2 ^ 31) r
+IsNearMessage _ = Unit {0}

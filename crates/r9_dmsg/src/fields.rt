@@ -1,8 +1,9 @@
 //! Fields at the front of bytes: a value and the bytes behind it, or None where the bytes end too early.
 
-ghost use Rattle.std.specs.Prelude.{◌≡◌, ◌≤◌, length, take, drop};
+ghost use Rattle.std.specs.Prelude.{◌≡◌, ◌≤◌, ◌^◌, ◌≤ℤ◌, pos, neg_ℤ, length, take, drop, IfSome};
 ghost use Rattle.std.specs.Int.{w16, w32, from_le_bytes};
 ghost use Rattle.std.specs.Option.{option_map};
+ghost use Rattle.r9_geom.specs.Geometry.{IsNearBy, IsRectNearBy};
 ghost use Rattle.model_dmsg.specs.Reading.{byte, short, long, signed_byte, coordinate, point, rect};
 
 use r9_geom::{Point, Rect};
@@ -71,7 +72,9 @@ pub(crate) fn i8_at(bytes: &[u8]) -> Option<(i8, &[u8])>
 #[inline]
 #[tactic(auto, unfolding(model_dmsg::specs::Reading::coordinate))]
 pub(crate) fn coordinate_at(bytes: &[u8]) -> Option<(i64, &[u8])>
-    ensures { option_map (λ x. (x.0, x.1.now)) result ≡ coordinate bytes.now }
+    ensures low { IfSome result (λ x. neg_ℤ (pos (2 ^ 31)) ≤ℤ x.0) }
+    ensures high { IfSome result (λ x. x.0 ≤ℤ pos (2 ^ 31)) }
+    ensures value { option_map (λ x. (x.0, x.1.now)) result ≡ coordinate bytes.now }
 {
     let (number, rest) = u32_at(bytes)?;
     Some((i64::from(number.cast_signed()), rest))
@@ -80,7 +83,8 @@ pub(crate) fn coordinate_at(bytes: &[u8]) -> Option<(i64, &[u8])>
 #[inline]
 #[tactic(auto, unfolding(model_dmsg::specs::Reading::point))]
 pub(crate) fn point_at(bytes: &[u8]) -> Option<(Point, &[u8])>
-    ensures { option_map (λ x. (x.0, x.1.now)) result ≡ point bytes.now }
+    ensures near { IfSome result (λ x. IsNearBy (2 ^ 31) x.0) }
+    ensures value { option_map (λ x. (x.0, x.1.now)) result ≡ point bytes.now }
 {
     let (x, rest) = coordinate_at(bytes)?;
     let (y, rest) = coordinate_at(rest)?;
@@ -90,7 +94,8 @@ pub(crate) fn point_at(bytes: &[u8]) -> Option<(Point, &[u8])>
 #[inline]
 #[tactic(auto, unfolding(model_dmsg::specs::Reading::rect))]
 pub(crate) fn rect_at(bytes: &[u8]) -> Option<(Rect, &[u8])>
-    ensures { option_map (λ x. (x.0, x.1.now)) result ≡ rect bytes.now }
+    ensures near { IfSome result (λ x. IsRectNearBy (2 ^ 31) x.0) }
+    ensures value { option_map (λ x. (x.0, x.1.now)) result ≡ rect bytes.now }
 {
     let (min, rest) = point_at(bytes)?;
     let (max, rest) = point_at(rest)?;

@@ -1,9 +1,9 @@
 //! The fields behind the letters whose messages have no list. None where the bytes end too early.
 
-ghost use Rattle.std.specs.Prelude.{◌≡◌};
+ghost use Rattle.std.specs.Prelude.{◌≡◌, IfSome};
 ghost use Rattle.std.specs.Option.{option_map};
 ghost use Rattle.model_dmsg.specs.Reading.{low_b, up_a, low_c, low_d, up_d, low_f, up_f, low_i, low_l, low_o, up_o, low_r, up_s, low_y};
-ghost use Rattle.r9_dmsg.specs.View.{message_of};
+ghost use Rattle.r9_dmsg.specs.View.{message_of, IsNearMessage};
 
 use crate::fields::{i8_at, point_at, rect_at, u8_at, u16_at, u32_at};
 use crate::message::Dmsg;
@@ -11,7 +11,8 @@ use crate::message::Dmsg;
 #[inline]
 #[tactic(auto, unfolding(model_dmsg::specs::Reading::low_b))]
 pub(crate) fn low_b(bytes: &[u8]) -> Option<Dmsg>
-    ensures { option_map message_of result ≡ option_map (λ x. x.0) (low_b bytes.now) }
+    ensures near { IfSome result IsNearMessage }
+    ensures message { option_map message_of result ≡ option_map (λ x. x.0) (low_b bytes.now) }
 {
     let (id, rest) = u32_at(bytes)?;
     let (screenid, rest) = u32_at(rest)?;
@@ -36,7 +37,8 @@ pub(crate) fn low_b(bytes: &[u8]) -> Option<Dmsg>
 #[inline]
 #[tactic(auto, unfolding(model_dmsg::specs::Reading::up_a))]
 pub(crate) fn up_a(bytes: &[u8]) -> Option<Dmsg>
-    ensures { option_map message_of result ≡ option_map (λ x. x.0) (up_a bytes.now) }
+    ensures near { IfSome result IsNearMessage }
+    ensures message { option_map message_of result ≡ option_map (λ x. x.0) (up_a bytes.now) }
 {
     let (id, rest) = u32_at(bytes)?;
     let (imageid, rest) = u32_at(rest)?;
@@ -53,7 +55,8 @@ pub(crate) fn up_a(bytes: &[u8]) -> Option<Dmsg>
 #[inline]
 #[tactic(auto, unfolding(model_dmsg::specs::Reading::low_c))]
 pub(crate) fn low_c(bytes: &[u8]) -> Option<Dmsg>
-    ensures { option_map message_of result ≡ option_map (λ x. x.0) (low_c bytes.now) }
+    ensures near { IfSome result IsNearMessage }
+    ensures message { option_map message_of result ≡ option_map (λ x. x.0) (low_c bytes.now) }
 {
     let (dstid, rest) = u32_at(bytes)?;
     let (repl, rest) = u8_at(rest)?;
@@ -64,7 +67,8 @@ pub(crate) fn low_c(bytes: &[u8]) -> Option<Dmsg>
 #[inline]
 #[tactic(auto, unfolding(model_dmsg::specs::Reading::low_d))]
 pub(crate) fn low_d(bytes: &[u8]) -> Option<Dmsg>
-    ensures { option_map message_of result ≡ option_map (λ x. x.0) (low_d bytes.now) }
+    ensures near { IfSome result IsNearMessage }
+    ensures message { option_map message_of result ≡ option_map (λ x. x.0) (low_d bytes.now) }
 {
     let (dstid, rest) = u32_at(bytes)?;
     let (srcid, rest) = u32_at(rest)?;
@@ -85,7 +89,8 @@ pub(crate) fn low_d(bytes: &[u8]) -> Option<Dmsg>
 #[inline]
 #[tactic(auto, unfolding(model_dmsg::specs::Reading::up_d))]
 pub(crate) fn up_d(bytes: &[u8]) -> Option<Dmsg>
-    ensures { option_map message_of result ≡ option_map (λ x. x.0) (up_d bytes.now) }
+    ensures near { IfSome result IsNearMessage }
+    ensures message { option_map message_of result ≡ option_map (λ x. x.0) (up_d bytes.now) }
 {
     let (debug, _) = u8_at(bytes)?;
     Some(Dmsg::UpD { debug })
@@ -94,7 +99,8 @@ pub(crate) fn up_d(bytes: &[u8]) -> Option<Dmsg>
 #[inline]
 #[tactic(auto, unfolding(model_dmsg::specs::Reading::low_f))]
 pub(crate) fn low_f(bytes: &[u8]) -> Option<Dmsg>
-    ensures { option_map message_of result ≡ option_map (λ x. x.0) (low_f bytes.now) }
+    ensures near { IfSome result IsNearMessage }
+    ensures message { option_map message_of result ≡ option_map (λ x. x.0) (low_f bytes.now) }
 {
     let (id, _) = u32_at(bytes)?;
     Some(Dmsg::LowF { id })
@@ -103,7 +109,8 @@ pub(crate) fn low_f(bytes: &[u8]) -> Option<Dmsg>
 #[inline]
 #[tactic(auto, unfolding(model_dmsg::specs::Reading::up_f))]
 pub(crate) fn up_f(bytes: &[u8]) -> Option<Dmsg>
-    ensures { option_map message_of result ≡ option_map (λ x. x.0) (up_f bytes.now) }
+    ensures near { IfSome result IsNearMessage }
+    ensures message { option_map message_of result ≡ option_map (λ x. x.0) (up_f bytes.now) }
 {
     let (id, _) = u32_at(bytes)?;
     Some(Dmsg::UpF { id })
@@ -112,7 +119,8 @@ pub(crate) fn up_f(bytes: &[u8]) -> Option<Dmsg>
 #[inline]
 #[tactic(auto, unfolding(model_dmsg::specs::Reading::low_i))]
 pub(crate) fn low_i(bytes: &[u8]) -> Option<Dmsg>
-    ensures { option_map message_of result ≡ option_map (λ x. x.0) (low_i bytes.now) }
+    ensures near { IfSome result IsNearMessage }
+    ensures message { option_map message_of result ≡ option_map (λ x. x.0) (low_i bytes.now) }
 {
     let (id, rest) = u32_at(bytes)?;
     let (n, rest) = u32_at(rest)?;
@@ -123,7 +131,8 @@ pub(crate) fn low_i(bytes: &[u8]) -> Option<Dmsg>
 #[inline]
 #[tactic(auto, unfolding(model_dmsg::specs::Reading::low_l))]
 pub(crate) fn low_l(bytes: &[u8]) -> Option<Dmsg>
-    ensures { option_map message_of result ≡ option_map (λ x. x.0) (low_l bytes.now) }
+    ensures near { IfSome result IsNearMessage }
+    ensures message { option_map message_of result ≡ option_map (λ x. x.0) (low_l bytes.now) }
 {
     let (cacheid, rest) = u32_at(bytes)?;
     let (srcid, rest) = u32_at(rest)?;
@@ -146,7 +155,8 @@ pub(crate) fn low_l(bytes: &[u8]) -> Option<Dmsg>
 #[inline]
 #[tactic(auto, unfolding(model_dmsg::specs::Reading::low_o))]
 pub(crate) fn low_o(bytes: &[u8]) -> Option<Dmsg>
-    ensures { option_map message_of result ≡ option_map (λ x. x.0) (low_o bytes.now) }
+    ensures near { IfSome result IsNearMessage }
+    ensures message { option_map message_of result ≡ option_map (λ x. x.0) (low_o bytes.now) }
 {
     let (id, rest) = u32_at(bytes)?;
     let (rmin, rest) = point_at(rest)?;
@@ -157,7 +167,8 @@ pub(crate) fn low_o(bytes: &[u8]) -> Option<Dmsg>
 #[inline]
 #[tactic(auto, unfolding(model_dmsg::specs::Reading::up_o))]
 pub(crate) fn up_o(bytes: &[u8]) -> Option<Dmsg>
-    ensures { option_map message_of result ≡ option_map (λ x. x.0) (up_o bytes.now) }
+    ensures near { IfSome result IsNearMessage }
+    ensures message { option_map message_of result ≡ option_map (λ x. x.0) (up_o bytes.now) }
 {
     let (op, _) = u8_at(bytes)?;
     Some(Dmsg::UpO { op })
@@ -166,7 +177,8 @@ pub(crate) fn up_o(bytes: &[u8]) -> Option<Dmsg>
 #[inline]
 #[tactic(auto, unfolding(model_dmsg::specs::Reading::low_r))]
 pub(crate) fn low_r(bytes: &[u8]) -> Option<Dmsg>
-    ensures { option_map message_of result ≡ option_map (λ x. x.0) (low_r bytes.now) }
+    ensures near { IfSome result IsNearMessage }
+    ensures message { option_map message_of result ≡ option_map (λ x. x.0) (low_r bytes.now) }
 {
     let (id, rest) = u32_at(bytes)?;
     let (r, _) = rect_at(rest)?;
@@ -176,7 +188,8 @@ pub(crate) fn low_r(bytes: &[u8]) -> Option<Dmsg>
 #[inline]
 #[tactic(auto, unfolding(model_dmsg::specs::Reading::up_s))]
 pub(crate) fn up_s(bytes: &[u8]) -> Option<Dmsg>
-    ensures { option_map message_of result ≡ option_map (λ x. x.0) (up_s bytes.now) }
+    ensures near { IfSome result IsNearMessage }
+    ensures message { option_map message_of result ≡ option_map (λ x. x.0) (up_s bytes.now) }
 {
     let (id, rest) = u32_at(bytes)?;
     let (chan, _) = u32_at(rest)?;
@@ -186,7 +199,8 @@ pub(crate) fn up_s(bytes: &[u8]) -> Option<Dmsg>
 #[inline]
 #[tactic(auto, unfolding(model_dmsg::specs::Reading::low_y))]
 pub(crate) fn low_y(bytes: &[u8]) -> Option<Dmsg>
-    ensures { option_map message_of result ≡ option_map (λ x. x.0) (low_y bytes.now) }
+    ensures near { IfSome result IsNearMessage }
+    ensures message { option_map message_of result ≡ option_map (λ x. x.0) (low_y bytes.now) }
 {
     let (id, rest) = u32_at(bytes)?;
     let (r, _) = rect_at(rest)?;

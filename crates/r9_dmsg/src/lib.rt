@@ -6,9 +6,11 @@ mod letters;
 mod lists;
 mod message;
 mod reading;
+mod restacking;
 
 pub use message::{Dmsg, DmsgFault};
 pub use reading::next_msg;
+pub use restacking::{Restacking, next_restacking};
 
 #[cfg(test)]
 mod tests;

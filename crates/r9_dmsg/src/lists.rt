@@ -1,12 +1,12 @@
 //! The fields behind the letters whose messages have a list. None where the bytes end too early; want of memory only where
 //! they do not.
 
-ghost use Rattle.std.specs.Prelude.{◌≡◌, ◌≤◌, ◌*◌, length, IfOk, OnErr, IsSome};
+ghost use Rattle.std.specs.Prelude.{◌≡◌, ◌≤◌, ◌*◌, length, IfOk, IfSome, OnErr, IsSome};
 ghost use Rattle.std.specs.Int.{w16, w32};
 ghost use Rattle.std.specs.Option.{option_map};
 ghost use Rattle.model_dmsg.specs.Message.{UpN, LowN, LowS, LowX};
 ghost use Rattle.model_dmsg.specs.Reading.{name, numbers, numbers_of, string_head, writing_of, up_n, low_n, low_s, low_t, low_x};
-ghost use Rattle.r9_dmsg.specs.View.{message_of};
+ghost use Rattle.r9_dmsg.specs.View.{message_of, IsNearMessage};
 ghost use Rattle.r9_dmsg.specs.Head.{head_of};
 
 use crate::fields::{point_at, rect_at, split_u16, split_u32, u8_at, u16_at, u32_at};
@@ -97,7 +97,8 @@ pub(crate) struct Head {
 
 impl Head {
     fn string(self, indices: Numbers) -> Dmsg
-        ensures { message_of result ≡ LowS (writing_of (head_of self) indices) }
+        ensures near { IsNearMessage result }
+        ensures message { message_of result ≡ LowS (writing_of (head_of self) indices) }
     {
         Dmsg::LowS {
             dstid: self.dstid,
@@ -111,7 +112,8 @@ impl Head {
     }
 
     fn string_on(self, bgid: u32, bgp: Point, indices: Numbers) -> Dmsg
-        ensures { message_of result ≡ LowX (writing_of (head_of self) indices) bgid bgp }
+        ensures near { IsNearMessage result }
+        ensures message { message_of result ≡ LowX (writing_of (head_of self) indices) bgid bgp }
     {
         Dmsg::LowX {
             dstid: self.dstid,
@@ -159,6 +161,7 @@ fn tie_at(bytes: &[u8]) -> Option<(u32, u8, &[u8])>
 }
 
 pub(crate) fn up_n(alloc: Global, bytes: &[u8]) -> Result<Option<Dmsg>, Memory>
+    ensures near { IfOk result (λ m. IfSome m IsNearMessage) }
     ensures read { IfOk result (λ m. option_map message_of m ≡ option_map (λ x. x.0) (up_n bytes.now)) }
     ensures whole { OnErr result (IsSome (up_n bytes.now)) }
 {
@@ -179,6 +182,7 @@ fn named_at(bytes: &[u8]) -> Option<(u32, &[u8])>
 }
 
 pub(crate) fn low_n(alloc: Global, bytes: &[u8]) -> Result<Option<Dmsg>, Memory>
+    ensures near { IfOk result (λ m. IfSome m IsNearMessage) }
     ensures read { IfOk result (λ m. option_map message_of m ≡ option_map (λ x. x.0) (low_n bytes.now)) }
     ensures whole { OnErr result (IsSome (low_n bytes.now)) }
 {
@@ -191,6 +195,7 @@ pub(crate) fn low_n(alloc: Global, bytes: &[u8]) -> Result<Option<Dmsg>, Memory>
 
 #[tactic(auto, unfolding(model_dmsg::specs::Reading::low_s, model_dmsg::specs::Reading::counted))]
 pub(crate) fn low_s(alloc: Global, bytes: &[u8]) -> Result<Option<Dmsg>, Memory>
+    ensures near { IfOk result (λ m. IfSome m IsNearMessage) }
     ensures read { IfOk result (λ m. option_map message_of m ≡ option_map (λ x. x.0) (low_s bytes.now)) }
     ensures whole { OnErr result (IsSome (low_s bytes.now)) }
 {
@@ -208,6 +213,7 @@ pub(crate) fn low_s(alloc: Global, bytes: &[u8]) -> Result<Option<Dmsg>, Memory>
 
 #[tactic(auto, unfolding(model_dmsg::specs::Reading::low_t, model_dmsg::specs::Reading::counted))]
 pub(crate) fn low_t(alloc: Global, bytes: &[u8]) -> Result<Option<Dmsg>, Memory>
+    ensures near { IfOk result (λ m. IfSome m IsNearMessage) }
     ensures read { IfOk result (λ m. option_map message_of m ≡ option_map (λ x. x.0) (low_t bytes.now)) }
     ensures whole { OnErr result (IsSome (low_t bytes.now)) }
 {
@@ -225,6 +231,7 @@ pub(crate) fn low_t(alloc: Global, bytes: &[u8]) -> Result<Option<Dmsg>, Memory>
 
 #[tactic(auto, unfolding(model_dmsg::specs::Reading::low_x, model_dmsg::specs::Reading::counted_around))]
 pub(crate) fn low_x(alloc: Global, bytes: &[u8]) -> Result<Option<Dmsg>, Memory>
+    ensures near { IfOk result (λ m. IfSome m IsNearMessage) }
     ensures read { IfOk result (λ m. option_map message_of m ≡ option_map (λ x. x.0) (low_x bytes.now)) }
     ensures whole { OnErr result (IsSome (low_x bytes.now)) }
 {

@@ -4,7 +4,7 @@ ghost use Rattle.std.specs.Prelude.{◌≡◌, ◌≤◌, ◌↔◌, length, IfO
 ghost use Rattle.std.specs.Option.{option_map, ok_or};
 ghost use Rattle.model_dmsg.specs.Message.{spelled_len};
 ghost use Rattle.model_dmsg.specs.Reading.{IsMessage, IsShort, IsUnknown, IsUnsupported, behind, first_message};
-ghost use Rattle.r9_dmsg.specs.View.{message_of, message_in, may_fill, Tells};
+ghost use Rattle.r9_dmsg.specs.View.{message_of, message_in, may_fill, IsNearMessage, Tells};
 
 use crate::letters::{
     low_b, low_c, low_d, low_f, low_i, low_l, low_o, low_r, low_y, up_a, up_d, up_f, up_o, up_s,
@@ -20,7 +20,8 @@ fn or_short(read: Option<Dmsg>) -> Result<Dmsg, DmsgFault>
 }
 
 fn behind(alloc: Global, letter: u8, bytes: &[u8]) -> Result<Dmsg, DmsgFault>
-    ensures { Tells result (behind letter bytes.now) }
+    ensures near { IfOk result IsNearMessage }
+    ensures told { Tells result (behind letter bytes.now) }
 {
     match letter {
         b'b' => or_short(low_b(bytes)),
@@ -49,7 +50,8 @@ fn behind(alloc: Global, letter: u8, bytes: &[u8]) -> Result<Dmsg, DmsgFault>
 }
 
 fn read(alloc: Global, bytes: &[u8]) -> Result<Dmsg, DmsgFault>
-    ensures { Tells result (first_message bytes.now) }
+    ensures near { IfOk result IsNearMessage }
+    ensures told { Tells result (first_message bytes.now) }
 {
     match bytes {
         [] => Err(DmsgFault::Short),
@@ -63,6 +65,7 @@ fn read(alloc: Global, bytes: &[u8]) -> Result<Dmsg, DmsgFault>
 /// lists of `N`, `n`, `s`, `t` and `x` alone.
 pub fn next_msg(alloc: Global, bytes: &[u8]) -> Result<Dmsg, DmsgFault>
     ensures message { IfOk result (λ m. first_message bytes.now ≡ IsMessage (message_of m) (drop (spelled_len (message_of m)) bytes.now)) }
+    ensures near { IfOk result IsNearMessage }
     ensures whole { IfOk result (λ m. spelled_len (message_of m) ≤ length bytes.now) }
     ensures short { IsErrOf result DmsgFault.Short ↔ (first_message bytes.now ≡ IsShort) }
     ensures unknown { IsErrOf result DmsgFault.Unknown ↔ (first_message bytes.now ≡ IsUnknown) }

@@ -73,3 +73,28 @@ fn a_name(rt: HostRuntime) -> Result<(), Fail> {
     assert_eq!(rt; name.as_slice(), b"pic".as_slice());
     Ok(())
 }
+
+// What a `t` asks for, where one stands whole: whether to the top, and its ids.
+#[test]
+fn restackings(rt: HostRuntime) {
+    let rows: [(&[u8], Option<(u8, u32, u32)>); 5] = [
+        (b"t\x01\x02\0\x0a\0\0\0\x0b\x01\0\0v", Some((1, 10, 267))),
+        (
+            b"t\0\x02\0\0\0\0\x01\xff\xff\xff\xff",
+            Some((0, 0x100_0000, 0xffff_ffff)),
+        ),
+        (b"t\x01\x02\0\x0a\0\0\0\x0b\0\0", None),
+        (b"v", None),
+        (b"", None),
+    ];
+    for (bytes, asked) in rows {
+        let read = next_restacking(bytes);
+        assert_eq!(rt; read.is_some(), asked.is_some());
+        if let (Some(read), Some((top, first, second))) = (read, asked) {
+            assert_eq!(rt; (read.top, read.len()), (top, 2));
+            if read.len() == 2 {
+                assert_eq!(rt; (read.id(0), read.id(1)), (first, second));
+            }
+        }
+    }
+}

@@ -1,6 +1,7 @@
 //! Events and what they give.
 
 use crate::lists::Replies;
+use r9_chan::Chan;
 use r9_text::Bytes;
 
 /// One turn of the server. Sessions are numbered from 1.
@@ -47,11 +48,15 @@ pub struct Reply {
 pub struct Did {
     /// The replies, in order.
     pub replies: Replies,
+    /// Where memory ran out in a data write: how many of its draw messages were done. The event stands in the history with
+    /// this mark.
+    pub short: Option<u32>,
 }
 
-/// The display with which the server starts, in pixels.
+/// The display with which the server starts: its sides in pixels, and the channels of its pixels.
 #[derive(Clone, Copy, Debug, PartialEq, Eq)]
 pub struct Opening {
     pub width: u32,
     pub height: u32,
+    pub chan: Chan,
 }

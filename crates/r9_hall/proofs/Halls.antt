@@ -14,7 +14,11 @@ use Rattle.model_world.specs.World.{World, opened}
 use Rattle.model_world.specs.Replay.{step, world_at, waiting_from, waiting_after}
 use Rattle.model_world.proofs.Histories.{world_from-push, waiting_from-push, world_from-opening}
 use Rattle.r9_hall.specs.HallView.{HallValue, Stands, entered}
-use Rattle.r9_hall.specs.StateView.{State, IsAfter, waiting, world_of}
+use Rattle.model_draw.specs.World.{started}
+use Rattle.model_world.specs.World.{display_of}
+use Rattle.model_world.specs.Links.{AreKnown, AreLinked, IsNext}
+use Rattle.model_world.proofs.Steps.{opened_linked, step_linked, step_known}
+use Rattle.r9_hall.specs.StateView.{State, IsAfter, state_world, waiting}
 
 pub events_of-push : (entries : List Entry) (entry : Entry) → events_of (entries ++ entry ∷ []) ≡ events_of entries ++ entry.event ∷ []
 events_of-push entries entry = map-append (λ (e : Entry). e.event) entries (entry ∷ [])
@@ -24,27 +28,36 @@ AreNumbered-push first [] entry numbered next = (omega (arith, next), tt)
 AreNumbered-push first (e ∷ entries) entry numbered next = (numbered.0, AreNumbered-push (first + 1) entries entry numbered.1 (omega (arith, next)))
 
 -- a state that stands is the journal's world
-standing : (opening : Opening) (events : List Event) (s : State) → Stands (record { opening = opening; events = events }) s
-    → world_of opening s ≡ world_at (record { opening = opening; events = events })
+pub standing : (opening : Opening) (events : List Event) (s : State) → Stands (record { opening = opening; events = events }) s
+    → state_world opening s ≡ world_at (record { opening = opening; events = events })
 standing opening events s stands = λ i. record {
   opening = sym (world_from-opening (opened opening) events) i;
+  device = stands.device i;
   sessions = stands.sessions i;
 }
 
+roll_next : (events : List Event) (event : Event) → roll_of (events ++ event ∷ []) ≡ roll_after (roll_of events) event
+roll_next events event = roll_from-push no_sessions events event
+
 pub stands_after : (opening : Opening) (events : List Event) (event : Event) (replies : List Reply) (s after : State) → Stands (record { opening = opening; events = events }) s
-    → IsAfter opening s event replies after → Stands (record { opening = opening; events = events ++ event ∷ [] }) after
-stands_after opening events event replies s after stands is =
+    → IsNext (roll_of events).begun event → IsAfter opening s event replies after → Stands (record { opening = opening; events = events ++ event ∷ [] }) after
+stands_after opening events event replies s after stands next is =
     let at = standing opening events s stands in
-    let world : (step (world_at (record { opening = opening; events = events })) event).world ≡ world_of opening after =
+    let world : (step (world_at (record { opening = opening; events = events })) event).world ≡ state_world opening after =
     ap (λ (w : World). (step w event).world) (sym at) ∙ is.world in
     let given : replies ≡ (step (world_at (record { opening = opening; events = events })) event).replies =
     sym is.replies_are ∙ ap (λ (w : World). (step w event).replies) at in
+    let before : World = state_world opening s in
     record {
       sessions = ap (λ (w : World). w.sessions) (sym world ∙ sym (world_from-push (opened opening) events event));
+      device = ap (λ (w : World). w.device) (sym world ∙ sym (world_from-push (opened opening) events event));
       outboxes = λ c. is.outboxes c
           ∙ ap (λ (x : List ℕ). waiting_after c x event replies) (stands.outboxes c)
           ∙ ap (λ (r : List Reply). waiting_after c (waiting_from (opened opening) events c []) event r) given
           ∙ sym (waiting_from-push (opened opening) events event c []);
+      linked = subst (λ (w : World). AreLinked w.device w.sessions) is.world (step_linked before (roll_of events).begun event next stands.known stands.linked);
+      known = subst (λ (r : Roll). AreKnown r.begun after.sessions) (sym (roll_next events event))
+          (subst (λ (w : World). AreKnown (roll_after (roll_of events) event).begun w.sessions) is.world (step_known before (roll_of events) event next stands.linked.ascending stands.known));
     }
 
 pub replies_after : (opening : Opening) (events : List Event) (event : Event) (replies : List Reply) (s after : State) → Stands (record { opening = opening; events = events }) s
@@ -59,6 +72,10 @@ roll_entered events more event roll next rolled entered pushed =
 -- a Stop changes nothing
 pub stop_after : (opening : Opening) (s : State) → IsAfter opening s Stop [] s
 stop_after opening s = record { world = refl; replies_are = refl; outboxes = λ c. sym (append-nil (waiting s.outboxes c)) }
+
+-- and may come next
+pub stop_next : (begun : ℕ) (event : Event) → event ≡ Stop → IsNext begun event
+stop_next begun event is = subst (λ (e : Event). IsNext begun e) (sym is) tt
 
 pub stopped_after : (event : Event) (roll next : Roll) → event ≡ Stop → next ≡ roll_after roll event → next.stopped ≡ true
 stopped_after event roll next is entered = ap (λ (r : Roll). r.stopped) (entered ∙ ap (λ (e : Event). roll_after roll e) is)
@@ -79,6 +96,20 @@ value_entered opening events more event before after same pushed = λ i. record 
 }
 
 pub stands_more : (opening : Opening) (events more : List Event) (event : Event) (replies : List Reply) (s after : State) → Stands (record { opening = opening; events = events }) s
-    → IsAfter opening s event replies after → more ≡ events ++ event ∷ [] → Stands (record { opening = opening; events = more }) after
-stands_more opening events more event replies s after stands is pushed =
-    subst (λ (es : List Event). Stands (record { opening = opening; events = es }) after) (sym pushed) (stands_after opening events event replies s after stands is)
+    → IsNext (roll_of events).begun event → IsAfter opening s event replies after → more ≡ events ++ event ∷ [] → Stands (record { opening = opening; events = more }) after
+stands_more opening events more event replies s after stands next is pushed =
+    subst (λ (es : List Event). Stands (record { opening = opening; events = es }) after) (sym pushed) (stands_after opening events event replies s after stands next is)
+
+-- a hall in which nothing has happened
+pub stands_first : (opening : Opening) (events : List Event) (s : State) → events ≡ [] → s ≡ record { sessions = []; outboxes = []; device = started (display_of opening) }
+    → Stands (record { opening = opening; events = events }) s
+stands_first opening events s none is =
+    let journal : List Event → Journal = λ es. record { opening = opening; events = es } in
+    subst (λ (es : List Event). Stands (journal es) s) (sym none)
+    (subst (λ (x : State). Stands (journal []) x) (sym is) (record {
+      sessions = refl;
+      device = refl;
+      outboxes = λ c. refl;
+      linked = opened_linked opening;
+      known = λ c later. refl;
+    }))

@@ -1,6 +1,3 @@
-mod Maps
 mod States
 mod Halls
-mod Listings
-mod Walks
-mod Readings
+pub mod Keys

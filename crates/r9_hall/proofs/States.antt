@@ -1,22 +1,36 @@
 -- The state after an event.
-use Rattle.std.proofs.Common.{◌≡◌, ℕ, Bool, true, false, cond, eqb, List, [], ◌∷◌, ◌++◌, Option, None, refl, sym, ap, subst, ◌∙◌, append_assoc}
+use Rattle.std.proofs.Common.{◌≡◌, ℕ, Bool, true, false, cond, eqb, List, [], ◌∷◌, ◌++◌, Option, Some, None, Result, Ok, Err, IfOk, refl, sym, ap, subst, ◌∙◌, append_assoc}
 use Rattle.std.specs.Option.{unwrap_or}
 use Rattle.std.proofs.lemmas.Bool.{eqb-true, eqb-false}
 use Rattle.r9_event.specs.declared.event.Event.{Event}
 use Rattle.r9_event.specs.declared.event.Event.TheVariants.{Begin, Msg, Take, End, Stop}
 use Rattle.r9_event.specs.declared.event.Opening.{Opening}
 use Rattle.r9_event.specs.declared.event.Reply.{Reply}
-use Rattle.model_world.specs.Map.{lookup, without}
+use Rattle.r9_event.specs.declared.event.Did.{Did}
+use Rattle.model_text.specs.Map.{lookup, without}
 use Rattle.model_world.specs.Session.{Session}
-use Rattle.model_world.specs.Replay.{bytes_for, waiting_after}
-use Rattle.r9_hall.specs.StateView.{IsTurn, waiting}
-use Rattle.r9_hall.proofs.Maps.{without-others}
+use Rattle.model_world.specs.Replay.{bytes_for, ended, marked, waiting_after}
+use Rattle.r9_draw.specs.World.{world_of}
+use Rattle.r9_hall.specs.StateView.{IsLeft, IsTurn, waiting, world_with}
+use Rattle.r9_hall.specs.declared.sessions.Sessions.{Sessions}
+use Rattle.model_world.proofs.Maps.{without-others}
 
--- the same event and replies under other names
-pub named : (opening : Opening) (before after : List (ℕ × Session)) (event same : Event) (replies all : List Reply) → event ≡ same → replies ≡ all → IsTurn opening before same all after → IsTurn opening before event replies after
-named opening before after event same replies all e r is =
-    subst (λ (x : Event). IsTurn opening before x replies after) (sym e)
-    (subst (λ (x : List Reply). IsTurn opening before same x after) (sym r) is)
+-- an event that is no message gives nothing
+pub silent_turn : (opening : Opening) (before after : Sessions) (event same : Event) (did : Did) → event ≡ same → did ≡ record { replies = []; short = None } → IsTurn opening before same [] after
+    → IsTurn opening before (marked event did.short) did.replies after
+silent_turn opening before after event same did e silent is =
+    subst (λ (d : Did). IsTurn opening before (marked event d.short) d.replies after) (sym silent) (subst (λ (x : Event). IsTurn opening before x [] after) (sym e) is)
+
+-- a session ends whose connections have ended
+pub ended_turn : (opening : Opening) (before after : Sessions) (c : ℕ) (found : Option Session) (lived : Bool) → lookup before.live.entries c ≡ found → lived ≡ true
+    → IsLeft c found (world_of before.device) lived (world_of after.device) → after.live.entries ≡ without before.live.entries c → IsTurn opening before (End c) [] after
+ended_turn opening before after c None true at lives left gone = absurd left
+ended_turn opening before after c None false at lives left gone = absurd cc
+ended_turn opening before after c (Some session) false at lives left gone = absurd left
+ended_turn opening before after c (Some session) true at lives left gone = record {
+  world = (ap (λ found. ended (world_with opening before) c found) at ∙ λ j. record { opening = opening; device = sym left j; sessions = sym gone j });
+  replies_are = refl;
+}
 
 -- ---- what waits
 
@@ -49,3 +63,16 @@ taken outboxes session c gone true at =
     ap (λ (o : Option (List ℕ)). unwrap_or o []) (ap (λ (d : ℕ). lookup (without outboxes session) d) (sym is) ∙ gone)
 taken outboxes session c gone false at =
     ap (λ (o : Option (List ℕ)). unwrap_or o []) (without-others outboxes session c (λ is. eqb-false session c at (sym is)))
+
+-- the mark of an event leaves what waits
+pub waiting_marked : (c : ℕ) (waits : List ℕ) (event : Event) (short : Option ℕ) (replies : List Reply) → waiting_after c waits (marked event short) replies ≡ waiting_after c waits event replies
+waiting_marked c waits event None replies = refl
+waiting_marked c waits (Begin d) (Some k) replies = refl
+waiting_marked c waits (Msg d bytes mark) (Some k) replies = refl
+waiting_marked c waits (Take d) (Some k) replies = refl
+waiting_marked c waits (End d) (Some k) replies = refl
+waiting_marked c waits Stop (Some k) replies = refl
+
+pub ok_map : {A E : Type 0} (P Q : A → Type 0) → ((x : A) → P x → Q x) → (r : Result A E) → IfOk r P → IfOk r Q
+ok_map P Q more (Ok x) holds = more x holds
+ok_map P Q more (Err e) holds = tt

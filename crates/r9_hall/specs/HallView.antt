@@ -7,7 +7,8 @@ use Rattle.model_event.specs.Legal.{Allowed, roll_of}
 use Rattle.model_event.specs.Journal.{Journal, events_of, AreNumbered}
 use Rattle.model_world.specs.Replay.{outbox, world_at}
 use Rattle.r9_hall.specs.declared.hall.Hall.TheInside as hall
-use Rattle.r9_hall.specs.StateView.{State, waiting}
+use Rattle.model_world.specs.Links.{AreKnown, AreLinked}
+use Rattle.r9_hall.specs.StateView.{State, state_of, waiting}
 
 -- a hall: its journal, and whether it is broken, which it is once memory ran out in the middle of an event
 pub record HallValue : Type 0 where
@@ -25,10 +26,13 @@ AllowedNext h event = Allowed (roll_of h.journal.events) event × (h.broken ≡ 
 abbrev pub value_of : hall.Inside → HallValue
 value_of h = record { journal = record { opening = h.opening; events = events_of h.entries.items }; broken = h.broken }
 
--- the state is the one in which the journal ends
+-- the state is the one in which the journal ends, and the draw device has the connections of the sessions that live
 pub record Stands (journal : Journal) (s : State) : Type 0 where
   pub sessions : s.sessions ≡ (world_at journal).sessions
+  pub device : s.device ≡ (world_at journal).device
   pub outboxes : (c : ℕ) → waiting s.outboxes c ≡ outbox journal c
+  pub linked : AreLinked s.device s.sessions
+  pub known : AreKnown (roll_of journal.events).begun s.sessions
 
 -- The entries are numbered, and the roll is theirs. There is room for a Stop until it comes. A hall that is not broken
 -- has the state in which its journal ends.
@@ -36,4 +40,4 @@ pub record IsHall (h : hall.Inside) : Type 0 where
   pub numbered : AreNumbered 1 h.entries.items
   pub rolled : h.roll ≡ roll_of (events_of h.entries.items)
   pub spare : IsFalse h.roll.stopped → vec_len h.entries < vec_capacity h.entries
-  pub stands : h.broken ≡ false → Stands (record { opening = h.opening; events = events_of h.entries.items }) h.state
+  pub stands : h.broken ≡ false → Stands (record { opening = h.opening; events = events_of h.entries.items }) (state_of h.state)

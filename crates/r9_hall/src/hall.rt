@@ -1,17 +1,20 @@
 //! The hall: a journal of events, and the state in which it ends.
 
-ghost use Rattle.std.specs.Prelude.{◌≡◌, ◌<◌, ◌≤◌, ◌+◌, ◌^◌, ◌++◌, ◌∷◌, ◌↔◌, ℕ, [], false, length, IsTrue, IfOk, OnOk, OnErr, IsOk};
+ghost use Rattle.std.specs.Prelude.{◌≡◌, ◌<◌, ◌≤◌, ◌+◌, ◌^◌, ◌++◌, ◌∷◌, ◌↔◌, ℕ, [], false, length, None, IsTrue, IfOk, IfSome, OnOk, OnErr, IsOk};
 ghost use Rattle.std.specs.Vec.{vec_len, vec_capacity};
 ghost use Rattle.r9_event.specs.declared.event.Event.{Event};
+ghost use Rattle.model_draw.specs.Files.{screen_file};
 ghost use Rattle.model_event.specs.Legal.{roll_after};
 ghost use Rattle.model_event.specs.Journal.{events_of, AreNumbered};
-ghost use Rattle.model_world.specs.Replay.{step, world_at, outbox};
+ghost use Rattle.model_world.specs.Cut.{IsCutEvent};
+ghost use Rattle.model_world.specs.Replay.{marked, step, world_at, outbox};
 ghost use Rattle.r9_hall.specs.HallView.{AllowedNext, entered};
 
 use crate::state::State;
 use r9_event::{Did, Entry, Event, Opening, Replies};
 use r9_journal::Roll;
 use r9_memory::Memory;
+use r9_text::Bytes;
 use std::alloc::Global;
 use std::marker::Model;
 
@@ -55,6 +58,23 @@ fn enter(roll: &mut Roll, entries: &mut Vec<Entry>, event: Event) -> Result<(), 
     Ok(())
 }
 
+/// The event as the history has it: with the mark where memory ran out in its data write.
+fn marked(event: Event, short: Option<u32>) -> Event
+    ensures { result ≡ marked event short }
+{
+    let Some(done) = short else {
+        return event;
+    };
+    match event {
+        Event::Msg { session, bytes, .. } => Event::Msg {
+            session,
+            bytes,
+            mark: Some(done),
+        },
+        other => other,
+    }
+}
+
 impl Hall {
     /// A hall in which nothing has happened.
     pub fn start(alloc: Global, opening: Opening) -> Result<Self, Memory>
@@ -62,12 +82,13 @@ impl Hall {
     {
         let mut entries = Vec::new(alloc);
         entries.reserve(1)?;
+        let state = State::start(alloc, &opening)?;
         Ok(Hall {
             alloc,
             opening,
             entries,
             roll: Roll::new(alloc),
-            state: State::new(alloc),
+            state,
             broken: false,
         })
     }
@@ -87,6 +108,13 @@ impl Hall {
         self.state.outbox(session)
     }
 
+    /// The display as an image(6) file. Nothing is said of that of a broken hall.
+    pub fn screen(&self) -> Result<Bytes, Memory>
+        ensures { IfOk result (λ file. self.now.broken ≡ false → file ≡ screen_file (world_at self.now.journal).device) }
+    {
+        self.state.screen()
+    }
+
     /// Whether an event may come next.
     pub fn can(&self, event: &Event) -> bool
         ensures { IsTrue result ↔ AllowedNext self.now event.now }
@@ -94,27 +122,31 @@ impl Hall {
         self.roll.allows(event) && (!self.broken || matches!(event, Event::Stop))
     }
 
-    /// Makes an event: adds its entry to the journal, and answers what it gave. For want of memory the journal stays as it
-    /// was, and the hall is as before or broken. A Stop takes no memory.
+    /// Makes an event: adds its entry to the journal, and answers what it gave. A data write in which memory ran out has in the
+    /// journal the mark that the answer tells. For want of memory elsewhere the journal stays as it was, and the hall is as before
+    /// or broken. A Stop takes no memory.
     pub fn event(&mut self, event: Event) -> Result<Did, Memory>
         requires can { AllowedNext self.old event }
         requires room { length self.old.journal.events < 2 ^ 61 }
-        ensures entered { OnOk result (self.new ≡ entered self.old event) }
-        ensures replies { IfOk result (λ did. self.old.broken ≡ false → did.replies ≡ (step (world_at self.old.journal) event).replies) }
-        ensures stop { event ≡ Event.Stop → IfOk result (λ did. did.replies ≡ []) × IsOk result }
+        ensures entered { IfOk result (λ did. self.new ≡ entered self.old (marked event did.short)) }
+        ensures replies { IfOk result (λ did. self.old.broken ≡ false → did.replies ≡ (step (world_at self.old.journal) (marked event did.short)).replies) }
+        // A mark is told only of a write of an open `data` file, where its own mark took effect or the message may want memory.
+        ensures short { IfOk result (λ did. self.old.broken ≡ false → IfSome did.short (λ k. IsCutEvent (world_at self.old.journal) event k)) }
+        ensures stop { event ≡ Event.Stop → IfOk result (λ did. (did.replies ≡ []) × (did.short ≡ None)) × IsOk result }
         ensures err { OnErr result (self.new.journal ≡ self.old.journal) }
     {
         if let Event::Stop = event {
             enter(&mut self.roll, &mut self.entries, event)?;
             return Ok(Did {
                 replies: Replies::new(self.alloc),
+                short: None,
             });
         }
         self.entries.reserve(2)?;
         self.broken = true;
-        let replies = self.state.carry_out(self.alloc, &event)?;
-        enter(&mut self.roll, &mut self.entries, event)?;
+        let did = self.state.carry_out(self.alloc, &event)?;
+        enter(&mut self.roll, &mut self.entries, marked(event, did.short))?;
         self.broken = false;
-        Ok(Did { replies })
+        Ok(did)
     }
 }

@@ -1,31 +1,27 @@
-//! The state of the server: its sessions, and what waits for them to be taken.
+//! The state of the server: its sessions, the draw device, and what waits for sessions to be taken.
 
-ghost use Rattle.std.specs.Prelude.{◌≡◌, ◌==◌, ◌++◌, ℕ, [], if◌then◌else◌, IfOk, OnOk};
+ghost use Rattle.std.specs.Prelude.{◌≡◌, ◌==◌, ◌++◌, ℕ, [], if◌then◌else◌, IfOk, IfSome, OnOk};
 ghost use Rattle.r9_event.specs.declared.event.Opening.{Opening};
-ghost use Rattle.model_world.specs.Replay.{bytes_for, waiting_after};
-ghost use Rattle.r9_hall.specs.StateView.{waiting, IsAfter, IsWhole};
+ghost use Rattle.model_draw.specs.Files.{screen_file};
+ghost use Rattle.model_draw.specs.World.{started};
+ghost use Rattle.model_world.specs.Cut.{IsCutEvent};
+ghost use Rattle.model_world.specs.Links.{AreLinked};
+ghost use Rattle.model_world.specs.Replay.{bytes_for, marked, waiting_after};
+ghost use Rattle.model_world.specs.World.{display_of};
+ghost use Rattle.r9_hall.specs.StateView.{state_of, state_world, waiting, IsAfter, IsWhole};
 
 use crate::sessions::Sessions;
-use r9_event::{Event, Replies, Reply};
+use r9_event::{Did, Event, Opening, Reply};
 use r9_memory::Memory;
 use r9_text::Bytes;
 use std::alloc::Global;
 use std::collections::BTreeMap;
-use std::marker::Model;
 
-/// The live sessions, and the bytes that wait for each session to be taken.
+/// The live sessions with the draw device, and the bytes that wait for each session to be taken.
 #[derive(Drop)]
 pub struct State {
     sessions: Sessions,
     outboxes: BTreeMap<u32, Bytes>,
-}
-
-impl Model for State {
-    ghost use Rattle.r9_hall.specs.StateView.{State, state_of};
-
-    ghost Value = { State };
-
-    ghost view = { state_of };
 }
 
 /// Adds bytes to what waits for a session.
@@ -84,19 +80,19 @@ fn post(
 }
 
 impl State {
-    /// No sessions.
-    pub fn new(alloc: Global) -> Self
-        ensures { result ≡ record { sessions = []; outboxes = [] } }
+    /// The state of an opening: no sessions, and a draw device with its display alone.
+    pub fn start(alloc: Global, opening: &Opening) -> Result<Self, Memory>
+        ensures { IfOk result (λ state. state_of state ≡ record { sessions = []; outboxes = []; device = started (display_of opening.now) }) }
     {
-        State {
-            sessions: Sessions::new(alloc),
+        Ok(State {
+            sessions: Sessions::start(alloc, opening)?,
             outboxes: BTreeMap::new(alloc),
-        }
+        })
     }
 
     /// What waits for a session.
     pub fn outbox(&self, session: u32) -> &[u8]
-        ensures { result.now ≡ waiting self.now.outboxes session }
+        ensures { result.now ≡ waiting (state_of self.now).outboxes session }
     {
         match self.outboxes.get(&session) {
             Some(held) => held.as_slice(),
@@ -104,13 +100,23 @@ impl State {
         }
     }
 
-    /// Carries out an event, and gives the replies to it. Nothing is said of the state where memory ran out.
-    pub fn carry_out(&mut self, alloc: Global, event: &Event) -> Result<Replies, Memory>
-        requires { IsWhole event.now }
-        ensures { IfOk result (λ replies. (opening : Opening) → IsAfter opening self.old event.now replies self.new) }
+    /// Carries out an event, and gives the replies to it, and the mark with which it stands in the history where that is not its
+    /// own. Nothing is said of the state where memory ran out.
+    pub fn carry_out(&mut self, alloc: Global, event: &Event) -> Result<Did, Memory>
+        requires whole { IsWhole event.now }
+        requires linked { AreLinked (state_of self.old).device (state_of self.old).sessions }
+        ensures after { IfOk result (λ did. (opening : Opening) → IsAfter opening (state_of self.old) (marked event.now did.short) did.replies (state_of self.new)) }
+        ensures short { IfOk result (λ did. (opening : Opening) → IfSome did.short (λ k. IsCutEvent (state_world opening (state_of self.old)) event.now k)) }
     {
-        let replies = self.sessions.step(alloc, event)?;
-        post(alloc, &mut self.outboxes, event, replies.as_slice())?;
-        Ok(replies)
+        let did = self.sessions.step(alloc, event)?;
+        post(alloc, &mut self.outboxes, event, did.replies.as_slice())?;
+        Ok(did)
+    }
+
+    /// The display as an image(6) file.
+    pub fn screen(&self) -> Result<Bytes, Memory>
+        ensures { IfOk result (λ file. file ≡ screen_file (state_of self.now).device) }
+    {
+        self.sessions.screen()
     }
 }

@@ -37,13 +37,13 @@ fn with_screen(screens: &mut Vec<Option<Screen>>, number: u32, s: Screen) -> Res
     Ok(())
 }
 
-fn is_kept_name(client: u32, name: &[u8]) -> bool
+fn is_kept_name(client: u64, name: &[u8]) -> bool
     ensures { result ≡ model.is_kept_name client name.now }
 {
     client != 0 && name.starts_with(b"window.")
 }
 
-fn is_other_name(client: u32, name: &[u8], tied: u32, image: u32) -> bool
+fn is_other_name(client: u64, name: &[u8], tied: u32, image: u32) -> bool
     ensures { result ≡ (model.is_kept_name client name.now || not (tied == image)) }
 {
     is_kept_name(client, name) || tied != image
@@ -88,20 +88,20 @@ impl Book {
         Ok(())
     }
 
-    fn is_image_taken(&self, client: u32, id: u32) -> bool
+    fn is_image_taken(&self, client: u64, id: u32) -> bool
         ensures { result ≡ model.is_image_id_taken self.now.book client id }
     {
         id == 0 && client != 0 || self.image_id(client, id).is_some()
     }
 
-    fn is_screen_taken(&self, client: u32, id: u32, public: bool) -> bool
+    fn is_screen_taken(&self, client: u64, id: u32, public: bool) -> bool
         ensures { result ≡ model.is_screen_id_taken self.now.book client id public }
     {
         find_screen(&self.screen_ids, client, id).is_some()
             || public && any_public(&self.screen_ids, id)
     }
 
-    fn is_name_taken(&self, client: u32, name: &[u8]) -> bool
+    fn is_name_taken(&self, client: u64, name: &[u8]) -> bool
         ensures { result ≡ (is_some (model.tie_of self.now.book name.now) || model.is_kept_name client name.now) }
     {
         self.tie_of(name).is_some() || is_kept_name(client, name)
@@ -124,7 +124,7 @@ impl Book {
     #[tactic(auto, unfolding(model_images::specs::Book::add_id))]
     pub fn add_id(
         &mut self,
-        client: u32,
+        client: u64,
         id: u32,
         image: u32,
         screen: Option<u32>,
@@ -157,7 +157,7 @@ impl Book {
     #[tactic(auto, unfolding(model_images::specs::Book::add_screen))]
     pub fn add_screen(
         &mut self,
-        client: u32,
+        client: u64,
         id: u32,
         screen: u32,
         public: bool,
@@ -186,7 +186,7 @@ impl Book {
     /// An id for the image with a name, which refers to the name's tie. Refused by 6 as `add_id`, and by 17 exactly where no
     /// image has the name.
     #[tactic(auto, unfolding(model_images::specs::Book::add_named))]
-    pub fn add_named(&mut self, client: u32, id: u32, name: &[u8]) -> Result<(), BookFault>
+    pub fn add_named(&mut self, client: u64, id: u32, name: &[u8]) -> Result<(), BookFault>
         ensures made { OnOk result (model.add_named self.old.book client id name.now ≡ Ok self.new.book) }
         ensures refused { IfErr result (λ f. IfRefused f (λ n. model.add_named self.old.book client id name.now ≡ Err n)) }
         ensures kept { OnErr result (self.new.book ≡ self.old.book) }
@@ -218,7 +218,7 @@ impl Book {
     #[tactic(auto, unfolding(model_images::specs::Book::new_screen))]
     pub fn new_screen(
         &mut self,
-        client: u32,
+        client: u64,
         id: u32,
         public: bool,
         image: u32,
@@ -254,7 +254,7 @@ impl Book {
     /// Ties a name to the image of an id. Refused by 16 exactly where the name is tied, or begins with `window.` and the
     /// connection is not the manager's.
     #[tactic(auto, unfolding(model_images::specs::Book::tie))]
-    pub fn tie(&mut self, client: u32, id: u32, name: &[u8]) -> Result<(), BookFault>
+    pub fn tie(&mut self, client: u64, id: u32, name: &[u8]) -> Result<(), BookFault>
         ensures made { OnOk result (model.tie self.old.book client id name.now ≡ Ok self.new.book) }
         ensures refused { IfErr result (λ f. IfRefused f (λ n. model.tie self.old.book client id name.now ≡ Err n)) }
         ensures kept { OnErr result (self.new.book ≡ self.old.book) }
@@ -287,7 +287,7 @@ impl Book {
     /// Ends the tie of a name. Refused by 17 exactly where no image has it, and by 19 exactly where it begins with `window.` and
     /// the connection is not the manager's, or is tied to another image than the id's. Takes no memory.
     #[tactic(auto, unfolding(model_images::specs::Book::untie))]
-    pub fn untie(&mut self, client: u32, id: u32, name: &[u8]) -> Result<(), BookFault>
+    pub fn untie(&mut self, client: u64, id: u32, name: &[u8]) -> Result<(), BookFault>
         ensures made { OnOk result (model.untie self.old.book client id name.now ≡ Ok self.new.book) }
         ensures refused { IfErr result (λ f. IfRefused f (λ n. model.untie self.old.book client id name.now ≡ Err n)) }
         ensures kept { OnErr result (self.new.book ≡ self.old.book) }

@@ -73,7 +73,7 @@ impl Book {
         }
     }
 
-    pub(crate) fn image_id(&self, client: u32, id: u32) -> Option<ImageId>
+    pub(crate) fn image_id(&self, client: u64, id: u32) -> Option<ImageId>
         ensures { result ≡ model.image_id self.now.book client id }
     {
         let owner = if id == 0 { 0 } else { client };
@@ -98,7 +98,7 @@ impl Book {
     /// The image of an id. Refused by 4 exactly where the connection does not know the id, and by 18 exactly where it was
     /// made by a name whose tie has ended.
     #[tactic(auto, unfolding(model_images::specs::Book::image))]
-    pub fn image(&self, client: u32, id: u32) -> Result<u32, u8>
+    pub fn image(&self, client: u64, id: u32) -> Result<u32, u8>
         ensures { result ≡ model.image self.now.book client id }
     {
         let Some(e) = self.image_id(client, id) else {
@@ -112,7 +112,7 @@ impl Book {
 
     /// The screen of an id. Refused by 5 exactly where the connection does not know it.
     #[tactic(auto, unfolding(model_images::specs::Book::screen))]
-    pub fn screen(&self, client: u32, id: u32) -> Result<u32, u8>
+    pub fn screen(&self, client: u64, id: u32) -> Result<u32, u8>
         ensures { result ≡ model.screen self.now.book client id }
     {
         match find_screen(&self.screen_ids, client, id) {
@@ -194,7 +194,7 @@ impl Book {
     }
 
     /// Whether the id was made by a name.
-    pub fn by_name(&self, client: u32, id: u32) -> bool
+    pub fn by_name(&self, client: u64, id: u32) -> bool
         ensures { result ≡ model.by_name self.now.book client id }
     {
         match self.image_id(client, id) {

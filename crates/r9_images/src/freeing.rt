@@ -13,13 +13,13 @@ use crate::release::Lists;
 use model_images::{ImageId, Tie};
 use r9_memory::Memory;
 
-fn without_ties_of_id(ties: &mut Vec<Tie>, client: u32, id: u32)
+fn without_ties_of_id(ties: &mut Vec<Tie>, client: u64, id: u32)
     ensures { ties.new.items ≡ filter (λ t. not (model.is_tied_by client id t)) ties.old.items }
 {
     ties.retain(|t| !(t.client == client && t.id == id));
 }
 
-fn without_ties_of(ties: &mut Vec<Tie>, client: u32)
+fn without_ties_of(ties: &mut Vec<Tie>, client: u64)
     ensures { ties.new.items ≡ filter (λ t. not (t.client == client)) ties.old.items }
 {
     ties.retain(|t| t.client != client);
@@ -64,7 +64,7 @@ impl Book {
     }
 
     // The image id where the connection may free it.
-    fn own_image_id(&self, client: u32, id: u32) -> Option<ImageId>
+    fn own_image_id(&self, client: u64, id: u32) -> Option<ImageId>
         ensures { result ≡ model.own_image_id self.now.book client id }
     {
         if id == 0 && client != 0 {
@@ -76,7 +76,7 @@ impl Book {
     /// Frees an image id, ends the ties that it made, and gives what has gone. Refused by 4 exactly where the connection does
     /// not know the id, or it is 0, but for the manager's. After Memory the book is as before.
     #[tactic(auto, unfolding(model_images::specs::Release::free_id))]
-    pub fn free_id(&mut self, client: u32, id: u32) -> Result<Freed, BookFault>
+    pub fn free_id(&mut self, client: u64, id: u32) -> Result<Freed, BookFault>
         ensures freed { IfOk result (λ gone. model.free_id self.old.book client id ≡ Ok (record { book = self.new.book; gone = gone })) }
         ensures refused { IfErr result (λ f. IfRefused f (λ n. model.free_id self.old.book client id ≡ Err n)) }
         ensures kept { OnErr result (self.new.book ≡ self.old.book) }
@@ -93,7 +93,7 @@ impl Book {
     /// Frees a screen id, and gives what has gone. Refused by 5 exactly where the connection does not know the id. After Memory
     /// the book is as before.
     #[tactic(auto, unfolding(model_images::specs::Release::free_screen))]
-    pub fn free_screen(&mut self, client: u32, id: u32) -> Result<Freed, BookFault>
+    pub fn free_screen(&mut self, client: u64, id: u32) -> Result<Freed, BookFault>
         ensures freed { IfOk result (λ gone. model.free_screen self.old.book client id ≡ Ok (record { book = self.new.book; gone = gone })) }
         ensures refused { IfErr result (λ f. IfRefused f (λ n. model.free_screen self.old.book client id ≡ Err n)) }
         ensures kept { OnErr result (self.new.book ≡ self.old.book) }
@@ -109,7 +109,7 @@ impl Book {
     /// A connection ends: its image ids are freed in ascending order, then its screen ids, and its ties end. Gives what has
     /// gone. After Memory the book is as before.
     #[tactic(auto, unfolding(model_images::specs::Release::leave))]
-    pub fn leave(&mut self, client: u32) -> Result<Freed, Memory>
+    pub fn leave(&mut self, client: u64) -> Result<Freed, Memory>
         ensures left { IfOk result (λ gone. model.leave self.old.book client ≡ record { book = self.new.book; gone = gone }) }
         ensures kept { OnErr result (self.new.book ≡ self.old.book) }
     {

@@ -9,7 +9,7 @@ ghost use Rattle.model_images.specs.Release.{refers_to};
 
 use model_images::{ImageId, OnScreen, Screen, ScreenId, Tie};
 
-pub(crate) fn find_image(ids: &[ImageId], client: u32, id: u32) -> Option<ImageId>
+pub(crate) fn find_image(ids: &[ImageId], client: u64, id: u32) -> Option<ImageId>
     ensures { result ≡ find (λ e. (e.client == client) && (e.id == id)) ids.now }
 {
     ids.iter()
@@ -17,7 +17,7 @@ pub(crate) fn find_image(ids: &[ImageId], client: u32, id: u32) -> Option<ImageI
         .copied()
 }
 
-pub(crate) fn find_screen(ids: &[ScreenId], client: u32, id: u32) -> Option<ScreenId>
+pub(crate) fn find_screen(ids: &[ScreenId], client: u64, id: u32) -> Option<ScreenId>
     ensures { result ≡ find (λ e. (e.client == client) && (e.id == id)) ids.now }
 {
     ids.iter()
@@ -85,13 +85,13 @@ pub(crate) fn any_public(ids: &[ScreenId], id: u32) -> bool
     ids.iter().any(|e| e.public && e.id == id)
 }
 
-fn comes_before(client: u32, id: u32, other_client: u32, other_id: u32) -> bool
+fn comes_before(client: u64, id: u32, other_client: u64, other_id: u32) -> bool
     ensures { result ≡ comes_before client id other_client other_id }
 {
     client < other_client || client == other_client && id < other_id
 }
 
-fn image_place(ids: &[ImageId], client: u32, id: u32) -> usize
+fn image_place(ids: &[ImageId], client: u64, id: u32) -> usize
     ensures place { result ≡ position_or_len (λ x. comes_before client id x.client x.id) ids.now }
     ensures within { result ≤ length ids.now }
 {
@@ -100,7 +100,7 @@ fn image_place(ids: &[ImageId], client: u32, id: u32) -> usize
         .unwrap_or(ids.len())
 }
 
-fn screen_place(ids: &[ScreenId], client: u32, id: u32) -> usize
+fn screen_place(ids: &[ScreenId], client: u64, id: u32) -> usize
     ensures place { result ≡ position_or_len (λ x. comes_before client id x.client x.id) ids.now }
     ensures within { result ≤ length ids.now }
 {

@@ -55,19 +55,19 @@ fn without_screen(screens: &mut Vec<Option<Screen>>, screen: u32)
     }
 }
 
-fn without_image_id(ids: &mut Vec<ImageId>, client: u32, id: u32)
+fn without_image_id(ids: &mut Vec<ImageId>, client: u64, id: u32)
     ensures { ids.new.items ≡ filter (λ e. not (model.is_image_id client id e)) ids.old.items }
 {
     ids.retain(|e| !(e.client == client && e.id == id));
 }
 
-fn without_screen_id(ids: &mut Vec<ScreenId>, client: u32, id: u32)
+fn without_screen_id(ids: &mut Vec<ScreenId>, client: u64, id: u32)
     ensures { ids.new.items ≡ filter (λ e. not (model.is_screen_id client id e)) ids.old.items }
 {
     ids.retain(|e| !(e.client == client && e.id == id));
 }
 
-fn image_ids_of(alloc: Global, ids: &[ImageId], client: u32) -> Result<Vec<ImageId>, Memory>
+fn image_ids_of(alloc: Global, ids: &[ImageId], client: u64) -> Result<Vec<ImageId>, Memory>
     ensures { IfOk result (λ own. own.items ≡ filter (λ e. e.client == client) ids.now) }
 {
     Ok(
@@ -78,7 +78,7 @@ fn image_ids_of(alloc: Global, ids: &[ImageId], client: u32) -> Result<Vec<Image
     )
 }
 
-fn screen_ids_of(alloc: Global, ids: &[ScreenId], client: u32) -> Result<Vec<ScreenId>, Memory>
+fn screen_ids_of(alloc: Global, ids: &[ScreenId], client: u64) -> Result<Vec<ScreenId>, Memory>
     ensures { IfOk result (λ own. own.items ≡ filter (λ e. e.client == client) ids.now) }
 {
     Ok(
@@ -221,7 +221,7 @@ impl Lists {
     }
 
     // Frees the ids of a connection.
-    pub(crate) fn leave(&mut self, client: u32) -> Result<(), Memory>
+    pub(crate) fn leave(&mut self, client: u64) -> Result<(), Memory>
         ensures { (ties : List Tie) (next_tie : ℕ) → OnOk result (freed_of self.new ties next_tie ≡ left_of (freed_of self.old ties next_tie) client) }
     {
         let image_ids = image_ids_of(self.alloc, &self.image_ids, client)?;

@@ -24,8 +24,9 @@ pub fn header(alloc: Global, info: &Info) -> Result<Bytes, Memory>
     Ok(out)
 }
 
-// Adds the four numbers of a rectangle, each 11 wide and a blank.
-fn push_rect(out: &mut Bytes, r: Rect) -> Result<(), Memory>
+/// Adds the four numbers of a rectangle, each 11 wide and a blank: the left and the upper edge, and the right and the lower one.
+/// For want of memory some may be there.
+pub fn push_rect(out: &mut Bytes, r: Rect) -> Result<(), Memory>
     requires { IsRectNearBy (2 ^ 33) r }
     ensures { OnOk result (out.new ≡ out.old ++ rect_fields r) }
 {

@@ -2,3 +2,4 @@ pub mod PackedLemmas
 pub mod PlaneLemmas
 pub mod RowLemmas
 pub mod RunLemmas
+pub mod Shifts

@@ -30,7 +30,7 @@ pub struct Plane {
 
 impl Plane {
     ghost use Rattle.r9_geom.specs.declared.Point.{Point};
-    ghost use Rattle.r9_geom.specs.Geometry.{distance, holds, is_point, strip};
+    ghost use Rattle.r9_geom.specs.Geometry.{at_min, carried, distance, holds, is_point, strip, IsNear};
     ghost use Rattle.r9_plane.specs.Pixels.{along, chan_of, number_of, pixel_at, rect_of};
 
     // The number of a point's pixel.
@@ -132,6 +132,17 @@ impl Plane {
         }
         let first = self.number(at);
         runs::write_run(&mut self.bytes, self.depth, first, raws);
+    }
+
+    /// Gives the rectangle another min. Each pixel stays where it is in it, so that none is moved.
+    pub fn shift(&mut self, min: Point)
+        requires min { IsNear min }
+        requires near { IsRectNear (at_min (rect_of self.old) min) }
+        ensures rect { rect_of self.new ≡ at_min (rect_of self.old) min }
+        ensures chan { chan_of self.new ≡ chan_of self.old }
+        ensures pixels { (q : Point) → pixel_at self.new q ≡ pixel_at self.old (carried q min (rect_of self.old).min) }
+    {
+        self.r = self.r.at_min(min);
     }
 
     // Writes the first pixels of a packed row, from a point to the right.

@@ -5,7 +5,8 @@ use Rattle.r9_event.specs.declared.event.Event.{Event}
 use Rattle.model_record.specs.Record.{IsRecord, IsBadAt}
 use Rattle.r9_serve.specs.declared.status.Status.{Status}
 use Rattle.r9_serve.specs.declared.status.Status.TheVariants as status
-use Rattle.r9_serve.specs.Run.{HadRecord, WasBadAt, IsOutAfter, IsDone, IsRefused}
+use Rattle.r9_serve.specs.declared.words.Job.{Job}
+use Rattle.r9_serve.specs.Run.{HadRecord, WasBadAt, WrotePart, IsOutAfter, IsDone, IsRefused}
 
 not_bad : (text : List ℕ) (events : List Event) (place : ℕ) → IsRecord text events → IsBadAt text place → ⊥
 not_bad text events place is (inl bad) = absurd (omega (arith, is.short, bad.0))
@@ -28,11 +29,36 @@ had_none left text events told none had =
     none events (subst (λ (t : List ℕ). IsRecord t events) (sym same) had.is_record)
 
 -- what is no record is refused
-pub refused_by : (found : Status) (left before after : Option (List ℕ)) (text : List ℕ) → left ≡ Some text → ((events : List Event) → IsRecord text events → ⊥)
-    → (found ≡ status.Usage → ⊥) → IsOutAfter found left before after → (found ≡ status.ReadFault → ⊥) → IsRefused found
-refused_by status.Done left before after text told none usage out read = absurd (had_none left text _ told none out.are_lines.had)
-refused_by status.Usage left before after text told none usage out read = absurd (usage refl)
-refused_by (status.BadRecord place) left before after text told none usage out read = inl (place, refl)
-refused_by status.ReadFault left before after text told none usage out read = absurd (read refl)
-refused_by status.WriteFault left before after text told none usage out read = absurd (had_none left text _ told none out.are_lines.had)
-refused_by status.Memory left before after text told none usage out read = inr refl
+pub refused_by : (asked : Job → Type 0) (found : Status) (left before after : Option (List ℕ)) (text : List ℕ) → left ≡ Some text → ((events : List Event) → IsRecord text events → ⊥)
+    → (found ≡ status.Usage → ⊥) → IsOutAfter asked found left before after → (found ≡ status.ReadFault → ⊥) → IsRefused found
+refused_by asked status.Done left before after text told none usage out read = absurd (had_none left text _ told none out.are_lines.had)
+refused_by asked status.Usage left before after text told none usage out read = absurd (usage refl)
+refused_by asked (status.BadRecord place) left before after text told none usage out read = inl (place, refl)
+refused_by asked status.ReadFault left before after text told none usage out read = absurd (read refl)
+refused_by asked status.WriteFault left before after text told none usage out read = absurd (had_none left text _ told none out.are_lines.had)
+refused_by asked status.Memory left before after text told none usage out read = inr refl
+
+wrote_under : (asked : Job → Type 0) (job : Job) (left before after : Option (List ℕ)) → asked job → WrotePart (λ j. j ≡ job) left before after → WrotePart asked left before after
+wrote_under asked job left before after is wrote = record {
+  job = wrote.job;
+  is_asked = subst (λ (j : Job). asked j) (sym wrote.is_asked) is;
+  lines = wrote.lines;
+  are_lines = wrote.are_lines;
+  appended = wrote.appended;
+}
+
+-- what out holds is that of a job that was asked for
+pub out_under : (asked : Job → Type 0) (job : Job) (found : Status) (left before after : Option (List ℕ)) → asked job → IsOutAfter (λ j. j ≡ job) found left before after → IsOutAfter asked found left before after
+out_under asked job status.Done left before after is wrote = record {
+  job = wrote.job;
+  is_asked = subst (λ (j : Job). asked j) (sym wrote.is_asked) is;
+  lines = wrote.lines;
+  are_lines = wrote.are_lines;
+  appended = wrote.appended;
+}
+out_under asked job status.Usage left before after is out = out
+out_under asked job (status.BadRecord place) left before after is out = out
+out_under asked job status.ReadFault left before after is out = out
+out_under asked job status.WriteFault left before after is wrote = wrote_under asked job left before after is wrote
+out_under asked job status.Memory left before after is (inl same) = inl same
+out_under asked job status.Memory left before after is (inr wrote) = inr (wrote_under asked job left before after is wrote)

@@ -1,20 +1,32 @@
 -- What a text gives that is run.
-use Rattle.std.specs.Prelude.{◌≡◌, ℕ, List}
-use Rattle.std.specs.List.{AllByRecursion}
+use Rattle.std.specs.Prelude.{◌≡◌, ◌++◌, ℕ, Bool, List, [], if◌then◌else◌}
 use Rattle.r9_event.specs.declared.event.Event.{Event}
+use Rattle.r9_event.specs.declared.event.Opening.{Opening}
 use Rattle.r9_event.specs.declared.event.Reply.{Reply}
+use Rattle.model_event.specs.Legal.{Roll, AllowedFrom}
+use Rattle.model_draw.specs.Files.{screen_file}
+use Rattle.model_record.specs.Line.{reply_lines}
 use Rattle.model_record.specs.Record.{IsRecord}
-use Rattle.model_world.specs.Replay.{replies}
-use Rattle.r9_hall.specs.StateView.{IsWhole}
-use Rattle.r9_serve.specs.Run.{default_opening}
+use Rattle.model_world.specs.Links.{AreKnown, AreLinked}
+use Rattle.model_world.specs.Replay.{replay, replies}
+use Rattle.model_world.specs.World.{World}
+use Rattle.r9_serve.specs.Run.{screen_lines}
 
--- each message has a size, a kind and a tag
-abbrev pub AreWhole : List Event → Type 0
-AreWhole events = AllByRecursion IsWhole events
+-- the world may go on with these events
+pub record MayRun (world : World) (events : List Event) : Type 0 where
+  pub roll : Roll
+  pub legal : AllowedFrom roll events
+  pub known : AreKnown roll.begun world.sessions
+  pub linked : AreLinked world.device world.sessions
 
--- these are the replies to the one history whose record the text is
-pub record AreRepliesTo (text : List ℕ) (given : List Reply) : Type 0 where
+-- these are the replies to the one history whose record the text is, and this is the world to which it led
+pub record AreRepliesTo (opening : Opening) (text : List ℕ) (given : List Reply) (world : World) : Type 0 where
   pub events : List Event
   pub is_record : IsRecord text events
   pub one : (others : List Event) → IsRecord text others → events ≡ others
-  pub are_replies : given ≡ replies default_opening events
+  pub are_replies : given ≡ replies opening events
+  pub led : world ≡ replay opening events
+
+-- what is put out: a line for each reply, and then the screen of the world where that is asked for
+abbrev pub output : (screen : Bool) → List Reply → World → List ℕ
+output screen given world = reply_lines given ++ (if screen then screen_lines (screen_file world.device) else [])

@@ -131,6 +131,7 @@ impl ReplyLog {
         ensures ok { OnOk result (Appends (O.held out.old) (reply_lines self.now) (O.held out.new) × (O.unflushed out.new ≡ false)) }
         ensures part { AppendsPart (O.held out.old) (reply_lines self.now) (O.held out.new) }
         ensures failed { IsErrOf result SinkFault.Failed → Rose (O.faults out.old) (O.faults out.new) }
+        ensures counted { O.faults out.old ≤ O.faults out.new }
     {
         let lines = put_most(alloc, out, &self.marks, self.bytes.as_slice())?;
         put_all(out, lines.as_slice())?;

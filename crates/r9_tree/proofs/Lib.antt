@@ -1,5 +1,5 @@
 mod Finds
-mod KindNumbers
+pub mod KindNumbers
 mod Listed
 mod Named
 mod Placed

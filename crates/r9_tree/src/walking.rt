@@ -7,7 +7,7 @@ ghost use Rattle.std.specs.Map.{lookup};
 ghost use Rattle.std.specs.Fmt.{decimal};
 ghost use Rattle.std.specs.Str.{bytes_eq};
 ghost use Rattle.model_tree.specs.Node.{row, kind_numbered};
-ghost use Rattle.model_tree.specs.Tree.{kinds_in, numbered_in, placed, connection_at, window_at, files, above, root_of, is_gone, is_ended, check_live, walk};
+ghost use Rattle.model_tree.specs.Tree.{kinds_in, numbered_in, placed, connection_at, window_at, files, above, root_of, is_gone, is_of_connection, is_ended, check_live, walk};
 ghost use Rattle.r9_tree.specs.View.{node_of, view_of, IsNode, IsView, most_connections};
 
 use crate::rows::{is_directory, kind_of, name_of, number_of};
@@ -44,10 +44,16 @@ fn lives(connection: u32, view: &TreeView) -> bool
     view.connections.as_slice().iter().any(|n| *n == connection)
 }
 
+fn is_of_connection(kind: u8) -> bool
+    ensures { result ≡ is_of_connection (kind_numbered kind) }
+{
+    4 <= kind && kind <= 7
+}
+
 fn is_ended(node: &Node, view: &TreeView) -> bool
     ensures { result ≡ is_ended (view_of view.now) (node_of node.now) }
 {
-    node.connection != 0 && !lives(node.connection, view)
+    is_of_connection(node.kind) && !lives(node.connection, view)
 }
 
 /// Whether a file may be used: refused by 42 where its window is gone, and by 34 where its connection is.

@@ -3,10 +3,11 @@ use Rattle.r9_dmsg.proofs.reading.next_msg.Goals as goal
 
 pub returns : goal.returns
 returns c = record {
-  message = message_there _ _ c.read.ensures;
-  whole = whole_there _ _ c.read.ensures;
-  short = short_there _ _ c.read.ensures;
-  unknown = unknown_there _ _ c.read.ensures;
-  unsupported = unsupported_there _ _ c.read.ensures;
-  memory = memory_there _ _ c.read.ensures;
+  near = c.read.ensures.near;
+  message = message_there _ _ c.read.ensures.told;
+  whole = whole_there _ _ c.read.ensures.told;
+  short = short_there _ _ c.read.ensures.told;
+  unknown = unknown_there _ _ c.read.ensures.told;
+  unsupported = unsupported_there _ _ c.read.ensures.told;
+  memory = memory_there _ _ c.read.ensures.told;
 }

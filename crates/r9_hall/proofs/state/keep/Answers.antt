@@ -4,9 +4,9 @@ use Rattle.std.specs.Map.{set_value}
 use Rattle.std.specs.BTreeMap.{insert_entry}
 use Rattle.std.specs.Ordering.{nat_cmp}
 use Rattle.std.specs.Option.{unwrap_or}
-use Rattle.model_world.specs.Map.{is_key, lookup}
+use Rattle.model_text.specs.Map.{is_key, lookup}
 use Rattle.r9_hall.specs.StateView.{waiting}
-use Rattle.r9_hall.proofs.Maps.{on_ok, with-others, and-others}
+use Rattle.model_world.proofs.Maps.{on_ok, with-others, and-others}
 use Rattle.r9_hall.proofs.state.keep.Goals as goal
 
 pub returns-in-Some-clause-others : goal.returns-in-Some-clause-others

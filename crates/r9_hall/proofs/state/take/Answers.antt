@@ -1,5 +1,5 @@
 use Rattle.std.proofs.Common.{rules, ◌≡◌, ℕ, List, None, eqb, ap, refl, sym, ◌∙◌}
-use Rattle.model_world.specs.Map.{lookup, without}
+use Rattle.model_text.specs.Map.{lookup, without}
 use Rattle.r9_hall.specs.StateView.{waiting}
 use Rattle.r9_hall.proofs.States.{taken}
 use Rattle.r9_hall.proofs.state.take.Goals as goal

@@ -1,15 +1,15 @@
-use Rattle.std.proofs.Common.{◌≡◌, ℕ, List, Result, Err, refl}
-use Rattle.r9_event.specs.declared.event.Reply.{Reply}
+use Rattle.std.proofs.Common.{◌≡◌, ℕ, Result, Err, refl}
+use Rattle.r9_serve.specs.declared.replay.Ended.{Ended}
 use Rattle.r9_serve.specs.declared.replay.ReplayFault.{ReplayFault}
 use Rattle.r9_serve.specs.declared.replay.ReplayFault.TheVariants.{BadRecord}
 use Rattle.r9_serve.proofs.Taking.{are_reply_lines, was_bad}
 use Rattle.r9_serve.proofs.replay.replay_input.Goals as goal
 
-same_place : (a b : ℕ) (x y : Result (List Reply) ReplayFault) → x ≡ Err (BadRecord a) → y ≡ Err (BadRecord b) → x ≡ y → a ≡ b
+same_place : (a b : ℕ) (x y : Result Ended ReplayFault) → x ≡ Err (BadRecord a) → y ≡ Err (BadRecord b) → x ≡ y → a ≡ b
 same_place a b x y is_a is_b e = cc
 
 pub returns-in-Ok-replay_text-clause-lines : goal.returns-in-Ok-replay_text-clause-lines
-returns-in-Ok-replay_text-clause-lines g c = are_reply_lines _ _ _ _ _ c.in-Ok.ensures.read c.as_slice.ensures c.in-Ok-replay_text.ensures.replies
+returns-in-Ok-replay_text-clause-lines g c = are_reply_lines _ _ _ _ _ _ _ c.in-Ok.ensures.read c.as_slice.ensures c.in-Ok-replay_text.ensures.replies
 
 pub returns-in-Err-Bad-clause-bad_record : goal.returns-in-Err-Bad-clause-bad_record
 returns-in-Err-Bad-clause-bad_record g c =

@@ -1,0 +1,15 @@
+use Rattle.model_images.proofs.Freed.{free_id-frees, free_id-others}
+use Rattle.model_images.proofs.Order.{free_id-order, free_id-rest}
+use Rattle.model_images.proofs.free_id_frees.Goals as goal
+
+pub returns-clause-freed : goal.returns-clause-freed
+returns-clause-freed c = free_id-frees
+
+pub returns-clause-others : goal.returns-clause-others
+returns-clause-others c = free_id-others
+
+pub returns-clause-order : goal.returns-clause-order
+returns-clause-order c = free_id-order
+
+pub returns-clause-rest : goal.returns-clause-rest
+returns-clause-rest c = free_id-rest

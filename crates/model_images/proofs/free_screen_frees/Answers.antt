@@ -1,0 +1,15 @@
+use Rattle.model_images.proofs.Freed.{free_screen-frees, free_screen-others}
+use Rattle.model_images.proofs.Order.{free_screen-order, free_screen-rest}
+use Rattle.model_images.proofs.free_screen_frees.Goals as goal
+
+pub returns-clause-freed : goal.returns-clause-freed
+returns-clause-freed c = free_screen-frees
+
+pub returns-clause-others : goal.returns-clause-others
+returns-clause-others c = free_screen-others
+
+pub returns-clause-order : goal.returns-clause-order
+returns-clause-order c = free_screen-order
+
+pub returns-clause-rest : goal.returns-clause-rest
+returns-clause-rest c = free_screen-rest

@@ -1,0 +1,15 @@
+use Rattle.model_images.proofs.Freed.{leave-frees, leave-others}
+use Rattle.model_images.proofs.Order.{leave-order, leave-rest}
+use Rattle.model_images.proofs.leave_frees.Goals as goal
+
+pub returns-clause-freed : goal.returns-clause-freed
+returns-clause-freed c = leave-frees
+
+pub returns-clause-others : goal.returns-clause-others
+returns-clause-others c = leave-others
+
+pub returns-clause-order : goal.returns-clause-order
+returns-clause-order c = leave-order
+
+pub returns-clause-rest : goal.returns-clause-rest
+returns-clause-rest c = leave-rest

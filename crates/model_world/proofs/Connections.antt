@@ -1,0 +1,198 @@
+-- Which connections a draw device has, before and after each thing that a session does with it.
+use Rattle.std.proofs.Common.{◌≡◌, ℕ, zero, suc, ◌+◌, Bool, true, false, List, [], ◌∷◌, Option, Some, None, Ok, Err, refl, sym, ap, ◌∙◌, arith, rules}
+use Rattle.std.specs.Prelude.{not, ◌||◌, nat_lt}
+use Rattle.std.specs.Option.{option_map_or}
+use Rattle.std.specs.List.{fold}
+use Rattle.std.specs.Map.{keys_of}
+use Rattle.std.proofs.lemmas.Map.{keys-set_value}
+use Rattle.std.proofs.lemmas.Grind.{common_steps}
+use Rattle.r9_geom.specs.declared.Rect.{Rect}
+use Rattle.r9_geom.specs.declared.Point.{Point}
+use Rattle.model_text.specs.Outcome.{Outcome, ◌>>=◌, refuse_if}
+use Rattle.model_text.specs.Map.{is_key, lookup, with, and, without}
+use Rattle.model_dmsg.specs.Message.{Message, LowB, UpA, LowC, LowD, UpD, LowF, UpF, LowI, LowL, UpN, LowN, LowO, UpO, LowR, LowS, UpS, LowT, LowV, LowX, LowY}
+use Rattle.model_images.specs.declared.Thing.{Thing}
+use Rattle.model_images.specs.declared.Thing.TheVariants.{Image, Screen}
+use Rattle.model_pixel.specs.Channels.{is_descriptor}
+use Rattle.model_imgfile.specs.ImageFile.{rows_len}
+use Rattle.r9_geom.specs.Geometry.{is_empty}
+use Rattle.model_images.specs.Book.{Book, is_image_id_taken, add_id}
+use Rattle.model_images.specs.Release.{Freed}
+use Rattle.model_draw.specs.World.{World, Client, next_image, client_of, with_client, with_images, without_thing, after_freed, after_leave}
+use Rattle.model_draw.specs.Making.{allocate, clashes, make_screen, share_screen, set_clip, free_image, free_screen_id, flag, farthest, fill_raw, is_near_rect, is_too_large, screen_named, with_made, with_new_image, with_size}
+use Rattle.model_draw.specs.Moving.{look_window, move_window, restack}
+use Rattle.model_draw.specs.Drawing.{draw, set_operator, read_pixels, write_pixels}
+use Rattle.model_draw.specs.Act.{act, one_message, spelled, behind, is_marked, written, written_within, Written}
+use Rattle.model_draw.specs.Files.{read_data, write_ctl}
+
+-- the numbers of a device's connections
+abbrev pub numbers_of : World → List ℕ
+numbers_of world = keys_of world.clients
+
+-- what is left has the same connections
+abbrev pub Keeps : World → Outcome World → Type 0
+Keeps world (Ok next) = numbers_of next ≡ numbers_of world
+Keeps world (Err n) = Unit {0}
+
+abbrev KeepsBeside : {A : Type 0} → World → Outcome (World × A) → Type 0
+KeepsBeside world (Ok next) = numbers_of next.0 ≡ numbers_of world
+KeepsBeside world (Err n) = Unit {0}
+
+client_kept : (world : World) (k : ℕ) (client : Client) → numbers_of (with_client world k client) ≡ numbers_of world
+client_kept world k client = keys-set_value (is_key k) world.clients client
+
+-- ---- what goes
+
+thing_kept : (world : World) (thing : Thing) → (without_thing world thing).clients ≡ world.clients
+thing_kept world (Image i) = refl
+thing_kept world (Screen s) = refl
+
+things_kept : (things : List Thing) (world : World) → (fold without_thing world things).clients ≡ world.clients
+things_kept [] world = refl
+things_kept (thing ∷ things) world = things_kept things (without_thing world thing) ∙ thing_kept world thing
+
+pub freed_kept : (world : World) (freed : Freed) → (after_freed world freed).clients ≡ world.clients
+freed_kept world freed = things_kept freed.gone (record world { book = freed.book })
+
+-- ---- messages
+
+guarded : (world : World) (a b c d e : Outcome (Unit {0})) (o : Outcome World) → Keeps world o
+    → Keeps world (a >>= λ _. b >>= λ _. c >>= λ _. d >>= λ _. e >>= λ _. o)
+guarded world (Ok _) (Ok _) (Ok _) (Ok _) (Ok _) o kept = kept
+guarded world (Ok _) (Ok _) (Ok _) (Ok _) (Err n) o kept = tt
+guarded world (Ok _) (Ok _) (Ok _) (Err n) e o kept = tt
+guarded world (Ok _) (Ok _) (Err n) d e o kept = tt
+guarded world (Ok _) (Err n) c d e o kept = tt
+guarded world (Err n) b c d e o kept = tt
+
+made_kept : (world : World) (screen : Outcome (Option ℕ)) (clash : Option ℕ → Outcome (Unit {0})) (book : Option ℕ → Outcome Book) (next : Option ℕ → Book → World)
+    → ((s : Option ℕ) (b : Book) → numbers_of (next s b) ≡ numbers_of world) → Keeps world (screen >>= λ s. clash s >>= λ _. book s >>= λ b. Ok (next s b))
+made_kept world (Ok s) clash book next kept =
+    elim (clash s) as (λ c. Keeps world (c >>= λ _. book s >>= λ b. Ok (next s b))) [
+      | Ok _ ↦ elim (book s) as (λ o. Keeps world (o >>= λ b. Ok (next s b))) [ Ok b ↦ kept s b | Err n ↦ tt ]
+      | Err n ↦ tt
+    ]
+made_kept world (Err n) clash book next kept = tt
+
+allocate_kept : (k : ℕ) (world : World) (id screenid refresh chan : ℕ) (repl : Bool) (r clipr : Rect) (color : ℕ) → Keeps world (allocate k world id screenid refresh chan repl r clipr color)
+unfolding allocate
+allocate_kept k world id screenid refresh chan repl r clipr color =
+    guarded world
+    (refuse_if (is_image_id_taken world.book k id) 6)
+    (refuse_if (nat_lt 2 refresh) 23)
+    (refuse_if (not (is_descriptor chan)) 8)
+    (refuse_if (is_empty r || not (is_near_rect farthest r)) 9)
+    (refuse_if (is_too_large (client_of world k) (rows_len chan r)) 10)
+    _
+    (made_kept world (screen_named world k screenid) (λ s. refuse_if (option_map_or (clashes world chan repl) s false) 11) (λ s. add_id world.book k id (next_image world) s)
+    (λ s book. with_client (with_made world (with_new_image world s r chan (fill_raw chan color) repl clipr) book) k (with_size (client_of world k) id (rows_len chan r)))
+    (λ s book. keys-set_value (is_key k) world.clients _))
+
+make_screen_kept : (k : ℕ) (world : World) (id imageid fillid : ℕ) (is_public : Bool) → Keeps world (make_screen k world id imageid fillid is_public)
+unfolding make_screen
+make_screen_kept k world id imageid fillid is_public = grind (arith, common_steps)
+
+share_screen_kept : (k : ℕ) (world : World) (id chan : ℕ) → Keeps world (share_screen k world id chan)
+unfolding share_screen
+share_screen_kept k world id chan = grind (arith, common_steps)
+
+free_screen_id_kept : (k : ℕ) (world : World) (id : ℕ) → Keeps world (free_screen_id k world id)
+unfolding free_screen_id
+free_screen_id_kept k world id = grind (arith, common_steps, freed_kept)
+
+moved_kept : (world : World) (window : Outcome ℕ) (near : ℕ → Outcome (Unit {0})) (next : ℕ → World) → ((i : ℕ) → numbers_of (next i) ≡ numbers_of world)
+    → Keeps world (window >>= λ i. near i >>= λ _. Ok (next i))
+moved_kept world (Ok i) near next kept = elim (near i) as (λ o. Keeps world (o >>= λ _. Ok (next i))) [ Ok _ ↦ kept i | Err n ↦ tt ]
+moved_kept world (Err n) near next kept = tt
+
+move_window_kept : (k : ℕ) (world : World) (id : ℕ) (rmin scr : Point) → Keeps world (move_window k world id rmin scr)
+unfolding move_window
+move_window_kept k world id rmin scr = moved_kept world (look_window world k id) _ _ (λ i. refl)
+
+restack_kept : (k : ℕ) (world : World) (top : Bool) (ids : List ℕ) → Keeps world (restack k world top ids)
+unfolding restack
+restack_kept k world top ids = grind (arith, common_steps)
+
+set_clip_kept : (k : ℕ) (world : World) (dstid : ℕ) (repl : Bool) (clipr : Rect) → Keeps world (set_clip k world dstid repl clipr)
+unfolding set_clip
+set_clip_kept k world dstid repl clipr = grind (arith, common_steps, keys-set_value)
+
+draw_kept : (k : ℕ) (world : World) (dstid srcid maskid : ℕ) (dstr : Rect) (srcp maskp : Point) → Keeps world (draw k world dstid srcid maskid dstr srcp maskp)
+unfolding draw
+draw_kept k world dstid srcid maskid dstr srcp maskp = grind (arith, common_steps, keys-set_value)
+
+free_image_kept : (k : ℕ) (world : World) (id : ℕ) → Keeps world (free_image k world id)
+unfolding free_image
+free_image_kept k world id = grind (arith, common_steps, keys-set_value, freed_kept)
+
+set_operator_kept : (k : ℕ) (world : World) (op : ℕ) → Keeps world (set_operator k world op)
+unfolding set_operator
+set_operator_kept k world op = grind (arith, common_steps, keys-set_value)
+
+read_pixels_kept : (k : ℕ) (world : World) (id : ℕ) (r : Rect) → Keeps world (read_pixels k world id r)
+unfolding read_pixels
+read_pixels_kept k world id r = grind (arith, common_steps, keys-set_value)
+
+write_pixels_kept : (k : ℕ) (world : World) (id : ℕ) (r : Rect) (rest : List ℕ) → Keeps world (write_pixels k world id r rest)
+unfolding write_pixels
+write_pixels_kept k world id r rest = grind (arith, common_steps, keys-set_value)
+
+act_kept : (k : ℕ) (world : World) (m : Message) (rest : List ℕ) → Keeps world (act k world m rest)
+unfolding act
+act_kept k world (LowB id screenid refresh chan repl r clipr color) rest = allocate_kept k world id screenid refresh chan (flag repl) r clipr color
+act_kept k world (UpA id imageid fillid public) rest = make_screen_kept k world id imageid fillid (flag public)
+act_kept k world (LowC dstid repl clipr) rest = set_clip_kept k world dstid (flag repl) clipr
+act_kept k world (LowD dstid srcid maskid dstr srcp maskp) rest = draw_kept k world dstid srcid maskid dstr srcp maskp
+act_kept k world (UpD debug) rest = refl
+act_kept k world (LowF id) rest = free_image_kept k world id
+act_kept k world (UpF id) rest = free_screen_id_kept k world id
+act_kept k world (LowO id rmin scr) rest = move_window_kept k world id rmin scr
+act_kept k world (UpO op) rest = set_operator_kept k world op
+act_kept k world (LowR id r) rest = read_pixels_kept k world id r
+act_kept k world (UpS id chan) rest = share_screen_kept k world id chan
+act_kept k world (LowT top ids) rest = restack_kept k world (flag top) ids
+act_kept k world LowV rest = refl
+act_kept k world (LowY id r) rest = write_pixels_kept k world id r rest
+act_kept k world _ rest = tt
+
+-- ---- a write
+
+one_message_kept : (k : ℕ) (world : World) (mark : Option ℕ) (done : ℕ) (bytes : List ℕ) → KeepsBeside world (one_message k world mark done bytes)
+unfolding one_message
+one_message_kept k world mark done bytes = grind (arith, common_steps, act_kept)
+
+-- what is left once the first message of a write was done or refused
+abbrev left_by : (then : World → List ℕ → Written) → World → ℕ → Outcome (World × List ℕ) → Written
+left_by then world done (Ok next) = then next.0 next.1
+left_by then world done (Err refusal) = record { world = world; done = done; refusal = Some refusal }
+
+left_kept : (then : World → List ℕ → Written) (world : World) (done : ℕ) (o : Outcome (World × List ℕ))
+    → ((next : World) (rest : List ℕ) → numbers_of (then next rest).world ≡ numbers_of next) → KeepsBeside world o → numbers_of (left_by then world done o).world ≡ numbers_of world
+left_kept then world done (Ok next) further kept = further next.0 next.1 ∙ kept
+left_kept then world done (Err refusal) further kept = refl
+
+within_kept : (steps k : ℕ) (world : World) (mark : Option ℕ) (done : ℕ) (bytes : List ℕ) → numbers_of (written_within steps k world mark done bytes).world ≡ numbers_of world
+within_kept zero k world mark done bytes = refl
+within_kept (suc steps) k world mark done [] = refl
+within_kept (suc steps) k world mark done (byte ∷ bytes) =
+    left_kept (λ next rest. written_within steps k next mark (done + 1) rest) world done (one_message k world mark done (byte ∷ bytes))
+    (λ next rest. within_kept steps k next mark (done + 1) rest)
+    (one_message_kept k world mark done (byte ∷ bytes))
+
+pub written_kept : (k : ℕ) (world : World) (bytes : List ℕ) (mark : Option ℕ) → numbers_of (written k world bytes mark).world ≡ numbers_of world
+unfolding written
+written_kept k world bytes mark = within_kept _ k world mark 0 bytes
+
+-- ---- the files of a connection
+
+abbrev pub KeepsRead : World → Outcome (List ℕ × World) → Type 0
+KeepsRead world (Ok got) = numbers_of got.1 ≡ numbers_of world
+KeepsRead world (Err n) = Unit {0}
+
+pub read_data_kept : (k : ℕ) (world : World) (most : ℕ) → KeepsRead world (read_data k world most)
+unfolding read_data
+read_data_kept k world most = grind (arith, common_steps, keys-set_value)
+
+pub write_ctl_kept : (k : ℕ) (world : World) (bytes : List ℕ) → Keeps world (write_ctl k world bytes)
+unfolding write_ctl
+write_ctl_kept k world bytes = grind (arith, common_steps, keys-set_value)

@@ -1,0 +1,175 @@
+-- Each event leaves the draw device with the connections of the sessions that live.
+use Rattle.std.proofs.Common.{◌≡◌, ◌<◌, ◌+◌, ◌^◌, ℕ, Bool, true, false, eqb, List, [], Option, Some, None, refl, sym, ap, subst, ◌∙◌, arith, lit<}
+use Rattle.std.specs.Map.{keys_of}
+use Rattle.std.proofs.lemmas.Bool.{eqb-true, eqb-false}
+use Rattle.r9_event.specs.declared.event.Event.{Event}
+use Rattle.r9_event.specs.declared.event.Event.TheVariants.{Begin, Msg, Take, End, Stop}
+use Rattle.r9_event.specs.declared.event.Opening.{Opening}
+use Rattle.model_text.specs.Map.{lookup, with, and, without}
+use Rattle.model_event.specs.Legal.{Roll, AllowedTo, roll_after}
+use Rattle.model_draw.specs.World as draw
+use Rattle.model_world.specs.Session.{Session, fresh}
+use Rattle.model_world.specs.World.{World, client, device_for, opened}
+use Rattle.model_world.specs.Fids.{Left, cleared}
+use Rattle.model_world.specs.Answer.{answer}
+use Rattle.model_world.specs.Replay.{step, served, ended, marked}
+use Rattle.model_world.specs.Links.{Ascend, AreCounted, AreKnown, AreLinked, IsLinked, IsNext, has_connection, is_connected}
+use Rattle.model_world.proofs.Maps.{and-here, and-others, with-here, with-others, without-here, without-others, ascend-and, ascend-with, ascend-without}
+use Rattle.model_world.proofs.Connections.{numbers_of}
+use Rattle.model_world.proofs.Links.{KeepsOthers, cleared_linked, kept_others}
+use Rattle.model_world.proofs.Answers.{Holds, answer_holds}
+
+client_of_another : (c d n m : ℕ) → n < 2 ^ 26 → m < 2 ^ 26 → client d n ≡ client c m → d ≡ c
+client_of_another c d n m below few same = omega (arith, same)
+
+-- the device has the connections of a session that lives
+pub linked_of : (device : draw.World) (sessions : List (ℕ × Session)) (c : ℕ) (session : Session) → AreLinked device sessions → lookup sessions c ≡ Some session → IsLinked c session.made session.connections device
+linked_of device sessions c session linked at = record {
+  counted = linked.counted c session at;
+  ordered = linked.ordered;
+  linked = λ n few. linked.linked c n few ∙ ap (λ (found : Option Session). has_connection found n) at;
+}
+
+-- one session has changed, and the device with it
+pub record Changed (world : World) (c : ℕ) (device : draw.World) (sessions : List (ℕ × Session)) (now : Option Session) : Type 0 where
+  pub here : lookup sessions c ≡ now
+  pub others : (d : ℕ) → (d ≡ c → ⊥) → lookup sessions d ≡ lookup world.sessions d
+  pub ascending : Ascend (keys_of sessions)
+  pub counted : (session : Session) → now ≡ Some session → AreCounted session.made session.connections
+  pub ordered : Ascend (numbers_of device)
+  pub linked : (n : ℕ) → n < 2 ^ 26 → is_connected device (client c n) ≡ has_connection now n
+  pub kept : KeepsOthers c world.device device
+
+changed_linked : (world : World) (c : ℕ) (device : draw.World) (sessions : List (ℕ × Session)) (now : Option Session) → AreLinked world.device world.sessions → Changed world c device sessions now
+    → AreLinked device sessions
+changed_linked world c device sessions now linked changed = record {
+  counted = λ d session at. counted_by d session at (eqb d c) refl;
+  ordered = changed.ordered;
+  ascending = changed.ascending;
+  linked = λ d n few. linked_by d n few (eqb d c) refl;
+}
+  where
+    counted_by : (d : ℕ) (session : Session) → lookup sessions d ≡ Some session → (b : Bool) → eqb d c ≡ b → AreCounted session.made session.connections
+    counted_by d session at true is =
+        let same : d ≡ c = eqb-true d c is in changed.counted session (sym changed.here ∙ ap (λ (k : ℕ). lookup sessions k) (sym same) ∙ at)
+    counted_by d session at false is = linked.counted d session (sym (changed.others d (λ same. eqb-false d c is same)) ∙ at)
+
+    linked_by : (d n : ℕ) → n < 2 ^ 26 → (b : Bool) → eqb d c ≡ b → is_connected device (client d n) ≡ has_connection (lookup sessions d) n
+    linked_by d n few true is =
+        let same : d ≡ c = eqb-true d c is in
+        subst (λ (k : ℕ). is_connected device (client k n) ≡ has_connection (lookup sessions k) n) (sym same)
+        (changed.linked n few ∙ ap (λ (found : Option Session). has_connection found n) (sym changed.here))
+    linked_by d n few false is =
+        let apart : d ≡ c → ⊥ = λ same. eqb-false d c is same in
+        changed.kept (client d n) (λ m small same. apart (client_of_another c d n m few small same))
+        ∙ linked.linked d n few
+        ∙ ap (λ (found : Option Session). has_connection found n) (sym (changed.others d apart))
+
+some_is : {A : Type 0} (x y : A) → Some x ≡ Some y → x ≡ y
+some_is x y e = cc
+
+counted_as : (s t : Session) → s ≡ t → AreCounted s.made s.connections → AreCounted t.made t.connections
+counted_as s t same counted = subst (λ (x : Session). AreCounted x.made x.connections) same counted
+
+begun_linked : (world : World) (c : ℕ) → AreLinked world.device world.sessions → lookup world.sessions c ≡ None → AreLinked world.device (and world.sessions c fresh)
+begun_linked world c linked none = changed_linked world c world.device (and world.sessions c fresh) (Some fresh) linked (record {
+  here = and-here world.sessions c fresh;
+  others = λ d apart. and-others world.sessions c d fresh apart;
+  ascending = ascend-and world.sessions c fresh linked.ascending;
+  counted = λ session at. counted_as fresh session (some_is fresh session at) (record { few = lit< tt; within = tt; ascending = tt });
+  ordered = linked.ordered;
+  linked = λ n few. linked.linked c n few ∙ ap (λ (found : Option Session). has_connection found n) none;
+  kept = λ k other. refl;
+})
+
+replied_linked : (world : World) (c : ℕ) (session : Session) (l : Left draw.World) → AreLinked world.device world.sessions → lookup world.sessions c ≡ Some session → Holds c world.device l
+    → AreLinked l.rest (with world.sessions c l.session)
+replied_linked world c session l linked at holds = changed_linked world c l.rest (with world.sessions c l.session) (Some l.session) linked (record {
+  here = with-here world.sessions c session l.session at;
+  others = λ d apart. with-others world.sessions c d l.session apart;
+  ascending = ascend-with world.sessions c l.session linked.ascending;
+  counted = λ s is. counted_as l.session s (some_is l.session s is) holds.linked.counted;
+  ordered = holds.linked.ordered;
+  linked = holds.linked.linked;
+  kept = holds.others;
+})
+
+served_linked : (world : World) (c : ℕ) (bytes : List ℕ) (mark : Option ℕ) (found : Option Session) → AreLinked world.device world.sessions → lookup world.sessions c ≡ found
+    → AreLinked (served world c bytes mark found).world.device (served world c bytes mark found).world.sessions
+served_linked world c bytes mark None linked at = linked
+served_linked world c bytes mark (Some session) linked at =
+    replied_linked world c session (answer (device_for c) session world.device bytes mark) linked at (answer_holds c session world.device bytes mark (linked_of world.device world.sessions c session linked at))
+
+ended_linked : (world : World) (c : ℕ) (found : Option Session) → AreLinked world.device world.sessions → lookup world.sessions c ≡ found → AreLinked (ended world c found).device (ended world c found).sessions
+ended_linked world c None linked at = linked
+ended_linked world c (Some session) linked at =
+    let own = linked_of world.device world.sessions c session linked at in
+    let gone = cleared_linked c session.made session.connections world.device own in
+    changed_linked world c (cleared (device_for c) session world.device).1 (without world.sessions c) None linked (record {
+      here = without-here world.sessions c linked.ascending;
+      others = λ d apart. without-others world.sessions c d apart;
+      ascending = ascend-without world.sessions c linked.ascending;
+      counted = λ s is. absurd (cc is);
+      ordered = gone.ordered;
+      linked = gone.linked;
+      kept = kept_others c session.made session.connections session.connections world.device own own.counted.within;
+    })
+
+pub step_linked : (world : World) (begun : ℕ) (event : Event) → IsNext begun event → AreKnown begun world.sessions → AreLinked world.device world.sessions
+    → AreLinked (step world event).world.device (step world event).world.sessions
+step_linked world begun (Begin c) next known linked = begun_linked world c linked (known c (omega (arith, next)))
+step_linked world begun (Msg c bytes mark) next known linked = served_linked world c bytes mark (lookup world.sessions c) linked refl
+step_linked world begun (Take c) next known linked = linked
+step_linked world begun (End c) next known linked = ended_linked world c (lookup world.sessions c) linked refl
+step_linked world begun Stop next known linked = linked
+
+pub opened_linked : (opening : Opening) → AreLinked (opened opening).device (opened opening).sessions
+unfolding draw.started
+opened_linked opening = record {
+  counted = λ c session at. absurd (cc at);
+  ordered = tt;
+  ascending = tt;
+  linked = λ c n few. refl;
+}
+
+-- ---- sessions that have not begun
+
+with_none : (sessions : List (ℕ × Session)) (c d : ℕ) (session : Session) → lookup sessions d ≡ None → (b : Bool) → eqb d c ≡ b → lookup sessions c ≡ Some session → (after : Session) → lookup (with sessions c after) d ≡ None
+with_none sessions c d session none true is at after =
+    let same : d ≡ c = eqb-true d c is in absurd (let two : None ≡ Some session = sym none ∙ ap (λ (k : ℕ). lookup sessions k) same ∙ at in cc two)
+with_none sessions c d session none false is at after = with-others sessions c d after (λ same. eqb-false d c is same) ∙ none
+
+served_known : (world : World) (c begun : ℕ) (bytes : List ℕ) (mark : Option ℕ) (found : Option Session) → AreKnown begun world.sessions → lookup world.sessions c ≡ found
+    → AreKnown begun (served world c bytes mark found).world.sessions
+served_known world c begun bytes mark None known at = known
+served_known world c begun bytes mark (Some session) known at = λ d later. with_none world.sessions c d session (known d later) (eqb d c) refl at _
+
+without_none : (sessions : List (ℕ × Session)) (c d : ℕ) → Ascend (keys_of sessions) → lookup sessions d ≡ None → (b : Bool) → eqb d c ≡ b → lookup (without sessions c) d ≡ None
+without_none sessions c d ascend none true is =
+    let same : d ≡ c = eqb-true d c is in subst (λ (k : ℕ). lookup (without sessions c) k ≡ None) (sym same) (without-here sessions c ascend)
+without_none sessions c d ascend none false is = without-others sessions c d (λ same. eqb-false d c is same) ∙ none
+
+ended_known : (world : World) (c begun : ℕ) (found : Option Session) → Ascend (keys_of world.sessions) → AreKnown begun world.sessions → AreKnown begun (ended world c found).sessions
+ended_known world c begun None ascend known = known
+ended_known world c begun (Some session) ascend known = λ d later. without_none world.sessions c d ascend (known d later) (eqb d c) refl
+
+pub step_known : (world : World) (roll : Roll) (event : Event) → IsNext roll.begun event → Ascend (keys_of world.sessions) → AreKnown roll.begun world.sessions
+    → AreKnown (roll_after roll event).begun (step world event).world.sessions
+step_known world roll (Begin c) next ascend known = λ d later. and-others world.sessions c d fresh (λ same. omega (arith, same)) ∙ known d (omega (arith, next))
+step_known world roll (Msg c bytes mark) next ascend known = served_known world c roll.begun bytes mark (lookup world.sessions c) known refl
+step_known world roll (Take c) next ascend known = known
+step_known world roll (End c) next ascend known = ended_known world c roll.begun (lookup world.sessions c) ascend known
+step_known world roll Stop next ascend known = known
+
+-- an event that is allowed, with the mark with which it stands in the history
+pub next_allowed : (roll : Roll) (event : Event) (short : Option ℕ) → AllowedTo roll event → IsNext roll.begun (marked event short)
+next_allowed roll (Begin c) None allowed = allowed.0
+next_allowed roll (Begin c) (Some k) allowed = allowed.0
+next_allowed roll (Msg c bytes mark) None allowed = tt
+next_allowed roll (Msg c bytes mark) (Some k) allowed = tt
+next_allowed roll (Take c) None allowed = tt
+next_allowed roll (Take c) (Some k) allowed = tt
+next_allowed roll (End c) None allowed = tt
+next_allowed roll (End c) (Some k) allowed = tt
+next_allowed roll Stop None allowed = tt
+next_allowed roll Stop (Some k) allowed = tt

@@ -1,0 +1,123 @@
+-- What the images and the book keep together stays so where windows are raised or lowered.
+use Rattle.std.proofs.Common.{◌≡◌, ℕ, ◌<◌, Bool, true, false, List, [], ◌∷◌, length, get_or, map, drop, Option, Some, None, Result, Ok, Err, OnOk, OnErr, refl, sym, ap, subst, ◌∙◌, arith}
+use Rattle.std.specs.Prelude.{◌||◌, All, IsSome, is_ok, is_some, not, option_map, unwrap_or}
+use Rattle.std.specs.Result.{result_unwrap_or}
+use Rattle.std.proofs.lemmas.List.{get_or-map, length-map}
+use Rattle.r9_geom.specs.Geometry.{HasPoints}
+use Rattle.r9_info.specs.declared.ImageNo.{ImageNo}
+use Rattle.model_text.specs.Map.{lookup}
+use Rattle.model_text.specs.Outcome.{Outcome, ◌>>=◌, refuse_if}
+use Rattle.model_dmsg.specs.Message.{LowT}
+use Rattle.model_forest.specs.declared.Standing.{Standing}
+use Rattle.model_forest.specs.declared.Window.{Window}
+use Rattle.model_forest.specs.World.{Image, World as Images, image_at, no_image, parent_of, IsForest}
+use Rattle.model_forest.specs.Stack.{after_lower, after_raise, after_restack, lowered, raised}
+use Rattle.model_forest.proofs.Releasing.{Stays, windows-stay}
+use Rattle.model_images.specs.Book.{Book, by_name, screen_of}
+use Rattle.model_draw.specs.World.{World, look}
+use Rattle.model_draw.specs.Making.{flag, is_window}
+use Rattle.model_draw.specs.Moving.{look_window, look_windows, restack}
+use Rattle.model_draw.specs.Act.{act, behind}
+use Rattle.r9_dmsg.specs.declared.restacking.Restacking.{Restacking}
+use Rattle.r9_draw.specs.Restacking.{after_restacking}
+use Rattle.r9_draw.specs.Kept.{IsKept, standing_on}
+use Rattle.r9_draw.proofs.Group.{shown-at, shown-length}
+use Rattle.r9_draw.proofs.Kept.{kept-same, placed-framed}
+
+-- ---- the images are windows
+
+refused_unless : (a b : Bool) (i j : ℕ) → (refuse_if (not a || b) 20 >>= λ _. Ok i) ≡ Ok j → (i ≡ j) × (a ≡ true)
+refused_unless true false i j h = (cc, refl)
+refused_unless true true i j h = absurd cc
+refused_unless false b i j h = absurd cc
+
+window-of : (k : ℕ) (w : World) (id i : ℕ) → look_window w k id ≡ Ok i → is_window w i ≡ true
+window-of k w id i h = by (look w k id) h
+  where
+    by : (o : Outcome ℕ) → (o >>= λ n. refuse_if (not (is_window w n) || by_name w.book k id) 20 >>= λ _. Ok n) ≡ Ok i → is_window w i ≡ true
+    by (Ok n) e =
+        let both = refused_unless (is_window w n) (by_name w.book k id) n i e in
+        ap (is_window w) (sym both.0) ∙ both.1
+    by (Err n) e = absurd cc
+
+pub window-at : (k : ℕ) (w : World) (ids : List ℕ) (j : ℕ) → is_ok (look_windows w k ids) ≡ true → j < length ids → is_window w (get_or (result_unwrap_or (look_windows w k ids) []) j 0) ≡ true
+window-at k w ids j h below = window-of k w (get_or ids j 0) _ (shown-at k w ids j h below)
+
+some_parent : (book : Book) (o : Option ℕ) → is_some o ≡ true → is_some (option_map (λ (s : Standing). s.parent) (option_map (standing_on book) o)) ≡ true
+some_parent book (Some s) h = refl
+some_parent book None h = absurd cc
+
+-- a window stands on an image
+stands : (images : Images) (book : Book) (i : ℕ) → IsKept images book → is_some (screen_of book i) ≡ true → IsSome (parent_of images i)
+stands images book i kept h =
+    ap (λ (o : Option Standing). is_some (option_map (λ (s : Standing). s.parent) o)) (kept.placed i).stands ∙ some_parent book (screen_of book i) h
+
+pub group-stands : (k : ℕ) (w : World) (ids : List ℕ) (group : List ImageNo) → IsKept w.images w.book → is_ok (look_windows w k ids) ≡ true → map (λ i. i.0) group ≡ result_unwrap_or (look_windows w k ids) []
+    → All (λ i. IsSome (parent_of w.images i.0)) group
+group-stands k w ids group kept ok e j d below =
+    let many = ap length e ∙ shown-length k w ids ok in
+    let same = length-map group (λ (i : ImageNo). i.0) in
+    let here : (get_or group j d).0 ≡ get_or (result_unwrap_or (look_windows w k ids) []) j 0 =
+    sym (get_or-map (λ (i : ImageNo). i.0) group j d 0 below) ∙ ap (λ (xs : List ℕ). get_or xs j 0) e in
+    let P : ℕ → Type 0 = λ n. IsSome (parent_of w.images n) in
+    subst P (sym here) (stands w.images w.book _ kept (window-at k w ids j ok (omega (arith, below, many, same))))
+
+-- ---- what is kept
+
+-- each image stays where it stands
+pub kept-staying : (images next : Images) (book : Book) → IsKept images book → ((n : ℕ) → Stays images next n) → IsKept next book
+kept-staying images next book kept stays = record {
+  live = λ i h. (stays i).live ∙ kept.live i h;
+  placed = λ i. placed-framed book i _ _ (stays i).frame (kept.placed i);
+  screens = kept.screens;
+  display = kept.display;
+  points = λ i h n. subst HasPoints (sym (stays i).frame.r) (kept.points i (sym (stays i).live ∙ h) n);
+}
+
+standing_lives : (images : Images) (i : ℕ) → IsSome (parent_of images i) → is_some (images i) ≡ true
+standing_lives images i h = by (images i) h
+  where
+    by : (o : Option Image) → IsSome (option_map (λ (s : Standing). s.parent) (unwrap_or o no_image).standing) → is_some o ≡ true
+    by (Some x) e = refl
+    by None e = absurd cc
+
+parent_lives : (images : Images) (i : ℕ) → IsForest images → IsSome (parent_of images i) → is_some (images (unwrap_or (parent_of images i) 0)) ≡ true
+parent_lives images i forest h = by (parent_of images i) refl h
+  where
+    by : (o : Option ℕ) → parent_of images i ≡ o → IsSome o → is_some (images (unwrap_or o 0)) ≡ true
+    by (Some p) e g = forest.parents i p (standing_lives images i h) e
+    by None e g = absurd cc
+
+kept_restacked : (order : List Window → List Window) (images : Images) (book : Book) (group : List ImageNo) → IsKept images book → IsForest images → All (λ i. IsSome (parent_of images i.0)) group
+    → IsKept (after_restack order images (map (λ i. i.0) group)) book
+kept_restacked order images book [] kept forest windows = kept
+kept_restacked order images book (i ∷ group) kept forest windows =
+    let parent = unwrap_or (parent_of images i.0) 0 in
+    kept-staying images _ book kept
+    (λ n. windows-stay images parent n (order (image_at images parent).windows) (parent_lives images i.0 forest (windows 0 i (omega arith))))
+
+pub kept-raised : {A E : Type 0} (o : Result A E) (images next : Images) (book : Book) (group : List ImageNo) → IsKept images book → IsForest images → All (λ i. IsSome (parent_of images i.0)) group
+    → OnOk o (next ≡ after_raise images (map (λ i. i.0) group)) → OnErr o (next ≡ images) → IsKept next book
+unfolding after_raise
+kept-raised (Ok x) images next book group kept forest windows ok err = kept-same _ next book (kept_restacked (raised (map (λ i. i.0) group)) images book group kept forest windows) ok
+kept-raised (Err x) images next book group kept forest windows ok err = kept-same images next book kept err
+
+pub kept-lowered : {A E : Type 0} (o : Result A E) (images next : Images) (book : Book) (group : List ImageNo) → IsKept images book → IsForest images → All (λ i. IsSome (parent_of images i.0)) group
+    → OnOk o (next ≡ after_lower images (map (λ i. i.0) group)) → OnErr o (next ≡ images) → IsKept next book
+unfolding after_lower
+kept-lowered (Ok x) images next book group kept forest windows ok err = kept-same _ next book (kept_restacked (lowered (map (λ i. i.0) group)) images book group kept forest windows) ok
+kept-lowered (Err x) images next book group kept forest windows ok err = kept-same images next book kept err
+
+-- ---- as a message
+
+pub act-restack : (k : ℕ) (w : World) (top : ℕ) (ids rest : List ℕ) → act k w (LowT top ids) rest ≡ restack k w (flag top) ids
+unfolding act
+act-restack k w top ids rest = refl
+
+pub behind-restack : (k : ℕ) (w : World) (top : ℕ) (ids rest : List ℕ) → behind k w (LowT top ids) rest ≡ drop 0 rest
+unfolding behind
+behind-restack k w top ids rest = refl
+
+pub restacked-live : (k : ℕ) (w next : World) (asked : Restacking) → IsSome (lookup w.clients k) → next ≡ after_restacking k w asked → IsSome (lookup next.clients k)
+unfolding after_restacking
+restacked-live k w next asked h e = let P : World → Type 0 = λ x. IsSome (lookup x.clients k) in subst P (sym e) h

@@ -1,0 +1,191 @@
+-- What `A`, `S` and `o` do once their tests have passed.
+use Rattle.std.proofs.Common.{◌≡◌, ℕ, Bool, true, false, ◌≤◌, ℤ, pos, neg_ℤ, ◌≤ℤ◌, ◌-ℤ◌, Option, Some, Result, Ok, Err, OnOk, OnErr, refl, sym, ap, subst, ◌∙◌, arith}
+use Rattle.std.specs.Prelude.{◌^◌, ◌==◌, ◌&&◌, nat_lt, is_some, unwrap_or}
+use Rattle.std.specs.Result.{result_unwrap_or}
+use Rattle.std.specs.Int.{int_min}
+use Rattle.std.proofs.lemmas.Bool.Decides.{nat_tests}
+use Rattle.std.proofs.lemmas.Bool.{eqb-true}
+use Rattle.std.proofs.lemmas.Int.{int_max_is, int_min_is, ints}
+use Rattle.r9_geom.specs.declared.Point.{Point}
+use Rattle.r9_geom.specs.declared.Rect.{Rect}
+use Rattle.r9_geom.specs.Geometry.{at_min, HasPoints, IsNearBy, IsOrdered, IsRectNearBy}
+use Rattle.model_forest.specs.World.{Image, World as Images, image_at, no_image, parent_of}
+use Rattle.model_forest.specs.Steps.{after_origin, carried_rect, clamped, clamped_rect, shifted_image}
+use Rattle.model_forest.proofs.Releasing.{Stays, origin-at, origin-others}
+use Rattle.model_images.specs.Book.{Book, add_screen, image_of, is_screen_id_taken, new_screen, public, screen_numbered}
+use Rattle.model_draw.specs.World.{World, at_number, look}
+use Rattle.model_draw.specs.Making.{farthest, is_near_rect, make_screen, share_screen}
+use Rattle.model_draw.specs.Moving.{stays_near}
+use Rattle.r9_draw.specs.declared.plan.Screening.{Screening}
+use Rattle.r9_draw.specs.Kept.{IsKept, IsPlaced}
+use Rattle.r9_draw.specs.Spare.{AreSpare, are_free}
+use Rattle.r9_draw.specs.Plans.{after_make_screen, after_share}
+use Rattle.r9_draw.proofs.Kept.{kept-same, placed-framed}
+use Rattle.r9_draw.proofs.Rects.{near-of}
+use Rattle.r9_draw.proofs.Screens.{kept-screened, kept-shared, spare-screened, spare-shared}
+
+-- ---- as the definitions have them
+
+not_zero : (n : ℕ) → (n ≡ 0 → ⊥) → (n == 0) ≡ false
+not_zero n h = grind (arith, nat_tests)
+
+new_screen-fresh : (book other : Book) (k id : ℕ) (open_to_all : Bool) (i fill : ℕ) → is_screen_id_taken book k id open_to_all ≡ false → new_screen book k id open_to_all i fill ≡ Ok (result_unwrap_or (new_screen book k id open_to_all i fill) other)
+unfolding new_screen
+new_screen-fresh book other k id open_to_all i fill h = rw h refl
+
+add_screen-fresh : (book other : Book) (k id screen : ℕ) (open_to_all : Bool) → is_screen_id_taken book k id open_to_all ≡ false → add_screen book k id screen open_to_all ≡ Ok (result_unwrap_or (add_screen book k id screen open_to_all) other)
+unfolding add_screen
+add_screen-fresh book other k id screen open_to_all h = rw h refl
+
+pub screening-made : (k : ℕ) (w : World) (s : Screening) (imageid fillid : ℕ) → (s.id ≡ 0 → ⊥) → is_screen_id_taken w.book k s.id s.public ≡ false → look w k imageid ≡ Ok s.image.0 → look w k fillid ≡ Ok s.fill.0
+    → (at_number w s.image.0).repl ≡ false → (at_number w s.image.0).depth ≤ 15 → make_screen k w s.id imageid fillid s.public ≡ Ok (after_make_screen k w s)
+unfolding make_screen after_make_screen
+screening-made k w s imageid fillid some fresh image fill flat shallow =
+    let zero = not_zero s.id some in
+    let high : nat_lt 15 (at_number w s.image.0).depth ≡ false = grind (arith, nat_tests) in
+    let made = new_screen-fresh w.book w.book k s.id s.public s.image.0 s.fill.0 fresh in
+    rw zero (rw fresh (rw image (rw fill (rw flat (rw high (rw made refl))))))
+
+pub sharing-made : (k : ℕ) (w : World) (id s chan : ℕ) → (id ≡ 0 → ⊥) → is_screen_id_taken w.book k id false ≡ false → public w.book id ≡ Ok s → (at_number w (image_of w.book s)).chan ≡ chan
+    → share_screen k w id chan ≡ Ok (after_share k w id s)
+unfolding share_screen after_share
+sharing-made k w id s chan some fresh found alike =
+    let zero = not_zero id some in
+    let same : ((at_number w (image_of w.book s)).chan == chan) ≡ true = grind (arith, nat_tests) in
+    let made = add_screen-fresh w.book w.book k id s false fresh in
+    rw zero (rw fresh (rw found (rw same (rw made refl))))
+
+-- ---- what is kept
+
+pub kept-made_screen : {A E : Type 0} (o : Result A E) (images : Images) (book made : Book) (k : ℕ) (s : Screening) → IsKept images book → AreSpare book → is_some (images s.image.0) ≡ true → is_some (images s.fill.0) ≡ true
+    → OnOk o (new_screen book k s.id s.public s.image.0 s.fill.0 ≡ Ok made) → OnErr o (made ≡ book) → IsKept images made
+kept-made_screen (Ok x) images book made k s kept spare image fill e err = kept-screened images book made k s.id s.public s.image.0 s.fill.0 kept spare e image fill
+kept-made_screen (Err x) images book made k s kept spare image fill e err = subst (IsKept images) (sym err) kept
+
+pub spare-made_screen : {A E : Type 0} (o : Result A E) (book made : Book) (k : ℕ) (s : Screening) → AreSpare book → OnOk o (new_screen book k s.id s.public s.image.0 s.fill.0 ≡ Ok made) → OnErr o (made ≡ book) → AreSpare made
+spare-made_screen (Ok x) book made k s spare e err = spare-screened book made k s.id s.public s.image.0 s.fill.0 spare e
+spare-made_screen (Err x) book made k s spare e err = ap (λ (b : Book). are_free b.screens b.spare) err ∙ spare
+
+pub kept-shared_screen : {A E : Type 0} (o : Result A E) (images : Images) (book added : Book) (k id screen : ℕ) → IsKept images book → is_some (screen_numbered book screen) ≡ true
+    → OnOk o (add_screen book k id screen false ≡ Ok added) → OnErr o (added ≡ book) → IsKept images added
+kept-shared_screen (Ok x) images book added k id screen kept there e err = kept-shared images book added k id screen false kept e there
+kept-shared_screen (Err x) images book added k id screen kept there e err = subst (IsKept images) (sym err) kept
+
+pub spare-shared_screen : {A E : Type 0} (o : Result A E) (book added : Book) (k id screen : ℕ) → AreSpare book → OnOk o (add_screen book k id screen false ≡ Ok added) → OnErr o (added ≡ book) → AreSpare added
+spare-shared_screen (Ok x) book added k id screen spare e err = spare-shared book added k id screen false spare e
+spare-shared_screen (Err x) book added k id screen spare e err = ap (λ (b : Book). are_free b.screens b.spare) err ∙ spare
+
+-- ---- a window that moves
+
+near-left : (r : Rect) (rmin scr : Point) → stays_near r rmin scr ≡ true → is_near_rect farthest (at_min r rmin) ≡ true
+near-left r rmin scr h = by (is_near_rect farthest (at_min r rmin)) (is_near_rect farthest (at_min r scr)) h
+  where
+    by : (a b : Bool) → (a && b) ≡ true → a ≡ true
+    by true b e = refl
+    by false b e = absurd cc
+
+near-right : (r : Rect) (rmin scr : Point) → stays_near r rmin scr ≡ true → is_near_rect farthest (at_min r scr) ≡ true
+near-right r rmin scr h = by (is_near_rect farthest (at_min r rmin)) (is_near_rect farthest (at_min r scr)) h
+  where
+    by : (a b : Bool) → (a && b) ≡ true → b ≡ true
+    by true b e = e
+    by false b e = absurd cc
+
+wider : (p : Point) → IsNearBy (2 ^ 33) p → IsNearBy (2 ^ 34) p
+wider p h =
+    let left = h.left in
+    let right = h.right in
+    let top = h.top in
+    let bottom = h.bottom in
+    record { left = omega (arith, ints); right = omega (arith, ints); top = omega (arith, ints); bottom = omega (arith, ints) }
+
+pub corner-near : (r : Rect) (rmin scr : Point) → stays_near r rmin scr ≡ true → IsNearBy (2 ^ 34) scr
+corner-near r rmin scr h = let near = near-of (at_min r scr) (near-right r rmin scr h) in wider scr near.min
+
+pub min-near : (r : Rect) (rmin scr : Point) → stays_near r rmin scr ≡ true → IsNearBy (2 ^ 34) rmin
+min-near r rmin scr h = let near = near-of (at_min r rmin) (near-left r rmin scr h) in wider rmin near.min
+
+clamped-low : (x : ℤ) → neg_ℤ (pos (2 ^ 33)) ≤ℤ clamped x
+clamped-low x =
+    let low = int_max_is (neg_ℤ (pos (2 ^ 31))) (int_min x (pos (2 ^ 31) -ℤ pos 1)) in
+    omega (arith, ints)
+
+clamped-high : (x : ℤ) → clamped x ≤ℤ pos (2 ^ 33)
+clamped-high x =
+    let low = int_max_is (neg_ℤ (pos (2 ^ 31))) (int_min x (pos (2 ^ 31) -ℤ pos 1)) in
+    let high = int_min_is x (pos (2 ^ 31) -ℤ pos 1) in
+    omega (arith, ints)
+
+clamped-near : (r : Rect) → IsRectNearBy (2 ^ 33) (clamped_rect r)
+clamped-near r = record {
+  min = record { left = clamped-low r.min.x; right = clamped-high r.min.x; top = clamped-low r.min.y; bottom = clamped-high r.min.y };
+  max = record { left = clamped-low r.max.x; right = clamped-high r.max.x; top = clamped-low r.max.y; bottom = clamped-high r.max.y };
+}
+
+shifted_near : (r : Rect) (min : Point) → IsRectNearBy (2 ^ 33) (at_min r min) → IsRectNearBy (2 ^ 33) (carried_rect r r.min min)
+shifted_near r min h =
+    let low = h.min in
+    let left = low.left in
+    let right = low.right in
+    let top = low.top in
+    let bottom = low.bottom in
+    record { min = record { left = omega (arith, ints); right = omega (arith, ints); top = omega (arith, ints); bottom = omega (arith, ints) }; max = h.max }
+
+shifted_ordered : (r : Rect) (min : Point) → IsOrdered r → IsOrdered (carried_rect r r.min min)
+shifted_ordered r min h =
+    let across = h.across in
+    let down = h.down in
+    record { across = omega (arith, ints); down = omega (arith, ints) }
+
+shifted_points : (r : Rect) (min : Point) → HasPoints r → HasPoints (carried_rect r r.min min)
+shifted_points r min h =
+    let across = h.across in
+    let down = h.down in
+    record { across = omega (arith, ints); down = omega (arith, ints) }
+
+pub kept-moved : (images : Images) (book : Book) (i : ℕ) (min corner : Point) → IsKept images book → is_some (images i) ≡ true → ((p : ℕ) → parent_of images i ≡ Some p → is_some (images p) ≡ true)
+    → stays_near (image_at images i).r min corner ≡ true → IsKept (after_origin images i min corner) book
+kept-moved images book i min corner kept live parents near = record {
+  live = λ j h. still j (j == i) refl (kept.live j h);
+  placed = λ j. placed j (j == i) refl;
+  screens = kept.screens;
+  display = kept.display;
+  points = λ j h n. points j (j == i) refl h n;
+}
+  where
+    stays : (j : ℕ) → (j == i) ≡ false → Stays images (after_origin images i min corner) j
+    stays j e = origin-others images i min corner j parents e
+
+    still : (j : ℕ) (b : Bool) → (j == i) ≡ b → is_some (images j) ≡ true → is_some (after_origin images i min corner j) ≡ true
+    still j true e h = ap (λ n. is_some (after_origin images i min corner n)) (eqb-true j i e) ∙ ap is_some (origin-at images i min corner)
+    still j false e h = (stays j e).live ∙ h
+
+    moved : IsPlaced book i (shifted_image (image_at images i) min)
+    moved =
+        let p = kept.placed i in
+        record {
+          stands = p.stands;
+          ordered = shifted_ordered (image_at images i).r min p.ordered;
+          near = shifted_near (image_at images i).r min (near-of (at_min (image_at images i).r min) (near-left (image_at images i).r min corner near));
+          clip = clamped-near (carried_rect (image_at images i).clipr (image_at images i).r.min min);
+        }
+
+    placed : (j : ℕ) (b : Bool) → (j == i) ≡ b → IsPlaced book j (image_at (after_origin images i min corner) j)
+    placed j true e =
+        let P : ℕ → Type 0 = λ n. IsPlaced book n (image_at (after_origin images i min corner) n) in
+        let Q : Option Image → Type 0 = λ o. IsPlaced book i (unwrap_or o no_image) in
+        subst P (sym (eqb-true j i e)) (subst Q (sym (origin-at images i min corner)) moved)
+    placed j false e = placed-framed book j (image_at images j) _ (stays j e).frame (kept.placed j)
+
+    points : (j : ℕ) (b : Bool) → (j == i) ≡ b → is_some (after_origin images i min corner j) ≡ true → (j == 0) ≡ false → HasPoints (image_at (after_origin images i min corner) j).r
+    points j true e h n =
+        let P : ℕ → Type 0 = λ m. HasPoints (image_at (after_origin images i min corner) m).r in
+        let Q : Option Image → Type 0 = λ o. HasPoints (unwrap_or o no_image).r in
+        let at : HasPoints (image_at images i).r = kept.points i live (ap (λ m. m == 0) (sym (eqb-true j i e)) ∙ n) in
+        subst P (sym (eqb-true j i e)) (subst Q (sym (origin-at images i min corner)) (shifted_points (image_at images i).r min at))
+    points j false e h n = subst HasPoints (sym (stays j e).frame.r) (kept.points j (sym (stays j e).live ∙ h) n)
+
+pub kept-origin : {A E : Type 0} (o : Result A E) (images next : Images) (book : Book) (i : ℕ) (min corner : Point) → IsKept images book → is_some (images i) ≡ true → ((p : ℕ) → parent_of images i ≡ Some p → is_some (images p) ≡ true)
+    → stays_near (image_at images i).r min corner ≡ true → OnOk o (next ≡ after_origin images i min corner) → OnErr o (next ≡ images) → IsKept next book
+kept-origin (Ok x) images next book i min corner kept live parents near is err = kept-same _ next book (kept-moved images book i min corner kept live parents near) is
+kept-origin (Err x) images next book i min corner kept live parents near is err = kept-same images next book kept err

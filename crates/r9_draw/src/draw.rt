@@ -1,0 +1,135 @@
+//! The device, and the connections that begin and end.
+
+ghost use Rattle.std.specs.Prelude.{ℕ, true, Ok, is_some, ◌≡◌, ◌≤◌, ◌<◌, ◌^◌, ◌<ℤ◌, pos, None, Some, IfOk, OnOk, OnErr, IsSome};
+ghost use Rattle.r9_geom.specs.Geometry.{area_of, IsOrdered};
+ghost use Rattle.r9_layers.specs.Forest.{numbers, room, world};
+ghost use Rattle.std.specs.List.{fold};
+ghost use Rattle.model_text.specs.Map.{lookup};
+ghost use Rattle.model_draw.specs.World.{started, after_connect, after_leave};
+ghost use Rattle.model_images.specs.Book.{add_id, empty_book, Book as Ids};
+ghost use Rattle.r9_draw.specs.Kept.{IsKept};
+ghost use Rattle.r9_draw.specs.Spare.{AreSpare};
+ghost use Rattle.r9_draw.specs.Gone.{images_without, numbers_without, CanRelease};
+
+use crate::client::{Client, Clients, lives, remove};
+use model_images::leave_frees;
+use r9_chan::{Chan, Colour};
+use r9_geom::Rect;
+use r9_images::{Book, Thing};
+use r9_layers::{Forest, ImageNo};
+use r9_memory::Memory;
+use std::alloc::Global;
+use std::collections::BTreeMap;
+
+/// The display with which a device starts.
+#[derive(Clone, Copy, PartialEq, Eq, Debug)]
+pub struct Opening {
+    pub r: Rect,
+    pub chan: Chan,
+}
+
+/// The draw device: images, what the ids of connections refer to, and the connections, each of which has a number of its own
+/// that the caller chooses, from 1 on.
+#[derive(Drop)]
+pub struct Draw {
+    pub(crate) alloc: Global,
+    pub(crate) opening: Opening,
+    pub(crate) forest: Forest,
+    pub(crate) book: Book,
+    pub(crate) clients: Clients,
+    ghost kept: { IsKept (world forest) book.book },
+    // The numbers of screens that came back are those of none.
+    ghost spare: { AreSpare book.book },
+    // A drawing of at most as many points as the display has takes no memory.
+    ghost room: { area_of opening.r ≤ room forest },
+    // Number 0 is the window manager's.
+    ghost manager: { lookup clients.entries 0 ≡ None },
+}
+
+// The display has image id 0 of the window manager.
+fn add_display(book: &mut Book, display: ImageNo) -> Result<(), Memory>
+    requires { book.old.book ≡ empty_book }
+    ensures { OnOk result (add_id empty_book 0 0 display.0 None ≡ Ok book.new.book) }
+{
+    match book.add_id(0, 0, display.0, None) {
+        Ok(()) => Ok(()),
+        Err(_) => Err(Memory),
+    }
+}
+
+/// The images among the things that have gone go, one after the other, and their numbers come back.
+pub(crate) fn release(forest: &mut Forest, gone: &[Thing])
+    requires { (book : Ids) × CanRelease (world forest.old) book gone.now }
+    ensures world { world forest.new ≡ fold images_without (world forest.old) gone.now }
+    ensures numbers { numbers forest.new ≡ fold numbers_without (numbers forest.old) gone.now }
+    ensures room { room forest.old ≤ room forest.new }
+{
+    forest.keeps();
+    for thing in gone {
+        if let Thing::Image(i) = thing {
+            forest.keeps();
+            forest.release(ImageNo(*i));
+        }
+    }
+}
+
+impl Draw {
+    ghost use Rattle.r9_draw.specs.World.{world_of};
+
+    /// A device with its display alone, all of it the grey of the background.
+    pub fn start(alloc: Global, r: Rect, chan: Chan) -> Result<Self, Memory>
+        requires left { r.min.x ≡ pos 0 }
+        requires top { r.min.y ≡ pos 0 }
+        requires ordered { IsOrdered r }
+        requires width { r.max.x <ℤ pos (2 ^ 32) }
+        requires height { r.max.y <ℤ pos (2 ^ 32) }
+        ensures { IfOk result (λ device. world_of device ≡ started (record { r = r; chan = chan })) }
+    {
+        let mut forest = Forest::new(alloc);
+        let background = chan.pack(Colour::of_word(0x7777_77ff));
+        let display = forest.image(r, chan, background)?;
+        forest.room(r.width() * r.height())?;
+        let mut book = Book::new(alloc);
+        add_display(&mut book, display)?;
+        Ok(Draw {
+            alloc,
+            opening: Opening { r, chan },
+            forest,
+            book,
+            clients: BTreeMap::new(alloc),
+        })
+    }
+
+    /// Whether the connection lives.
+    pub fn is_live(&self, client: u64) -> bool
+        ensures { result ≡ is_some (lookup (world_of self.now).clients client) }
+    {
+        lives(&self.clients, client)
+    }
+
+    /// A connection begins, under a number that none has. After Memory all is as before.
+    pub fn connect(&mut self, client: u64) -> Result<(), Memory>
+        requires some { 1 ≤ client }
+        requires fresh { lookup (world_of self.old).clients client ≡ None }
+        ensures made { OnOk result (world_of self.new ≡ after_connect (world_of self.old) client) }
+        ensures kept { OnErr result (world_of self.new ≡ world_of self.old) }
+    {
+        let begun = Client::new(self.alloc);
+        self.clients.insert(client, begun)?;
+        Ok(())
+    }
+
+    /// A connection ends: its ids are freed, and what nothing refers to any more goes. After Memory all is as before.
+    pub fn leave(&mut self, client: u64) -> Result<(), Memory>
+        requires { IsSome (lookup (world_of self.old).clients client) }
+        ensures left { OnOk result (world_of self.new ≡ after_leave (world_of self.old) client) }
+        ensures kept { OnErr result (world_of self.new ≡ world_of self.old) }
+    {
+        leave_frees();
+        self.forest.keeps();
+        let gone = self.book.leave(client)?;
+        release(&mut self.forest, gone.as_slice());
+        remove(&mut self.clients, client);
+        Ok(())
+    }
+}

@@ -1,0 +1,130 @@
+//! The files `data` and `ctl` of a connection.
+
+ghost use Rattle.std.specs.Prelude.{◌≡◌, ◌==◌, ◌^◌, ◌++◌, true, false, length, is_some, MatchOption, Ok, Err, IfOk, IfErr, OnOk, OnErr, IsSome};
+ghost use Rattle.std.specs.Int.{w32, from_le_bytes};
+ghost use Rattle.r9_geom.specs.Geometry.{IsRectNearBy};
+ghost use Rattle.r9_layers.specs.Told.{info_of};
+ghost use Rattle.model_text.specs.Map.{lookup};
+ghost use Rattle.model_draw.specs.World.{at_number};
+ghost use Rattle.r9_draw.specs.Described.{fields_of};
+ghost use Rattle.model_draw.specs.Files.{read_data, read_ctl, write_ctl, screen_file};
+ghost use Rattle.r9_draw.specs.Refused.{IfRefused};
+ghost use Rattle.r9_draw.specs.World.{world_of};
+
+use crate::client::{describe, described_by, pending_len, replace_pending};
+use crate::draw::Draw;
+use crate::fault::DrawFault;
+use r9_imgfile::{header, push_rect};
+use r9_layers::{ImageNo, Info};
+use r9_memory::Memory;
+use r9_text::{Bytes, push_number, push_word};
+use std::alloc::Global;
+
+// Twelve fields: the connection, the image id, the channels, repl, the rectangle and the clip rectangle.
+fn description(alloc: Global, number: u32, id: u32, info: &Info) -> Result<Bytes, Memory>
+    requires near { IsRectNearBy (2 ^ 33) info.now.r }
+    requires clip { IsRectNearBy (2 ^ 33) info.now.clipr }
+    ensures { IfOk result (λ bytes. bytes ≡ fields_of number id info.now) }
+{
+    let mut out = Bytes::new(alloc);
+    push_number(&mut out, i64::from(number))?;
+    push_number(&mut out, i64::from(id))?;
+    let name = info.chan.text();
+    push_word(&mut out, &name.bytes[..usize::from(name.len)])?;
+    push_number(&mut out, i64::from(info.repl))?;
+    push_rect(&mut out, info.r)?;
+    push_rect(&mut out, info.clipr)?;
+    Ok(out)
+}
+
+// The number that four bytes spell, the lowest first.
+fn id_of(bytes: &[u8]) -> Option<u32>
+    ensures { MatchOption result ((length bytes.now == 4) ≡ false) (λ id. ((length bytes.now == 4) ≡ true) × (id ≡ from_le_bytes w32 bytes.now)) }
+{
+    match bytes {
+        [a, b, c, d] => Some(u32::from_le_bytes([*a, *b, *c, *d])),
+        _ => None,
+    }
+}
+
+impl Draw {
+    /// The pending bytes of the connection, which are then gone. Refused by 26 exactly where there are none, and by 25 exactly
+    /// where they are more than the most that may be read.
+    #[tactic(auto, unfolding(model_draw::specs::Files::read_data))]
+    pub fn read_data(&mut self, client: u64, most: u32) -> Result<Bytes, DrawFault>
+        requires { IsSome (lookup (world_of self.old).clients client) }
+        ensures read { IfOk result (λ bytes. read_data client (world_of self.old) most ≡ Ok (bytes, world_of self.new)) }
+        ensures refused { IfErr result (λ f. IfRefused f (λ n. read_data client (world_of self.old) most ≡ Err n)) }
+        ensures kept { OnErr result (world_of self.new ≡ world_of self.old) }
+    {
+        let len = pending_len(&self.clients, client);
+        if len == 0 {
+            return Err(DrawFault::Refused(26));
+        }
+        if len > most as usize {
+            return Err(DrawFault::Refused(25));
+        }
+        let none = Bytes::new(self.alloc);
+        Ok(replace_pending(&mut self.clients, client, none))
+    }
+
+    /// What `ctl` says of the image that it describes: twelve fields, of which the first is the number of the connection that
+    /// is given. Refused by 4 exactly where the image's id is gone, and by 18 exactly where its tie has ended.
+    #[tactic(auto, unfolding(model_draw::specs::Files::read_ctl))]
+    pub fn read_ctl(&self, client: u64, number: u32) -> Result<Bytes, DrawFault>
+        requires { IsSome (lookup (world_of self.now).clients client) }
+        ensures read { IfOk result (λ bytes. read_ctl client (world_of self.now) number ≡ Ok bytes) }
+        ensures len { IfOk result (λ bytes. length bytes ≡ 144) }
+        ensures refused { IfErr result (λ f. IfRefused f (λ n. read_ctl client (world_of self.now) number ≡ Err n)) }
+    {
+        let id = described_by(&self.clients, client);
+        let image = match self.look(client, id) {
+            Ok(image) => image,
+            Err(refusal) => return Err(DrawFault::Refused(refusal)),
+        };
+        let info = self.info(image);
+        let bytes = description(self.alloc, number, id, &info)?;
+        Ok(bytes)
+    }
+
+    // What an image tells of itself.
+    fn info(&self, image: ImageNo) -> Info
+        requires { is_some ((world_of self.now).images image.0) ≡ true }
+        ensures told { result ≡ info_of (at_number (world_of self.now) image.0) }
+        ensures near { IsRectNearBy (2 ^ 33) result.r }
+        ensures clip { IsRectNearBy (2 ^ 33) result.clipr }
+    {
+        self.forest.info(image)
+    }
+
+    /// Chooses the image id that `ctl` describes from now on. Refused by 27 exactly where there are not four bytes, and by 4
+    /// exactly where the connection does not know the id.
+    #[tactic(auto, unfolding(model_draw::specs::Files::write_ctl))]
+    pub fn write_ctl(&mut self, client: u64, bytes: &[u8]) -> Result<(), DrawFault>
+        requires { IsSome (lookup (world_of self.old).clients client) }
+        ensures chosen { OnOk result (write_ctl client (world_of self.old) bytes.now ≡ Ok (world_of self.new)) }
+        ensures refused { IfErr result (λ f. IfRefused f (λ n. write_ctl client (world_of self.old) bytes.now ≡ Err n)) }
+        ensures kept { OnErr result (world_of self.new ≡ world_of self.old) }
+    {
+        let Some(id) = id_of(bytes) else {
+            return Err(DrawFault::Refused(27));
+        };
+        if id != 0 && !self.knows(client, id) {
+            return Err(DrawFault::Refused(4));
+        }
+        describe(&mut self.clients, client, id);
+        Ok(())
+    }
+
+    /// The display as an image file: what is painted from back to front, on it and on all that stands on it (image(6)).
+    pub fn screen(&self) -> Result<Bytes, Memory>
+        ensures { IfOk result (λ file. file ≡ screen_file (world_of self.now)) }
+    {
+        let display = ImageNo(0);
+        let info = self.info(display);
+        let mut file = header(self.alloc, &info)?;
+        let rows = self.forest.unload(display, info.r)?;
+        file.push_all(rows.as_slice())?;
+        Ok(file)
+    }
+}

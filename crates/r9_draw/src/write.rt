@@ -1,0 +1,79 @@
+//! One write of messages.
+
+ghost use Rattle.std.specs.Prelude.{◌≡◌, ◌≢◌, ◌<◌, ◌^◌, ◌⊎◌, ℕ, length, true, false, Some, IfOk, OnErr, IsSome};
+ghost use Rattle.model_text.specs.Map.{lookup};
+ghost use Rattle.model_draw.specs.Act.{is_marked, written, no_memory};
+ghost use Rattle.model_draw.specs.Memory.{MayRunOut};
+ghost use Rattle.r9_draw.specs.World.{world_of};
+
+use crate::draw::Draw;
+use crate::message::{Step, behind};
+use r9_memory::Memory;
+
+/// How a write ended.
+#[derive(Clone, Copy, Debug, PartialEq, Eq)]
+pub struct Wrote {
+    /// How many of its messages were done.
+    pub done: u32,
+    /// The number of the refusal of the message behind them.
+    pub refusal: Option<u8>,
+    /// Whether the write stopped at its mark, or for want of memory, before a message that is not refused.
+    pub short: bool,
+}
+
+// Whether the mark stands behind so many messages.
+fn is_marked(mark: Option<u32>, done: u32) -> bool
+    ensures { result ≡ is_marked mark done }
+{
+    match mark {
+        Some(most) => most == done,
+        None => false,
+    }
+}
+
+impl Draw {
+    /// Does the messages that the bytes spell, one after the other, until one is refused. Those that were done stand. With a
+    /// mark it stops after so many messages, where the next one is not refused. Where memory runs out in a message that is
+    /// not refused, it stops before it, and answers Memory where that is the first one.
+    pub fn write(&mut self, client: u64, bytes: &[u8], mark: Option<u32>) -> Result<Wrote, Memory>
+        requires live { IsSome (lookup (world_of self.old).clients client) }
+        requires few { length bytes.now < 2 ^ 32 }
+        ensures plain { IfOk result (λ w. w.short ≡ false → written client (world_of self.old) bytes.now mark ≡ record { world = world_of self.new; done = w.done; refusal = w.refusal }) }
+        ensures short { IfOk result (λ w. w.short ≡ true → written client (world_of self.old) bytes.now (Some w.done) ≡ record { world = world_of self.new; done = w.done; refusal = Some no_memory }) }
+        ensures refused { IfOk result (λ w. w.refusal ≢ Some no_memory) }
+        ensures cause { IfOk result (λ w. w.short ≡ true → (mark ≡ Some w.done) ⊎ MayRunOut client (world_of self.old) bytes.now w.done) }
+        ensures memory { OnErr result ((world_of self.new ≡ world_of self.old) × ((n : ℕ) × MayRunOut client (world_of self.old) bytes.now n)) }
+    {
+        let mut rest = bytes;
+        let mut done = 0;
+        'messages: while !rest.is_empty() {
+            let marked = is_marked(mark, done);
+            match self.one_message(client, rest, marked) {
+                Step::Done(len) => rest = behind(rest, len),
+                Step::Refused(refusal) => {
+                    return Ok(Wrote {
+                        done,
+                        refusal: Some(refusal),
+                        short: false,
+                    });
+                }
+                Step::Short => {
+                    if done == 0 && !marked {
+                        return Err(Memory);
+                    }
+                    return Ok(Wrote {
+                        done,
+                        refusal: None,
+                        short: true,
+                    });
+                }
+            }
+            done += 1;
+        }
+        Ok(Wrote {
+            done,
+            refusal: None,
+            short: false,
+        })
+    }
+}

@@ -1,0 +1,299 @@
+//! A forest of images: every call is one step of the world that it stands for.
+
+ghost use Rattle.std.specs.Prelude.{◌≡◌, ◌+◌, ◌*◌, ◌^◌, ◌<◌, ◌≤◌, ℕ, None, Some, true, length, map, All, IfOk, IsOk, IsSome, IsTrue, OnErr, OnOk};
+ghost use Rattle.r9_geom.specs.declared.Point.{Point as Spot};
+ghost use Rattle.r9_geom.specs.Geometry.{area_of, height, holds, meet, HasPoints, IsNearBy, IsOrdered, IsRectNearBy};
+ghost use Rattle.model_pixel.specs.Channels as channels;
+ghost use Rattle.model_pixel.specs.Rows.{row_bytes, row_pixel, rows_of};
+ghost use Rattle.r9_chan.specs.Op.{number};
+ghost use Rattle.model_forest.specs.Draw.{after_draw, after_load};
+ghost use Rattle.model_forest.specs.Numbers.{given_back, next_number, no_numbers, taken};
+ghost use Rattle.model_forest.specs.Steps.{after_image, after_origin, after_release, after_replace, after_set};
+ghost use Rattle.model_forest.specs.Stack.{after_lower, after_raise, after_window};
+ghost use Rattle.model_forest.specs.Paint.{paint};
+ghost use Rattle.model_forest.specs.View as model;
+ghost use Rattle.model_forest.specs.World.{image_at, parent_of, CanGo, IsForest, IsLive, SameSize};
+ghost use Rattle.r9_layers.specs.Told.{info_of};
+
+use super::drawing;
+use super::task::Task;
+use r9_chan::{Chan, Op};
+use r9_geom::{Point, Rect};
+use r9_info::{ImageNo, Info};
+use r9_memory::Memory;
+use r9_stack::Images;
+use r9_text::Bytes;
+use std::alloc::Global;
+
+/// Images by number, and the windows that stand on them.
+///
+/// Contracts see the world of images, `world`; the numbers that were given out and came back, `numbers`; and `room`, for
+/// how many points a drawing takes no memory, which no call lowers. A call that answers `Memory` leaves world and numbers
+/// as they were. Coordinates that are given are within 2^34 of 0.
+#[derive(Drop)]
+pub struct Forest {
+    images: Images,
+    // What is drawn stands here first, since the target may be the source too.
+    pixels: Vec<u32>,
+}
+
+#[tactic(auto, unfolding(crate::specs::Forest::world, crate::specs::Forest::numbers, crate::specs::Forest::room,))]
+impl Forest {
+    ghost use Rattle.r9_layers.specs.Forest.{numbers, room, world, IsUnchanged};
+
+    /// A forest with no image.
+    pub fn new(alloc: Global) -> Self
+        ensures world { world result ≡ (λ _. None) }
+        ensures numbers { numbers result ≡ no_numbers }
+        ensures room { room result ≡ 0 }
+    {
+        Forest {
+            images: Images::new(alloc),
+            pixels: Vec::new(alloc),
+        }
+    }
+
+    /// What each forest keeps; nothing is done.
+    pub fn keeps(&self)
+        ensures { IsForest (world self.now) }
+    {
+        self.images.keeps();
+    }
+
+    /// Makes an image of one raw pixel that stands nowhere, with all of r as its clip rectangle, under the next number.
+    pub fn image(&mut self, r: Rect, chan: Chan, raw: u32) -> Result<ImageNo, Memory>
+        requires near { IsRectNearBy (2 ^ 34) r }
+        requires ordered { IsOrdered r }
+        requires raw { raw < 2 ^ channels.depth chan }
+        ensures number { IfOk result (λ i. i.0 ≡ next_number (numbers self.old)) }
+        ensures free { IfOk result (λ i. world self.old i.0 ≡ None) }
+        ensures made { IfOk result (λ i. world self.new ≡ after_image (world self.old) i.0 r chan raw) }
+        ensures taken { OnOk result (numbers self.new ≡ taken (numbers self.old)) }
+        ensures room { room self.old ≤ room self.new }
+        ensures err { OnErr result (IsUnchanged self.old self.new) }
+    {
+        let number = self.images.image(r, chan, raw)?;
+        Ok(ImageNo(number))
+    }
+
+    /// Makes a window of one raw pixel on an image, topmost, with the channels of that image, all of r as its place and its
+    /// clip rectangle, and an image that fills what it uncovers.
+    pub fn window(
+        &mut self,
+        parent: ImageNo,
+        fill: ImageNo,
+        r: Rect,
+        raw: u32,
+    ) -> Result<ImageNo, Memory>
+        requires parent { IsLive (world self.old) parent.0 }
+        requires fill { IsLive (world self.old) fill.0 }
+        requires near { IsRectNearBy (2 ^ 34) r }
+        requires ordered { IsOrdered r }
+        requires raw { raw < 2 ^ channels.depth (image_at (world self.old) parent.0).chan }
+        ensures number { IfOk result (λ i. i.0 ≡ next_number (numbers self.old)) }
+        ensures free { IfOk result (λ i. world self.old i.0 ≡ None) }
+        ensures made { IfOk result (λ i. world self.new ≡ after_window (world self.old) i.0 parent.0 fill.0 r raw) }
+        ensures taken { OnOk result (numbers self.new ≡ taken (numbers self.old)) }
+        ensures room { room self.old ≤ room self.new }
+        ensures err { OnErr result (IsUnchanged self.old self.new) }
+    {
+        let number = self.images.window(parent.0, fill.0, r, raw)?;
+        Ok(ImageNo(number))
+    }
+
+    /// Gives an image another min in its own coordinates, where its pixels and its windows move along, and a window another
+    /// corner on its parent.
+    pub fn origin(&mut self, i: ImageNo, min: Point, corner: Point) -> Result<(), Memory>
+        requires live { IsLive (world self.old) i.0 }
+        requires min { IsNearBy (2 ^ 34) min }
+        requires corner { IsNearBy (2 ^ 34) corner }
+        ensures moved { OnOk result (world self.new ≡ after_origin (world self.old) i.0 min corner) }
+        ensures numbers { numbers self.new ≡ numbers self.old }
+        ensures room { room self.old ≤ room self.new }
+        ensures err { OnErr result (world self.new ≡ world self.old) }
+    {
+        self.images.origin(i.0, min, corner);
+        Ok(())
+    }
+
+    /// Raises windows of one image above its others, in their order.
+    pub fn raise(&mut self, group: &[ImageNo]) -> Result<(), Memory>
+        requires windows { All (λ i. IsSome (parent_of (world self.old) i.0)) group.now }
+        ensures raised { OnOk result (world self.new ≡ after_raise (world self.old) (map (λ i. i.0) group.now)) }
+        ensures numbers { numbers self.new ≡ numbers self.old }
+        ensures room { room self.old ≤ room self.new }
+        ensures err { OnErr result (world self.new ≡ world self.old) }
+    {
+        self.images.raise(group)
+    }
+
+    /// Lowers windows of one image below its others, in their order.
+    pub fn lower(&mut self, group: &[ImageNo]) -> Result<(), Memory>
+        requires windows { All (λ i. IsSome (parent_of (world self.old) i.0)) group.now }
+        ensures lowered { OnOk result (world self.new ≡ after_lower (world self.old) (map (λ i. i.0) group.now)) }
+        ensures numbers { numbers self.new ≡ numbers self.old }
+        ensures room { room self.old ≤ room self.new }
+        ensures err { OnErr result (world self.new ≡ world self.old) }
+    {
+        self.images.lower(group)
+    }
+
+    /// Makes a window directly above another, with its parent, its fill and its depth, at the place of r's size whose min is
+    /// `corner`. It shows what the other shows, counted from both mins, or one raw pixel. The other moves far outside.
+    pub fn replace(
+        &mut self,
+        old: ImageNo,
+        r: Rect,
+        corner: Point,
+        raw: u32,
+        keep: bool,
+    ) -> Result<ImageNo, Memory>
+        requires window { IsSome (parent_of (world self.old) old.0) }
+        requires near { IsRectNearBy (2 ^ 34) r }
+        requires ordered { IsOrdered r }
+        requires corner { IsNearBy (2 ^ 34) corner }
+        requires raw { raw < 2 ^ channels.depth (image_at (world self.old) old.0).chan }
+        requires size { keep ≡ true → SameSize r (image_at (world self.old) old.0).r }
+        ensures number { IfOk result (λ i. i.0 ≡ next_number (numbers self.old)) }
+        ensures free { IfOk result (λ i. world self.old i.0 ≡ None) }
+        ensures made { IfOk result (λ i. world self.new ≡ after_replace (world self.old) i.0 old.0 r corner raw keep) }
+        ensures taken { OnOk result (numbers self.new ≡ taken (numbers self.old)) }
+        ensures room { room self.old ≤ room self.new }
+        ensures err { OnErr result (IsUnchanged self.old self.new) }
+    {
+        let number = self.images.replace(old.0, r, corner, raw, keep)?;
+        Ok(ImageNo(number))
+    }
+
+    /// Takes an image away on which nothing stands and which fills for no window: first from the list that it stands in,
+    /// where the fill then shows. It takes no memory.
+    pub fn release(&mut self, i: ImageNo)
+        requires { CanGo (world self.old) i.0 }
+        ensures world { world self.new ≡ after_release (world self.old) i.0 }
+        ensures back { numbers self.new ≡ given_back (numbers self.old) i.0 }
+        ensures room { room self.old ≤ room self.new }
+    {
+        self.images.release(i.0);
+    }
+
+    /// Makes an image repeat or not, and gives it another clip rectangle. It takes no memory.
+    pub fn set(&mut self, i: ImageNo, repl: bool, clipr: Rect)
+        requires live { IsLive (world self.old) i.0 }
+        requires points { repl ≡ true → HasPoints (image_at (world self.old) i.0).r }
+        requires near { IsRectNearBy (2 ^ 34) clipr }
+        ensures world { world self.new ≡ after_set (world self.old) i.0 repl clipr }
+        ensures numbers { numbers self.new ≡ numbers self.old }
+        ensures room { room self.old ≤ room self.new }
+    {
+        self.images.set(i.0, repl, clipr);
+    }
+
+    /// Makes room, so that a drawing of at most so many points takes no memory.
+    pub fn room(&mut self, points: u64) -> Result<(), Memory>
+        ensures ok { OnOk result (points ≤ room self.new) }
+        ensures room { room self.old ≤ room self.new }
+        ensures same { IsUnchanged self.old self.new }
+        ensures memory { points ≤ room self.old → IsOk result }
+    {
+        let points = points as usize;
+        if self.pixels.len() < points {
+            self.pixels.resize(points, 0)?;
+        }
+        Ok(())
+    }
+
+    /// Draws on `dst`, within `clip`, into `r`, the source so that its point `sp` stands at `r.min`, seen through the mask
+    /// so that its point `mp` stands there (draw(2)). All three are read in the state before. There is no want of memory
+    /// where r, cut to the rectangle of `dst`, has at most `room` points.
+    pub fn draw(
+        &mut self,
+        dst: ImageNo,
+        clip: Rect,
+        r: Rect,
+        src: ImageNo,
+        sp: Point,
+        mask: ImageNo,
+        mp: Point,
+        op: Op,
+    ) -> Result<(), Memory>
+        requires dst { IsLive (world self.old) dst.0 }
+        requires src { IsLive (world self.old) src.0 }
+        requires mask { IsLive (world self.old) mask.0 }
+        requires near { IsRectNearBy (2 ^ 34) r }
+        requires source_near { IsNearBy (2 ^ 34) sp }
+        requires mask_near { IsNearBy (2 ^ 34) mp }
+        ensures ok { OnOk result (world self.new ≡ after_draw (world self.old) (record { dst = dst.0; clip = clip; r = r; src = src.0; sp = sp; mask = Some mask.0; mp = mp; op = number op })) }
+        ensures numbers { numbers self.new ≡ numbers self.old }
+        ensures room { room self.old ≤ room self.new }
+        ensures err { OnErr result (world self.new ≡ world self.old) }
+        ensures memory { area_of (meet r (image_at (world self.old) dst.0).r) ≤ room self.old → IsOk result }
+    {
+        let task = Task {
+            dst: dst.0,
+            clip,
+            r,
+            src: src.0,
+            sp,
+            mask: mask.0,
+            mp,
+            op,
+        };
+        let area = drawing::area(&self.images, &task);
+        if area.is_empty() {
+            return Ok(());
+        }
+        let points = match area.width().checked_mul(area.height()) {
+            Some(points) => points,
+            None => return Err(Memory),
+        };
+        self.room(points)?;
+        drawing::draw(&mut self.images, &task, &area, &mut self.pixels);
+        Ok(())
+    }
+
+    /// Takes the pixels of a rectangle of an image from its rows (image(6)).
+    pub fn load(&mut self, i: ImageNo, r: Rect, rows: &[u8]) -> Result<(), Memory>
+        requires live { IsLive (world self.old) i.0 }
+        requires near { IsRectNearBy (2 ^ 34) r }
+        requires ordered { IsOrdered r }
+        requires inside { (p : Spot) → IsTrue (holds r p) → IsTrue (holds (image_at (world self.old) i.0).r p) }
+        requires rows { length rows.now ≡ row_bytes r (channels.depth (image_at (world self.old) i.0).chan) * height r }
+        ensures ok { OnOk result (world self.new ≡ after_load (world self.old) i.0 r (row_pixel r (channels.depth (image_at (world self.old) i.0).chan) rows.now)) }
+        ensures numbers { numbers self.new ≡ numbers self.old }
+        ensures room { room self.old ≤ room self.new }
+        ensures err { OnErr result (world self.new ≡ world self.old) }
+    {
+        self.images.load(i.0, r, rows);
+        Ok(())
+    }
+
+    /// The rows of what an image shows in a rectangle (image(6)): the picture that is painted from back to front, too.
+    pub fn unload(&self, i: ImageNo, r: Rect) -> Result<Bytes, Memory>
+        requires live { IsLive (world self.now) i.0 }
+        requires near { IsRectNearBy (2 ^ 34) r }
+        requires ordered { IsOrdered r }
+        requires inside { (p : Spot) → IsTrue (holds r p) → IsTrue (holds (image_at (world self.now) i.0).r p) }
+        ensures view { IfOk result (λ rows. rows ≡ rows_of r (channels.depth (image_at (world self.now) i.0).chan) (model.view (world self.now) i.0)) }
+        ensures paint { IfOk result (λ rows. rows ≡ rows_of r (channels.depth (image_at (world self.now) i.0).chan) (paint (world self.now) i.0)) }
+    {
+        self.images.unload(i.0, r)
+    }
+
+    /// The raw pixel that an image shows at a point.
+    pub fn view(&self, i: ImageNo, p: Point) -> u32
+        requires live { IsLive (world self.now) i.0 }
+        requires inside { IsTrue (holds (image_at (world self.now) i.0).r p) }
+        ensures value { result ≡ model.view (world self.now) i.0 p }
+        ensures range { result < 2 ^ channels.depth (image_at (world self.now) i.0).chan }
+    {
+        self.images.view(i.0, p)
+    }
+
+    /// What an image tells of itself.
+    pub fn info(&self, i: ImageNo) -> Info
+        requires { IsLive (world self.now) i.0 }
+        ensures { result ≡ info_of (image_at (world self.now) i.0) }
+    {
+        self.images.info(i.0)
+    }
+}

@@ -1,0 +1,11 @@
+//! Images and the windows that stand on them (draw(2), draw(3)): made and given back, drawn on, loaded and read.
+#![tactic(auto)]
+
+mod drawing;
+mod forest;
+mod task;
+#[cfg(test)]
+mod tests;
+
+pub use forest::Forest;
+pub use r9_info::{ImageNo, Info};

@@ -1,0 +1,57 @@
+-- What a session's answer to a message promises.
+use Rattle.std.specs.Prelude.{◌≡◌, ◌⊎◌, ℕ, Bool, true, false, Option, Some, Result, Ok, Err, None, IsSome}
+use Rattle.model_text.specs.Outcome.{Outcome}
+use Rattle.model_wire.specs.Message.{T, Twrite}
+use Rattle.model_wire.specs.Spelling.{FitsR}
+use Rattle.model_text.specs.Map.{lookup}
+use Rattle.model_draw.specs.World.{World}
+use Rattle.model_world.specs.Session.{Session}
+use Rattle.model_world.specs.Fids.{Done, Left, is_bound, is_full, clunked}
+use Rattle.model_world.specs.World.{device_for}
+use Rattle.r9_wire.specs.declared.message.Rmsg.{Rmsg}
+use Rattle.r9_wire.specs.View.{r_of}
+use Rattle.r9_session.specs.declared.refusal.Fault.{Fault}
+use Rattle.r9_session.specs.declared.refusal.Fault.TheVariants as fault
+use Rattle.r9_session.specs.declared.writing.Answered.{Answered}
+
+-- What is answered is what is defined: the session after it and a reply that can be written, or a refusal, which leaves
+-- the session as it was. Nothing is said where memory ran out.
+abbrev pub IsAnswer : (old : Session) (found : Result Rmsg Fault) (new : Session) → Outcome Done → Type 0
+IsAnswer old (Ok reply) new defined = (defined ≡ Ok (record { session = new; reply = r_of reply })) × FitsR (r_of reply)
+IsAnswer old (Err (fault.Refused n)) new defined = (defined ≡ Err n) × (new ≡ old)
+IsAnswer old (Err fault.Memory) new defined = Unit {0}
+
+-- the same of a message that reaches the draw device
+abbrev pub IsReach : (old : Session) (before : World) (found : Result Rmsg Fault) (new : Session) (after : World) → Outcome (Left World) → Type 0
+IsReach old before (Ok reply) new after defined = (defined ≡ Ok (record { session = new; rest = after; reply = r_of reply })) × FitsR (r_of reply)
+IsReach old before (Err (fault.Refused n)) new after defined = (defined ≡ Err n) × (new ≡ old) × (after ≡ before)
+IsReach old before (Err fault.Memory) new after defined = Unit {0}
+
+-- the mark with which a message stands in the history
+abbrev pub mark_after : (mark short : Option ℕ) → Option ℕ
+mark_after mark None = mark
+mark_after mark (Some k) = Some k
+
+-- the same of one that may be a data write: what is defined has the mark with which it stands in the history
+abbrev pub IsReply : (mark : Option ℕ) (old : Session) (before : World) (found : Result Answered Fault) (new : Session) (after : World)
+    → (Option ℕ → Outcome (Left World)) → Type 0
+IsReply mark old before (Ok a) new after defined = (defined (mark_after mark a.short) ≡ Ok (record { session = new; rest = after; reply = r_of a.reply })) × FitsR (r_of a.reply)
+IsReply mark old before (Err (fault.Refused n)) new after defined = (defined mark ≡ Err n) × (new ≡ old) × (after ≡ before)
+IsReply mark old before (Err fault.Memory) new after defined = Unit {0}
+
+-- a fid can be bound: it is free and there is room for it, or the refusal tells why not
+abbrev pub IsFree : Session → (fid : ℕ) → Result (Unit {0}) Fault → Type 0
+IsFree session fid (Ok _) = (is_bound session fid ≡ false) × (is_full session ≡ false)
+IsFree session fid (Err (fault.Refused n)) = ((is_bound session fid ≡ true) × (n ≡ 33)) ⊎ ((is_bound session fid ≡ false) × (is_full session ≡ true) × (n ≡ 44))
+IsFree session fid (Err fault.Memory) = ⊥
+
+-- the fid has gone, and the connection that it alone kept alive, or there was none
+abbrev pub IsClunked : (c : ℕ) (old : Session) (before : World) (fid : ℕ) → Result (Unit {0}) Fault → (new : Session) (after : World) → Type 0
+IsClunked c old before fid (Ok _) new after =
+    IsSome (lookup old.fids fid) × (new ≡ (clunked (device_for c) old before fid).0) × (after ≡ (clunked (device_for c) old before fid).1)
+IsClunked c old before fid (Err (fault.Refused n)) new after = (lookup old.fids fid ≡ None) × (n ≡ 32) × (new ≡ old) × (after ≡ before)
+IsClunked c old before fid (Err fault.Memory) new after = Unit {0}
+
+abbrev pub is_write : T → Bool
+is_write (Twrite tag fid offset bytes) = true
+is_write _ = false

@@ -1,0 +1,5 @@
+pub mod SessionView
+pub mod Reads
+pub mod Answers
+pub mod Clients
+pub mod Writes

@@ -1,0 +1,285 @@
+//! What a session answers to a message (intro(5), version(5), flush(5)).
+
+ghost use Rattle.std.specs.Prelude.{◌≡◌, ◌<◌, ◌≤◌, ◌^◌, ◌==◌, ℕ, Option, None, length, false, IfOk, IfSome};
+ghost use Rattle.std.specs.List.{before_first};
+ghost use Rattle.model_wire.specs.Message.{tag_of_t, Rversion};
+ghost use Rattle.model_wire.specs.Spelling.{FitsR, FitsT};
+ghost use Rattle.model_wire.specs.Reading.{message_of};
+ghost use Rattle.model_world.specs.Answer.{answer, answer_to, answer_read, asks_for_9p, is_version, read_or_not, version_answer};
+ghost use Rattle.model_world.specs.Refusal.{refusal};
+ghost use Rattle.model_world.specs.Cut.{IsCut, IsCutMessage};
+ghost use Rattle.model_world.specs.Links.{IsLinked};
+ghost use Rattle.model_world.specs.World.{device_for};
+ghost use Rattle.r9_draw.specs.World.{world_of};
+ghost use Rattle.r9_wire.specs.View.{r_of, t_of};
+ghost use Rattle.r9_session.specs.Answers.{IsReach, IsReply, is_write, mark_after};
+
+use crate::refusal::{
+    BAD_MESSAGE, Fault, MSIZE_TOO_SMALL, NO_AUTHENTICATION, VERSION_FIRST, refusal,
+};
+use crate::session::{MAX_MSIZE, Session};
+use crate::writing::Answered;
+use r9_draw::Draw;
+use r9_memory::Memory;
+use r9_text::Bytes;
+use r9_wire::{NO_TAG, Rmsg, Tmsg, WireFault, read_t};
+use std::alloc::Global;
+
+/// The least size of a message in bytes that a client may ask for.
+const MIN_MSIZE: u32 = 256;
+
+/// The protocol.
+const PROTOCOL: &str = "9P2000";
+
+/// What stands before the first period.
+fn before_period(text: &[u8]) -> &[u8]
+    ensures { result.now ≡ before_first (λ byte. byte == 46) text.now }
+{
+    for (at, byte) in text.iter().enumerate() {
+        if *byte == b'.' {
+            return &text[..at];
+        }
+    }
+    text
+}
+
+/// Whether a version asks for this protocol.
+fn asks_for_9p(version: &[u8]) -> bool
+    ensures { result ≡ asks_for_9p version.now }
+{
+    before_period(version) == PROTOCOL.as_bytes()
+}
+
+/// The tag of a message.
+fn tag_of(m: &Tmsg) -> u16
+    ensures { result ≡ tag_of_t (t_of m.now) }
+{
+    match m {
+        Tmsg::Version { tag, .. }
+        | Tmsg::Auth { tag, .. }
+        | Tmsg::Attach { tag, .. }
+        | Tmsg::Flush { tag, .. }
+        | Tmsg::Walk { tag, .. }
+        | Tmsg::Open { tag, .. }
+        | Tmsg::Create { tag, .. }
+        | Tmsg::Read { tag, .. }
+        | Tmsg::Write { tag, .. }
+        | Tmsg::Clunk { tag, .. }
+        | Tmsg::Remove { tag, .. }
+        | Tmsg::Stat { tag, .. }
+        | Tmsg::Wstat { tag, .. } => *tag,
+    }
+}
+
+fn is_version(m: &Tmsg) -> bool
+    ensures { result ≡ is_version (t_of m.now) }
+{
+    matches!(m, Tmsg::Version { .. })
+}
+
+fn version_reply(alloc: Global, tag: u16, msize: u32, name: &str) -> Result<Rmsg, Memory>
+    requires { length name.now < 2 ^ 16 }
+    ensures reply { IfOk result (λ reply. r_of reply ≡ Rversion tag msize name.now) }
+    ensures fits { IfOk result (λ reply. FitsR (r_of reply)) }
+{
+    let version = Bytes::from_slice(alloc, name.as_bytes())?;
+    Ok(Rmsg::Version {
+        tag,
+        msize,
+        version,
+    })
+}
+
+/// The answer that refuses a message, by the reason of a number.
+fn refuse(alloc: Global, tag: u16, number: u8) -> Result<Answered, Memory>
+    ensures reply { IfOk result (λ a. (r_of a.reply ≡ refusal tag number) × FitsR (r_of a.reply)) }
+    ensures whole { IfOk result (λ a. a.short ≡ None) }
+{
+    let reply = refusal(alloc, tag, number)?;
+    Ok(Answered { reply, short: None })
+}
+
+impl Session {
+    /// Begins the session anew, with a version agreed or not. Its connections end.
+    #[tactic(auto, unfolding(model_world::specs::Answer::version_answer))]
+    fn version(
+        &mut self,
+        alloc: Global,
+        device: &mut Draw,
+        number: u32,
+        tag: u16,
+        msize: u32,
+        version: &[u8],
+    ) -> Result<Rmsg, Fault>
+        requires { IsLinked number self.old.made self.old.connections (world_of device.old) }
+        ensures { IsReach self.old (world_of device.old) result self.new (world_of device.new) (version_answer (device_for number) self.old (world_of device.old) tag msize version.now) }
+    {
+        if msize < MIN_MSIZE {
+            return Err(Fault::Refused(MSIZE_TOO_SMALL));
+        }
+        self.leave(device, number)?;
+        let msize = msize.min(MAX_MSIZE);
+        self.fids.clear();
+        self.connections.clear();
+        self.agreed = asks_for_9p(version);
+        if self.agreed {
+            self.msize = msize;
+            Ok(version_reply(alloc, tag, msize, PROTOCOL)?)
+        } else {
+            self.msize = MAX_MSIZE;
+            Ok(version_reply(alloc, tag, msize, "unknown")?)
+        }
+    }
+
+    /// Answers a message that is no write, in a session that has agreed on a version.
+    fn answer_other(
+        &mut self,
+        alloc: Global,
+        device: &mut Draw,
+        number: u32,
+        m: &Tmsg,
+    ) -> Result<Rmsg, Fault>
+        requires fits { FitsT (t_of m.now) }
+        requires linked { IsLinked number self.old.made self.old.connections (world_of device.old) }
+        requires other { is_write (t_of m.now) ≡ false }
+        ensures { (mark : Option ℕ) → IsReach self.old (world_of device.old) result self.new (world_of device.new) (answer_to (device_for number) self.old (world_of device.old) mark (t_of m.now)) }
+    {
+        match m {
+            Tmsg::Version {
+                tag,
+                msize,
+                version,
+            } => self.version(alloc, device, number, *tag, *msize, version.as_slice()),
+            Tmsg::Auth { .. } => Err(Fault::Refused(NO_AUTHENTICATION)),
+            Tmsg::Attach {
+                tag,
+                fid,
+                afid,
+                aname,
+                ..
+            } => self.attach(*tag, *fid, *afid, aname.as_slice()),
+            Tmsg::Flush { tag, .. } => Ok(Rmsg::Flush { tag: *tag }),
+            Tmsg::Walk {
+                tag,
+                fid,
+                newfid,
+                names,
+            } => self.walk(alloc, *tag, *fid, *newfid, names),
+            Tmsg::Open { tag, fid, mode } => self.open(alloc, device, number, *tag, *fid, *mode),
+            Tmsg::Create { fid, .. } | Tmsg::Wstat { fid, .. } | Tmsg::Write { fid, .. } => {
+                self.deny(*fid)
+            }
+            Tmsg::Read {
+                tag,
+                fid,
+                offset,
+                count,
+            } => self.read(alloc, device, number, *tag, *fid, *offset, *count),
+            Tmsg::Clunk { tag, fid } => self.clunk_fid(alloc, device, number, *tag, *fid),
+            Tmsg::Remove { tag, fid } => self.remove(alloc, device, number, *tag, *fid),
+            Tmsg::Stat { tag, fid } => self.stat(alloc, *tag, *fid),
+        }
+    }
+
+    /// Answers a message of a session that has agreed on a version.
+    fn answer_to(
+        &mut self,
+        alloc: Global,
+        device: &mut Draw,
+        number: u32,
+        m: &Tmsg,
+        mark: Option<u32>,
+    ) -> Result<Answered, Fault>
+        requires fits { FitsT (t_of m.now) }
+        requires linked { IsLinked number self.old.made self.old.connections (world_of device.old) }
+        ensures answer { IsReply mark self.old (world_of device.old) result self.new (world_of device.new) (λ k. answer_to (device_for number) self.old (world_of device.old) k (t_of m.now)) }
+        ensures cause { IfOk result (λ a. IfSome a.short (λ k. IsCut number self.old (world_of device.old) mark k (t_of m.now))) }
+    {
+        if let Tmsg::Write {
+            tag,
+            fid,
+            bytes,
+            ..
+        } = m
+        {
+            return self.write(alloc, device, number, *tag, *fid, bytes.as_slice(), mark);
+        }
+        let reply = self.answer_other(alloc, device, number, m)?;
+        Ok(Answered { reply, short: None })
+    }
+
+    /// Answers a message that was read.
+    #[tactic(auto, unfolding(model_world::specs::Answer::answer_read))]
+    fn answer_read(
+        &mut self,
+        alloc: Global,
+        device: &mut Draw,
+        number: u32,
+        m: &Tmsg,
+        mark: Option<u32>,
+    ) -> Result<Answered, Fault>
+        requires fits { FitsT (t_of m.now) }
+        requires linked { IsLinked number self.old.made self.old.connections (world_of device.old) }
+        ensures answer { IsReply mark self.old (world_of device.old) result self.new (world_of device.new) (λ k. answer_read (device_for number) self.old (world_of device.old) k (t_of m.now)) }
+        ensures cause { IfOk result (λ a. IfSome a.short (λ k. IsCut number self.old (world_of device.old) mark k (t_of m.now))) }
+    {
+        let begins = is_version(m);
+        if !begins && tag_of(m) == NO_TAG {
+            return Err(Fault::Refused(BAD_MESSAGE));
+        }
+        if !begins && !self.agreed {
+            return Err(Fault::Refused(VERSION_FIRST));
+        }
+        self.answer_to(alloc, device, number, m, mark)
+    }
+
+    /// Reads a message, and answers it.
+    fn read_and_answer(
+        &mut self,
+        alloc: Global,
+        device: &mut Draw,
+        number: u32,
+        bytes: &[u8],
+        mark: Option<u32>,
+    ) -> Result<Answered, Fault>
+        requires long { 7 ≤ length bytes.now }
+        requires linked { IsLinked number self.old.made self.old.connections (world_of device.old) }
+        ensures answer { IsReply mark self.old (world_of device.old) result self.new (world_of device.new) (λ k. read_or_not (device_for number) self.old (world_of device.old) k (message_of bytes.now)) }
+        ensures cause { IfOk result (λ a. IfSome a.short (λ k. IsCutMessage number self.old (world_of device.old) bytes.now mark k)) }
+    {
+        match read_t(alloc, bytes) {
+            Ok(m) => self.answer_read(alloc, device, number, &m, mark),
+            Err(WireFault::Malformed(_)) => Err(Fault::Refused(BAD_MESSAGE)),
+            Err(WireFault::Memory) => Err(Fault::Memory),
+        }
+    }
+
+    /// Answers the bytes of a message of the session that has the number that is given. A mark tells that memory ran out in a
+    /// data write after so many draw messages; the answer tells the mark with which the message stands in the history. Nothing
+    /// is said of the session and the device where memory ran out.
+    #[tactic(auto, unfolding(model_world::specs::Answer::answer))]
+    pub fn answer(
+        &mut self,
+        alloc: Global,
+        device: &mut Draw,
+        number: u32,
+        bytes: &[u8],
+        mark: Option<u32>,
+    ) -> Result<Answered, Memory>
+        requires long { 7 ≤ length bytes.now }
+        requires linked { IsLinked number self.old.made self.old.connections (world_of device.old) }
+        ensures answer { IfOk result (λ a. answer (device_for number) self.old (world_of device.old) bytes.now (mark_after mark a.short) ≡ record { session = self.new; rest = world_of device.new; reply = r_of a.reply }) }
+        ensures fits { IfOk result (λ a. FitsR (r_of a.reply)) }
+        ensures cause { IfOk result (λ a. IfSome a.short (λ k. IsCutMessage number self.old (world_of device.old) bytes.now mark k)) }
+    {
+        let tag = u16::from_le_bytes([bytes[5], bytes[6]]);
+        if bytes.len() > self.msize as usize {
+            return refuse(alloc, tag, BAD_MESSAGE);
+        }
+        match self.read_and_answer(alloc, device, number, bytes, mark) {
+            Ok(answered) => Ok(answered),
+            Err(Fault::Refused(number)) => refuse(alloc, tag, number),
+            Err(Fault::Memory) => Err(Memory),
+        }
+    }
+}

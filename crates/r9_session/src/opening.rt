@@ -1,0 +1,173 @@
+//! Opening files (open(5)), and beginning connections to the draw device (draw(3)).
+
+ghost use Rattle.std.specs.Prelude.{◌≡◌, ◌≤◌, ◌<◌, ◌==◌, ◌&&◌, Some, IfOk};
+ghost use Rattle.std.specs.List.{list_any};
+ghost use Rattle.model_text.specs.Map.{lookup};
+ghost use Rattle.model_wire.specs.Spelling.{FitsR};
+ghost use Rattle.model_tree.specs.Node as model;
+ghost use Rattle.model_world.specs.Session.{Fid};
+ghost use Rattle.model_world.specs.Fids.{with_fid, is_open_on};
+ghost use Rattle.model_world.specs.Links.{IsLinked};
+ghost use Rattle.model_world.specs.Walking.{ctl_of, is_built, is_taken, most_made, open_answer, opened_new};
+ghost use Rattle.model_world.specs.World.{device_for};
+ghost use Rattle.r9_draw.specs.World.{world_of};
+ghost use Rattle.r9_tree.specs.View.{node_of, IsNode};
+ghost use Rattle.r9_wire.specs.View.{r_of};
+ghost use Rattle.r9_session.specs.Answers.{IsReach};
+
+use crate::files::{is_directory, is_kind};
+use crate::refusal::{
+    FID_IS_OPEN, FILE_IN_USE, Fault, PERMISSION_DENIED, TOO_MANY_FIDS, UNKNOWN_FID,
+};
+use crate::session::{Session, client};
+use r9_draw::Draw;
+use r9_memory::Memory;
+use r9_tree::{Kind, Node, check_live, may, qid};
+use r9_wire::Rmsg;
+use std::alloc::Global;
+
+/// So many connections of a session live at once at most.
+const MOST_AT_ONCE: usize = 4;
+
+/// So many connections may be made in a session.
+const MOST_MADE: u32 = 67_108_863;
+
+/// Whether a file opens today: directories do, the files of the draw device, and the screen.
+fn is_built(node: &Node) -> bool
+    requires { IsNode node.now }
+    ensures { result ≡ is_built (node_of node.now) }
+{
+    is_directory(node)
+        || is_kind(node, Kind::New)
+        || is_kind(node, Kind::Ctl)
+        || is_kind(node, Kind::Data)
+        || is_kind(node, Kind::Refresh)
+        || is_kind(node, Kind::Screen)
+}
+
+/// The ctl of a connection, which an open of `new` becomes.
+#[tactic(auto, unfolding(model_tree::specs::Node::kind_numbered))]
+fn ctl_of(node: &Node, connection: u32) -> Node
+    requires { connection ≤ most_made }
+    ensures ctl { node_of result ≡ ctl_of (node_of node.now) connection }
+    ensures is_node { IsNode result }
+{
+    Node {
+        kind: Kind::Ctl as u8 + 1,
+        connection,
+        serial: 0,
+        root: node.root,
+    }
+}
+
+impl Session {
+    /// Whether the ctl of a connection is open.
+    fn has_open_ctl(&self, connection: u32) -> bool
+        ensures { result ≡ list_any (λ entry. (entry.1.node.connection == connection) && is_open_on Kind.Ctl entry.1) self.now.fids }
+    {
+        self.fids.iter().any(|entry| entry.1.node().connection == connection
+            && entry.1.is_open_on(Kind::Ctl))
+    }
+
+    /// Whether the session has all its connections, or the one ctl of a connection is open already.
+    fn is_taken(&self, node: &Node) -> bool
+        requires { IsNode node.now }
+        ensures { result ≡ is_taken self.now (node_of node.now) }
+    {
+        is_kind(node, Kind::New) && self.connections.len() >= MOST_AT_ONCE
+            || is_kind(node, Kind::Ctl) && self.has_open_ctl(node.connection)
+    }
+
+    /// Opens the file that a fid stands for.
+    fn set_mode(&mut self, fid: u32, mode: u8)
+        ensures { (found : Fid) → lookup self.old.fids fid ≡ Some found → self.new ≡ with_fid self.old fid (record found { mode = Some mode }) }
+    {
+        if let Some(found) = self.fids.get_mut(fid) {
+            found.open(mode);
+        }
+    }
+
+    /// Opens a fid as another file.
+    fn open_as(&mut self, fid: u32, node: Node, mode: u8)
+        requires { IsNode node }
+        ensures { (found : Fid) → lookup self.old.fids fid ≡ Some found → self.new ≡ with_fid self.old fid (record found { node = node_of node; mode = Some mode }) }
+    {
+        if let Some(found) = self.fids.get_mut(fid) {
+            found.open_as(node, mode);
+        }
+    }
+
+    /// Begins a connection, whose ctl is open from then on by the fid that stood for `new`.
+    #[tactic(auto, using(crate::proofs::Clients::free_client))]
+    fn open_new(
+        &mut self,
+        device: &mut Draw,
+        number: u32,
+        tag: u16,
+        fid: u32,
+        node: &Node,
+        mode: u8,
+    ) -> Result<Rmsg, Memory>
+        requires linked { IsLinked number self.old.made self.old.connections (world_of device.old) }
+        requires room { self.old.made < most_made }
+        ensures opened { IfOk result (λ reply. (found : Fid) → lookup self.old.fids fid ≡ Some found → node_of node.now ≡ found.node →
+            opened_new (device_for number) self.old (world_of device.old) tag fid mode found ≡ record { session = self.new; rest = world_of device.new; reply = r_of reply }) }
+        ensures fits { IfOk result (λ reply. FitsR (r_of reply)) }
+    {
+        let connection = self.made + 1;
+        device.connect(client(number, connection))?;
+        self.connections.push(connection)?;
+        self.made = connection;
+        let ctl = ctl_of(node, connection);
+        self.open_as(fid, ctl, mode);
+        Ok(Rmsg::Open {
+            tag,
+            qid: qid(&ctl),
+            iounit: 0,
+        })
+    }
+
+    /// Opens a file. What its permissions forbid does not open, nor what is not served yet, nor a ctl that is open already. An
+    /// open of `new` begins a connection.
+    #[tactic(auto, unfolding(model_world::specs::Walking::open_answer))]
+    pub fn open(
+        &mut self,
+        alloc: Global,
+        device: &mut Draw,
+        number: u32,
+        tag: u16,
+        fid: u32,
+        mode: u8,
+    ) -> Result<Rmsg, Fault>
+        requires { IsLinked number self.old.made self.old.connections (world_of device.old) }
+        ensures { IsReach self.old (world_of device.old) result self.new (world_of device.new) (open_answer (device_for number) self.old (world_of device.old) tag fid mode) }
+    {
+        let Some(found) = self.fids.get(fid) else {
+            return Err(Fault::Refused(UNKNOWN_FID));
+        };
+        if found.mode().is_some() {
+            return Err(Fault::Refused(FID_IS_OPEN));
+        }
+        let node = found.node();
+        let view = self.view(alloc)?;
+        check_live(&node, &view)?;
+        if !may(&node, mode) || !is_built(&node) {
+            return Err(Fault::Refused(PERMISSION_DENIED));
+        }
+        if self.is_taken(&node) {
+            return Err(Fault::Refused(FILE_IN_USE));
+        }
+        if is_kind(&node, Kind::New) {
+            if self.made >= MOST_MADE {
+                return Err(Fault::Refused(TOO_MANY_FIDS));
+            }
+            return Ok(self.open_new(device, number, tag, fid, &node, mode)?);
+        }
+        self.set_mode(fid, mode);
+        Ok(Rmsg::Open {
+            tag,
+            qid: qid(&node),
+            iounit: 0,
+        })
+    }
+}

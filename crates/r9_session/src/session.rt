@@ -1,0 +1,78 @@
+//! What is kept of a session.
+
+ghost use Rattle.std.specs.Prelude.{◌≡◌, IfOk};
+ghost use Rattle.model_world.specs.Session.{fresh};
+ghost use Rattle.model_world.specs.Fids as fids;
+ghost use Rattle.model_world.specs.World.{client};
+ghost use Rattle.r9_tree.specs.View.{view_of, IsView};
+
+use crate::fid::Fid;
+use r9_fids::FidTable;
+use r9_memory::Memory;
+use r9_text::Numbers;
+use r9_tree::TreeView;
+use std::alloc::Global;
+use std::marker::Model;
+
+/// The greatest size of a message in bytes, and the one of a session that agreed on none (version(5)).
+pub const MAX_MSIZE: u32 = 65_560;
+
+/// A session: the greatest size of a message in bytes, whether a version is agreed, the fids (intro(5)), the connections to
+/// the draw device that live, in ascending order, and how many it ever made, whose numbers are from 1 to that (draw(3)).
+#[derive(Drop)]
+pub struct Session {
+    pub(crate) msize: u32,
+    pub(crate) agreed: bool,
+    pub(crate) fids: FidTable<Fid>,
+    pub(crate) connections: Numbers,
+    pub(crate) made: u32,
+}
+
+impl Model for Session {
+    ghost use Rattle.model_world.specs.Session as model;
+
+    ghost Value = { model.Session };
+
+    ghost use Rattle.r9_session.specs.SessionView.{session_of, IsSession};
+
+    ghost view = { session_of };
+
+    ghost invariant = { IsSession };
+}
+
+/// The draw device's number of a session's connection: each session has 2^26 of its own.
+pub fn client(number: u32, connection: u32) -> u64
+    ensures { result ≡ client number connection }
+{
+    0x400_0000 * u64::from(number) + u64::from(connection)
+}
+
+impl Session {
+    /// A session that has agreed on nothing.
+    pub fn fresh(alloc: Global) -> Self
+        ensures { result ≡ fresh }
+    {
+        Session {
+            msize: MAX_MSIZE,
+            agreed: false,
+            fids: FidTable::new(alloc),
+            connections: Numbers::new(alloc),
+            made: 0,
+        }
+    }
+
+    /// What walks and listings depend on: the session's connections. There are no windows yet.
+    #[tactic(auto, using(crate::proofs::Clients::all_from_within))]
+    pub(crate) fn view(&self, alloc: Global) -> Result<TreeView, Memory>
+        ensures is { IfOk result (λ view. view_of view ≡ fids.view_of self.now) }
+        ensures view { IfOk result IsView }
+    {
+        Ok(TreeView {
+            connections: self.connections.try_clone(alloc)?,
+            host: 0,
+            numbers: Numbers::new(alloc),
+            serials: Numbers::new(alloc),
+            live: false,
+        })
+    }
+}

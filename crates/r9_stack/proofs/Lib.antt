@@ -1,0 +1,21 @@
+mod Attached
+pub mod Carrying
+mod Changed
+mod Fillings
+pub mod Grids
+mod Living
+mod Ordered
+pub mod Parts
+mod Pictures
+mod Planes
+mod Raws
+mod Repeats
+mod Replaced
+mod Rows
+mod Runs
+mod Shifts
+mod Shown
+mod Standings
+mod Tables
+mod Uncovered
+mod Worlds

@@ -1,0 +1,124 @@
+use Rattle.std.proofs.Common.{◌≡◌, ◌∙◌, ◌+◌, ◌-◌, ◌*◌, ◌<◌, ◌≤◌, ◌^◌, suc, true, List, ◌∷◌, length, get_or, drop, lit≤, refl, sym, ap, subst, arith}
+use Rattle.std.specs.Prelude.{if◌then◌else◌}
+use Rattle.std.proofs.lemmas.Int.{ints}
+use Rattle.r9_geom.specs.declared.Point.{Point as Spot}
+use Rattle.r9_geom.specs.Geometry.{carried, holds}
+use Rattle.r9_geom.proofs.GeometryLemmas.{near_wider, strip_here}
+use Rattle.r9_plane.specs.Pixels.{along, rect_of}
+use Rattle.r9_plane.proofs.PlaneLemmas.{some_of}
+use Rattle.model_forest.specs.declared.Window.{Window}
+use Rattle.model_forest.specs.World.{Image, image_at, no_rect}
+use Rattle.model_forest.specs.Stack.{seen}
+use Rattle.model_forest.specs.View.{inward, view}
+use Rattle.r9_stack.specs.Table.{beneath, world}
+use Rattle.r9_stack.proofs.Parts.{length-part}
+use Rattle.r9_stack.proofs.Pictures.{drop_one, read_over_row, readable, shown_more, shown_over, view-shown, window_row_inside, IsReadable}
+use Rattle.r9_stack.proofs.images.Images.+view.Goals as goal
+
+abbrev no_window : Window
+no_window = record { image = 0; place = no_rect }
+
+pub read_over-along-requires-clause-near : goal.read_over-along-requires-clause-near
+read_over-along-requires-clause-near t c = near_wider (2 ^ 40) (2 ^ 42) c.args.from (lit≤ tt) c.requires.near
+
+pub read_over-carried-at-requires-clause-point : goal.read_over-carried-at-requires-clause-point
+read_over-carried-at-requires-clause-point t c =
+    let x = ap (λ (p : Spot). p.x) c.along.ensures in
+    let y = ap (λ (p : Spot). p.y) c.along.ensures in
+    let start : c.covered-part.result.start ≤ 2 ^ 40 = omega (arith, c.covered-part.ensures.ordered, c.covered-part.ensures.within, c.requires.columns) in
+    record {
+      left = omega (arith, ints, x, c.requires.near.left);
+      right = omega (arith, ints, x, c.requires.near.right, start);
+      top = omega (arith, ints, y, c.requires.near.top);
+      bottom = omega (arith, ints, y, c.requires.near.bottom);
+    }
+
+pub read_over-read_view-requires : goal.read_over-read_view-requires
+read_over-read_view-requires t c =
+    let w = c.args.window.now in
+    let from = c.args.from in
+    let raws = c.args.raws.now in
+    let part = c.covered-part.result in
+    let is = c.covered-part.ensures in
+    let world = world c.args.self.now in
+    let own = c.rect.ensures.value ∙ ap (λ (im : Image). im.r) (sym c.get.ensures.image) in
+    let at = c.carried-at.ensures ∙ (λ i. carried (c.along.ensures i) w.place.min (own i).min) in
+    let long = length-part raws part.start (part.end - part.start) (omega (arith, is.ordered, is.within)) in
+    (subst (λ n. 2 * (2 ^ 32 - (image_at world w.image).depth) < n) c.decreases (omega arith), (c.requires.live, λ p h. window_row_inside world w from c.carried-at.result p (length raws) part.start part.end _ c.requires.size is.points is.within c.if-part.true long at h))
+
+pub read_over-returns-then-part : goal.read_over-returns-then-part
+read_over-returns-then-part t c k below =
+    let w = c.args.window.now in
+    let from = c.args.from in
+    let raws = c.args.raws.now in
+    let part = c.covered-part.result in
+    let is = c.covered-part.ensures in
+    let world = world c.args.self.now in
+    let own = c.rect.ensures.value ∙ ap (λ (im : Image). im.r) (sym c.get.ensures.image) in
+    let at = c.carried-at.ensures ∙ (λ i. carried (c.along.ensures i) w.place.min (own i).min) in
+    let long = length-part raws part.start (part.end - part.start) (omega (arith, is.ordered, is.within)) in
+    read_over_row world w from c.carried-at.result raws c.read_view.new.raws part.start part.end k is.points is.within c.if-part.true (c.read_view.auto.raws ∙ long) at
+    (λ j short. c.read_view.ensures j (omega (arith, long, short)))
+    below
+
+pub read_view-read_over-requires : goal.read_view-read_over-requires
+unfolding world
+read_view-read_over-requires t c =
+    let table = c.args.self.now in
+    let here = world table in
+    let from = c.args.from in
+    let i = c.args.i in
+    let n = length c.args.raws.now in
+    let k = c.loop-k.k - 1 in
+    let kept = c.get-kept.result.now in
+    let listed : c.windows-windows.result.now ≡ (image_at here i).windows = c.windows-windows.ensures.items ∙ ap (λ (im : Image). im.windows) (sym c.get-kept.ensures.image) in
+    let some = some_of n c.is_empty.ensures c.if-is_empty.false in
+    let count = ap length listed in
+    let below : k < length (image_at here i).windows = omega (arith, count, c.loop-k-test.true, c.loop-k.auto.k) in
+    let is = readable here table.forest i k no_window from n c.requires.live below some c.requires.inside in
+    let R : List Window → Type 0 = λ ws. IsReadable here i (get_or ws k no_window) from n in
+    let ok = subst R (sym listed) is in
+    let long : length c.loop-k.raws ≡ n = c.loop-k.auto.raws ∙ c.get_row.auto.raws in
+    (subst (λ m. 2 * (2 ^ 32 - (image_at here (get_or c.windows-windows.result.now k no_window).image).depth) + 1 < m) c.decreases (omega (arith, ok.above, ok.shallow)), (ok.live, (ok.size, (ok.place, (ok.near, omega (arith, long, ok.columns))))))
+
+pub read_view-loop-k-preserved : goal.read_view-loop-k-preserved
+read_view-loop-k-preserved t c m below =
+    let table = c.args.self.now in
+    let here = world table in
+    let i = c.args.i in
+    let k = c.loop-k.k - 1 in
+    let p = along c.args.from m in
+    let ws = (image_at here i).windows in
+    let listed : c.windows-windows.result.now ≡ ws = c.windows-windows.ensures.items ∙ ap (λ (im : Image). im.windows) (sym c.get-kept.ensures.image) in
+    let count = ap length listed in
+    let w = get_or c.windows-windows.result.now k no_window in
+    let inside : m < length c.loop-k.raws = omega (arith, below, c.read_over.auto.raws) in
+    let next : suc k ≡ c.loop-k.k = omega (arith, c.loop-k-test.true) in
+    let front = drop_one ws k no_window (omega (arith, count, c.loop-k-test.true, c.loop-k.auto.k)) in
+    c.read_over.ensures m inside
+    ∙ ap (λ n. if holds w.place p then view here w.image (inward here w p) else n) (c.loop-k.invariant m inside)
+    ∙ sym (shown_more here w (drop c.loop-k.k ws) (beneath table i) p)
+    ∙ (λ j. shown_over here (get_or (listed j) k no_window ∷ drop (sym next j) ws) (beneath table i) p)
+    ∙ ap (λ vs. shown_over here vs (beneath table i) p) (sym front)
+
+pub read_view-returns : goal.read_view-returns
+unfolding world
+read_view-returns t c k below =
+    let table = c.args.self.now in
+    let here = world table in
+    let i = c.args.i in
+    let n = length c.args.raws.now in
+    let p = along c.args.from k in
+    let kept = c.get-kept.result.now in
+    let image = c.get-kept.ensures.image in
+    let r = rect_of kept.plane in
+    let ws = (image_at here i).windows in
+    let none : c.loop-k.k ≡ 0 = omega (arith, c.loop-k-test.false) in
+    let own : holds (image_at here i).r p ≡ true = c.requires.inside p (strip_here c.args.from p k n refl refl below) in
+    let inside : holds r p ≡ true = ap (λ (im : Image). holds im.r p) (sym image) ∙ own in
+    let canvas : (image_at here i).canvas p ≡ seen r ws (beneath table i) p =
+    ap (λ (im : Image). im.canvas p) image
+    ∙ (λ j. seen r (ap (λ (im : Image). im.windows) (sym image) j) (sym c.get-kept.ensures.beneath j) p) in
+    c.loop-k.invariant k (omega (arith, below, c.loop-k.auto.raws, c.get_row.auto.raws))
+    ∙ ap (λ m. shown_over here (drop m ws) (beneath table i) p) none
+    ∙ view-shown here table.forest i p r ws (beneath table i) c.requires.live refl canvas inside

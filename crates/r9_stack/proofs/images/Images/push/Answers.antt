@@ -1,0 +1,73 @@
+use Rattle.std.proofs.Common.{◌≡◌, ◌∙◌, List, Option, Some, length, refl, sym, ap, subst, arith}
+use Rattle.std.specs.Result.{is_ok}
+use Rattle.std.proofs.lemmas.List.{length_push}
+use Rattle.model_forest.specs.World.{with_image, IsForest}
+use Rattle.r9_stack.specs.declared.kept.Kept.{Kept}
+use Rattle.r9_stack.specs.Images.{image_of, world_of}
+use Rattle.r9_stack.specs.Table.{world, numbers}
+use Rattle.r9_stack.proofs.Tables.{next_new, numbers_kept, on_err, slot_past, taken_new, world_of-push}
+use Rattle.r9_stack.proofs.Worlds.{IsForest-pushed}
+use Rattle.r9_stack.proofs.images.Images.push.Goals as goal
+
+pub invariant_of-self-2-clause-forest : goal.invariant_of-self-2-clause-forest
+unfolding world numbers
+invariant_of-self-2-clause-forest c =
+    let table = c.args.self.now in
+    let slots = table.slots.items in
+    let next = next_new slots table.spare.items (omega (arith, c.requires.none, table.spare.ok.0)) in
+    subst (λ (items : List (Option Kept)). IsForest (world_of items)) (sym c.push.ensures.items)
+    (IsForest-pushed (is_ok c.push.result) slots c.args.kept
+    (subst (λ n. IsForest (with_image (world_of slots) n (Some (image_of c.args.kept)))) (sym next) c.requires.forest)
+    table.forest)
+
+pub returns-in_err-reserve-clause-err : goal.returns-in_err-reserve-clause-err
+unfolding world numbers
+returns-in_err-reserve-clause-err c =
+    let table = c.args.self.now in
+    on_err c.from_residual.result
+    (record {
+      world = refl;
+      numbers = numbers_kept table.slots.items table.slots.items table.spare.items c.reserve.new.self.items refl c.reserve.ensures.items;
+    })
+
+pub returns-in_err-push-clause-err : goal.returns-in_err-push-clause-err
+unfolding world numbers
+returns-in_err-push-clause-err c =
+    let table = c.args.self.now in
+    on_err c.from_residual-in_err-push.result
+    (record {
+      world = ap world_of c.in_err-push.ensures.items;
+      numbers = numbers_kept table.slots.items c.push.new.self.items table.spare.items c.reserve.new.self.items (ap length c.in_err-push.ensures.items) c.reserve.ensures.items;
+    })
+
+pub returns-clause-number : goal.returns-clause-number
+unfolding numbers
+returns-clause-number c =
+    let table = c.args.self.now in
+    let count : c.len-number.result ≡ length table.slots.items = c.len-number.ensures ∙ omega (arith, table.slots.ok.0) in
+    count ∙ next_new table.slots.items table.spare.items (omega (arith, c.requires.none, table.spare.ok.0))
+
+pub returns-clause-free : goal.returns-clause-free
+unfolding world
+returns-clause-free c =
+    let table = c.args.self.now in
+    let count : c.len-number.result ≡ length table.slots.items = c.len-number.ensures ∙ omega (arith, table.slots.ok.0) in
+    slot_past table.slots.items c.len-number.result (omega (arith, count))
+
+pub returns-clause-world : goal.returns-clause-world
+unfolding world
+returns-clause-world c =
+    let table = c.args.self.now in
+    let count : length table.slots.items ≡ c.len-number.result = sym (c.len-number.ensures ∙ omega (arith, table.slots.ok.0)) in
+    ap world_of c.in_ok-push.ensures.items
+    ∙ world_of-push table.slots.items c.args.kept
+    ∙ ap (λ n. with_image (world_of table.slots.items) n (Some (image_of c.args.kept))) count
+
+pub returns-clause-taken : goal.returns-clause-taken
+unfolding numbers
+returns-clause-taken c =
+    let table = c.args.self.now in
+    taken_new table.slots.items c.push.new.self.items table.spare.items c.reserve.new.self.items
+    (omega (arith, c.requires.none, table.spare.ok.0))
+    (ap length c.in_ok-push.ensures.items ∙ length_push table.slots.items (Some c.args.kept))
+    c.reserve.ensures.items

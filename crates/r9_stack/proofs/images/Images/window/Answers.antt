@@ -1,0 +1,50 @@
+use Rattle.std.proofs.Common.{◌≡◌, ◌∙◌, ◌<◌, ◌^◌, Some, true, length, ap, sym, subst, arith}
+use Rattle.model_pixel.specs.Channels as channels
+use Rattle.model_pixel.specs.Channels.{is_descriptor}
+use Rattle.model_forest.specs.Numbers.{next_number}
+use Rattle.model_forest.specs.World.{Image, image_at, with_image, IsForest}
+use Rattle.model_forest.specs.Steps.{after_image}
+use Rattle.model_forest.proofs.Steps.{IsForest-after_image, IsForest-after_window}
+use Rattle.r9_stack.specs.Images.{image_of, world_of}
+use Rattle.r9_stack.specs.Table.{numbers, world}
+use Rattle.r9_stack.proofs.Attached.{made_window}
+use Rattle.r9_stack.proofs.Worlds.{next_free}
+use Rattle.r9_stack.proofs.images.Images.window.Goals as goal
+
+pub insert-requires : goal.insert-requires
+unfolding world numbers after_image
+insert-requires c =
+    let table = c.args.self.now in
+    let slots = table.slots.items in
+    let i = next_number (numbers table) in
+    let w = world_of slots in
+    let chan = c.chan-chan.ensures ∙ sym (ap (λ (im : Image). im.chan) c.get-below.ensures.image) in
+    let lawful : is_descriptor c.chan-chan.result ≡ true = ap is_descriptor chan ∙ (table.forest.images c.args.parent c.requires.parent).chan in
+    let raw = subst (λ n. c.args.raw < 2 ^ channels.depth n) (sym chan) c.requires.raw in
+    subst (λ (im : Image). IsForest (with_image w i (Some im))) (sym c.in_ok-kept.ensures)
+    (IsForest-after_image w i c.args.r c.chan-chan.result c.args.raw (next_free slots table.spare.items table.table) lawful raw c.requires.near c.requires.ordered table.forest)
+
+pub put_on_top-requires-clause-forest : goal.put_on_top-requires-clause-forest
+unfolding world
+put_on_top-requires-clause-forest c =
+    let table = c.args.self.now in
+    let w = world table in
+    let p = c.args.parent in
+    let i = c.in_ok-i.i in
+    let image = c.get-below.ensures.image in
+    let chan = c.chan-chan.ensures ∙ sym (ap (λ (im : Image). im.chan) image) in
+    let depth = c.depth-depth.ensures ∙ sym (ap (λ (im : Image). im.depth) image) in
+    let count : length c.windows-count.result.now ≡ length (image_at w p).windows = ap length (c.windows-count.ensures.items ∙ sym (ap (λ (im : Image). im.windows) image)) in
+    subst IsForest (sym (made_window w (world c.insert.new.self) i p c.args.fill c.args.r c.chan-chan.result c.args.raw c.depth-depth.result (image_of c.in_ok-kept.kept) c.in_ok-i.ensures.free c.requires.parent c.in_ok-kept.ensures chan depth c.in_ok-i.ensures.world))
+    (IsForest-after_window w i p c.args.fill c.args.r c.args.raw c.in_ok-i.ensures.free c.requires.parent c.requires.fill (omega (arith, depth, c.if-depth.false, c.depth-depth.type_inv)) (omega (arith, count, c.if-count.false, c.windows-count.ensures.few)) c.requires.raw c.requires.near c.requires.ordered table.forest)
+
+pub returns-clause-made : goal.returns-clause-made
+unfolding world
+returns-clause-made c =
+    let table = c.args.self.now in
+    let w = world table in
+    let image = c.get-below.ensures.image in
+    let chan = c.chan-chan.ensures ∙ sym (ap (λ (im : Image). im.chan) image) in
+    let depth = c.depth-depth.ensures ∙ sym (ap (λ (im : Image). im.depth) image) in
+    c.put_on_top.ensures.world
+    ∙ made_window w (world c.insert.new.self) c.in_ok-i.i c.args.parent c.args.fill c.args.r c.chan-chan.result c.args.raw c.depth-depth.result (image_of c.in_ok-kept.kept) c.in_ok-i.ensures.free c.requires.parent c.in_ok-kept.ensures chan depth c.in_ok-i.ensures.world

@@ -1,0 +1,33 @@
+-- What fills the points that a window uncovers.
+use Rattle.std.specs.Prelude.{◌≡◌, ◌<◌, ◌≤◌, ◌+ℤ◌, pos, ℕ, ◌==◌, Bool, ◌&&◌, List, true, false, if◌then◌else◌}
+use Rattle.std.specs.List.{list_any}
+use Rattle.r9_geom.specs.declared.Point.{Point}
+use Rattle.r9_geom.specs.declared.Rect.{Rect}
+use Rattle.r9_geom.specs.Geometry.{holds}
+use Rattle.r9_plane.specs.Pixels.{along}
+use Rattle.model_pixel.specs.Channels.{expand, pack}
+use Rattle.model_forest.specs.declared.Window.{Window}
+use Rattle.model_forest.specs.World.{World, image_at}
+use Rattle.model_forest.specs.View.{at, is_bare}
+use Rattle.model_forest.specs.Draw.{reaches}
+
+-- the pixel of a fill image for these channels, or zero bits where it does not reach
+abbrev pub fill_at : World → ℕ → ℕ → Point → ℕ
+fill_at world chan fill p =
+    if reaches (image_at world fill) p then pack chan (expand (image_at world fill).chan (at world fill p)) else 0
+
+-- a window of the image covers the point
+abbrev pub covers : ℕ → Point → List Window → Bool
+covers i q ws = list_any (λ w. w.image == i && holds w.place q) ws
+
+-- windows cover each of these points of the image
+abbrev pub IsCovered : World → ℕ → (Point → Bool) → Type 0
+IsCovered world i area = (p : Point) → area p ≡ true → is_bare (image_at world i).windows p ≡ false
+
+-- a rectangle holds the columns from the first up to the end, of the row of n points from a point on
+pub record IsRun (at : Point) (n : ℕ) (given : Rect) (first end : ℕ) : Type 0 where
+  pub some : first < end
+  pub within : end ≤ n
+  pub begins : given.min ≡ along at first
+  pub ends : given.max.x ≡ at.x +ℤ pos end
+  pub below : given.max.y ≡ at.y +ℤ pos 1

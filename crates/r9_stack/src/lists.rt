@@ -1,0 +1,106 @@
+//! Lists of windows, topmost first, and how they change.
+
+ghost use Rattle.std.specs.Prelude.{◌≡◌, ◌+◌, ◌<◌, ◌≤◌, ◌∷◌, [], length, map, vec_len, vec_capacity, IfOk};
+ghost use Rattle.model_forest.specs.Stack as stack;
+ghost use Rattle.model_forest.specs.Steps as steps;
+
+use model_forest::Window;
+use r9_geom::Rect;
+use r9_info::ImageNo;
+use r9_memory::Memory;
+use std::alloc::Global;
+
+// Whether a window is one of these images.
+fn is_in(group: &[ImageNo], w: &Window) -> bool
+    ensures { result ≡ stack.is_in (map (λ i. i.0) group.now) w.now }
+{
+    group.iter().map(|i| i.0).any(|i| i == w.image)
+}
+
+/// The list with a group of images on top, in their order in it.
+pub fn raised(alloc: Global, windows: &[Window], group: &[ImageNo]) -> Result<Vec<Window>, Memory>
+    ensures { IfOk result (λ list. list.items ≡ stack.raised (map (λ i. i.0) group.now) windows.now) }
+{
+    let first = windows.iter().filter(|w| is_in(group, w)).copied();
+    let others = windows.iter().filter(|w| !is_in(group, w)).copied();
+    Ok(first.chain(others).collect(alloc)?)
+}
+
+/// The list with a group of images at the bottom, in their order in it.
+pub fn lowered(alloc: Global, windows: &[Window], group: &[ImageNo]) -> Result<Vec<Window>, Memory>
+    ensures { IfOk result (λ list. list.items ≡ stack.lowered (map (λ i. i.0) group.now) windows.now) }
+{
+    let group_last = windows.iter().filter(|w| is_in(group, w)).copied();
+    let others = windows.iter().filter(|w| !is_in(group, w)).copied();
+    Ok(others.chain(group_last).collect(alloc)?)
+}
+
+/// Takes an image out of the list.
+pub fn without(windows: &mut Vec<Window>, i: u32)
+    ensures items { windows.new.items ≡ stack.without i windows.old.items }
+    ensures fewer { vec_len windows.new ≤ vec_len windows.old }
+{
+    windows.retain(|w| w.image != i);
+}
+
+/// Gives a window another place.
+pub fn moved(windows: &mut Vec<Window>, i: u32, place: Rect)
+    ensures items { windows.new.items ≡ stack.moved i place windows.old.items }
+    ensures len { vec_len windows.new ≡ vec_len windows.old }
+{
+    move_each(windows, i, place);
+}
+
+fn move_each(windows: &mut [Window], i: u32, place: Rect)
+    ensures { windows.new ≡ stack.moved i place windows.old }
+{
+    for k in 0..windows.len() {
+        windows[k] = moved_window(i, place, windows[k]);
+    }
+}
+
+fn moved_window(i: u32, place: Rect, w: Window) -> Window
+    ensures { result ≡ stack.moved_window i place w }
+{
+    if w.image == i {
+        Window { image: i, place }
+    } else {
+        w
+    }
+}
+
+// Puts a window directly above another, for which there is room.
+fn put_above(windows: &mut Vec<Window>, w: Window, old: u32)
+    requires { vec_len windows.old < vec_capacity windows.old }
+    ensures items { windows.new.items ≡ steps.put_above w old windows.old.items }
+    ensures more { vec_len windows.new ≤ vec_len windows.old + 1 }
+{
+    for k in 0..windows.len() {
+        if windows[k].image == old {
+            let _ = windows.insert(k, w);
+            return;
+        }
+    }
+}
+
+/// A window above others, in an empty list with room for all.
+pub fn on_top(list: &mut Vec<Window>, w: Window, windows: &[Window])
+    requires empty { list.old.items ≡ [] }
+    requires room { length windows.now < vec_capacity list.old }
+    ensures items { list.new.items ≡ w ∷ windows.now }
+    ensures len { vec_len list.new ≡ length windows.now + 1 }
+{
+    let _ = list.push(w);
+    let _ = list.extend_from_slice(windows);
+}
+
+/// A window directly above another of a list, in an empty list with room for all.
+pub fn above(list: &mut Vec<Window>, w: Window, old: u32, windows: &[Window])
+    requires empty { list.old.items ≡ [] }
+    requires room { length windows.now < vec_capacity list.old }
+    ensures items { list.new.items ≡ steps.put_above w old windows.now }
+    ensures len { vec_len list.new ≤ length windows.now + 1 }
+{
+    let _ = list.extend_from_slice(windows);
+    put_above(list, w, old);
+}

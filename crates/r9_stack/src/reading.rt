@@ -1,0 +1,253 @@
+//! What images show: their own pixels, and those of the windows that stand on them.
+
+ghost use Rattle.std.specs.Prelude.{◌≡◌, ◌*◌, ◌^◌, ◌<◌, ◌≤◌, ◌&&◌, ℕ, true, length, nat_le, nat_lt, slice_index, IfOk, IfSome, IsTrue, OnOk, if◌then◌else◌};
+ghost use Rattle.r9_geom.specs.declared.Point.{Point as Spot};
+ghost use Rattle.r9_geom.specs.Geometry as geometry;
+ghost use Rattle.r9_geom.specs.Geometry.{height, holds, reduced, strip, IsNearBy, IsOrdered, IsRectNearBy};
+ghost use Rattle.r9_plane.specs.Pixels.{along, chan_of, pixel_at, rect_of};
+ghost use Rattle.model_pixel.specs.Channels as channels;
+ghost use Rattle.model_pixel.specs.Rows.{row_bytes, rows_of};
+ghost use Rattle.model_forest.specs.World.{image_at, IsLive, SameSize};
+ghost use Rattle.model_forest.specs.View as model;
+ghost use Rattle.model_forest.specs.View.{at, inward, is_bare};
+ghost use Rattle.model_forest.specs.Paint.{paint};
+ghost use Rattle.model_forest.specs.Draw.{reaches};
+
+use super::images::Images;
+use model_forest::Window;
+use r9_geom::{Point, Rect, distance};
+use r9_memory::Memory;
+use r9_plane::{Plane, row_bytes};
+use r9_text::Bytes;
+
+/// The point so many columns to the right.
+pub fn along(at: Point, columns: usize) -> Point
+    requires near { IsNearBy (2 ^ 42) at }
+    requires columns { columns ≤ 2 ^ 42 }
+    ensures { result ≡ along at columns }
+{
+    Point {
+        x: at.x + columns as i64,
+        y: at.y,
+    }
+}
+
+// How many columns a rectangle has from a point of it on.
+fn columns_left(p: Point, r: &Rect) -> usize
+    requires { IsTrue (holds r.now p) }
+    ensures value { result ≡ geometry.distance p.x r.now.max.x }
+    ensures some { 0 < result }
+{
+    distance(p.x, r.max.x) as usize
+}
+
+// A row of so many points from a point to the right.
+fn row_from(from: Point, columns: usize) -> Rect
+    requires near { IsNearBy (2 ^ 42) from }
+    requires columns { columns ≤ 2 ^ 42 }
+    ensures { result ≡ strip from columns }
+{
+    Rect {
+        min: from,
+        max: Point {
+            x: from.x + columns as i64,
+            y: from.y + 1,
+        },
+    }
+}
+
+// Some of the columns of a row: from one on, and before another.
+#[derive(Clone, Copy, Debug)]
+struct Columns {
+    start: usize,
+    end: usize,
+}
+
+// The columns of a row of so many points, from a point to the right, that a place covers.
+fn covered(from: Point, columns: usize, place: &Rect) -> Columns
+    requires near { IsNearBy (2 ^ 42) from }
+    requires columns { columns ≤ 2 ^ 42 }
+    ensures ordered { result.start ≤ result.end }
+    ensures within { result.end ≤ columns }
+    ensures points { (k : ℕ) → k < columns → holds place.now (along from k) ≡ (nat_le result.start k && nat_lt k result.end) }
+{
+    let part = row_from(from, columns).meet(place);
+    if part.is_empty() {
+        return Columns { start: 0, end: 0 };
+    }
+    Columns {
+        start: distance(from.x, part.min.x) as usize,
+        end: distance(from.x, part.max.x) as usize,
+    }
+}
+
+impl Images {
+    ghost use Rattle.r9_stack.specs.Table.{beneath, world};
+
+    /// Reads what an image shows side by side, from a point of it to the right: its own pixels, and over them what its
+    /// windows show, from the last to the first.
+    #[cycle(view)]
+    pub(crate) fn read_view(&self, i: u32, from: Point, raws: &mut [u32])
+        requires live { IsLive (world self.now) i }
+        requires inside { (p : Spot) → IsTrue (holds (strip from (length raws.old)) p) → IsTrue (holds (image_at (world self.now) i).r p) }
+        ensures { (k : ℕ) → k < length raws.old → slice_index raws.new k ≡ model.view (world self.now) i (along from k) }
+    {
+        if raws.is_empty() {
+            return;
+        }
+        let kept = self.get(i);
+        kept.get_row(from, raws);
+        let windows = kept.windows();
+        for k in (0..windows.len()).rev() {
+            self.read_over(&windows[k], from, raws);
+        }
+    }
+
+    // Reads what a window shows over a row of the image that it stands on, at the points of its place.
+    #[cycle(view)]
+    fn read_over(&self, window: &Window, from: Point, raws: &mut [u32])
+        requires live { IsLive (world self.now) window.now.image }
+        requires size { SameSize window.now.place (image_at (world self.now) window.now.image).r }
+        requires place { IsNearBy (2 ^ 40) window.now.place.min }
+        requires near { IsNearBy (2 ^ 40) from }
+        requires columns { length raws.old ≤ 2 ^ 40 }
+        ensures { (k : ℕ) → k < length raws.old → slice_index raws.new k ≡ (if holds window.now.place (along from k) then model.view (world self.now) window.now.image (inward (world self.now) window.now (along from k)) else slice_index raws.old k) }
+    {
+        let part = covered(from, raws.len(), &window.place);
+        if part.start < part.end {
+            let own = self.get(window.image).rect().min;
+            let at = along(from, part.start).carried(window.place.min, own);
+            self.read_view(window.image, at, &mut raws[part.start..part.end]);
+        }
+    }
+
+    /// The one pixel that an image gives everywhere, where it repeats a single one on which nothing stands.
+    pub fn single(&self, i: u32) -> Option<u32>
+        requires { IsLive (world self.now) i }
+        ensures { IfSome result (λ raw. (p : Spot) → at (world self.now) i p ≡ raw) }
+    {
+        let kept = self.get(i);
+        let r = kept.rect();
+        if kept.repl() && kept.windows().is_empty() && r.width() == 1 && r.height() == 1 {
+            Some(kept.get(r.min))
+        } else {
+            None
+        }
+    }
+
+    /// Reads what an image gives where it is drawn from, side by side, from a point to the right.
+    pub fn read_row(&self, i: u32, from: Point, raws: &mut [u32])
+        requires live { IsLive (world self.now) i }
+        requires near { IsNearBy (2 ^ 41) from }
+        requires width { length raws.old ≤ 2 ^ 41 }
+        requires inside { (p : Spot) → IsTrue (holds (strip from (length raws.old)) p) → IsTrue (reaches (image_at (world self.now) i) p) }
+        ensures raws { (k : ℕ) → k < length raws.old → slice_index raws.new k ≡ at (world self.now) i (along from k) }
+        ensures range { (k : ℕ) → k < length raws.old → slice_index raws.new k < 2 ^ channels.depth (image_at (world self.now) i).chan }
+    {
+        if let Some(raw) = self.single(i) {
+            raws.fill(raw);
+        } else if self.get(i).repl() {
+            self.read_repeated(i, from, raws);
+        } else {
+            self.read_view(i, from, raws);
+        }
+    }
+
+    // The same of an image that repeats: one run of each copy of it after the other.
+    fn read_repeated(&self, i: u32, from: Point, raws: &mut [u32])
+        requires live { IsLive (world self.now) i }
+        requires near { IsNearBy (2 ^ 41) from }
+        requires width { length raws.old ≤ 2 ^ 41 }
+        requires repl { (image_at (world self.now) i).repl ≡ true }
+        ensures { (k : ℕ) → k < length raws.old → slice_index raws.new k ≡ model.view (world self.now) i (reduced (image_at (world self.now) i).r (along from k)) }
+    {
+        let r = self.get(i).rect();
+        let mut done = 0;
+        while done < raws.len() {
+            let p = along(from, done).reduced(r);
+            let end = done + columns_left(p, &r).min(raws.len() - done);
+            self.read_view(i, p, &mut raws[done..end]);
+            done = end;
+        }
+    }
+
+    /// Reads an image's own pixels side by side, from a point of it to the right. Where a window stands there, what is read
+    /// is any pixel.
+    pub fn read_bare_row(&self, i: u32, from: Point, raws: &mut [u32])
+        requires live { IsLive (world self.now) i }
+        requires inside { (p : Spot) → IsTrue (holds (strip from (length raws.old)) p) → IsTrue (holds (image_at (world self.now) i).r p) }
+        ensures raws { (k : ℕ) → k < length raws.old → is_bare (image_at (world self.now) i).windows (along from k) ≡ true → slice_index raws.new k ≡ model.view (world self.now) i (along from k) }
+        ensures range { (k : ℕ) → k < length raws.old → slice_index raws.new k < 2 ^ channels.depth (image_at (world self.now) i).chan }
+    {
+        self.get(i).get_row(from, raws);
+    }
+
+    /// The raw pixel that an image shows at a point of it.
+    pub fn view(&self, i: u32, p: Point) -> u32
+        requires live { IsLive (world self.now) i }
+        requires inside { IsTrue (holds (image_at (world self.now) i).r p) }
+        ensures value { result ≡ model.view (world self.now) i p }
+        ensures range { result < 2 ^ channels.depth (image_at (world self.now) i).chan }
+    {
+        let mut raws = [0];
+        self.read_view(i, p, &mut raws);
+        raws[0]
+    }
+
+    // What an image shows in a rectangle of it, as a plane.
+    fn shown(&self, i: u32, r: Rect) -> Result<Plane, Memory>
+        requires live { IsLive (world self.now) i }
+        requires near { IsRectNearBy (2 ^ 36) r }
+        requires ordered { IsOrdered r }
+        requires inside { (p : Spot) → IsTrue (holds r p) → IsTrue (holds (image_at (world self.now) i).r p) }
+        ensures rect { IfOk result (λ plane. rect_of plane ≡ r) }
+        ensures chan { IfOk result (λ plane. chan_of plane ≡ (image_at (world self.now) i).chan) }
+        ensures pixels { IfOk result (λ plane. (p : Spot) → IsTrue (holds r p) → pixel_at plane p ≡ model.view (world self.now) i p) }
+    {
+        let mut plane = Plane::new(self.alloc, r, self.get(i).chan(), 0)?;
+        let mut raws = vec![in self.alloc; 0; r.width() as usize]?;
+        for row in 0..r.height() {
+            let at = r.point_at(0, row);
+            self.read_view(i, at, &mut raws);
+            plane.put_row(at, &raws);
+        }
+        Ok(plane)
+    }
+
+    // Writes the rows of what an image shows in a rectangle.
+    fn unload_rows(&self, i: u32, r: Rect, rows: &mut [u8]) -> Result<(), Memory>
+        requires live { IsLive (world self.now) i }
+        requires near { IsRectNearBy (2 ^ 36) r }
+        requires ordered { IsOrdered r }
+        requires inside { (p : Spot) → IsTrue (holds r p) → IsTrue (holds (image_at (world self.now) i).r p) }
+        requires rows { length rows.old ≡ row_bytes r (channels.depth (image_at (world self.now) i).chan) * height r }
+        ensures { OnOk result (rows.new ≡ rows_of r (channels.depth (image_at (world self.now) i).chan) (model.view (world self.now) i)) }
+    {
+        let kept = self.get(i);
+        if kept.windows().is_empty() {
+            kept.unload(r, rows);
+        } else {
+            self.shown(i, r)?.unload(r, rows);
+        }
+        Ok(())
+    }
+
+    /// The rows of what an image shows in a rectangle (image(6)): the picture that is painted from back to front, too.
+    pub fn unload(&self, i: u32, r: Rect) -> Result<Bytes, Memory>
+        requires live { IsLive (world self.now) i }
+        requires near { IsRectNearBy (2 ^ 36) r }
+        requires ordered { IsOrdered r }
+        requires inside { (p : Spot) → IsTrue (holds r p) → IsTrue (holds (image_at (world self.now) i).r p) }
+        ensures view { IfOk result (λ rows. rows ≡ rows_of r (channels.depth (image_at (world self.now) i).chan) (model.view (world self.now) i)) }
+        ensures paint { IfOk result (λ rows. rows ≡ rows_of r (channels.depth (image_at (world self.now) i).chan) (paint (world self.now) i)) }
+    {
+        let depth = self.get(i).chan().depth();
+        let size = match row_bytes(r, depth).checked_mul(r.height()) {
+            Some(size) => size as usize,
+            None => return Err(Memory),
+        };
+        let mut rows = vec![in self.alloc; 0; size]?;
+        self.unload_rows(i, r, &mut rows)?;
+        Ok(Bytes::from(rows))
+    }
+}

@@ -1,0 +1,160 @@
+//! A window that takes the place of another.
+
+ghost use Rattle.std.specs.Prelude.{◌≡◌, ◌≢◌, ◌+◌, ◌^◌, ◌<◌, ◌≤◌, [], true, Some, None, length, vec_capacity, IfOk, IsSome, IsTrue, OnErr, OnOk, if◌then◌else◌};
+ghost use Rattle.r9_geom.specs.declared.Point.{Point as Spot};
+ghost use Rattle.r9_geom.specs.Geometry.{carried, holds, strip, IsNear, IsNearBy, IsOrdered, IsRectNearBy};
+ghost use Rattle.model_pixel.specs.Channels as channels;
+ghost use Rattle.model_forest.specs.Numbers.{next_number, taken};
+ghost use Rattle.model_forest.specs.World.{image_at, parent_of, IsForest, IsLive, SameSize};
+ghost use Rattle.model_forest.specs.Stack.{seen, with_windows};
+ghost use Rattle.model_forest.specs.Steps.{after_replace, new_image, put_above};
+ghost use Rattle.model_forest.specs.View as model;
+ghost use Rattle.r9_stack.specs.Images.{image_of, pixels_of};
+ghost use Rattle.r9_stack.specs.Lists.{copied, stood};
+
+use super::images::Images;
+use super::kept::{Kept, carried_rect};
+use super::reading::along;
+use super::{lists, slots};
+use model_forest::{Standing, Window};
+use r9_geom::{Point, Rect};
+use r9_memory::Memory;
+
+// How many pixels of a row are copied at a time.
+const BLOCK: usize = 256;
+
+// Far outside of every image.
+const OUTSIDE: Point = Point {
+    x: 1 << 20,
+    y: 1 << 20,
+};
+
+impl Images {
+    ghost use Rattle.r9_stack.specs.Table.{numbers, world, IsUnchanged};
+
+    /// Makes a window directly above another, with its parent, its fill and its depth, at the place of r's size whose min is
+    /// `corner`. It shows what the other shows, counted from both mins, or one raw pixel. The other moves far outside.
+    pub fn replace(
+        &mut self,
+        old: u32,
+        r: Rect,
+        corner: Point,
+        raw: u32,
+        keep: bool,
+    ) -> Result<u32, Memory>
+        requires window { IsSome (parent_of (world self.old) old) }
+        requires near { IsRectNearBy (2 ^ 34) r }
+        requires ordered { IsOrdered r }
+        requires corner { IsNearBy (2 ^ 34) corner }
+        requires raw { raw < 2 ^ channels.depth (image_at (world self.old) old).chan }
+        requires size { keep ≡ true → SameSize r (image_at (world self.old) old).r }
+        ensures number { IfOk result (λ i. i ≡ next_number (numbers self.old)) }
+        ensures free { IfOk result (λ i. world self.old i ≡ None) }
+        ensures made { IfOk result (λ i. world self.new ≡ after_replace (world self.old) i old r corner raw keep) }
+        ensures taken { OnOk result (numbers self.new ≡ taken (numbers self.old)) }
+        ensures err { OnErr result (IsUnchanged self.old self.new) }
+    {
+        let below = self.get(old);
+        let own = below.rect();
+        let depth = below.depth();
+        let Some(standing) = below.standing() else {
+            return Err(Memory);
+        };
+        let count = self.get(standing.parent).windows().len();
+        if count as u32 == u32::MAX {
+            return Err(Memory);
+        }
+        let list = Vec::with_capacity(self.alloc, count + 1)?;
+        let kept = self.copy(old, r, raw, keep)?;
+        let i = self.insert(kept)?;
+        let place = carried_rect(&r, r.min, corner);
+        self.put_over(i, standing, depth, place, old, list);
+        let far = carried_rect(&own, own.min, OUTSIDE);
+        self.move_window(standing.parent, old, standing.fill, far);
+        Ok(i)
+    }
+
+    // Makes an image a window directly above another. The list is empty, and has room for all windows there.
+    fn put_over(
+        &mut self,
+        i: u32,
+        standing: Standing,
+        depth: u32,
+        place: Rect,
+        old: u32,
+        mut list: Vec<Window>,
+    )
+        requires live { IsLive (world self.old) i }
+        requires parent { IsLive (world self.old) standing.parent }
+        requires apart { i ≢ standing.parent }
+        requires empty { list.items ≡ [] }
+        requires room { length (image_at (world self.old) standing.parent).windows < vec_capacity list }
+        requires few { length (image_at (world self.old) standing.parent).windows + 1 < 2 ^ 32 }
+        requires forest { IsForest (with_windows (stood (world self.old) i standing depth) standing.parent (put_above (record { image = i; place = place }) old (image_at (world self.old) standing.parent).windows)) }
+        ensures world { world self.new ≡ with_windows (stood (world self.old) i standing depth) standing.parent (put_above (record { image = i; place = place }) old (image_at (world self.old) standing.parent).windows) }
+        ensures numbers { numbers self.new ≡ numbers self.old }
+    {
+        slots::stand(&mut self.slots, i, Some(standing), depth);
+        let windows = slots::take_list(self.alloc, &mut self.slots, standing.parent);
+        lists::above(&mut list, Window { image: i, place }, old, &windows);
+        slots::set_list(&mut self.slots, standing.parent, list);
+    }
+
+    // An image that stands nowhere, with the channels of another and what that shows, or one raw pixel.
+    fn copy(&self, old: u32, r: Rect, raw: u32, keep: bool) -> Result<Kept, Memory>
+        requires live { IsLive (world self.now) old }
+        requires near { IsRectNearBy (2 ^ 34) r }
+        requires ordered { IsOrdered r }
+        requires raw { raw < 2 ^ channels.depth (image_at (world self.now) old).chan }
+        requires size { keep ≡ true → SameSize r (image_at (world self.now) old).r }
+        ensures { IfOk result (λ kept. image_of kept ≡ copied (world self.now) old r raw keep) }
+    {
+        let mut kept = Kept::new(self.alloc, r, self.get(old).chan(), raw)?;
+        if keep {
+            self.copy_rows(old, &r, &mut kept);
+        }
+        Ok(kept)
+    }
+
+    // Copies what an image shows onto one of its size, row by row, block by block.
+    fn copy_rows(&self, old: u32, r: &Rect, kept: &mut Kept)
+        requires live { IsLive (world self.now) old }
+        requires near { IsRectNearBy (2 ^ 34) r.now }
+        requires ordered { IsOrdered r.now }
+        requires size { SameSize r.now (image_at (world self.now) old).r }
+        requires rect { (image_of kept.old).r ≡ r.now }
+        requires chan { (image_of kept.old).chan ≡ (image_at (world self.now) old).chan }
+        ensures image { image_of kept.new ≡ record (image_of kept.old) { canvas = seen r.now (image_of kept.old).windows (pixels_of kept.new) } }
+        ensures pixels { (p : Spot) → pixels_of kept.new p ≡ (if holds r.now p then model.view (world self.now) old (carried p r.now.min (image_at (world self.now) old).r.min) else pixels_of kept.old p) }
+    {
+        let from = self.get(old).rect().min;
+        let width = r.width() as usize;
+        for row in 0..r.height() {
+            let at = r.point_at(0, row);
+            self.copy_row(old, at.carried(r.min, from), at, width, kept);
+        }
+    }
+
+    // The same of points side by side, from `from` and `at` to the right.
+    fn copy_row(&self, old: u32, from: Point, at: Point, count: usize, kept: &mut Kept)
+        requires live { IsLive (world self.now) old }
+        requires near { IsNear at }
+        requires near_from { IsNear from }
+        requires width { count ≤ 2 ^ 41 }
+        requires inside { (p : Spot) → IsTrue (holds (strip at count) p) → IsTrue (holds (image_of kept.old).r p) }
+        requires inside_from { (p : Spot) → IsTrue (holds (strip from count) p) → IsTrue (holds (image_at (world self.now) old).r p) }
+        requires chan { (image_of kept.old).chan ≡ (image_at (world self.now) old).chan }
+        ensures image { image_of kept.new ≡ record (image_of kept.old) { canvas = seen (image_of kept.old).r (image_of kept.old).windows (pixels_of kept.new) } }
+        ensures pixels { (p : Spot) → pixels_of kept.new p ≡ (if holds (strip at count) p then model.view (world self.now) old (carried p at from) else pixels_of kept.old p) }
+    {
+        let mut block = [0; BLOCK];
+        let mut done = 0;
+        while done < count {
+            let size = (count - done).min(BLOCK);
+            let part = &mut block[..size];
+            self.read_view(old, along(from, done), part);
+            kept.put_row(along(at, done), part);
+            done += size;
+        }
+    }
+}

@@ -1,0 +1,129 @@
+ghost use Rattle.std.specs.Prelude.{◌≡◌, ◌^◌, ◌≤◌, ℕ, length, IfOk};
+ghost use Rattle.r9_geom.specs.Geometry.{IsNearBy, IsOrdered, IsRectNearBy};
+ghost use Rattle.model_forest.specs.World.{IsLive};
+ghost use Rattle.r9_stack.specs.Table.{world};
+
+use super::*;
+use r9_chan::Chan;
+use r9_geom::{Point, Rect};
+use r9_plane::row_bytes;
+use r9_text::Bytes;
+use std::test::Fail;
+
+const fn rect(left: i64, top: i64, right: i64, bottom: i64) -> Rect
+    ensures { result ≡ record { min = record { x = left; y = top }; max = record { x = right; y = bottom } } }
+{
+    Rect {
+        min: Point { x: left, y: top },
+        max: Point {
+            x: right,
+            y: bottom,
+        },
+    }
+}
+
+// Makes a grey image of one pixel.
+fn made(images: &mut Images, r: Rect, raw: u32) -> Result<u32, Fail>
+    requires near { IsRectNearBy (2 ^ 34) r }
+    requires ordered { IsOrdered r }
+    ensures live { IfOk result (λ i. IsLive (world images.new) i) }
+    ensures kept { (j : ℕ) → IsLive (world images.old) j → IsLive (world images.new) j }
+{
+    let chan = Chan::from_text("k8").ok().ok_or("channels")?;
+    if u64::from(raw) >= 1 << chan.depth() {
+        return Err("pixel")?;
+    }
+    let Ok(i) = images.image(r, chan, raw) else {
+        return Err("memory")?;
+    };
+    Ok(i)
+}
+
+// Makes a window of one pixel on an image that fills for it.
+fn window(images: &mut Images, parent: u32, r: Rect, raw: u32) -> Result<u32, Fail>
+    requires parent { IsLive (world images.old) parent }
+    requires near { IsRectNearBy (2 ^ 34) r }
+    requires ordered { IsOrdered r }
+    ensures live { IfOk result (λ i. IsLive (world images.new) i) }
+    ensures kept { (j : ℕ) → IsLive (world images.old) j → IsLive (world images.new) j }
+{
+    if u64::from(raw) >= 1 << images.info(parent).chan.depth() {
+        return Err("pixel")?;
+    }
+    let Ok(i) = images.window(parent, parent, r, raw) else {
+        return Err("memory")?;
+    };
+    Ok(i)
+}
+
+fn load(images: &mut Images, i: u32, r: Rect, rows: &[u8]) -> Result<(), Fail>
+    requires live { IsLive (world images.old) i }
+    requires near { IsRectNearBy (2 ^ 34) r }
+    requires ordered { IsOrdered r }
+    ensures kept { (j : ℕ) → IsLive (world images.old) j → IsLive (world images.new) j }
+{
+    let info = images.info(i);
+    let size = row_bytes(r, info.chan.depth()).checked_mul(r.height());
+    if !r.inside(&info.r) || size != Some(rows.len() as u64) {
+        return Err("rows")?;
+    }
+    images.load(i, r, rows);
+    Ok(())
+}
+
+fn rows(images: &Images, i: u32, r: Rect) -> Result<Bytes, Fail>
+    requires live { IsLive (world images.now) i }
+    requires near { IsRectNearBy (2 ^ 34) r }
+    requires ordered { IsOrdered r }
+{
+    if !r.inside(&images.info(i).r) {
+        return Err("outside")?;
+    }
+    Ok(images.unload(i, r).ok().ok_or("memory")?)
+}
+
+// A window of 20 on pixels from 1 to 6, a window of 31 and 32 on that one, and a window of 40 on the first, topmost.
+#[test]
+fn a_row_shows_through_two_windows(rt: HostRuntime) -> Result<(), Fail> {
+    let mut images = Images::new(rt.alloc());
+    let line = made(&mut images, rect(0, 0, 6, 1), 0)?;
+    load(&mut images, line, rect(0, 0, 6, 1), &[1, 2, 3, 4, 5, 6])?;
+    let below = window(&mut images, line, rect(1, 0, 5, 1), 20)?;
+    let above = window(&mut images, below, rect(2, 0, 4, 1), 30)?;
+    load(&mut images, above, rect(2, 0, 4, 1), &[31, 32])?;
+    let shown = rows(&images, line, rect(0, 0, 6, 1))?;
+    assert_eq!(rt; shown.as_slice(), [1, 20, 31, 32, 20, 6].as_slice());
+    let _ = window(&mut images, line, rect(3, 0, 8, 1), 40)?;
+    let shown = rows(&images, line, rect(0, 0, 6, 1))?;
+    assert_eq!(rt; shown.as_slice(), [1, 20, 31, 40, 40, 40].as_slice());
+    let shown = rows(&images, below, rect(1, 0, 5, 1))?;
+    assert_eq!(rt; shown.as_slice(), [20, 31, 32, 20].as_slice());
+    Ok(())
+}
+
+// What is written beneath a window is not seen.
+#[test]
+fn pixels_beneath_a_window_are_hidden(rt: HostRuntime) -> Result<(), Fail> {
+    let mut images = Images::new(rt.alloc());
+    let line = made(&mut images, rect(0, 0, 4, 1), 7)?;
+    let _ = window(&mut images, line, rect(1, 0, 3, 1), 5)?;
+    load(&mut images, line, rect(0, 0, 4, 1), &[1, 2, 3, 4])?;
+    let shown = rows(&images, line, rect(0, 0, 4, 1))?;
+    assert_eq!(rt; shown.as_slice(), [1, 5, 5, 4].as_slice());
+    Ok(())
+}
+
+// A window that reaches past the lower edge, and one on it that reaches past its right edge.
+#[test]
+fn windows_reach_past_edges(rt: HostRuntime) -> Result<(), Fail> {
+    let mut images = Images::new(rt.alloc());
+    let field = made(&mut images, rect(0, 0, 4, 3), 0)?;
+    let below = window(&mut images, field, rect(1, 1, 3, 4), 1)?;
+    let _ = window(&mut images, below, rect(2, 0, 5, 3), 2)?;
+    let shown = rows(&images, field, rect(0, 0, 4, 3))?;
+    assert_eq!(rt;
+        shown.as_slice(),
+        [0, 0, 0, 0, 0, 1, 2, 0, 0, 1, 2, 0].as_slice()
+    );
+    Ok(())
+}
