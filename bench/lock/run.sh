@@ -7,17 +7,13 @@ root=$(cd "$here/../.." && pwd)
 work=$(mktemp -d)
 trap 'rm -rf "$work"' EXIT
 
+. "$here/../copy_crates.sh"
+copy_crates "$work" r9_memory r9_lock
+echo 'lock_time: r9_lock' >>"$work/crates.txt"
 mkdir -p "$work/crates/lock_time/src" "$work/crates/lock_time/proofs/take_turns"
-for name in r9_memory r9_lock; do
-    mkdir "$work/crates/$name"
-    for part in src specs proofs; do
-        if [ -d "$root/crates/$name/$part" ]; then cp -r "$root/crates/$name/$part" "$work/crates/$name/"; fi
-    done
-done
 cp "$root/HANDLES" "$work/"
 cp "$here/turns.rt.txt" "$work/crates/lock_time/src/main.rt"
 cp "$here/invariant.antt.txt" "$work/crates/lock_time/proofs/take_turns/Invariants.antt"
-printf 'r9_memory:\nr9_lock: r9_memory atomic_table\nlock_time: r9_lock\n' >"$work/crates.txt"
 
 rustc -O -o "$work/mutex" "$here/mutex.rs"
 (cd "$work/crates/lock_time" && rt run) >"$work/build.log" 2>&1 || {

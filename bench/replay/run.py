@@ -55,13 +55,13 @@ def most_memory(process):
     return 0
 
 
-def measure(text, status):
-    """Seconds of one run, and the most memory, looked at while it runs."""
+def measure(text, status, command=(PROGRAM, "replay")):
+    """Seconds of one run of a command on a text, and the most memory, looked at while it runs."""
     with tempfile.TemporaryFile() as given, tempfile.TemporaryFile() as out:
         given.write(text)
         given.seek(0)
         begun = time.perf_counter()
-        process = subprocess.Popen([PROGRAM, "replay"], stdin=given, stdout=out, stderr=subprocess.DEVNULL)
+        process = subprocess.Popen(list(command), stdin=given, stdout=out, stderr=subprocess.DEVNULL)
         memory = 0
         while process.poll() is None:
             memory = max(memory, most_memory(process))

@@ -9,9 +9,9 @@ room=$(mktemp -d)
 trap 'rm -rf "$room"' EXIT
 . "$here/../copy_crates.sh"
 copy_crates "$room" r9_memory r9_geom model_text r9_text model_dmsg r9_dmsg
-echo "bench_draw: r9_memory r9_dmsg anyhow" >>"$room/crates.txt"
-mkdir -p "$room/crates/bench_draw/src"
-sed "s/ROUNDS/$rounds/" "$root/bench/draw/main.rt.txt" >"$room/crates/bench_draw/src/main.rt"
-cd "$room/crates/bench_draw"
+echo "bench_messages: r9_memory r9_geom r9_dmsg" >>"$room/crates.txt"
+mkdir -p "$room/crates/bench_messages/src"
+sed "s/ROUNDS/$rounds/" "$root/bench/messages/main.rt.txt" >"$room/crates/bench_messages/src/main.rt"
+cd "$room/crates/bench_messages"
 rt fmt >/dev/null
 rt run
