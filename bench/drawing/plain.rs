@@ -1,6 +1,6 @@
 // The yardstick: the same records through plain Rust without proofs, for the few messages that the benchmarks have, with
-// windows on the display alone. It keeps
-// whole pixels in vectors, composes pixel by pixel, and writes a reply line for each message. Images are x8r8g8b8 or a8r8g8b8.
+// windows on the display alone. It keeps whole pixels in vectors, composes pixel by pixel, and writes a reply line for each
+// message. Images are x8r8g8b8 or a8r8g8b8, masks full.
 use std::collections::HashMap;
 use std::io::{Read, Write};
 
