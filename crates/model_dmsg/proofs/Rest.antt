@@ -68,7 +68,8 @@ pair_leaves : {A B : Type 0} (f : List ℕ → Option (A × List ℕ)) (g : List
     → Leaves f len → Leaves g len_b → Leaves (f & g) (λ (x : A × B). len x.0 + len_b x.1)
 pair_leaves f g len len_b h k bytes = pair_step g len len_b bytes k (f bytes) (h bytes)
 
-length-numbers_of : (w : Width) (n : ℕ) (bytes : List ℕ) → length (numbers_of w n bytes) ≡ n
+-- as many numbers as are asked for
+pub length-numbers_of : (w : Width) (n : ℕ) (bytes : List ℕ) → length (numbers_of w n bytes) ≡ n
 unfolding numbers_of
 length-numbers_of w zero bytes = refl
 length-numbers_of w (suc n) bytes = ap suc (length-numbers_of w n (drop (byte_len w) bytes))

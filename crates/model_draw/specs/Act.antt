@@ -2,7 +2,7 @@
 use Rattle.std.specs.Prelude.{ℕ, zero, suc, ◌==◌, ◌+◌, Bool, false, List, [], ◌∷◌, length, drop, Option, Some, None, Ok, Err}
 use Rattle.std.specs.Result.{result_ok}
 use Rattle.std.specs.Option.{option_map_or}
-use Rattle.model_dmsg.specs.Message.{Message, LowB, UpA, LowC, LowD, UpD, LowF, UpF, LowO, UpO, LowR, UpS, LowT, LowV, LowY}
+use Rattle.model_dmsg.specs.Message.{Message, LowB, UpA, LowC, LowD, UpD, LowF, UpF, LowI, LowL, UpN, LowN, LowO, UpO, LowR, LowS, UpS, LowT, LowV, LowX, LowY}
 use Rattle.model_dmsg.specs.Reading.{First, IsMessage, IsShort, IsUnknown, IsUnsupported, first_message}
 use Rattle.model_text.specs.Outcome.{Outcome, ◌>>=◌, refuse_if}
 use Rattle.model_imgfile.specs.ImageFile.{rows_len}
@@ -10,9 +10,11 @@ use Rattle.model_draw.specs.World.{World, look, at_number}
 use Rattle.model_draw.specs.Making.{flag, allocate, make_screen, share_screen, set_clip, free_image, free_screen_id}
 use Rattle.model_draw.specs.Moving.{move_window, restack}
 use Rattle.model_draw.specs.Drawing.{draw, set_operator, read_pixels, write_pixels}
+use Rattle.model_draw.specs.Naming.{name_image, use_name}
+use Rattle.model_draw.specs.Writing.{make_font, load_cell, write_string}
 
 -- The world after a message of connection k, or the first refusal of the message. The rows of a `y` stand first in the bytes
--- behind it. Names, fonts and strings are not served yet.
+-- behind it.
 unfoldable pub act : ℕ → World → Message → List ℕ → Outcome World
 act k world (LowB id screenid refresh chan repl r clipr color) rest =
     allocate k world id screenid refresh chan (flag repl) r clipr color
@@ -22,14 +24,19 @@ act k world (LowD dstid srcid maskid dstr srcp maskp) rest = draw k world dstid 
 act k world (UpD debug) rest = Ok world
 act k world (LowF id) rest = free_image k world id
 act k world (UpF id) rest = free_screen_id k world id
+act k world (LowI id n ascent) rest = make_font k world id n ascent
+act k world (LowL cacheid srcid index r sp left width) rest = load_cell k world cacheid srcid index r sp left width
+act k world (UpN id tied name) rest = name_image k world id (flag tied) name
+act k world (LowN id name) rest = use_name k world id name
 act k world (LowO id rmin scr) rest = move_window k world id rmin scr
 act k world (UpO op) rest = set_operator k world op
 act k world (LowR id r) rest = read_pixels k world id r
+act k world (LowS writing) rest = write_string k world writing None
 act k world (UpS id chan) rest = share_screen k world id chan
 act k world (LowT top ids) rest = restack k world (flag top) ids
 act k world LowV rest = Ok world
+act k world (LowX writing bgid bgp) rest = write_string k world writing (Some (bgid, bgp))
 act k world (LowY id r) rest = write_pixels k world id r rest
-act k world _ rest = Err 3
 
 -- the bytes behind a message that was not refused: behind the rows of a `y`
 unfoldable pub behind : ℕ → World → Message → List ℕ → List ℕ

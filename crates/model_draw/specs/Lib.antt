@@ -2,6 +2,8 @@ pub mod World
 pub mod Making
 pub mod Drawing
 pub mod Moving
+pub mod Naming
+pub mod Writing
 pub mod Act
 pub mod Files
 pub mod Memory

@@ -126,7 +126,7 @@ set_clip k world dstid repl clipr = do
 
 -- what a connection has without an id
 abbrev pub forget_id : Client → ℕ → Client
-forget_id client id = record client { sizes = without client.sizes id }
+forget_id client id = record client { sizes = without client.sizes id; fonts = without client.fonts id }
 
 -- `f`: free an image id
 unfoldable pub free_image : ℕ → World → ℕ → Outcome World

@@ -7,6 +7,7 @@ use Rattle.r9_geom.specs.declared.Rect.{Rect}
 use Rattle.model_pixel.specs.Channels.{colour_of, pack}
 use Rattle.model_text.specs.Map.{lookup, with, and, without}
 use Rattle.model_text.specs.Outcome.{Outcome}
+use Rattle.model_fonts.specs.Font.{Font}
 use Rattle.model_forest.specs.World.{World as Images, Image as ImageState, image_at}
 use Rattle.model_forest.specs.Numbers.{Numbers, no_numbers, next_number, taken, given_back}
 use Rattle.model_forest.specs.Steps.{after_image, after_release}
@@ -30,6 +31,8 @@ pub record Client : Type 0 where
   pub pending : List ℕ
   -- what each image id that `b` made counts for the limit on the connection's images
   pub sizes : List (ℕ × ℕ)
+  -- the fonts, each under the image id that was made one
+  pub fonts : List (ℕ × Font)
 
 pub record World : Type 0 where
   pub opening : Opening
@@ -44,7 +47,7 @@ abbrev pub s_over_d : ℕ
 s_over_d = 11
 
 abbrev pub new_client : Client
-new_client = record { op = s_over_d; described = 0; pending = []; sizes = [] }
+new_client = record { op = s_over_d; described = 0; pending = []; sizes = []; fonts = [] }
 
 abbrev pub client_of : World → ℕ → Client
 client_of world k = option_map_or (λ c. c) (lookup world.clients k) new_client

@@ -61,9 +61,9 @@ layout font p sp indices = do
   let cells = map (cell font.cells) indices in
       Ok (record { pieces = pieces font.ascent p sp cells; end = advanced p (sum_by (λ c. c.width) cells) })
 
--- the character's rectangle is within 2^33 of 0
+-- the character's rectangle is within 2^32 of 0
 abbrev pub IsCellInReach : Cell → Type 0
-IsCellInReach c = IsRectNearBy (2 ^ 33) c.r
+IsCellInReach c = IsRectNearBy (2 ^ 32) c.r
 
 abbrev pub AreInReach : List Cell → Type 0
 AreInReach cells = All IsCellInReach cells

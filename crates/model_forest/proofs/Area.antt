@@ -1,72 +1,17 @@
 -- The area of a drawing is the points of a rectangle.
-use Rattle.std.proofs.Common.{◌≡◌, ℕ, ℤ, Bool, true, false, ◌&&◌, ◌||◌, ◌≤ℤ◌, ◌<ℤ◌, ◌∙◌, ap, arith, refl, int_le, int_lt, Option, Some, None}
+use Rattle.std.proofs.Common.{◌≡◌, ℕ, Bool, true, false, ◌&&◌, ◌||◌, ◌∙◌, ap, arith, refl, Option, Some, None}
 use Rattle.std.specs.Option.{option_map_or}
 use Rattle.std.specs.Prelude.{if◌then◌else◌}
-use Rattle.std.proofs.lemmas.Int.{ints, clamps}
-use Rattle.std.proofs.lemmas.Bool.{and_parts, and_from}
+use Rattle.std.proofs.lemmas.Int.{ints}
 use Rattle.r9_geom.specs.declared.Point.{Point}
 use Rattle.r9_geom.specs.declared.Rect.{Rect}
 use Rattle.r9_geom.specs.Geometry.{holds, meet, carried}
+use Rattle.r9_geom.proofs.GeometryLemmas.{holds-meet}
+pub use Rattle.r9_geom.proofs.GeometryLemmas.{bounds_of, holds_from, same_tests}
 use Rattle.model_forest.specs.World.{Image, World, image_at}
 use Rattle.model_forest.specs.Draw.{Drawing, reaches, in_area}
 use Rattle.model_forest.specs.Steps.{carried_rect}
 use Rattle.model_forest.specs.Cost.{reach, area}
-
--- two tests are one where each follows from the other
-pub same_tests : (a b : Bool) → (a ≡ true → b ≡ true) → (b ≡ true → a ≡ true) → a ≡ b
-same_tests true true f g = refl
-same_tests true false f g = grind arith
-same_tests false true f g = grind arith
-same_tests false false f g = refl
-
--- the four bounds of a point of a rectangle
-pub record Bounds (r : Rect) (p : Point) : Type 0 where
-  pub left : r.min.x ≤ℤ p.x
-  pub right : p.x <ℤ r.max.x
-  pub top : r.min.y ≤ℤ p.y
-  pub bottom : p.y <ℤ r.max.y
-
-int_le_true : (a b : ℤ) → int_le a b ≡ true → a ≤ℤ b
-int_le_true a b h = grind (arith, ints)
-
-int_lt_true : (a b : ℤ) → int_lt a b ≡ true → a <ℤ b
-int_lt_true a b h = grind (arith, ints)
-
-true_int_le : (a b : ℤ) → a ≤ℤ b → int_le a b ≡ true
-true_int_le a b h = grind (arith, ints)
-
-true_int_lt : (a b : ℤ) → a <ℤ b → int_lt a b ≡ true
-true_int_lt a b h = grind (arith, ints)
-
-pub bounds_of : (r : Rect) (p : Point) → holds r p ≡ true → Bounds r p
-bounds_of r p h =
-    let both = and_parts _ _ h in
-    let across = and_parts _ _ both.0 in
-    let down = and_parts _ _ both.1 in
-    record {
-      left = int_le_true _ _ across.0;
-      right = int_lt_true _ _ across.1;
-      top = int_le_true _ _ down.0;
-      bottom = int_lt_true _ _ down.1;
-    }
-
-pub holds_from : (r : Rect) (p : Point) → Bounds r p → holds r p ≡ true
-holds_from r p h =
-    and_from _ _ (and_from _ _ (true_int_le _ _ h.left) (true_int_lt _ _ h.right))
-    (and_from _ _ (true_int_le _ _ h.top) (true_int_lt _ _ h.bottom))
-
--- the points of both rectangles
-pub holds-meet : (a b : Rect) (p : Point) → holds (meet a b) p ≡ (holds a p && holds b p)
-holds-meet a b p =
-    same_tests _ _
-    (λ h. let m = bounds_of (meet a b) p h in
-    and_from _ _
-    (holds_from a p (record { left = omega (arith, ints, clamps); right = omega (arith, ints, clamps); top = omega (arith, ints, clamps); bottom = omega (arith, ints, clamps) }))
-    (holds_from b p (record { left = omega (arith, ints, clamps); right = omega (arith, ints, clamps); top = omega (arith, ints, clamps); bottom = omega (arith, ints, clamps) })))
-    (λ h. let parts = and_parts (holds a p) (holds b p) h in
-    let m = bounds_of a p parts.0 in
-    let n = bounds_of b p parts.1 in
-    holds_from (meet a b) p (record { left = omega (arith, ints, clamps); right = omega (arith, ints, clamps); top = omega (arith, ints, clamps); bottom = omega (arith, ints, clamps) }))
 
 -- a point of the carried rectangle, carried back
 holds-carried : (r : Rect) (from to p : Point) → holds (carried_rect r from to) p ≡ holds r (carried p to from)

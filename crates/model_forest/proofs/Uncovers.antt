@@ -2,7 +2,6 @@
 use Rattle.std.proofs.Common.{◌≡◌, ℕ, Bool, true, false, Option, Some, None, List, [], ◌∷◌, ◌++◌, refl, sym, ◌∙◌, ap, cond}
 use Rattle.std.specs.Prelude.{◌&&◌, ◌==◌, ◌||◌, not, filter, is_none, if◌then◌else◌}
 use Rattle.std.specs.Option.{option_map_or}
-use Rattle.std.specs.List.{list_any}
 use Rattle.std.proofs.lemmas.Bool.{both_ways}
 use Rattle.std.proofs.lemmas.Bool.Decides.{Decides-eqb}
 use Rattle.r9_geom.specs.declared.Point.{Point}
@@ -10,13 +9,9 @@ use Rattle.r9_geom.specs.declared.Rect.{Rect}
 use Rattle.r9_geom.specs.Geometry.{holds}
 use Rattle.model_forest.specs.declared.Window.{Window}
 use Rattle.model_forest.specs.World.{World, image_at}
-use Rattle.model_forest.specs.View.{is_bare, top_window}
+use Rattle.model_forest.specs.View.{covers, is_bare, top_window}
 use Rattle.model_forest.specs.Stack.{filled, is_in, lowered, moved, raised, seen, uncovered, without}
 use Rattle.model_forest.specs.Steps.{put_above}
-
--- a window of the image covers the point
-abbrev pub covers : ℕ → Point → List Window → Bool
-covers i q ws = list_any (λ w. w.image == i && holds w.place q) ws
 
 -- where two canvases agree at the bare points of r, the same is seen
 pub seen-same : (r : Rect) (ws : List Window) (old new : Point → ℕ) → ((q : Point) → holds r q ≡ true → is_bare ws q ≡ true → new q ≡ old q) → seen r ws new ≡ seen r ws old

@@ -1,6 +1,7 @@
 -- What an image shows at a point: its own canvas, or the topmost window there, seen through in turn.
-use Rattle.std.specs.Prelude.{ℕ, zero, suc, Bool, List, Option, is_none, find, if◌then◌else◌}
+use Rattle.std.specs.Prelude.{ℕ, zero, suc, ◌==◌, ◌&&◌, Bool, List, Option, is_none, find, if◌then◌else◌}
 use Rattle.std.specs.Option.{option_map_or}
+use Rattle.std.specs.List.{list_any}
 use Rattle.r9_geom.specs.declared.Point.{Point}
 use Rattle.r9_geom.specs.Geometry.{holds, carried, reduced}
 use Rattle.model_forest.specs.declared.Window.{Window}
@@ -13,6 +14,10 @@ top_window windows p = find (λ w. holds w.place p) windows
 -- no place covers the point
 abbrev pub is_bare : List Window → Point → Bool
 is_bare windows p = is_none (top_window windows p)
+
+-- a window of the image covers the point
+abbrev pub covers : ℕ → Point → List Window → Bool
+covers i p windows = list_any (λ w. w.image == i && holds w.place p) windows
 
 -- the point of the window's own rectangle that stands at p
 abbrev pub inward : World → Window → Point → Point

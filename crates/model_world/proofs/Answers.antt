@@ -1,7 +1,6 @@
 -- What a session answers leaves the draw device with its connections.
-use Rattle.std.proofs.Common.{◌≡◌, ◌⊎◌, ◌<◌, ◌≤◌, ◌+◌, ◌^◌, ◌&&◌, ◌||◌, ℕ, Bool, true, false, not, cond, List, [], ◌∷◌, ◌++◌, Option, Some, None, Result, Ok, Err, refl, sym, ap, subst, ◌∙◌, arith, inl, inr}
-use Rattle.std.specs.Prelude.{filter, is_some, is_none, nat_le, nat_lt, min, length, codes, IfOk, if◌then◌else◌, ◌==◌, ◌-◌}
-use Rattle.std.specs.List.{fold}
+use Rattle.std.proofs.Common.{◌≡◌, ◌<◌, ◌+◌, ◌&&◌, ◌||◌, ℕ, Bool, true, false, not, List, [], ◌∷◌, Option, Some, None, Ok, Err, refl, sym, ap, subst, ◌∙◌, arith}
+use Rattle.std.specs.Prelude.{filter, is_some, nat_le, nat_lt, min, length, codes, IfOk, if◌then◌else◌, ◌==◌}
 use Rattle.std.proofs.lemmas.Grind.{common_steps}
 use Rattle.std.proofs.lemmas.Bool.Decides.{nat_tests}
 use Rattle.model_text.specs.Outcome.{Outcome, ◌>>=◌, refuse_if}
@@ -13,13 +12,13 @@ use Rattle.model_tree.specs.Node.{Node, qid, may}
 use Rattle.model_tree.specs.Tree.{check_live}
 use Rattle.model_draw.specs.World as draw
 use Rattle.model_world.specs.Session.{Fid, Session, max_msize}
-use Rattle.model_world.specs.World.{client, device_for}
+use Rattle.model_world.specs.World.{device_for}
 use Rattle.model_world.specs.Refusal.{refusal}
 use Rattle.model_world.specs.Fids.{with_fid, Done, Left, left, beside, fid_of, view_of, is_kind, is_kept, settled, clunked, cleared}
-use Rattle.model_world.specs.Walking.{attach_answer, walk_answer, walk_ended, walked, open_answer, opened, opened_new, is_built, is_taken, most_made}
+use Rattle.model_world.specs.Walking.{attach_answer, walk_answer, walk_ended, open_answer, opened, opened_new, is_built, is_taken, most_made}
 use Rattle.model_world.specs.Reading.{Given, node_read, read_answer, file_written, write_answer}
 use Rattle.model_world.specs.Answer.{asks_for_9p, agreed_on, version_answer, clunk_answer, stat_answer, denied, answer_to, answer_read, is_version, read_or_not, replied, answer}
-use Rattle.model_world.specs.Links.{AreWithin, IsLinked}
+use Rattle.model_world.specs.Links.{IsLinked}
 use Rattle.model_world.proofs.Connections.{numbers_of, read_data_kept, write_ctl_kept, written_kept}
 use Rattle.model_world.proofs.Links.{KeepsOthers, kept_linked, kept_others, cleared_linked, begun_linked, begun_others, same_linked, same_others, within_filter}
 

@@ -1,6 +1,6 @@
 -- Which connections a draw device has, before and after each thing that a session does with it.
-use Rattle.std.proofs.Common.{◌≡◌, ℕ, zero, suc, ◌+◌, Bool, true, false, List, [], ◌∷◌, Option, Some, None, Ok, Err, refl, sym, ap, ◌∙◌, arith, rules}
-use Rattle.std.specs.Prelude.{not, ◌||◌, nat_lt}
+use Rattle.std.proofs.Common.{◌≡◌, ℕ, zero, suc, ◌+◌, Bool, false, List, [], ◌∷◌, Option, Some, None, Ok, Err, refl, ◌∙◌, arith}
+use Rattle.std.specs.Prelude.{ℤ, not, ◌||◌, nat_lt}
 use Rattle.std.specs.Option.{option_map_or}
 use Rattle.std.specs.List.{fold}
 use Rattle.std.specs.Map.{keys_of}
@@ -9,8 +9,8 @@ use Rattle.std.proofs.lemmas.Grind.{common_steps}
 use Rattle.r9_geom.specs.declared.Rect.{Rect}
 use Rattle.r9_geom.specs.declared.Point.{Point}
 use Rattle.model_text.specs.Outcome.{Outcome, ◌>>=◌, refuse_if}
-use Rattle.model_text.specs.Map.{is_key, lookup, with, and, without}
-use Rattle.model_dmsg.specs.Message.{Message, LowB, UpA, LowC, LowD, UpD, LowF, UpF, LowI, LowL, UpN, LowN, LowO, UpO, LowR, LowS, UpS, LowT, LowV, LowX, LowY}
+use Rattle.model_text.specs.Map.{is_key}
+use Rattle.model_dmsg.specs.Message.{Message, LowB, UpA, LowC, LowD, UpD, LowF, UpF, LowI, LowL, UpN, LowN, LowO, UpO, LowR, LowS, UpS, LowT, LowV, LowX, LowY, Writing}
 use Rattle.model_images.specs.declared.Thing.{Thing}
 use Rattle.model_images.specs.declared.Thing.TheVariants.{Image, Screen}
 use Rattle.model_pixel.specs.Channels.{is_descriptor}
@@ -18,11 +18,13 @@ use Rattle.model_imgfile.specs.ImageFile.{rows_len}
 use Rattle.r9_geom.specs.Geometry.{is_empty}
 use Rattle.model_images.specs.Book.{Book, is_image_id_taken, add_id}
 use Rattle.model_images.specs.Release.{Freed}
-use Rattle.model_draw.specs.World.{World, Client, next_image, client_of, with_client, with_images, without_thing, after_freed, after_leave}
+use Rattle.model_draw.specs.World.{World, Client, next_image, client_of, with_client, without_thing, after_freed}
 use Rattle.model_draw.specs.Making.{allocate, clashes, make_screen, share_screen, set_clip, free_image, free_screen_id, flag, farthest, fill_raw, is_near_rect, is_too_large, screen_named, with_made, with_new_image, with_size}
 use Rattle.model_draw.specs.Moving.{look_window, move_window, restack}
 use Rattle.model_draw.specs.Drawing.{draw, set_operator, read_pixels, write_pixels}
-use Rattle.model_draw.specs.Act.{act, one_message, spelled, behind, is_marked, written, written_within, Written}
+use Rattle.model_draw.specs.Naming.{name_image, use_name}
+use Rattle.model_draw.specs.Writing.{make_font, load_cell, write_string}
+use Rattle.model_draw.specs.Act.{act, one_message, written, written_within, Written}
 use Rattle.model_draw.specs.Files.{read_data, write_ctl}
 
 -- the numbers of a device's connections
@@ -137,6 +139,26 @@ write_pixels_kept : (k : ℕ) (world : World) (id : ℕ) (r : Rect) (rest : List
 unfolding write_pixels
 write_pixels_kept k world id r rest = grind (arith, common_steps, keys-set_value)
 
+make_font_kept : (k : ℕ) (world : World) (id n ascent : ℕ) → Keeps world (make_font k world id n ascent)
+unfolding make_font
+make_font_kept k world id n ascent = grind (arith, common_steps, keys-set_value)
+
+load_cell_kept : (k : ℕ) (world : World) (cacheid srcid index : ℕ) (r : Rect) (sp : Point) (left : ℤ) (width : ℕ) → Keeps world (load_cell k world cacheid srcid index r sp left width)
+unfolding load_cell
+load_cell_kept k world cacheid srcid index r sp left width = grind (arith, common_steps, keys-set_value)
+
+name_image_kept : (k : ℕ) (world : World) (id : ℕ) (tied : Bool) (name : List ℕ) → Keeps world (name_image k world id tied name)
+unfolding name_image
+name_image_kept k world id tied name = grind (arith, common_steps)
+
+use_name_kept : (k : ℕ) (world : World) (id : ℕ) (name : List ℕ) → Keeps world (use_name k world id name)
+unfolding use_name
+use_name_kept k world id name = grind (arith, common_steps, keys-set_value)
+
+write_string_kept : (k : ℕ) (world : World) (writing : Writing) (background : Option (ℕ × Point)) → Keeps world (write_string k world writing background)
+unfolding write_string
+write_string_kept k world writing background = grind (arith, common_steps, keys-set_value)
+
 act_kept : (k : ℕ) (world : World) (m : Message) (rest : List ℕ) → Keeps world (act k world m rest)
 unfolding act
 act_kept k world (LowB id screenid refresh chan repl r clipr color) rest = allocate_kept k world id screenid refresh chan (flag repl) r clipr color
@@ -146,14 +168,19 @@ act_kept k world (LowD dstid srcid maskid dstr srcp maskp) rest = draw_kept k wo
 act_kept k world (UpD debug) rest = refl
 act_kept k world (LowF id) rest = free_image_kept k world id
 act_kept k world (UpF id) rest = free_screen_id_kept k world id
+act_kept k world (LowI id n ascent) rest = make_font_kept k world id n ascent
+act_kept k world (LowL cacheid srcid index r sp left width) rest = load_cell_kept k world cacheid srcid index r sp left width
+act_kept k world (UpN id tied name) rest = name_image_kept k world id (flag tied) name
+act_kept k world (LowN id name) rest = use_name_kept k world id name
 act_kept k world (LowO id rmin scr) rest = move_window_kept k world id rmin scr
 act_kept k world (UpO op) rest = set_operator_kept k world op
 act_kept k world (LowR id r) rest = read_pixels_kept k world id r
+act_kept k world (LowS writing) rest = write_string_kept k world writing None
 act_kept k world (UpS id chan) rest = share_screen_kept k world id chan
 act_kept k world (LowT top ids) rest = restack_kept k world (flag top) ids
 act_kept k world LowV rest = refl
+act_kept k world (LowX writing bgid bgp) rest = write_string_kept k world writing (Some (bgid, bgp))
 act_kept k world (LowY id r) rest = write_pixels_kept k world id r rest
-act_kept k world _ rest = tt
 
 -- ---- a write
 

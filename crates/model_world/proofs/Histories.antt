@@ -1,12 +1,11 @@
 -- A history and one event more.
-use Rattle.std.proofs.Common.{◌≡◌, ℕ, List, [], ◌∷◌, ◌++◌, Option, Some, None, refl, sym, ap, ◌∙◌}
+use Rattle.std.proofs.Common.{◌≡◌, ℕ, List, [], ◌∷◌, ◌++◌, Option, Some, None, refl, ◌∙◌}
 use Rattle.r9_event.specs.declared.event.Event.{Event}
 use Rattle.r9_event.specs.declared.event.Event.TheVariants.{Begin, Msg, Take, End, Stop}
-use Rattle.r9_event.specs.declared.event.Opening.{Opening}
 use Rattle.model_text.specs.Map.{lookup}
 use Rattle.model_world.specs.Session.{Session}
-use Rattle.model_world.specs.World.{World, opened}
-use Rattle.model_world.specs.Replay.{step, served, ended, world_from, waiting_from, waiting_after, replies_from}
+use Rattle.model_world.specs.World.{World}
+use Rattle.model_world.specs.Replay.{step, served, ended, world_from, waiting_from, waiting_after}
 
 pub world_from-push : (world : World) (events : List Event) (event : Event) → world_from world (events ++ event ∷ []) ≡ (step (world_from world events) event).world
 world_from-push world [] event = refl

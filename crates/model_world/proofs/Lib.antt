@@ -1,5 +1,4 @@
 pub mod Histories
-pub mod Maps
 pub mod Connections
 pub mod Links
 pub mod Answers

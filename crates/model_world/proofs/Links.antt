@@ -1,20 +1,21 @@
 -- Each turn of the server leaves the draw device with the connections of the sessions.
-use Rattle.std.proofs.Common.{◌≡◌, ◌<◌, ◌≤◌, ◌+◌, ◌*◌, ◌^◌, ◌&&◌, ◌||◌, ℕ, Bool, true, false, not, cond, eqb, List, [], ◌∷◌, ◌++◌, Option, Some, None, Result, Ok, Err, refl, sym, ap, subst, ◌∙◌, arith}
-use Rattle.std.specs.Prelude.{filter, is_some, is_none, nat_le, nat_lt, min, IfOk, length, if◌then◌else◌, ◌==◌, ◌-◌, map}
+use Rattle.std.proofs.Common.{◌≡◌, ◌<◌, ◌≤◌, ◌+◌, ◌^◌, ◌&&◌, ◌||◌, ℕ, Bool, true, false, not, cond, eqb, List, [], ◌∷◌, ◌++◌, Option, refl, sym, ap, subst, ◌∙◌, arith}
+use Rattle.std.specs.Prelude.{filter, is_some}
 use Rattle.std.specs.List.{fold, list_any}
 use Rattle.std.specs.Map.{keys_of}
 use Rattle.std.proofs.lemmas.Bool.{eqb-true, eqb-false}
-use Rattle.std.proofs.lemmas.Grind.{common_steps}
 use Rattle.std.proofs.lemmas.List.Folds.{list_any-append}
 use Rattle.std.proofs.lemmas.Map.Made.{is_some-lookup}
 use Rattle.std.proofs.lemmas.Map.Views.{any-filter_same}
-use Rattle.model_text.specs.Outcome.{Outcome, ◌>>=◌, refuse_if}
-use Rattle.model_text.specs.Map.{is_key, lookup, with, and, without}
+use Rattle.model_text.specs.Map.{is_key, lookup, without}
+use Rattle.model_map.specs.Ascending.{AreAbove, Ascend}
+use Rattle.model_map.proofs.Keys.{not_key, eqb-same}
+use Rattle.model_map.proofs.Maps.{and-here, and-others, without-others}
+use Rattle.model_map.proofs.Ascending.{without-here, ascend-and, ascend-without}
 use Rattle.model_images.specs.Release.{leave}
 use Rattle.model_draw.specs.World as draw
 use Rattle.model_world.specs.World.{client, device_for}
-use Rattle.model_world.specs.Links.{AreAbove, AreWithin, Ascend, AreCounted, IsLinked, is_connected, is_among}
-use Rattle.model_world.proofs.Maps.{not_key, eqb-same, and-here, and-others, without-here, without-others, ascend-and, ascend-with, ascend-without}
+use Rattle.model_world.specs.Links.{AreWithin, IsLinked, is_connected, is_among}
 use Rattle.model_world.proofs.Connections.{numbers_of, freed_kept}
 
 -- no other session's connection is touched

@@ -1,11 +1,14 @@
 -- Each event leaves the draw device with the connections of the sessions that live.
-use Rattle.std.proofs.Common.{◌≡◌, ◌<◌, ◌+◌, ◌^◌, ℕ, Bool, true, false, eqb, List, [], Option, Some, None, refl, sym, ap, subst, ◌∙◌, arith, lit<}
+use Rattle.std.proofs.Common.{◌≡◌, ◌<◌, ◌^◌, ℕ, Bool, true, false, eqb, List, Option, Some, None, refl, sym, ap, subst, ◌∙◌, arith, lit<}
 use Rattle.std.specs.Map.{keys_of}
 use Rattle.std.proofs.lemmas.Bool.{eqb-true, eqb-false}
 use Rattle.r9_event.specs.declared.event.Event.{Event}
 use Rattle.r9_event.specs.declared.event.Event.TheVariants.{Begin, Msg, Take, End, Stop}
 use Rattle.r9_event.specs.declared.event.Opening.{Opening}
 use Rattle.model_text.specs.Map.{lookup, with, and, without}
+use Rattle.model_map.specs.Ascending.{Ascend}
+use Rattle.model_map.proofs.Maps.{and-here, and-others, with-here, with-others, without-others}
+use Rattle.model_map.proofs.Ascending.{without-here, ascend-and, ascend-with, ascend-without}
 use Rattle.model_event.specs.Legal.{Roll, AllowedTo, roll_after}
 use Rattle.model_draw.specs.World as draw
 use Rattle.model_world.specs.Session.{Session, fresh}
@@ -13,8 +16,7 @@ use Rattle.model_world.specs.World.{World, client, device_for, opened}
 use Rattle.model_world.specs.Fids.{Left, cleared}
 use Rattle.model_world.specs.Answer.{answer}
 use Rattle.model_world.specs.Replay.{step, served, ended, marked}
-use Rattle.model_world.specs.Links.{Ascend, AreCounted, AreKnown, AreLinked, IsLinked, IsNext, has_connection, is_connected}
-use Rattle.model_world.proofs.Maps.{and-here, and-others, with-here, with-others, without-here, without-others, ascend-and, ascend-with, ascend-without}
+use Rattle.model_world.specs.Links.{AreCounted, AreKnown, AreLinked, IsLinked, IsNext, has_connection, is_connected}
 use Rattle.model_world.proofs.Connections.{numbers_of}
 use Rattle.model_world.proofs.Links.{KeepsOthers, cleared_linked, kept_others}
 use Rattle.model_world.proofs.Answers.{Holds, answer_holds}

@@ -1,5 +1,5 @@
 -- A session's fids, what a message leaves, and what goes with a fid (intro(5), clunk(5)).
-use Rattle.std.specs.Prelude.{ℕ, ◌==◌, ◌&&◌, ◌||◌, Bool, false, not, is_some, nat_le, List, [], length, filter, Ok, Err}
+use Rattle.std.specs.Prelude.{ℕ, ◌==◌, ◌&&◌, ◌||◌, Bool, false, not, is_some, nat_le, [], length, filter, Ok, Err}
 use Rattle.std.specs.List.{fold, list_any}
 use Rattle.model_text.specs.Outcome.{Outcome, value_or_refuse}
 use Rattle.model_text.specs.Map.{lookup, with, and, without}

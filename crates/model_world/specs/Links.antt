@@ -5,23 +5,15 @@ use Rattle.std.specs.Map.{keys_of}
 use Rattle.r9_event.specs.declared.event.Event.{Event}
 use Rattle.r9_event.specs.declared.event.Event.TheVariants.{Begin}
 use Rattle.model_text.specs.Map.{lookup}
+use Rattle.model_map.specs.Ascending.{Ascend}
 use Rattle.model_draw.specs.World as draw
 use Rattle.model_world.specs.Session.{Session}
 use Rattle.model_world.specs.World.{client}
-
--- each of the numbers is above
-abbrev pub AreAbove : ℕ → List ℕ → Type 0
-AreAbove n [] = Unit {0}
-AreAbove n (m ∷ ms) = (n < m) × AreAbove n ms
 
 -- none of the numbers is above
 abbrev pub AreWithin : ℕ → List ℕ → Type 0
 AreWithin most [] = Unit {0}
 AreWithin most (n ∷ ns) = (n ≤ most) × AreWithin most ns
-
-abbrev pub Ascend : List ℕ → Type 0
-Ascend [] = Unit {0}
-Ascend (n ∷ ns) = AreAbove n ns × Ascend ns
 
 -- the device has a connection of this number
 abbrev pub is_connected : draw.World → ℕ → Bool

@@ -1,7 +1,6 @@
 -- What the server has after an event.
-use Rattle.std.specs.Prelude.{ℕ, ◌+◌, ◌*◌, ◌^◌, pos, List, [], Option, Ok, Err}
+use Rattle.std.specs.Prelude.{ℕ, ◌+◌, ◌*◌, ◌^◌, pos, List, [], Option}
 use Rattle.r9_event.specs.declared.event.Opening.{Opening}
-use Rattle.model_text.specs.Outcome.{Outcome, ◌>>=◌}
 use Rattle.model_draw.specs.World as draw
 use Rattle.model_draw.specs.Act.{written}
 use Rattle.model_draw.specs.Files.{read_data, read_ctl, write_ctl, screen_file}

@@ -1,4 +1,5 @@
 mod Loops
 mod Told
 mod Numbers
+mod Table
 mod Asked

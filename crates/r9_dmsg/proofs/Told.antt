@@ -1,17 +1,17 @@
 -- What reading answers, from what the fields behind a letter are.
-use Rattle.std.proofs.Common.{◌≡◌, ℕ, true, false, List, Option, Some, None, Result, Ok, Err, refl, sym, ap, ◌∙◌, subst, ◌⊎◌, inl, inr, ◌<◌, ◌≤◌, [], ◌∷◌, length, get_or, drop, take, suc, ◌-◌, ◌↔◌, arith}
-use Rattle.std.specs.Option.{option_map, option_map_or, ok_or, IsSome}
+use Rattle.std.proofs.Common.{◌≡◌, ℕ, Bool, true, false, List, Option, Some, None, Result, Ok, Err, refl, sym, ap, ◌∙◌, subst, ◌⊎◌, inl, inr, ◌<◌, ◌≤◌, [], ◌∷◌, length, get_or, drop, take, suc, ◌-◌, ◌↔◌, arith}
+use Rattle.std.specs.Option.{option_map, option_map_or, ok_or, IsSome, IfSome}
 use Rattle.std.proofs.lemmas.List.{take_all}
 use Rattle.std.specs.Result.{IsErrAnd, IsErrOf, IfOk}
 use Rattle.model_dmsg.proofs.Rest.{first_message-rest}
-use Rattle.model_text.specs.Reading.{◌>>=◌, ◌&◌}
-use Rattle.std.specs.Int.{w16, w32}
-use Rattle.model_dmsg.specs.Message.{Message, spelled_len, UpN, LowN, LowS, LowT, LowX}
-use Rattle.model_dmsg.specs.Reading.{First, Fields, IsMessage, IsShort, IsUnknown, IsUnsupported, table, fields_in, rowless, is_left_out, behind, first_message, long, byte, name, point, counted, counted_around, string_head, writing_of, up_n, low_n, low_s, low_t, low_x}
+use Rattle.model_dmsg.specs.Message.{Message, spelled_len}
+use Rattle.model_dmsg.specs.Reading.{First, Fields, IsMessage, IsShort, IsUnknown, IsUnsupported, table, fields_in, rowless, is_left_out, behind, first_message}
 use Rattle.r9_dmsg.specs.declared.message.Dmsg.{Dmsg}
 use Rattle.r9_dmsg.specs.declared.message.DmsgFault.{DmsgFault}
 use Rattle.r9_dmsg.specs.declared.message.DmsgFault.TheVariants as fault
-use Rattle.r9_dmsg.specs.View.{message_of, message_in, may_fill, Tells}
+use Rattle.r9_dmsg.specs.View.{message_of, message_in, Tells}
+use Rattle.r9_dmsg.specs.Listed.{has_list}
+use Rattle.r9_dmsg.proofs.Table.{is_listed, letter_gives}
 
 -- what stands first where these are the fields
 first_by : Option (Message × List ℕ) → First
@@ -33,53 +33,19 @@ pub told : (letter : ℕ) (fields : Fields) (read : Option Dmsg) (answer : Resul
     → answer ≡ ok_or read fault.Short → option_map message_of read ≡ option_map (λ x. x.0) (fields bytes) → Tells answer (behind letter bytes)
 told letter fields read answer bytes row is e = rw (is, behind_is letter fields bytes row) (tells read (fields bytes) e)
 
-wants : (answer : Result Dmsg DmsgFault) (fields : Option (Message × List ℕ)) → IsErrAnd answer (λ e. e ≡ fault.Memory) → option_map may_fill (option_map (λ x. x.0) fields) ≡ Some true → Tells answer (first_by fields)
+wants : (answer : Result Dmsg DmsgFault) (fields : Option (Message × List ℕ)) → IsErrAnd answer (λ e. e ≡ fault.Memory) → IfSome fields (λ x. has_list x.0 ≡ true) → IsSome fields → Tells answer (first_by fields)
 unfolding first_by
-wants (Ok m) fields is e = absurd is
-wants (Err f) fields is e =
-    let P : DmsgFault → Type 0 = λ f. Tells (Err f) (first_by fields) in
-    subst P (sym is) (wanted fields e)
-  where
-    wanted : (fields : Option (Message × List ℕ)) → option_map may_fill (option_map (λ x. x.0) fields) ≡ Some true → option_map may_fill (message_in (first_by fields)) ≡ Some true
-    wanted (Some x) e = e
-    wanted None e = absurd cc
+wants (Err f) (Some x) is listed some =
+    let P : DmsgFault → Type 0 = λ f. Tells (Err f) (first_by (Some x)) in
+    subst P (sym is) (ap Some listed)
+wants (Err f) None is listed some = absurd cc
+wants (Ok m) fields is listed some = absurd is
 
-pub no_room : (letter : ℕ) (fields : Fields) (answer : Result Dmsg DmsgFault) (bytes : List ℕ) → fields_in table letter ≡ Some fields
-    → IsErrAnd answer (λ e. e ≡ fault.Memory) → option_map may_fill (option_map (λ x. x.0) (fields bytes)) ≡ Some true → Tells answer (behind letter bytes)
-no_room letter fields answer bytes row is e = rw (behind_is letter fields bytes row) (wants answer (fields bytes) is e)
-
-abbrev Found : Type 0
-Found = Option (Message × List ℕ)
-
-filled : {A : Type 0} (make : A → Message) → ((a : A) → may_fill (make a) ≡ true) → (o : Option (A × List ℕ)) → (read : Found) → read ≡ (o >>= λ x. Some (make x.0, x.1))
-    → IsSome read → option_map may_fill (option_map (λ x. x.0) read) ≡ Some true
-filled make all (Some x) (Some y) e some = let is : y.0 ≡ make x.0 = ap-first e in ap Some (ap may_fill is ∙ all x.0)
-  where
-    ap-first : Some y ≡ Some (make x.0, x.1) → y.0 ≡ make x.0
-    ap-first e = cc
-filled make all None (Some y) e some = absurd cc
-filled make all o None e some = absurd cc
-
-pub fills-up_n : (bytes : List ℕ) → IsSome (up_n bytes) → option_map may_fill (option_map (λ x. x.0) (up_n bytes)) ≡ Some true
-unfolding up_n
-fills-up_n bytes some = filled (λ (id, (tied, name)). UpN id tied name) (λ _. refl) ((long & (byte & name)) bytes) (up_n bytes) refl some
-
-pub fills-low_n : (bytes : List ℕ) → IsSome (low_n bytes) → option_map may_fill (option_map (λ x. x.0) (low_n bytes)) ≡ Some true
-unfolding low_n
-fills-low_n bytes some = filled (λ (id, name). LowN id name) (λ _. refl) ((long & name) bytes) (low_n bytes) refl some
-
-pub fills-low_s : (bytes : List ℕ) → IsSome (low_s bytes) → option_map may_fill (option_map (λ x. x.0) (low_s bytes)) ≡ Some true
-unfolding low_s
-fills-low_s bytes some = filled (λ (head, indices). LowS (writing_of head indices)) (λ _. refl) ((string_head & counted w16) bytes) (low_s bytes) refl some
-
-pub fills-low_t : (bytes : List ℕ) → IsSome (low_t bytes) → option_map may_fill (option_map (λ x. x.0) (low_t bytes)) ≡ Some true
-unfolding low_t
-fills-low_t bytes some = filled (λ (top, ids). LowT top ids) (λ _. refl) ((byte & counted w32) bytes) (low_t bytes) refl some
-
-pub fills-low_x : (bytes : List ℕ) → IsSome (low_x bytes) → option_map may_fill (option_map (λ x. x.0) (low_x bytes)) ≡ Some true
-unfolding low_x
-fills-low_x bytes some =
-    filled (λ (head, ((bgid, bgp), indices)). LowX (writing_of head indices) bgid bgp) (λ _. refl) ((string_head & counted_around (long & point)) bytes) (low_x bytes) refl some
+pub no_room : (letter : ℕ) (fields : Fields) (answer : Result Dmsg DmsgFault) (bytes : List ℕ) → fields_in table letter ≡ Some fields → is_listed letter ≡ true
+    → IsErrAnd answer (λ e. e ≡ fault.Memory) → IsSome (fields bytes) → Tells answer (behind letter bytes)
+no_room letter fields answer bytes row listed is some =
+    let P : Bool → Type 0 = λ b. IfSome (fields bytes) (λ x. has_list x.0 ≡ b) in
+    rw (behind_is letter fields bytes row) (wants answer (fields bytes) is (subst P listed (letter_gives letter fields row bytes)) some)
 
 left_out_at : (code letter : ℕ) (bytes : List ℕ) → fields_in table code ≡ None → is_left_out code ≡ true → letter ≡ code → behind letter bytes ≡ IsUnsupported
 unfolding behind
@@ -179,7 +145,7 @@ unsupported_there answer first h = (λ e. gives answer h e, λ e. given answer (
     given (Err fault.Unknown) h = absurd cc
     given (Err fault.Memory) h = absurd cc
 
-pub memory_there : (answer : Result Dmsg DmsgFault) (first : First) → Tells answer first → IsErrOf answer fault.Memory → option_map may_fill (message_in first) ≡ Some true
+pub memory_there : (answer : Result Dmsg DmsgFault) (first : First) → Tells answer first → IsErrOf answer fault.Memory → option_map has_list (message_in first) ≡ Some true
 memory_there (Err fault.Memory) first h e = h
 memory_there (Ok m) first h e = absurd cc
 memory_there (Err fault.Short) first h e = absurd cc

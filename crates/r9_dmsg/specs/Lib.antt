@@ -1,2 +1,3 @@
 pub mod View
 pub mod Head
+pub mod Listed

@@ -1,5 +1,5 @@
 -- Messages of the code as those of the definitions, and what reading answers.
-use Rattle.std.specs.Prelude.{◌≡◌, ◌^◌, Bool, true, false, Option, Some, None, Result, Ok, Err}
+use Rattle.std.specs.Prelude.{◌≡◌, ◌^◌, true, Option, Some, None, Result, Ok, Err}
 use Rattle.std.specs.Option.{option_map}
 use Rattle.r9_geom.specs.Geometry.{IsNearBy, IsRectNearBy}
 use Rattle.model_dmsg.specs.Message as model
@@ -8,6 +8,7 @@ use Rattle.r9_dmsg.specs.declared.message.Dmsg.{Dmsg}
 use Rattle.r9_dmsg.specs.declared.message.Dmsg.TheVariants as d
 use Rattle.r9_dmsg.specs.declared.message.DmsgFault.{DmsgFault}
 use Rattle.r9_dmsg.specs.declared.message.DmsgFault.TheVariants as fault
+use Rattle.r9_dmsg.specs.Listed.{has_list}
 
 abbrev pub message_of : Dmsg → model.Message
 message_of (d.LowB id screenid refresh chan repl r clipr color) = model.LowB id screenid refresh chan repl r clipr color
@@ -33,15 +34,6 @@ message_of (d.LowX dstid srcid fontid p clipr sp bgid bgp indices) =
     model.LowX (record { dstid = dstid; srcid = srcid; fontid = fontid; p = p; clipr = clipr; sp = sp; indices = indices }) bgid bgp
 message_of (d.LowY id r) = model.LowY id r
 
--- a message with a list, for which reading may want memory: N, n, s, t and x
-abbrev pub may_fill : model.Message → Bool
-may_fill (model.UpN id tied name) = true
-may_fill (model.LowN id name) = true
-may_fill (model.LowS writing) = true
-may_fill (model.LowT top ids) = true
-may_fill (model.LowX writing bgid bgp) = true
-may_fill _ = false
-
 abbrev pub message_in : First → Option model.Message
 message_in (IsMessage m rest) = Some m
 message_in _ = None
@@ -52,13 +44,14 @@ Tells (Ok m) first = message_in first ≡ Some (message_of m)
 Tells (Err fault.Short) first = first ≡ IsShort
 Tells (Err fault.Unknown) first = first ≡ IsUnknown
 Tells (Err fault.Unsupported) first = first ≡ IsUnsupported
-Tells (Err fault.Memory) first = option_map may_fill (message_in first) ≡ Some true
+Tells (Err fault.Memory) first = option_map has_list (message_in first) ≡ Some true
 
 -- the numbers of its rectangles and points are of 32 bits
 abbrev pub IsNearMessage : Dmsg → Type 0
 IsNearMessage (d.LowB id screenid refresh chan repl r clipr color) = IsRectNearBy (2 ^ 31) r × IsRectNearBy (2 ^ 31) clipr
 IsNearMessage (d.LowC dstid repl clipr) = IsRectNearBy (2 ^ 31) clipr
 IsNearMessage (d.LowD dstid srcid maskid dstr srcp maskp) = IsRectNearBy (2 ^ 31) dstr × IsNearBy (2 ^ 31) srcp × IsNearBy (2 ^ 31) maskp
+IsNearMessage (d.LowL cacheid srcid index r sp left width) = IsRectNearBy (2 ^ 31) r × IsNearBy (2 ^ 31) sp
 IsNearMessage (d.LowR id r) = IsRectNearBy (2 ^ 31) r
 IsNearMessage (d.LowY id r) = IsRectNearBy (2 ^ 31) r
 IsNearMessage _ = Unit {0}

@@ -4,7 +4,7 @@ ghost use Rattle.std.specs.Prelude.{◌≡◌, ◌≤◌, ◌^◌, ◌≤ℤ◌,
 ghost use Rattle.std.specs.Int.{w16, w32, from_le_bytes};
 ghost use Rattle.std.specs.Option.{option_map};
 ghost use Rattle.r9_geom.specs.Geometry.{IsNearBy, IsRectNearBy};
-ghost use Rattle.model_dmsg.specs.Reading.{byte, short, long, signed_byte, coordinate, point, rect};
+ghost use Rattle.model_dmsg.specs.Reading.{byte, short, long, signed_byte, coordinate, point, rect, some_bytes};
 
 use r9_geom::{Point, Rect};
 
@@ -36,6 +36,18 @@ pub(crate) fn split_u32(bytes: &[u8]) -> (u32, &[u8])
     let (front, rest) = bytes.split_at(4);
     let number = u32::from_le_bytes([front[0], front[1], front[2], front[3]]);
     (number, rest)
+}
+
+#[inline]
+#[tactic(auto, unfolding(model_dmsg::specs::Reading::some_bytes))]
+pub(crate) fn bytes_at(len: usize, bytes: &[u8]) -> Option<(&[u8], &[u8])>
+    ensures len { IfSome result (λ x. length x.0.now ≡ len) }
+    ensures value { option_map (λ x. (x.0.now, x.1.now)) result ≡ some_bytes len bytes.now }
+{
+    if bytes.len() < len {
+        return None;
+    }
+    Some(bytes.split_at(len))
 }
 
 #[inline]

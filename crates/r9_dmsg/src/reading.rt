@@ -4,7 +4,8 @@ ghost use Rattle.std.specs.Prelude.{◌≡◌, ◌≤◌, ◌↔◌, length, IfO
 ghost use Rattle.std.specs.Option.{option_map, ok_or};
 ghost use Rattle.model_dmsg.specs.Message.{spelled_len};
 ghost use Rattle.model_dmsg.specs.Reading.{IsMessage, IsShort, IsUnknown, IsUnsupported, behind, first_message};
-ghost use Rattle.r9_dmsg.specs.View.{message_of, message_in, may_fill, IsNearMessage, Tells};
+ghost use Rattle.r9_dmsg.specs.View.{message_of, message_in, IsNearMessage, Tells};
+ghost use Rattle.r9_dmsg.specs.Listed.{has_list};
 
 use crate::letters::{
     low_b, low_c, low_d, low_f, low_i, low_l, low_o, low_r, low_y, up_a, up_d, up_f, up_o, up_s,
@@ -70,7 +71,7 @@ pub fn next_msg(alloc: Global, bytes: &[u8]) -> Result<Dmsg, DmsgFault>
     ensures short { IsErrOf result DmsgFault.Short ↔ (first_message bytes.now ≡ IsShort) }
     ensures unknown { IsErrOf result DmsgFault.Unknown ↔ (first_message bytes.now ≡ IsUnknown) }
     ensures unsupported { IsErrOf result DmsgFault.Unsupported ↔ (first_message bytes.now ≡ IsUnsupported) }
-    ensures memory { IsErrOf result DmsgFault.Memory → option_map may_fill (message_in (first_message bytes.now)) ≡ Some true }
+    ensures memory { IsErrOf result DmsgFault.Memory → option_map has_list (message_in (first_message bytes.now)) ≡ Some true }
 {
     read(alloc, bytes)
 }

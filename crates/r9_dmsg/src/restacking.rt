@@ -1,12 +1,12 @@
-//! What a `t` asks for, borrowed from its bytes, so that no memory is wanted.
+//! What a `t` asks for, borrowed from its bytes.
 
-ghost use Rattle.std.specs.Prelude.{◌≡◌, ◌≢◌, ℕ, List, ◌+◌, ◌*◌, ◌/◌, ◌%◌, ◌<◌, length, drop, slice_index, IfNone, IfSome};
+ghost use Rattle.std.specs.Prelude.{◌≡◌, ◌/◌, ◌%◌, ◌<◌, ◌≤◌, length, slice_index, IfSome};
 ghost use Rattle.std.specs.Int.{w32};
 ghost use Rattle.std.specs.Option.{option_map};
-ghost use Rattle.model_dmsg.specs.Message.{LowT};
-ghost use Rattle.model_dmsg.specs.Reading.{IsMessage, first_message, low_t, numbers, numbers_of};
+ghost use Rattle.model_dmsg.specs.Reading.{low_t, numbers, numbers_of};
+ghost use Rattle.r9_dmsg.specs.Listed.{restacking_message};
 
-use crate::fields::{split_u32, u8_at, u16_at};
+use crate::fields::{bytes_at, split_u32, u8_at, u16_at};
 
 /// What a `t` asks for: whether to the top, where it is not 0, and the ids of windows, each in four bytes, the low one first.
 #[derive(Clone, Copy, Debug)]
@@ -34,40 +34,24 @@ impl Restacking<'_> {
     }
 }
 
-#[tactic(auto, unfolding(model_dmsg::specs::Reading::numbers))]
 fn ids_at(count: u16, bytes: &[u8]) -> Option<&[u8]>
     ensures whole { IfSome result (λ ids. length ids.now % 4 ≡ 0) }
-    ensures read { option_map (λ ids. (numbers_of w32 (length ids.now / 4) ids.now, drop (length ids.now) bytes.now)) result ≡ numbers w32 count bytes.now }
+    ensures few { IfSome result (λ ids. length ids.now / 4 ≤ 65535) }
+    ensures read { option_map (λ ids. numbers_of w32 (length ids.now / 4) ids.now) result ≡ option_map (λ x. x.0) (numbers w32 count bytes.now) }
 {
-    let len = usize::from(count) * 4;
-    if bytes.len() < len {
-        return None;
-    }
-    Some(&bytes[..len])
+    let (ids, _) = bytes_at(usize::from(count) * 4, bytes)?;
+    Some(ids)
 }
 
+// The fields behind the letter of a `t`.
 #[tactic(auto, unfolding(model_dmsg::specs::Reading::low_t, model_dmsg::specs::Reading::counted))]
-fn behind_letter(bytes: &[u8]) -> Option<Restacking<'_>>
+pub(crate) fn restacking_at(bytes: &[u8]) -> Option<Restacking<'_>>
     ensures whole { IfSome result (λ t. length t.ids.now % 4 ≡ 0) }
-    ensures read { option_map (λ t. (LowT t.top (numbers_of w32 (length t.ids.now / 4) t.ids.now), drop (3 + length t.ids.now) bytes.now)) result ≡ low_t bytes.now }
+    ensures few { IfSome result (λ t. length t.ids.now / 4 ≤ 65535) }
+    ensures read { option_map restacking_message result ≡ option_map (λ x. x.0) (low_t bytes.now) }
 {
     let (top, rest) = u8_at(bytes)?;
     let (count, rest) = u16_at(rest)?;
     let ids = ids_at(count, rest)?;
     Some(Restacking { top, ids })
-}
-
-/// What the `t` asks for that stands whole at the front of bytes (draw(3)); None where none does. It takes no memory.
-pub fn next_restacking(bytes: &[u8]) -> Option<Restacking<'_>>
-    ensures whole { IfSome result (λ t. length t.ids.now % 4 ≡ 0) }
-    ensures found { IfSome result (λ t. first_message bytes.now ≡ IsMessage (LowT t.top (numbers_of w32 (length t.ids.now / 4) t.ids.now)) (drop (4 + length t.ids.now) bytes.now)) }
-    ensures none { IfNone result ((top : ℕ) (ids rest : List ℕ) → first_message bytes.now ≢ IsMessage (LowT top ids) rest) }
-{
-    let [letter, rest @ ..] = bytes else {
-        return None;
-    };
-    if *letter != b't' {
-        return None;
-    }
-    behind_letter(rest)
 }

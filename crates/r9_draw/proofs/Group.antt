@@ -1,7 +1,6 @@
 -- What a `t` asks for, id by id, and where its windows stand.
 use Rattle.std.proofs.Common.{◌≡◌, ℕ, zero, suc, ◌<◌, ◌≤◌, ◌+◌, ◌-◌, Bool, true, false, List, [], ◌∷◌, ◌++◌, length, get_or, map, take, drop, Option, Ok, Err, refl, sym, ap, ◌∙◌, arith}
 use Rattle.std.specs.Prelude.{◌==◌, ◌&&◌, is_ok}
-use Rattle.std.specs.Int.{Width}
 use Rattle.std.specs.List.{list_all}
 use Rattle.std.specs.Result.{result_unwrap_or}
 use Rattle.std.proofs.lemmas.Bool.{eqb-true}
@@ -9,7 +8,6 @@ use Rattle.std.proofs.lemmas.Bool.Decides.{nat_tests}
 use Rattle.std.proofs.lemmas.List.{map_push, take_all, take_more}
 use Rattle.std.proofs.lemmas.List.Folds.{list_all_at, list_all_more}
 use Rattle.model_text.specs.Outcome.{Outcome, ◌>>=◌}
-use Rattle.model_dmsg.specs.Reading.{numbers_of}
 use Rattle.model_images.specs.Book.{Book, screen_of}
 use Rattle.model_draw.specs.World.{World}
 use Rattle.model_draw.specs.Moving.{are_on_one_screen, is_on_screen, look_window, look_windows}
@@ -18,11 +16,6 @@ use Rattle.r9_info.specs.declared.ImageNo.{ImageNo}
 -- each of the first so many shows a window
 abbrev pub ShowFirst : ℕ → World → List ℕ → ℕ → Type 0
 ShowFirst k w ids n = (j : ℕ) → j < n → is_ok (look_window w k (get_or ids j 0)) ≡ true
-
-pub length-numbers : (width : Width) (n : ℕ) (bytes : List ℕ) → length (numbers_of width n bytes) ≡ n
-unfolding numbers_of
-length-numbers width zero bytes = refl
-length-numbers width (suc n) bytes = ap suc (length-numbers width n _)
 
 -- the windows of a first id and of the others
 both : Outcome ℕ → Outcome (List ℕ) → Outcome (List ℕ)

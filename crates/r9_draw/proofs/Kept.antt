@@ -20,7 +20,8 @@ use Rattle.model_images.specs.declared.Thing.TheVariants.{Image as Shown, Screen
 use Rattle.model_images.specs.declared.ImageId.{ImageId}
 use Rattle.model_images.specs.declared.OnScreen.{OnScreen}
 use Rattle.model_images.specs.declared.Screen.{Screen as Filled}
-use Rattle.model_images.specs.Book.{Book, add_id, comes_before, image_id, is_image_id_taken, put_image_id, screen_numbered, screen_of, with_window}
+use Rattle.model_images.specs.Book.{Book, add_id, image_id, is_image_id_taken, put_image_id, screen_numbered, screen_of, with_window}
+use Rattle.model_images.proofs.Ties.{any-put, find-put}
 use Rattle.model_images.specs.Release.{Freed, IsFreed, IsInOrder, KeepsRest, has_gone, is_used}
 use Rattle.r9_draw.specs.Kept.{IsKept, IsPlaced, standing_on}
 use Rattle.r9_draw.specs.Gone.{CanRelease, images_without}
@@ -28,7 +29,7 @@ use Rattle.r9_draw.proofs.Lookups.{first_true, second_true}
 use Rattle.r9_draw.proofs.Rects.{ordered-of}
 use Rattle.r9_draw.proofs.Going.{either_true, fold-gone, fold-stays, going-begins, not-true, not_both, on-used}
 
-and_false : (a b : Bool) → a ≡ false → (a && b) ≡ false
+pub and_false : (a b : Bool) → a ≡ false → (a && b) ≡ false
 and_false true b h = absurd cc
 and_false false b h = refl
 
@@ -44,7 +45,7 @@ pub placed-framed : (book : Book) (i : ℕ) (old new : Image) → SameFrame old 
 placed-framed book i old new f p = record {
   stands = f.standing ∙ p.stands;
   ordered = subst IsOrdered (sym f.r) p.ordered;
-  near = subst (IsRectNearBy (2 ^ 33)) (sym f.r) p.near;
+  near = subst (IsRectNearBy (2 ^ 32)) (sym f.r) p.near;
   clip = subst (IsRectNearBy (2 ^ 33)) (sym f.clipr) p.clip;
 }
 
@@ -106,25 +107,6 @@ kept-load images book i r raws k live = kept-replaced images book i _ k (canvas_
 
 -- ---- what comes
 
-any-put : (p : ImageId → Bool) (e : ImageId) (xs : List ImageId) → list_any p (put_image_id e xs) ≡ true → (p e ≡ true) ⊎ (list_any p xs ≡ true)
-any-put p e [] h = either_true (p e) false h
-any-put p e (x ∷ xs) h = by (any-put p e xs) (comes_before e.client e.id x.client x.id) h
-  where
-    by : (list_any p (put_image_id e xs) ≡ true → (p e ≡ true) ⊎ (list_any p xs ≡ true)) → (b : Bool) → list_any p (if b then e ∷ x ∷ xs else x ∷ put_image_id e xs) ≡ true → (p e ≡ true) ⊎ (list_any p (x ∷ xs) ≡ true)
-    by more true h = either_true (p e) _ h
-    by more false h = elim (either_true (p x) _ h) [
-      | inl here ↦ inr (first_true (p x) _ here)
-      | inr there ↦ elim (more there) [ inl new ↦ inl new | inr old ↦ inr (second_true (p x) _ old) ]
-    ]
-
-find-put : (p : ImageId → Bool) (e : ImageId) (xs : List ImageId) → p e ≡ false → find p (put_image_id e xs) ≡ find p xs
-find-put p e [] h = ap (λ b. cond b (Some e) None) h
-find-put p e (x ∷ xs) h = by (find-put p e xs h) (comes_before e.client e.id x.client x.id)
-  where
-    by : find p (put_image_id e xs) ≡ find p xs → (b : Bool) → find p (if b then e ∷ x ∷ xs else x ∷ put_image_id e xs) ≡ find p (x ∷ xs)
-    by more true = ap (λ b. cond b (Some e) (find p (x ∷ xs))) h
-    by more false = ap (λ o. cond (p x) (Some x) o) more
-
 any-window : (i s : ℕ) (screen : Option ℕ) (ws : List OnScreen) → list_any (λ w. w.screen == s) (with_window i screen ws) ≡ true → (screen ≡ Some s) ⊎ (list_any (λ w. w.screen == s) ws ≡ true)
 any-window i s None ws h = inr h
 any-window i s (Some t) ws h = elim (either_true (list_any (λ w. w.screen == s) ws) _ (sym (list_any-append (λ w. w.screen == s) ws (record { image = i; screen = t } ∷ [])) ∙ h)) [
@@ -163,7 +145,7 @@ pub record Grows (images next : World) (book : Book) (i : ℕ) (screen : Option 
   pub live : is_some (next i) ≡ true
   pub stands : (image_at next i).standing ≡ option_map (standing_on book) screen
   pub points : HasPoints (image_at next i).r
-  pub near : IsRectNearBy (2 ^ 33) (image_at next i).r
+  pub near : IsRectNearBy (2 ^ 32) (image_at next i).r
   pub clip : IsRectNearBy (2 ^ 33) (image_at next i).clipr
 
 pub kept-added : (images next : World) (book added : Book) (k id i : ℕ) (screen : Option ℕ) → IsKept images book → Grows images next book i screen → add_id book k id i screen ≡ Ok added
@@ -191,7 +173,7 @@ kept-added images next book added k id i screen kept g e own stands = by (is_ima
         record {
           stands = f.standing ∙ p.stands ∙ ap (λ (o : Option OnScreen). option_map (standing_on book) (option_map (λ w. w.screen) o)) (sym (find-window i j screen book.windows at));
           ordered = subst IsOrdered (sym f.r) p.ordered;
-          near = subst (IsRectNearBy (2 ^ 33)) (sym f.r) p.near;
+          near = subst (IsRectNearBy (2 ^ 32)) (sym f.r) p.near;
           clip = subst (IsRectNearBy (2 ^ 33)) (sym f.clipr) p.clip;
         } in
         let new_placed : IsPlaced with_entry i (image_at next i) = record {
@@ -208,7 +190,7 @@ kept-added images next book added k id i screen kept g e own stands = by (is_ima
         subst (IsKept next) same
         (record {
           live = λ j h. elim (either_true (list_any (λ e. e.image == j) (put_image_id entry book.image_ids)) _ h) [
-            | inl here ↦ elim (any-put (λ e. e.image == j) entry book.image_ids here) [
+            | inl here ↦ elim (either_true (i == j) _ (sym (any-put (λ e. e.image == j) entry book.image_ids) ∙ here)) [
               | inl new ↦ ap (λ n. is_some (next n)) (sym (eqb-true i j new)) ∙ g.live
               | inr old ↦ still_live j (j == i) refl (kept.live j (first_true _ _ old))
             ]

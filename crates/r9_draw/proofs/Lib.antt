@@ -2,15 +2,15 @@ pub mod Lookups
 pub mod Going
 pub mod Kept
 pub mod Rects
-pub mod Places
 pub mod Spare
 pub mod Screens
 pub mod Screening
-pub mod Maps
+pub mod Manager
 pub mod Worlds
 pub mod Releasing
 pub mod Allocating
 pub mod Making
+pub mod Refusals
 pub mod Messages
 pub mod Living
 pub mod Writing
@@ -18,3 +18,6 @@ pub mod Starting
 pub mod Fields
 pub mod Group
 pub mod Raising
+pub mod Ties
+pub mod Named
+pub mod Strings

@@ -7,6 +7,7 @@ use Rattle.std.specs.Result.{result_unwrap_or}
 use Rattle.r9_geom.specs.declared.Rect.{Rect}
 use Rattle.r9_geom.specs.Geometry.{HasPoints, IsRectNearBy}
 use Rattle.model_text.specs.Map.{lookup, with}
+use Rattle.model_map.proofs.Maps.{with-same}
 use Rattle.model_text.specs.Outcome.{Outcome}
 use Rattle.model_forest.specs.World.{Image, World as Images, image_at, no_image, with_image}
 use Rattle.model_forest.proofs.Releasing.{Stays, changed-at, changed-other, stays-after, stays-same, window-frame, window-live, window-others}
@@ -24,7 +25,6 @@ use Rattle.r9_draw.specs.Plans.{CanHold, after_make, images_made, one_pixel}
 use Rattle.r9_draw.proofs.Allocating.{add_id-fresh}
 use Rattle.r9_draw.proofs.Going.{not-true, not_both}
 use Rattle.r9_draw.proofs.Kept.{Grows, kept-added, kept-same}
-use Rattle.r9_draw.proofs.Maps.{with-same}
 
 -- an id that is free is not refused
 pub never-refused : (f : BookFault) (book : Book) (k id i : ℕ) (s : Option ℕ) → IsRefusal f → IfRefused f (λ n. add_id book k id i s ≡ Err n) → is_image_id_taken book k id ≡ false → ⊥
@@ -66,7 +66,7 @@ one-made images book i (Some s) r chan raw free can =
     }
 
 -- and then repeats or not, with a clip rectangle
-grows-made : (images : Images) (book : Book) (i : ℕ) (m : Making) → images i ≡ None → IfSome m.screen (λ s. CanHold images book s m.chan) → HasPoints m.r → IsRectNearBy (2 ^ 33) m.r → IsRectNearBy (2 ^ 33) m.clipr
+grows-made : (images : Images) (book : Book) (i : ℕ) (m : Making) → images i ≡ None → IfSome m.screen (λ s. CanHold images book s m.chan) → HasPoints m.r → IsRectNearBy (2 ^ 32) m.r → IsRectNearBy (2 ^ 33) m.clipr
     → Grows images (images_made images book i m) book i m.screen
 unfolding after_set
 grows-made images book i m free can points near clip =
@@ -80,7 +80,7 @@ grows-made images book i m free can points near clip =
       live = ap is_some at;
       stands = ap (λ (o : Option Image). (unwrap_or o no_image).standing) at ∙ is.stands;
       points = subst HasPoints (sym (ap (λ (o : Option Image). (unwrap_or o no_image).r) at ∙ is.rect)) points;
-      near = subst (IsRectNearBy (2 ^ 33)) (sym (ap (λ (o : Option Image). (unwrap_or o no_image).r) at ∙ is.rect)) near;
+      near = subst (IsRectNearBy (2 ^ 32)) (sym (ap (λ (o : Option Image). (unwrap_or o no_image).r) at ∙ is.rect)) near;
       clip = subst (IsRectNearBy (2 ^ 33)) (sym (ap (λ (o : Option Image). (unwrap_or o no_image).clipr) at)) clip;
     }
 
@@ -88,7 +88,7 @@ screen_there : (images : Images) (book : Book) (chan : ℕ) (s : Option ℕ) →
 screen_there images book chan None h = h
 screen_there images book chan (Some n) h = h.there
 
-pub kept-made : {A E : Type 0} (o : Result A E) (images next : Images) (book added : Book) (k n : ℕ) (m : Making) → IsKept images book → HasPoints m.r → IsRectNearBy (2 ^ 33) m.r
+pub kept-made : {A E : Type 0} (o : Result A E) (images next : Images) (book added : Book) (k n : ℕ) (m : Making) → IsKept images book → HasPoints m.r → IsRectNearBy (2 ^ 32) m.r
     → IsRectNearBy (2 ^ 33) m.clipr → (k == 0) ≡ false → IfSome m.screen (λ s. CanHold images book s m.chan)
     → OnOk o (images n ≡ None) → OnOk o (next ≡ images_made images book n m) → OnOk o (add_id book k m.id n m.screen ≡ Ok added)
     → OnErr o (next ≡ images) → OnErr o (added ≡ book) → IsKept next added

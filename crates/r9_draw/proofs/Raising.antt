@@ -1,25 +1,24 @@
 -- What the images and the book keep together stays so where windows are raised or lowered.
-use Rattle.std.proofs.Common.{◌≡◌, ℕ, ◌<◌, Bool, true, false, List, [], ◌∷◌, length, get_or, map, drop, Option, Some, None, Result, Ok, Err, OnOk, OnErr, refl, sym, ap, subst, ◌∙◌, arith}
-use Rattle.std.specs.Prelude.{◌||◌, All, IsSome, is_ok, is_some, not, option_map, unwrap_or}
+use Rattle.std.proofs.Common.{◌≡◌, ℕ, ◌<◌, Bool, true, false, List, [], ◌∷◌, length, get_or, map, Option, Some, None, Result, Ok, Err, OnOk, OnErr, refl, sym, ap, subst, ◌∙◌, arith}
+use Rattle.std.specs.Prelude.{◌||◌, All, IsSome, is_ok, is_some, not, option_map, unwrap_or, if◌then◌else◌}
 use Rattle.std.specs.Result.{result_unwrap_or}
 use Rattle.std.proofs.lemmas.List.{get_or-map, length-map}
 use Rattle.r9_geom.specs.Geometry.{HasPoints}
 use Rattle.r9_info.specs.declared.ImageNo.{ImageNo}
-use Rattle.model_text.specs.Map.{lookup}
 use Rattle.model_text.specs.Outcome.{Outcome, ◌>>=◌, refuse_if}
-use Rattle.model_dmsg.specs.Message.{LowT}
 use Rattle.model_forest.specs.declared.Standing.{Standing}
 use Rattle.model_forest.specs.declared.Window.{Window}
 use Rattle.model_forest.specs.World.{Image, World as Images, image_at, no_image, parent_of, IsForest}
 use Rattle.model_forest.specs.Stack.{after_lower, after_raise, after_restack, lowered, raised}
 use Rattle.model_forest.proofs.Releasing.{Stays, windows-stay}
 use Rattle.model_images.specs.Book.{Book, by_name, screen_of}
-use Rattle.model_draw.specs.World.{World, look}
+use Rattle.model_draw.specs.World.{World, look, with_images}
 use Rattle.model_draw.specs.Making.{flag, is_window}
-use Rattle.model_draw.specs.Moving.{look_window, look_windows, restack}
-use Rattle.model_draw.specs.Act.{act, behind}
+use Rattle.model_draw.specs.Moving.{are_on_one_screen, look_window, look_windows, restack}
+use Rattle.model_draw.specs.Act.{act}
 use Rattle.r9_dmsg.specs.declared.restacking.Restacking.{Restacking}
-use Rattle.r9_draw.specs.Restacking.{after_restacking}
+use Rattle.r9_dmsg.specs.Listed.{restacking_message}
+use Rattle.r9_draw.specs.Restacking.{after_restacking, ids_of, ShowWindows}
 use Rattle.r9_draw.specs.Kept.{IsKept, standing_on}
 use Rattle.r9_draw.proofs.Group.{shown-at, shown-length}
 use Rattle.r9_draw.proofs.Kept.{kept-same, placed-framed}
@@ -110,14 +109,33 @@ kept-lowered (Err x) images next book group kept forest windows ok err = kept-sa
 
 -- ---- as a message
 
-pub act-restack : (k : ℕ) (w : World) (top : ℕ) (ids rest : List ℕ) → act k w (LowT top ids) rest ≡ restack k w (flag top) ids
-unfolding act
-act-restack k w top ids rest = refl
+-- windows raised or lowered as it asks
+abbrev moved : World → Restacking → List ℕ → World
+moved w asked group = with_images w (if flag asked.top then after_raise w.images group else after_lower w.images group)
 
-pub behind-restack : (k : ℕ) (w : World) (top : ℕ) (ids rest : List ℕ) → behind k w (LowT top ids) rest ≡ drop 0 rest
-unfolding behind
-behind-restack k w top ids rest = refl
+-- it is not refused
+pub accepted-shows : (k : ℕ) (w : World) (asked : Restacking) → is_ok (act k w (restacking_message asked) []) ≡ true → ShowWindows k w asked
+unfolding act restack
+accepted-shows k w asked h = by (look_windows w k (ids_of asked)) h
+  where
+    by : (o : Outcome (List ℕ)) → is_ok (o >>= λ group. refuse_if (not (are_on_one_screen w.book group)) 22 >>= λ _. Ok (moved w asked group)) ≡ true → is_ok o ≡ true
+    by (Ok group) h = refl
+    by (Err n) h = h
 
-pub restacked-live : (k : ℕ) (w next : World) (asked : Restacking) → IsSome (lookup w.clients k) → next ≡ after_restacking k w asked → IsSome (lookup next.clients k)
-unfolding after_restacking
-restacked-live k w next asked h e = let P : World → Type 0 = λ x. IsSome (lookup x.clients k) in subst P (sym e) h
+accepted-done : (k : ℕ) (w : World) (asked : Restacking) → is_ok (act k w (restacking_message asked) []) ≡ true → act k w (restacking_message asked) [] ≡ Ok (after_restacking k w asked)
+unfolding act restack after_restacking
+accepted-done k w asked h = by (look_windows w k (ids_of asked)) h
+  where
+    one : (group : List ℕ) (b : Bool) → is_ok (refuse_if b 22 >>= λ _. Ok (moved w asked group)) ≡ true → (refuse_if b 22 >>= λ _. Ok (moved w asked group)) ≡ Ok (moved w asked group)
+    one group false h = refl
+    one group true h = absurd cc
+
+    by : (o : Outcome (List ℕ)) → is_ok (o >>= λ group. refuse_if (not (are_on_one_screen w.book group)) 22 >>= λ _. Ok (moved w asked group)) ≡ true
+        → (o >>= λ group. refuse_if (not (are_on_one_screen w.book group)) 22 >>= λ _. Ok (moved w asked group)) ≡ Ok (moved w asked (result_unwrap_or o []))
+    by (Ok group) h = one group (not (are_on_one_screen w.book group)) h
+    by (Err n) h = absurd cc
+
+pub restacked-done : {A E : Type 0} (o : Result A E) (k : ℕ) (w next : World) (asked : Restacking) → is_ok (act k w (restacking_message asked) []) ≡ true
+    → OnOk o (next ≡ after_restacking k w asked) → OnOk o (act k w (restacking_message asked) [] ≡ Ok next)
+restacked-done (Ok x) k w next asked h is = accepted-done k w asked h ∙ ap Ok (sym is)
+restacked-done (Err x) k w next asked h is = tt

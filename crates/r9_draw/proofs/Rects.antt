@@ -1,5 +1,5 @@
 -- What tests of a rectangle say.
-use Rattle.std.proofs.Common.{◌≡◌, Bool, true, false, ℤ, pos, neg_ℤ, ◌≤ℤ◌, ◌<ℤ◌, refl, arith, int_le, int_lt}
+use Rattle.std.proofs.Common.{◌≡◌, ℕ, ◌≤◌, Bool, true, false, ℤ, pos, neg_ℤ, ◌≤ℤ◌, ◌<ℤ◌, refl, arith, int_le, int_lt}
 use Rattle.std.specs.Prelude.{◌^◌, ◌||◌, ◌&&◌, not}
 use Rattle.std.proofs.lemmas.Int.{ints}
 use Rattle.r9_geom.specs.declared.Point.{Point}
@@ -35,13 +35,13 @@ points-of r h = record { across = above r.max.x r.min.x (first_false _ _ h); dow
 pub ordered-of : (r : Rect) → HasPoints r → IsOrdered r
 ordered-of r h = record { across = (let k = h.across in omega (arith, ints)); down = (let k = h.down in omega (arith, ints)) }
 
-low : (x : ℤ) → is_near farthest x ≡ true → neg_ℤ (pos (2 ^ 33)) ≤ℤ x
+low : (x : ℤ) → is_near farthest x ≡ true → neg_ℤ (pos (2 ^ 32)) ≤ℤ x
 low x h = let k = at_least x (neg_ℤ (pos (2 ^ 29))) (both_left _ _ h) in omega (arith, ints)
 
-high : (x : ℤ) → is_near farthest x ≡ true → x ≤ℤ pos (2 ^ 33)
+high : (x : ℤ) → is_near farthest x ≡ true → x ≤ℤ pos (2 ^ 32)
 high x h = let k = at_least (pos (2 ^ 29)) x (both_right (not (int_lt x (neg_ℤ (pos (2 ^ 29))))) _ h) in omega (arith, ints)
 
-pub near-of : (r : Rect) → is_near_rect farthest r ≡ true → IsRectNearBy (2 ^ 33) r
+pub near-of : (r : Rect) → is_near_rect farthest r ≡ true → IsRectNearBy (2 ^ 32) r
 near-of r h =
     let abc = both_left _ (is_near farthest r.max.y) h in
     let ab = both_left _ (is_near farthest r.max.x) abc in
@@ -91,3 +91,16 @@ near-point p h =
     let x = wide p.x (both_left (is_near farthest p.x) (is_near farthest p.y) h) in
     let y = wide p.y (both_right (is_near farthest p.x) (is_near farthest p.y) h) in
     record { left = x.0; right = x.1; top = y.0; bottom = y.1 }
+
+-- ---- within wider bounds
+
+pub point-wider : (n m : ℕ) (p : Point) → n ≤ m → IsNearBy n p → IsNearBy m p
+point-wider n m p less h =
+    let left = h.left in
+    let right = h.right in
+    let top = h.top in
+    let bottom = h.bottom in
+    record { left = omega (arith, ints); right = omega (arith, ints); top = omega (arith, ints); bottom = omega (arith, ints) }
+
+pub wider : (n m : ℕ) (r : Rect) → n ≤ m → IsRectNearBy n r → IsRectNearBy m r
+wider n m r less h = record { min = point-wider n m r.min less h.min; max = point-wider n m r.max less h.max }

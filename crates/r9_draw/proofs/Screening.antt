@@ -21,7 +21,7 @@ use Rattle.r9_draw.specs.Kept.{IsKept, IsPlaced}
 use Rattle.r9_draw.specs.Spare.{AreSpare, are_free}
 use Rattle.r9_draw.specs.Plans.{after_make_screen, after_share}
 use Rattle.r9_draw.proofs.Kept.{kept-same, placed-framed}
-use Rattle.r9_draw.proofs.Rects.{near-of}
+use Rattle.r9_draw.proofs.Rects.{near-of, point-wider}
 use Rattle.r9_draw.proofs.Screens.{kept-screened, kept-shared, spare-screened, spare-shared}
 
 -- ---- as the definitions have them
@@ -91,19 +91,11 @@ near-right r rmin scr h = by (is_near_rect farthest (at_min r rmin)) (is_near_re
     by true b e = e
     by false b e = absurd cc
 
-wider : (p : Point) → IsNearBy (2 ^ 33) p → IsNearBy (2 ^ 34) p
-wider p h =
-    let left = h.left in
-    let right = h.right in
-    let top = h.top in
-    let bottom = h.bottom in
-    record { left = omega (arith, ints); right = omega (arith, ints); top = omega (arith, ints); bottom = omega (arith, ints) }
-
 pub corner-near : (r : Rect) (rmin scr : Point) → stays_near r rmin scr ≡ true → IsNearBy (2 ^ 34) scr
-corner-near r rmin scr h = let near = near-of (at_min r scr) (near-right r rmin scr h) in wider scr near.min
+corner-near r rmin scr h = let near = near-of (at_min r scr) (near-right r rmin scr h) in point-wider (2 ^ 32) (2 ^ 34) scr (omega arith) near.min
 
 pub min-near : (r : Rect) (rmin scr : Point) → stays_near r rmin scr ≡ true → IsNearBy (2 ^ 34) rmin
-min-near r rmin scr h = let near = near-of (at_min r rmin) (near-left r rmin scr h) in wider rmin near.min
+min-near r rmin scr h = let near = near-of (at_min r rmin) (near-left r rmin scr h) in point-wider (2 ^ 32) (2 ^ 34) rmin (omega arith) near.min
 
 clamped-low : (x : ℤ) → neg_ℤ (pos (2 ^ 33)) ≤ℤ clamped x
 clamped-low x =
@@ -122,7 +114,7 @@ clamped-near r = record {
   max = record { left = clamped-low r.max.x; right = clamped-high r.max.x; top = clamped-low r.max.y; bottom = clamped-high r.max.y };
 }
 
-shifted_near : (r : Rect) (min : Point) → IsRectNearBy (2 ^ 33) (at_min r min) → IsRectNearBy (2 ^ 33) (carried_rect r r.min min)
+shifted_near : (r : Rect) (min : Point) → IsRectNearBy (2 ^ 32) (at_min r min) → IsRectNearBy (2 ^ 32) (carried_rect r r.min min)
 shifted_near r min h =
     let low = h.min in
     let left = low.left in

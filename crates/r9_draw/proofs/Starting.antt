@@ -13,8 +13,9 @@ use Rattle.model_images.specs.Release.{is_used}
 use Rattle.r9_draw.specs.Kept.{IsKept, IsPlaced}
 use Rattle.r9_draw.specs.Spare.{AreSpare, are_free}
 use Rattle.r9_draw.proofs.Kept.{kept-same, nowhere-placed}
+use Rattle.r9_draw.proofs.Rects.{wider}
 
-pub near-display : (r : Rect) → r.min.x ≡ pos 0 → r.min.y ≡ pos 0 → IsOrdered r → r.max.x <ℤ pos (2 ^ 32) → r.max.y <ℤ pos (2 ^ 32) → IsRectNearBy (2 ^ 33) r
+pub near-display : (r : Rect) → r.min.x ≡ pos 0 → r.min.y ≡ pos 0 → IsOrdered r → r.max.x <ℤ pos (2 ^ 32) → r.max.y <ℤ pos (2 ^ 32) → IsRectNearBy (2 ^ 32) r
 near-display r left top ordered width height =
     let across = ordered.across in
     let down = ordered.down in
@@ -33,7 +34,7 @@ book-is book e = let same : Ok display_book ≡ Ok book = e in cc
 shown : (i : ℕ) → is_used display_book (Shown i) ≡ true → (i == 0) ≡ true
 shown i h = grind (arith, nat_tests)
 
-kept-display : (r : Rect) (chan raw : ℕ) → IsOrdered r → IsRectNearBy (2 ^ 33) r → IsKept (after_image (λ _. None) 0 r chan raw) display_book
+kept-display : (r : Rect) (chan raw : ℕ) → IsOrdered r → IsRectNearBy (2 ^ 32) r → IsKept (after_image (λ _. None) 0 r chan raw) display_book
 unfolding after_image
 kept-display r chan raw ordered near = record {
   live = λ i h. ap (λ b. is_some (if b then Some (new_image r chan raw) else None)) (shown i h);
@@ -44,14 +45,14 @@ kept-display r chan raw ordered near = record {
 }
   where
     placed : (b : Bool) (j : ℕ) → IsPlaced display_book j (unwrap_or (if b then Some (new_image r chan raw) else None) no_image)
-    placed true j = record { stands = refl; ordered = ordered; near = near; clip = near }
+    placed true j = record { stands = refl; ordered = ordered; near = near; clip = wider (2 ^ 32) (2 ^ 33) r (omega arith) near }
     placed false j = nowhere-placed display_book j refl
 
     none : (b : Bool) → b ≡ false → is_some (if b then Some (new_image r chan raw) else None) ≡ true → ⊥
     none true e h = cc
     none false e h = cc
 
-pub kept-started : (images : World) (book : Book) (r : Rect) (chan raw : ℕ) → IsOrdered r → IsRectNearBy (2 ^ 33) r → images ≡ after_image (λ _. None) 0 r chan raw
+pub kept-started : (images : World) (book : Book) (r : Rect) (chan raw : ℕ) → IsOrdered r → IsRectNearBy (2 ^ 32) r → images ≡ after_image (λ _. None) 0 r chan raw
     → add_id empty_book 0 0 0 None ≡ Ok book → IsKept images book
 kept-started images book r chan raw ordered near is e =
     let P : Book → Type 0 = λ b. IsKept images b in subst P (book-is book e) (kept-same _ images display_book (kept-display r chan raw ordered near) is)

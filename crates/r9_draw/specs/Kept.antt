@@ -15,7 +15,7 @@ standing_on book s = record { parent = image_of book s; fill = fill_of book s }
 pub record IsPlaced (book : Book) (i : ℕ) (image : Image) : Type 0 where
   pub stands : image.standing ≡ option_map (standing_on book) (screen_of book i)
   pub ordered : IsOrdered image.r
-  pub near : IsRectNearBy (2 ^ 33) image.r
+  pub near : IsRectNearBy (2 ^ 32) image.r
   pub clip : IsRectNearBy (2 ^ 33) image.clipr
 
 pub record IsKept (images : World) (book : Book) : Type 0 where

@@ -1,11 +1,11 @@
-pub mod Counted
 pub mod Kept
 pub mod Spare
 pub mod World
 pub mod Refused
+pub mod Fonts
+pub mod Strings
 pub mod Plans
 pub mod Gone
 pub mod Steps
-pub mod Clients
 pub mod Described
 pub mod Restacking

@@ -10,6 +10,7 @@ use Rattle.r9_chan.specs.Op.{number}
 use Rattle.model_pixel.specs.Channels as channels
 use Rattle.model_text.specs.Outcome.{Outcome, ◌>>=◌, refuse_if}
 use Rattle.model_imgfile.specs.ImageFile.{rows_len}
+use Rattle.model_fonts.specs.Font.{new_font}
 use Rattle.model_forest.specs.Draw.{Drawing, after_draw}
 use Rattle.model_forest.specs.World.{World as Images, image_at}
 use Rattle.model_forest.specs.Stack.{after_window}
@@ -20,11 +21,13 @@ use Rattle.model_draw.specs.World.{World, at_number, client_of, look, next_image
 use Rattle.model_draw.specs.Making.{clashes, forget_id, overhead, screen_named, with_made, with_new_image, with_size}
 use Rattle.model_draw.specs.Moving.{stays_near}
 use Rattle.model_draw.specs.Drawing.{rows_shown, with_operator, with_rows}
+use Rattle.model_draw.specs.Writing.{with_font}
+use Rattle.r9_draw.specs.Fonts.{after_load_cell, CanLoad}
 use Rattle.r9_draw.specs.declared.plan.Making.{Making}
 use Rattle.r9_draw.specs.declared.plan.Screening.{Screening}
 use Rattle.r9_draw.specs.declared.plan.Task.{Task}
 use Rattle.r9_draw.specs.declared.plan.Plan.{Plan}
-use Rattle.r9_draw.specs.declared.plan.Plan.TheVariants.{Nothing, Make, SetClip, Draw, Free, FreeScreen, MakeScreen, ShareScreen, Move, SetOperator, Read, Write}
+use Rattle.r9_draw.specs.declared.plan.Plan.TheVariants.{Nothing, Make, SetClip, Draw, Free, FreeScreen, MakeFont, LoadCell, MakeScreen, ShareScreen, Move, SetOperator, Read, Write}
 
 -- ---- looking up a screen
 
@@ -110,6 +113,8 @@ after k world (SetClip image repl clipr) rest = with_images world (after_set wor
 after k world (Draw t) rest = after_task k world t
 after k world (Free id) rest = after_free k world id
 after k world (FreeScreen id) rest = after_free_screen k world id
+after k world (MakeFont id n ascent) rest = with_font world k id (new_font n ascent)
+after k world (LoadCell l) rest = after_load_cell k world l
 after k world (MakeScreen s) rest = after_make_screen k world s
 after k world (ShareScreen id screen) rest = after_share k world id screen
 after k world (Move image rmin scr) rest = with_images world (after_origin world.images image.0 rmin scr)
@@ -130,7 +135,7 @@ IsLiveIn world i = is_some (world.images i) ≡ true
 pub record CanMake (k : ℕ) (world : World) (m : Making) : Type 0 where
   pub fresh : is_image_id_taken world.book k m.id ≡ false
   pub points : HasPoints m.r
-  pub near : IsRectNearBy (2 ^ 33) m.r
+  pub near : IsRectNearBy (2 ^ 32) m.r
   pub clip : IsRectNearBy (2 ^ 33) m.clipr
   pub raw : m.raw < 2 ^ channels.depth m.chan
   pub fits : sum_by (λ e. e.1) (client_of world k).sizes + m.len + overhead ≤ 2 ^ 25
@@ -184,6 +189,8 @@ IsReady k world (SetClip image repl clipr) rest = CanSet world image.0 repl clip
 IsReady k world (Draw t) rest = CanDraw world t
 IsReady k world (Free id) rest = is_ok (free_id world.book k id) ≡ true
 IsReady k world (FreeScreen id) rest = is_ok (free_screen world.book k id) ≡ true
+IsReady k world (MakeFont id n ascent) rest = Unit {0}
+IsReady k world (LoadCell l) rest = CanLoad k world l
 IsReady k world (MakeScreen s) rest = CanScreen world s
 IsReady k world (ShareScreen id screen) rest = is_some (screen_numbered world.book screen) ≡ true
 IsReady k world (Move image rmin scr) rest = CanMove world image.0 rmin scr

@@ -7,13 +7,14 @@ ghost use Rattle.std.specs.List.{fold};
 ghost use Rattle.model_text.specs.Map.{lookup};
 ghost use Rattle.model_draw.specs.World.{started, after_connect, after_leave};
 ghost use Rattle.model_images.specs.Book.{add_id, empty_book, Book as Ids};
+ghost use Rattle.model_images.specs.Ties.{HasTies};
 ghost use Rattle.r9_draw.specs.Kept.{IsKept};
 ghost use Rattle.r9_draw.specs.Spare.{AreSpare};
 ghost use Rattle.r9_draw.specs.Gone.{images_without, numbers_without, CanRelease};
 
-use crate::client::{Client, Clients, lives, remove};
 use model_images::leave_frees;
 use r9_chan::{Chan, Colour};
+use r9_client::{Client, Clients, lives, remove};
 use r9_geom::Rect;
 use r9_images::{Book, Thing};
 use r9_layers::{Forest, ImageNo};
@@ -40,6 +41,8 @@ pub struct Draw {
     ghost kept: { IsKept (world forest) book.book },
     // The numbers of screens that came back are those of none.
     ghost spare: { AreSpare book.book },
+    // An image that has a name is used.
+    ghost ties: { HasTies book.book },
     // A drawing of at most as many points as the display has takes no memory.
     ghost room: { area_of opening.r ≤ room forest },
     // Number 0 is the window manager's.

@@ -11,9 +11,9 @@ ghost use Rattle.model_draw.specs.Files.{read_data, read_ctl, write_ctl, screen_
 ghost use Rattle.r9_draw.specs.Refused.{IfRefused};
 ghost use Rattle.r9_draw.specs.World.{world_of};
 
-use crate::client::{describe, described_by, pending_len, replace_pending};
 use crate::draw::Draw;
 use crate::fault::DrawFault;
+use r9_client::{describe, described_by, pending_len, replace_pending};
 use r9_imgfile::{header, push_rect};
 use r9_layers::{ImageNo, Info};
 use r9_memory::Memory;

@@ -1,14 +1,20 @@
 //! The draw device (draw(3)): images and windows, what ids refer to, connections, and the messages that they write.
 #![tactic(auto)]
 
-mod client;
 mod draw;
 mod fault;
 mod files;
+mod fonts;
+mod image;
+mod listed;
+mod lookup;
 mod message;
+mod naming;
+mod pixels;
 mod plan;
-mod restacking;
-mod sizes;
+mod screen;
+mod string;
+mod window;
 mod write;
 
 pub use draw::Draw;

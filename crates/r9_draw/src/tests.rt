@@ -208,3 +208,125 @@ fn description(rt: HostRuntime) -> Result<(), Fail> {
     assert!(rt; !device.is_live(1));
     Ok(())
 }
+
+// Messages as their bytes, which docs/FORMATS.md spells: `b` for grey images of one point and of 8 by 8, and for colours that
+// repeat; `N` and `n` of the name `pic`; `i` and `l` for a font of one character, which is 3 by 8 points and 1 right of the
+// pen; `s`, and `x` on red, of two blue characters with the pen first at (10, 20).
+const NINE: &[u8] =
+    b"b\x09\0\0\0\0\0\0\0\08\0\0\0\0\0\0\0\0\0\0\0\0\x01\0\0\0\x01\0\0\0\0\0\0\0\0\0\0\0@\0\0\0@\0\0\0\0\0\0\0";
+
+const TEN: &[u8] =
+    b"b\x0a\0\0\0\0\0\0\0\08\0\0\0\0\0\0\0\0\0\0\0\0\x01\0\0\0\x01\0\0\0\0\0\0\0\0\0\0\0@\0\0\0@\0\0\0\0\0\0\0";
+
+const FONT_IMAGE: &[u8] =
+    b"b\x07\0\0\0\0\0\0\0\08\0\0\0\0\0\0\0\0\0\0\0\0\x08\0\0\0\x08\0\0\0\0\0\0\0\0\0\0\0@\0\0\0@\0\0\0\0\0\0\0";
+
+const WHITE: &[u8] =
+    b"b\x01\0\0\0\0\0\0\0\01\0\0\0\x01\0\0\0\0\0\0\0\0\x01\0\0\0\x01\0\0\0\0\0\0\0\0\0\0\0@\0\0\0@\0\0\0\xff\xff\xff\xff";
+
+const BLUE: &[u8] =
+    b"b\x02\0\0\0\0\0\0\0\0(\x18\x08h\x01\0\0\0\0\0\0\0\0\x01\0\0\0\x01\0\0\0\0\0\0\0\0\0\0\0@\0\0\0@\0\0\0\xff\xff\0\0";
+
+const RED: &[u8] =
+    b"b\x03\0\0\0\0\0\0\0\0(\x18\x08h\x01\0\0\0\0\0\0\0\0\x01\0\0\0\x01\0\0\0\0\0\0\0\0\0\0\0@\0\0\0@\0\0\0\xff\0\0\xff";
+
+const TIE_NINE: &[u8] = b"N\x09\0\0\0\x01\x03pic";
+
+const TIE_TEN: &[u8] = b"N\x0a\0\0\0\x01\x03pic";
+
+const UNTIE_NINE: &[u8] = b"N\x09\0\0\0\0\x03pic";
+
+const UNTIE_TEN: &[u8] = b"N\x0a\0\0\0\0\x03pic";
+
+const USE_AS_NINE: &[u8] = b"n\x09\0\0\0\x03pic";
+
+const USE_AS_SEVEN: &[u8] = b"n\x07\0\0\0\x03pic";
+
+const READ_SEVEN: &[u8] = b"r\x07\0\0\0\0\0\0\0\0\0\0\0\x01\0\0\0\x01\0\0\0";
+
+const FREE_SEVEN: &[u8] = b"f\x07\0\0\0";
+
+const FONT: &[u8] = b"i\x07\0\0\0\x01\0\0\0\x06";
+
+const CHARACTER: &[u8] =
+    b"l\x07\0\0\0\x01\0\0\0\0\0\0\0\0\0\0\0\0\0\x03\0\0\0\x08\0\0\0\0\0\0\0\0\0\0\0\x01\x05";
+
+const STRING: &[u8] =
+    b"s\0\0\0\0\x02\0\0\0\x07\0\0\0\x0a\0\0\0\x14\0\0\0\0\0\0\0\0\0\0\0@\0\0\00\0\0\0\0\0\0\0\0\0\0\0\x02\0\0\0\0\0";
+
+const STRING_OF_ANOTHER: &[u8] =
+    b"s\0\0\0\0\x02\0\0\0\x07\0\0\0\x0a\0\0\0\x14\0\0\0\0\0\0\0\0\0\0\0@\0\0\00\0\0\0\0\0\0\0\0\0\0\0\x02\0\0\0\x01\0";
+
+const STRING_ON_RED: &[u8] =
+    b"x\0\0\0\0\x02\0\0\0\x07\0\0\0\x0a\0\0\0\x14\0\0\0\0\0\0\0\0\0\0\0@\0\0\00\0\0\0\0\0\0\0\0\0\0\0\x02\0\x03\0\0\0\0\0\0\0\0\0\0\0\0\0\0\0";
+
+const STRING_OF_ANOTHER_ON_RED: &[u8] =
+    b"x\0\0\0\0\x02\0\0\0\x07\0\0\0\x0a\0\0\0\x14\0\0\0\0\0\0\0\0\0\0\0@\0\0\00\0\0\0\0\0\0\0\0\0\0\0\x02\0\x03\0\0\0\0\0\0\0\0\0\0\0\0\0\x01\0";
+
+const READ_LINE: &[u8] = b"r\0\0\0\0\x0a\0\0\0\x0e\0\0\0\x14\0\0\0\x0f\0\0\0";
+
+const PLAIN_LINE: &[u8] =
+    b"www\0\xff\0\0\0\xff\0\0\0\xff\0\0\0www\0www\0\xff\0\0\0\xff\0\0\0\xff\0\0\0www\0";
+
+const RED_LINE: &[u8] =
+    b"\0\0\xff\0\xff\0\0\0\xff\0\0\0\xff\0\0\0\0\0\xff\0\0\0\xff\0\xff\0\0\0\xff\0\0\0\xff\0\0\0\0\0\xff\0";
+
+const NO_LINE: &[u8] = b"www\0www\0www\0www\0www\0www\0www\0www\0www\0www\0";
+
+fn write_all(device: &mut Draw, alloc: Global, messages: &[&[u8]]) -> Result<Wrote, Fail> {
+    let mut out = Vec::new(alloc);
+    for message in messages {
+        out.extend_from_slice(message)?;
+    }
+    write(device, &out, None)
+}
+
+// A name is tied once, and untied by an id of its image. An id that it made draws no more once its tie has ended, and is known
+// until it is freed (draw(3)).
+#[test]
+fn names(rt: HostRuntime) -> Result<(), Fail> {
+    for (last, refusal) in [
+        (UNTIE_NINE, None),
+        (UNTIE_TEN, Some(19)),
+        (TIE_TEN, Some(16)),
+        (USE_AS_NINE, Some(6)),
+        (USE_AS_SEVEN, None),
+    ] {
+        let mut device = device(rt.alloc())?;
+        let wrote = write_all(&mut device, rt.alloc(), &[NINE, TEN, TIE_NINE, last])?;
+        assert_eq!(rt; wrote.refusal, refusal);
+    }
+    Ok(())
+}
+
+#[test]
+fn stale_names(rt: HostRuntime) -> Result<(), Fail> {
+    let mut device = device(rt.alloc())?;
+    let stale = [NINE, TIE_NINE, USE_AS_SEVEN, UNTIE_NINE, READ_SEVEN];
+    let wrote = write_all(&mut device, rt.alloc(), &stale)?;
+    assert_eq!(rt; (wrote.done, wrote.refusal), (4, Some(18)));
+    let wrote = write_all(&mut device, rt.alloc(), &[FREE_SEVEN, USE_AS_SEVEN])?;
+    assert_eq!(rt; (wrote.done, wrote.refusal), (1, Some(17)));
+    Ok(())
+}
+
+// The characters stand on (11, 14, 14, 22) and (16, 14, 19, 22), the background on (10, 14, 20, 22). A string with a
+// character that the font does not have is not begun. The line that is read goes through all of them.
+#[test]
+fn strings(rt: HostRuntime) -> Result<(), Fail> {
+    for (string, refusal, line) in [
+        (STRING, None, PLAIN_LINE),
+        (STRING_ON_RED, None, RED_LINE),
+        (STRING_OF_ANOTHER, Some(15), NO_LINE),
+        (STRING_OF_ANOTHER_ON_RED, Some(15), NO_LINE),
+    ] {
+        let mut device = device(rt.alloc())?;
+        let messages = [WHITE, BLUE, RED, FONT_IMAGE, FONT, CHARACTER, string];
+        let wrote = write_all(&mut device, rt.alloc(), &messages)?;
+        assert_eq!(rt; wrote.refusal, refusal);
+        let _ = write(&mut device, READ_LINE, None)?;
+        let bytes = read(&mut device, 40)?.ok().ok_or("read")?;
+        assert_eq!(rt; bytes.as_slice(), line);
+    }
+    Ok(())
+}

@@ -6,21 +6,24 @@ use std::test::Fail;
 #[derive(Debug, Drop)]
 struct File {
     name: char,
-    open: bool,
+    opened: bool,
 }
 
 impl Openable for File {
-    ghost is_open = { λ file. file.open };
+    ghost is_open = { λ file. file.opened };
 
     fn is_open(&self) -> bool {
-        self.open
+        self.opened
     }
 }
 
 const REFUSED: [Result<(), FidFault>; 2] = [Err(FidFault::Refused(33)), Err(FidFault::Refused(44))];
 
 fn closed(name: char) -> File {
-    File { name, open: false }
+    File {
+        name,
+        opened: false,
+    }
 }
 
 #[test]
@@ -33,7 +36,7 @@ fn a_fid_names_a_file(rt: HostRuntime) -> Result<(), Fail> {
     assert_eq!(rt; fids.bind(NO_FID, closed('d')), REFUSED[0]);
     assert_eq!(rt; fids.get(7).map(|file| file.name), Some('b'));
     if let Some(file) = fids.get_mut(7) {
-        file.open = true;
+        file.opened = true;
     }
     for (fid, want, answer) in [
         (7, true, Ok(())),
@@ -44,7 +47,9 @@ fn a_fid_names_a_file(rt: HostRuntime) -> Result<(), Fail> {
     ] {
         assert_eq!(rt; fids.check_open(fid, want), answer);
     }
-    let mut names = fids.iter().map(|(fid, file)| (*fid, file.name, file.open));
+    let mut names = fids
+        .iter()
+        .map(|(fid, file)| (*fid, file.name, file.opened));
     assert_eq!(rt; names.next(), Some((0, 'a', false)));
     assert_eq!(rt; names.next(), Some((7, 'b', true)));
     assert_eq!(rt; fids.clunk(7).map(|file| file.name), Some('b'));

@@ -1,5 +1,5 @@
 -- One character more of a string.
-use Rattle.std.proofs.Common.{◌≡◌, ℕ, suc, ◌+◌, ◌<◌, ◌≤◌, ℤ, pos, ◌+ℤ◌, List, [], ◌∷◌, ◌++◌, length, get_or, drop, map, refl, sym, ap, ◌∙◌, append_assoc, append-nil, arith}
+use Rattle.std.proofs.Common.{◌≡◌, ℕ, suc, ◌+◌, ◌^◌, ◌<◌, ◌≤◌, ℤ, pos, neg_ℤ, ◌+ℤ◌, ◌≤ℤ◌, List, [], ◌∷◌, ◌++◌, length, get_or, drop, map, refl, sym, ap, ◌∙◌, append_assoc, append-nil, arith}
 use Rattle.std.specs.Prelude.{nat_lt, Bool, true, false, Ok, Err}
 use Rattle.std.specs.List.{sum_by, list_all}
 use borrow.Author.Tests.{ltb-true}
@@ -11,7 +11,8 @@ use Rattle.r9_geom.specs.declared.Point.{Point}
 use Rattle.model_fonts.specs.declared.Cell.{Cell}
 use Rattle.model_fonts.specs.declared.Piece.{Piece}
 use Rattle.r9_geom.specs.Geometry.{IsNearBy}
-use Rattle.model_fonts.specs.Font.{Font, Layout, layout, cell, piece, pieces, advanced}
+use Rattle.model_fonts.specs.Font.{Font, Layout, IsCellInReach, advanced, cell, layout, piece, pieces}
+use Rattle.r9_fonts.specs.Near.{IsPieceNear}
 
 -- the characters of the indices from one on
 abbrev pub from : List Cell → List ℕ → ℕ → List Cell
@@ -41,6 +42,41 @@ same_point p q x y = λ i. record { x = x i; y = y i }
 
 pub same_piece : (a b : Piece) → a.r ≡ b.r → a.sp ≡ b.sp → a.mp ≡ b.mp → a ≡ b
 same_piece a b r sp mp = λ i. record { r = r i; sp = sp i; mp = mp i }
+
+pub nearer : (n m : ℕ) (p : Point) → n ≤ m → IsNearBy n p → IsNearBy m p
+nearer n m p h k = record {
+  left = omega (arith, ints, k.left);
+  right = omega (arith, ints, k.right);
+  top = omega (arith, ints, k.top);
+  bottom = omega (arith, ints, k.bottom);
+}
+
+-- what is drawn of a character is near, where the pen and the source's point are
+pub piece_near : (ascent : ℕ) (p sp : Point) (c : Cell) → ascent ≤ 255 → neg_ℤ (pos 128) ≤ℤ c.left → c.left ≤ℤ pos 127
+    → IsNearBy (2 ^ 32 + 2 ^ 24) p → IsNearBy (2 ^ 32 + 2 ^ 24) sp → IsCellInReach c → IsPieceNear (piece ascent p sp c)
+piece_near ascent p sp c high low_left high_left pen source cell = record {
+  r = record {
+    min = record {
+      left = omega (arith, ints, pen.left);
+      right = omega (arith, ints, pen.right);
+      top = omega (arith, ints, pen.top, cell.min.top);
+      bottom = omega (arith, ints, pen.bottom, cell.min.bottom);
+    };
+    max = record {
+      left = omega (arith, ints, pen.left, cell.min.right, cell.max.left);
+      right = omega (arith, ints, pen.right, cell.min.left, cell.max.right);
+      top = omega (arith, ints, pen.top, cell.max.top);
+      bottom = omega (arith, ints, pen.bottom, cell.max.bottom);
+    };
+  };
+  sp = record {
+    left = omega (arith, ints, source.left);
+    right = omega (arith, ints, source.right);
+    top = omega (arith, ints, source.top, cell.min.top);
+    bottom = omega (arith, ints, source.bottom, cell.min.bottom);
+  };
+  mp = nearer (2 ^ 32) (2 ^ 34) c.r.min (omega arith) cell.min;
+}
 
 widths : (cells : List Cell) (indices : List ℕ) (i : ℕ) → i < length indices
     → sum_by (λ (c : Cell). c.width) (from cells indices i) ≡ (cell cells (get_or indices i 0)).width + sum_by (λ (c : Cell). c.width) (from cells indices (i + 1))
@@ -81,14 +117,6 @@ is_in_cells n indices i k h at all =
 
 pub same_layout : (a b : Layout) → a.pieces ≡ b.pieces → a.end ≡ b.end → a ≡ b
 same_layout a b pieces end = λ i. record { pieces = pieces i; end = end i }
-
-pub nearer : (n m : ℕ) (p : Point) → n ≤ m → IsNearBy n p → IsNearBy m p
-nearer n m p h k = record {
-  left = omega (arith, ints, k.left);
-  right = omega (arith, ints, k.right);
-  top = omega (arith, ints, k.top);
-  bottom = omega (arith, ints, k.bottom);
-}
 
 pub refused_by : (font : Font) (cells : List Cell) (b : Bool) (p sp : Point) (indices : List ℕ) → b ≡ list_all (λ i. nat_lt i (length cells)) indices
     → cells ≡ font.cells → b ≡ false → layout font p sp indices ≡ Err 15

@@ -16,6 +16,7 @@ fn a_string_of_one_character(rt: HostRuntime) -> Result<(), Fail> {
     let mut font = Font::new(rt.alloc(), 1, 6)?;
     assert!(rt; font.set(0, letter).is_ok());
     assert!(rt; font.set(1, letter) == Err(15));
+    assert!(rt; font.has(0) && !font.has(1) && font.ascent() == 6);
     let origin = Point { x: 0, y: 0 };
     let layout = font.layout(Point { x: 10, y: 20 }, origin, &[0, 0])?;
     let [first, second] = layout.pieces.as_slice() else {

@@ -1,3 +1,2 @@
 mod States
 mod Halls
-pub mod Keys

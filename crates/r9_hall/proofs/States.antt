@@ -8,12 +8,12 @@ use Rattle.r9_event.specs.declared.event.Opening.{Opening}
 use Rattle.r9_event.specs.declared.event.Reply.{Reply}
 use Rattle.r9_event.specs.declared.event.Did.{Did}
 use Rattle.model_text.specs.Map.{lookup, without}
+use Rattle.model_map.proofs.Maps.{without-others}
 use Rattle.model_world.specs.Session.{Session}
 use Rattle.model_world.specs.Replay.{bytes_for, ended, marked, waiting_after}
 use Rattle.r9_draw.specs.World.{world_of}
 use Rattle.r9_hall.specs.StateView.{IsLeft, IsTurn, waiting, world_with}
 use Rattle.r9_hall.specs.declared.sessions.Sessions.{Sessions}
-use Rattle.model_world.proofs.Maps.{without-others}
 
 -- an event that is no message gives nothing
 pub silent_turn : (opening : Opening) (before after : Sessions) (event same : Event) (did : Did) → event ≡ same → did ≡ record { replies = []; short = None } → IsTurn opening before same [] after

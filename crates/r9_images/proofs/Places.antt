@@ -3,18 +3,11 @@ use Rattle.std.proofs.Common.{◌≡◌, ℕ, suc, ◌+◌, ◌≤◌, Bool, tru
 use Rattle.std.specs.Prelude.{nat_lt, not, if◌then◌else◌}
 use Rattle.std.specs.Option.{unwrap_or}
 use Rattle.std.specs.List.{position_or_len, insert}
+use Rattle.std.proofs.lemmas.List.Sums.{prefix_len-le-length}
 use borrow.Author.Tests.{ltb-false}
 use Rattle.model_images.specs.declared.ImageId.{ImageId}
 use Rattle.model_images.specs.declared.ScreenId.{ScreenId}
 use Rattle.model_images.specs.Book.{comes_before, put_image_id, put_screen_id}
-
-bounded : (b : Bool) (n m : ℕ) → n ≤ m → cond b (1 + n) 0 ≤ suc m
-bounded true n m h = omega arith
-bounded false n m h = omega arith
-
-pub position-within : {X : Type 0} (p : X → Bool) (xs : List X) → position_or_len p xs ≤ length xs
-position-within p [] = omega arith
-position-within p (x ∷ xs) = bounded (not (p x)) _ (length xs) (position-within p xs)
 
 inserted : {X : Type 0} (b : Bool) (n : ℕ) (x e : X) (xs rest : List X) → insert xs n e ≡ rest
     → insert (x ∷ xs) (cond (not b) (1 + n) 0) e ≡ (if b then e ∷ x ∷ xs else x ∷ rest)
@@ -31,10 +24,10 @@ pub place_or_end : {X : Type 0} (p : X → Bool) (xs : List X) (found : Option �
     → found ≡ cond (nat_lt (position_or_len p xs) (length xs)) (Some (position_or_len p xs)) None
     → place ≡ unwrap_or found (length xs) → place ≡ position_or_len p xs
 place_or_end p xs found place is chosen =
-    chosen ∙ ap (λ (o : Option ℕ). unwrap_or o (length xs)) is ∙ at_most (position_or_len p xs) (length xs) _ refl (position-within p xs)
+    chosen ∙ ap (λ (o : Option ℕ). unwrap_or o (length xs)) is ∙ at_most (position_or_len p xs) (length xs) _ refl (prefix_len-le-length (λ x. not (p x)) xs)
 
 pub place_within : {X : Type 0} (p : X → Bool) (xs : List X) (place : ℕ) → place ≡ position_or_len p xs → place ≤ length xs
-place_within p xs place is = omega (arith, is, position-within p xs)
+place_within p xs place is = omega (arith, is, prefix_len-le-length (λ x. not (p x)) xs)
 
 pub put_image_id-at : (e : ImageId) (xs : List ImageId) → insert xs (position_or_len (λ (x : ImageId). comes_before e.client e.id x.client x.id) xs) e ≡ put_image_id e xs
 put_image_id-at e [] = refl

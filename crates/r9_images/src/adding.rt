@@ -1,16 +1,14 @@
-//! Adding ids, screens and names.
+//! Adding ids and screens.
 
-ghost use Rattle.std.specs.Prelude.{◌≡◌, ◌==◌, ◌<◌, ◌≤◌, Ok, Err, IfOk, IfErr, IfSome, IsOk, IsSome, OnOk, OnErr, not, ◌||◌, is_some, filter, length, vec_len, vec_capacity};
+ghost use Rattle.std.specs.Prelude.{◌≡◌, ◌<◌, Ok, Err, IfOk, IfErr, IfSome, IsOk, IsSome, OnOk, OnErr, length, vec_len, vec_capacity};
 ghost use Rattle.model_images.specs.Book as model;
 ghost use Rattle.r9_images.specs.View.{IfRefused, IsRefusal};
 
 use crate::book::Book;
 use crate::fault::BookFault;
 use crate::lists::{any_public, find_screen, put_image, put_screen};
-use model_images::{ImageId, OnScreen, Screen, ScreenId, Tie};
+use model_images::{ImageId, OnScreen, Screen, ScreenId};
 use r9_memory::Memory;
-use r9_text::Bytes;
-use std::alloc::Global;
 
 fn with_window(windows: &mut Vec<OnScreen>, image: u32, screen: Option<u32>) -> Result<(), Memory>
     ensures ok { OnOk result (windows.new.items ≡ model.with_window image screen windows.old.items) }
@@ -37,35 +35,6 @@ fn with_screen(screens: &mut Vec<Option<Screen>>, number: u32, s: Screen) -> Res
     Ok(())
 }
 
-fn is_kept_name(client: u64, name: &[u8]) -> bool
-    ensures { result ≡ model.is_kept_name client name.now }
-{
-    client != 0 && name.starts_with(b"window.")
-}
-
-fn is_other_name(client: u64, name: &[u8], tied: u32, image: u32) -> bool
-    ensures { result ≡ (model.is_kept_name client name.now || not (tied == image)) }
-{
-    is_kept_name(client, name) || tied != image
-}
-
-// The text of a name, in what was kept for it, which is another then.
-fn take_name(alloc: Global, next_name: &mut Vec<u8>, name: &[u8]) -> Result<Bytes, Memory>
-    ensures text { IfOk result (λ bytes. bytes ≡ name.now) }
-    ensures room { length name.now ≤ vec_capacity next_name.old → IsOk result }
-{
-    let mut text = std::mem::replace(next_name, Vec::new(alloc));
-    text.clear();
-    text.extend_from_slice(name)?;
-    Ok(Bytes::from(text))
-}
-
-fn without_tie(ties: &mut Vec<Tie>, number: u64)
-    ensures { ties.new.items ≡ filter (λ e. not (e.number == number)) ties.old.items }
-{
-    ties.retain(|t| t.number != number);
-}
-
 /// How long a name may be that `tie` takes without more memory.
 pub const MOST_NAME: usize = 255;
 
@@ -88,7 +57,7 @@ impl Book {
         Ok(())
     }
 
-    fn is_image_taken(&self, client: u64, id: u32) -> bool
+    pub(crate) fn is_image_taken(&self, client: u64, id: u32) -> bool
         ensures { result ≡ model.is_image_id_taken self.now.book client id }
     {
         id == 0 && client != 0 || self.image_id(client, id).is_some()
@@ -99,12 +68,6 @@ impl Book {
     {
         find_screen(&self.screen_ids, client, id).is_some()
             || public && any_public(&self.screen_ids, id)
-    }
-
-    fn is_name_taken(&self, client: u64, name: &[u8]) -> bool
-        ensures { result ≡ (is_some (model.tie_of self.now.book name.now) || model.is_kept_name client name.now) }
-    {
-        self.tie_of(name).is_some() || is_kept_name(client, name)
     }
 
     // The number of the next screen, or None where the numbers are used up.
@@ -183,36 +146,6 @@ impl Book {
         Ok(())
     }
 
-    /// An id for the image with a name, which refers to the name's tie. Refused by 6 as `add_id`, and by 17 exactly where no
-    /// image has the name.
-    #[tactic(auto, unfolding(model_images::specs::Book::add_named))]
-    pub fn add_named(&mut self, client: u64, id: u32, name: &[u8]) -> Result<(), BookFault>
-        ensures made { OnOk result (model.add_named self.old.book client id name.now ≡ Ok self.new.book) }
-        ensures refused { IfErr result (λ f. IfRefused f (λ n. model.add_named self.old.book client id name.now ≡ Err n)) }
-        ensures kept { OnErr result (self.new.book ≡ self.old.book) }
-        ensures room { 0 < self.old.room → IfErr result IsRefusal }
-    {
-        if self.is_image_taken(client, id) {
-            return Err(BookFault::Refused(6));
-        }
-        let Some(t) = self.tie_of(name) else {
-            return Err(BookFault::Refused(17));
-        };
-        let image = t.image;
-        let tie = Some(t.number);
-        self.image_ids.reserve(1)?;
-        put_image(
-            &mut self.image_ids,
-            ImageId {
-                client,
-                id,
-                image,
-                tie,
-            },
-        );
-        Ok(())
-    }
-
     /// Makes a screen on an image, with the image that fills what its windows uncover, under an id, and gives its number: the
     /// one that came back last, else the lowest that was never given out. Refused by 7 as `add_screen`.
     #[tactic(auto, unfolding(model_images::specs::Book::new_screen))]
@@ -249,62 +182,5 @@ impl Book {
             },
         );
         Ok(screen)
-    }
-
-    /// Ties a name to the image of an id. Refused by 16 exactly where the name is tied, or begins with `window.` and the
-    /// connection is not the manager's.
-    #[tactic(auto, unfolding(model_images::specs::Book::tie))]
-    pub fn tie(&mut self, client: u64, id: u32, name: &[u8]) -> Result<(), BookFault>
-        ensures made { OnOk result (model.tie self.old.book client id name.now ≡ Ok self.new.book) }
-        ensures refused { IfErr result (λ f. IfRefused f (λ n. model.tie self.old.book client id name.now ≡ Err n)) }
-        ensures kept { OnErr result (self.new.book ≡ self.old.book) }
-        ensures room { 0 < self.old.room → length name.now ≤ 255 → IfErr result IsRefusal }
-    {
-        let image = match self.image(client, id) {
-            Ok(image) => image,
-            Err(refusal) => return Err(BookFault::Refused(refusal)),
-        };
-        if self.is_name_taken(client, name) {
-            return Err(BookFault::Refused(16));
-        }
-        let number = self.next_tie;
-        if number == u64::MAX {
-            return Err(BookFault::Memory);
-        }
-        self.ties.reserve(1)?;
-        let name = take_name(self.alloc, &mut self.next_name, name)?;
-        self.ties.push_reserved(Tie {
-            name,
-            number,
-            image,
-            client,
-            id,
-        });
-        self.next_tie = number + 1;
-        Ok(())
-    }
-
-    /// Ends the tie of a name. Refused by 17 exactly where no image has it, and by 19 exactly where it begins with `window.` and
-    /// the connection is not the manager's, or is tied to another image than the id's. Takes no memory.
-    #[tactic(auto, unfolding(model_images::specs::Book::untie))]
-    pub fn untie(&mut self, client: u64, id: u32, name: &[u8]) -> Result<(), BookFault>
-        ensures made { OnOk result (model.untie self.old.book client id name.now ≡ Ok self.new.book) }
-        ensures refused { IfErr result (λ f. IfRefused f (λ n. model.untie self.old.book client id name.now ≡ Err n)) }
-        ensures kept { OnErr result (self.new.book ≡ self.old.book) }
-        ensures memory { IfErr result IsRefusal }
-    {
-        let image = match self.image(client, id) {
-            Ok(image) => image,
-            Err(refusal) => return Err(BookFault::Refused(refusal)),
-        };
-        let Some(t) = self.tie_of(name) else {
-            return Err(BookFault::Refused(17));
-        };
-        let number = t.number;
-        if is_other_name(client, name, t.image, image) {
-            return Err(BookFault::Refused(19));
-        }
-        without_tie(&mut self.ties, number);
-        Ok(())
     }
 }

@@ -1,4 +1,4 @@
-//! Looking up and adding.
+//! A book, and looking up in it.
 
 ghost use Rattle.std.specs.Prelude.{◌≡◌, ◌<◌, ◌≤◌, ◌^◌, Ok, Err, Some, None, IfOk, IfErr, OnOk, OnErr, IfSome, IsSome};
 ghost use Rattle.std.specs.Option.{option_map};

@@ -15,6 +15,17 @@ pub enum BookFault {
     Memory,
 }
 
+impl From<u8> for BookFault {
+    ghost use Rattle.std.specs.Prelude.{◌≡◌};
+    ghost use Rattle.r9_images.specs.declared.fault.BookFault.TheVariants as fault;
+
+    ghost from_gives = { λ n e. e ≡ fault.Refused n };
+
+    fn from(number: u8) -> Self {
+        BookFault::Refused(number)
+    }
+}
+
 impl From<Memory> for BookFault {
     ghost use Rattle.std.specs.Prelude.{◌≡◌};
     ghost use Rattle.r9_images.specs.declared.fault.BookFault.TheVariants as fault;

@@ -8,6 +8,7 @@ mod fault;
 mod freed;
 mod freeing;
 mod lists;
+mod naming;
 mod release;
 
 pub use adding::MOST_NAME;

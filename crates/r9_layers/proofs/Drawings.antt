@@ -1,6 +1,7 @@
 -- Drawings: where they are, and what they give.
-use Rattle.std.proofs.Common.{◌≡◌, ◌∙◌, ℕ, ◌+◌, ◌*◌, ◌/◌, ◌%◌, ◌^◌, ◌<◌, ◌&&◌, Bool, true, false, Some, List, int_le, get_or, refl, sym, ap, subst, arith}
-use Rattle.std.specs.Prelude.{if◌then◌else◌}
+use Rattle.std.proofs.Common.{◌≡◌, ◌∙◌, ℕ, ◌+◌, ◌*◌, ◌/◌, ◌%◌, ◌^◌, ◌<◌, ◌&&◌, Bool, true, false, Option, None, Some, List, int_le, get_or, refl, sym, ap, subst, arith}
+use Rattle.std.specs.Prelude.{if◌then◌else◌, IfSome}
+use Rattle.std.specs.Option.{option_map_or}
 use Rattle.std.proofs.lemmas.Bool.{and_parts, or_parts}
 use Rattle.std.proofs.lemmas.Int.{ints}
 use Rattle.std.proofs.lemmas.Nat.{div-add-mod', div_below}
@@ -10,16 +11,16 @@ use Rattle.r9_geom.specs.Geometry.{carried, distance, height, holds, is_empty, p
 use Rattle.r9_geom.proofs.GeometryLemmas.{cell_of, int_le_false, points_span, same_point}
 use Rattle.r9_plane.specs.Pixels.{number_of}
 use Rattle.r9_chan.specs.Op.{number}
-use Rattle.model_pixel.specs.Channels.{depth}
-use Rattle.model_pixel.specs.Composition.{composed_raw}
+use Rattle.model_pixel.specs.Channels.{channels, depth, expand, mask, pack, promoted}
+use Rattle.model_pixel.specs.Composition.{comp, composed_raw}
 use Rattle.model_forest.specs.World.{World, image_at, with_image, IsForest, IsLive}
 use Rattle.model_forest.specs.View.{at, is_bare, view}
-use Rattle.model_forest.specs.Draw.{Drawing, drawn, in_area, with_canvas}
+use Rattle.model_forest.specs.Draw.{Drawing, drawn, in_area, mask_value, with_canvas}
 use Rattle.model_forest.specs.Cost.{area}
 use Rattle.model_forest.proofs.Area.{area_is}
 use Rattle.model_forest.proofs.Raws.{composed_raw_below}
 use Rattle.r9_layers.specs.declared.task.Task.{Task}
-use Rattle.r9_layers.specs.Area.{drawing_of, drawn_on}
+use Rattle.r9_layers.specs.Area.{drawing_of, drawn_on, mask_at, mask_chan}
 use Rattle.r9_layers.proofs.Areas.{area_point, int_le_true, AreaPoint}
 
 -- a rectangle with points that lies in a near one is near, and its max is past its min
@@ -75,15 +76,42 @@ grid_at within pixels P each p inside =
     (same_point (point_at within (distance within.min.x p.x) (distance within.min.y p.y)) p cell.left cell.top)
     (each (distance within.min.x p.x) (distance within.min.y p.y) cell.column cell.row)
 
+-- a full mask lets all through
+full_is : mask 0x38 255 ≡ 255
+unfolding mask expand channels promoted
+full_is = refl
+
+-- what the mask lets through at a point
+mask_is : (world : World) (task : Task) (p : Point) → mask (mask_chan world task.mask) (mask_at world task p) ≡ mask_value world (drawing_of task) p
+mask_is world task p = through task.mask
+  where
+    through : (o : Option ℕ) → mask (mask_chan world o) (option_map_or (λ i. at world i (carried p task.r.min task.mp)) o 255) ≡ option_map_or (λ i. mask (image_at world i).chan (at world i (carried p task.r.min task.mp))) o 255
+    through None = full_is
+    through (Some i) = refl
+
+-- a mask image that gives one pixel everywhere does so wherever it stands
+pub single_is : (world : World) (task : Task) (i : ℕ) (o : Option ℕ) → task.mask ≡ Some i → IfSome o (λ raw. (p : Point) → at world i p ≡ raw) → IfSome o (λ raw. (p : Point) → mask_at world task p ≡ raw)
+single_is world task i None is same = same
+single_is world task i (Some raw) is same = λ p.
+    ap (λ mask. option_map_or (λ j. at world j (carried p task.r.min task.mp)) mask 255) is
+    ∙ same (carried p task.r.min task.mp)
+
 -- a bare point of the target gets what the drawing gives it
 pub drawn_is : (world : World) (task : Task) (p : Point) → drawn_on world task p (view world task.dst p) ≡ drawn world (drawing_of task) p
 unfolding composed_raw
-drawn_is world task p = refl
+drawn_is world task p =
+    ap
+    (λ m. pack (image_at world task.dst).chan
+    (comp (number task.op)
+    (expand (image_at world task.src).chan (at world task.src (carried p task.r.min task.sp)))
+    m
+    (expand (image_at world task.dst).chan (view world task.dst p))))
+    (mask_is world task p)
 
 -- whatever its own pixel is, what a point gets fits the target's channels
 pub drawn_on_below : (world : World) → IsForest world → (task : Task) → IsLive world task.dst → (p : Point) (own : ℕ) → drawn_on world task p own < 2 ^ depth (image_at world task.dst).chan
 drawn_on_below world ok task live p own =
-    composed_raw_below (image_at world task.dst).chan (image_at world task.src).chan (image_at world task.mask).chan (number task.op) (at world task.src (carried p task.r.min task.sp)) (at world task.mask (carried p task.r.min task.mp)) own
+    composed_raw_below (image_at world task.dst).chan (image_at world task.src).chan (mask_chan world task.mask) (number task.op) (at world task.src (carried p task.r.min task.sp)) (mask_at world task p) own
     (ok.images task.dst live).chan
 
 -- the points of the area are those that the drawing is about

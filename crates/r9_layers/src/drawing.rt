@@ -1,7 +1,7 @@
 //! Drawing on an image from a source through a mask (draw(2)): the points that change, and what they get. The source and
 //! the mask are read through their windows; the target changes only where it is bare.
 
-ghost use Rattle.std.specs.Prelude.{◌≡◌, ◌+◌, ◌*◌, ◌^◌, ◌<◌, ◌≤◌, ℕ, false, true, length, slice_index, IsTrue};
+ghost use Rattle.std.specs.Prelude.{◌≡◌, ◌+◌, ◌*◌, ◌^◌, ◌<◌, ◌≤◌, ℕ, false, true, length, slice_index, IfSome, IsTrue};
 ghost use Rattle.r9_geom.specs.declared.Point.{Point as Spot};
 ghost use Rattle.r9_geom.specs.Geometry.{area_of, carried, height, holds, is_empty, point_at, strip, width, IsNear, IsNearBy, IsOrdered, IsRectNear};
 ghost use Rattle.r9_plane.specs.Pixels.{along};
@@ -12,15 +12,22 @@ ghost use Rattle.model_forest.specs.View as model;
 ghost use Rattle.model_forest.specs.View.{is_bare};
 ghost use Rattle.model_forest.specs.World.{image_at, IsLive};
 ghost use Rattle.r9_stack.specs.Table.{numbers, world};
-ghost use Rattle.r9_layers.specs.Area.{drawing_of, drawn_on, IsTaskOf};
+ghost use Rattle.r9_layers.specs.Area.{drawing_of, drawn_on, mask_at, mask_chan, IsTaskOf};
 
 use super::task::Task;
+use r9_chan::Chan;
 use r9_geom::{Point, Rect};
 use r9_mem::{compose, fill};
 use r9_stack::{Images, along, carried_rect};
 
 // How many pixels of a row are composed at a time.
 const BLOCK: usize = 256;
+
+// The word of `k8`, the channels of a full mask.
+const FULL_CHAN: u32 = 0x38;
+
+// The raw pixel that a full mask has everywhere.
+const FULL: u32 = 255;
 
 // The points of r that an image gives a pixel to, where its point `from` stands at `to`.
 fn reach(images: &Images, i: u32, from: Point, to: Point, r: &Rect) -> Rect
@@ -48,7 +55,10 @@ pub fn area(images: &Images, task: &Task) -> Rect
     let within = task.r.meet(&dst.r);
     let cut = within.meet(&dst.clipr).meet(&task.clip);
     let sourced = reach(images, task.src, task.sp, task.r.min, &cut);
-    reach(images, task.mask, task.mp, task.r.min, &sourced)
+    match task.mask {
+        Some(mask) => reach(images, mask, task.mp, task.r.min, &sourced),
+        None => sourced,
+    }
 }
 
 // Reads what an image gives side by side where its point `start` stands at `corner`, from `at` to the right.
@@ -64,6 +74,53 @@ fn read_at(images: &Images, i: u32, at: Point, corner: Point, start: Point, raws
     images.read_row(i, at.carried(corner, start), raws);
 }
 
+// The channels of a full mask.
+#[tactic(auto, unfolding(model_pixel::specs::Channels::channels))]
+fn full_chan() -> Chan
+    ensures { result ≡ 0x38 }
+{
+    match Chan::from_word(FULL_CHAN) {
+        Ok(chan) => chan,
+        Err(_) => unreachable!(),
+    }
+}
+
+// The channels of the mask.
+fn chan_of_mask(images: &Images, mask: Option<u32>) -> Chan
+    requires { IfSome mask (IsLive (world images.now)) }
+    ensures { result ≡ mask_chan (world images.now) mask }
+{
+    match mask {
+        Some(i) => images.info(i).chan,
+        None => full_chan(),
+    }
+}
+
+// The one pixel that the mask has everywhere, where it is full or repeats a single one.
+fn single_mask(images: &Images, task: &Task) -> Option<u32>
+    requires { IsTaskOf (world images.now) task.now }
+    ensures { IfSome result (λ raw. (p : Spot) → mask_at (world images.now) task.now p ≡ raw) }
+{
+    match task.mask {
+        Some(i) => images.single(i),
+        None => Some(FULL),
+    }
+}
+
+// Reads what the mask has over points of the area side by side, from `at` to the right.
+fn read_masks(images: &Images, task: &Task, at: Point, masks: &mut [u32])
+    requires live { IsTaskOf (world images.now) task.now }
+    requires near { IsNear at }
+    requires width { length masks.old ≤ 2 ^ 41 }
+    requires inside { (p : Spot) → IsTrue (holds (strip at (length masks.old)) p) → IsTrue (in_area (world images.now) (drawing_of task.now) p) }
+    ensures { (k : ℕ) → k < length masks.old → slice_index masks.new k ≡ mask_at (world images.now) task.now (along at k) }
+{
+    match task.mask {
+        Some(i) => read_at(images, i, at, task.r.min, task.mp, masks),
+        None => masks.fill(FULL),
+    }
+}
+
 // The pixels that at most a block of points side by side get, from `at` to the right. `row` has their own.
 fn compose_block(images: &Images, task: &Task, at: Point, row: &mut [u32])
     requires live { IsTaskOf (world images.now) task.now }
@@ -77,11 +134,11 @@ fn compose_block(images: &Images, task: &Task, at: Point, row: &mut [u32])
     let mut masks = [0; BLOCK];
     let corner = task.r.min;
     read_at(images, task.src, at, corner, task.sp, &mut sources[..len]);
-    read_at(images, task.mask, at, corner, task.mp, &mut masks[..len]);
+    read_masks(images, task, at, &mut masks[..len]);
     compose(
         images.info(task.dst).chan,
         images.info(task.src).chan,
-        images.info(task.mask).chan,
+        chan_of_mask(images, task.mask),
         task.op,
         row,
         &sources[..len],
@@ -116,11 +173,11 @@ fn compose_row(images: &Images, task: &Task, at: Point, row: &mut [u32])
 {
     images.keeps();
     images.read_bare_row(task.dst, at, row);
-    match (images.single(task.src), images.single(task.mask)) {
+    match (images.single(task.src), single_mask(images, task)) {
         (Some(s), Some(m)) => {
             let dst = images.info(task.dst).chan;
             let src = images.info(task.src).chan;
-            let mask = images.info(task.mask).chan;
+            let mask = chan_of_mask(images, task.mask);
             fill(dst, src, mask, task.op, row, s, m);
         }
         _ => compose_blocks(images, task, at, row),

@@ -1,6 +1,6 @@
 //! A forest of images: every call is one step of the world that it stands for.
 
-ghost use Rattle.std.specs.Prelude.{◌≡◌, ◌+◌, ◌*◌, ◌^◌, ◌<◌, ◌≤◌, ℕ, None, Some, true, length, map, All, IfOk, IsOk, IsSome, IsTrue, OnErr, OnOk};
+ghost use Rattle.std.specs.Prelude.{◌≡◌, ◌+◌, ◌*◌, ◌^◌, ◌<◌, ◌≤◌, ℕ, None, Some, true, length, map, pos, All, IfOk, IsOk, IsSome, IsTrue, OnErr, OnOk};
 ghost use Rattle.r9_geom.specs.declared.Point.{Point as Spot};
 ghost use Rattle.r9_geom.specs.Geometry.{area_of, height, holds, meet, HasPoints, IsNearBy, IsOrdered, IsRectNearBy};
 ghost use Rattle.model_pixel.specs.Channels as channels;
@@ -13,6 +13,7 @@ ghost use Rattle.model_forest.specs.Stack.{after_lower, after_raise, after_windo
 ghost use Rattle.model_forest.specs.Paint.{paint};
 ghost use Rattle.model_forest.specs.View as model;
 ghost use Rattle.model_forest.specs.World.{image_at, parent_of, CanGo, IsForest, IsLive, SameSize};
+ghost use Rattle.r9_layers.specs.Area.{drawing_of, IsTaskOf};
 ghost use Rattle.r9_layers.specs.Told.{info_of};
 
 use super::drawing;
@@ -228,17 +229,60 @@ impl Forest {
         ensures err { OnErr result (world self.new ≡ world self.old) }
         ensures memory { area_of (meet r (image_at (world self.old) dst.0).r) ≤ room self.old → IsOk result }
     {
-        let task = Task {
+        self.run(&Task {
             dst: dst.0,
             clip,
             r,
             src: src.0,
             sp,
-            mask: mask.0,
+            mask: Some(mask.0),
             mp,
             op,
-        };
-        let area = drawing::area(&self.images, &task);
+        })
+    }
+
+    /// The same with a full mask, which shows all of the source.
+    pub fn draw_unmasked(
+        &mut self,
+        dst: ImageNo,
+        clip: Rect,
+        r: Rect,
+        src: ImageNo,
+        sp: Point,
+        op: Op,
+    ) -> Result<(), Memory>
+        requires dst { IsLive (world self.old) dst.0 }
+        requires src { IsLive (world self.old) src.0 }
+        requires near { IsRectNearBy (2 ^ 34) r }
+        requires source_near { IsNearBy (2 ^ 34) sp }
+        ensures ok { OnOk result (world self.new ≡ after_draw (world self.old) (record { dst = dst.0; clip = clip; r = r; src = src.0; sp = sp; mask = None; mp = record { x = pos 0; y = pos 0 }; op = number op })) }
+        ensures numbers { numbers self.new ≡ numbers self.old }
+        ensures room { room self.old ≤ room self.new }
+        ensures err { OnErr result (world self.new ≡ world self.old) }
+        ensures memory { area_of (meet r (image_at (world self.old) dst.0).r) ≤ room self.old → IsOk result }
+    {
+        self.run(&Task {
+            dst: dst.0,
+            clip,
+            r,
+            src: src.0,
+            sp,
+            mask: None,
+            mp: Point { x: 0, y: 0 },
+            op,
+        })
+    }
+
+    // One drawing, through an image or through a full mask.
+    fn run(&mut self, task: &Task) -> Result<(), Memory>
+        requires { IsTaskOf (world self.old) task.now }
+        ensures ok { OnOk result (world self.new ≡ after_draw (world self.old) (drawing_of task.now)) }
+        ensures numbers { numbers self.new ≡ numbers self.old }
+        ensures room { room self.old ≤ room self.new }
+        ensures err { OnErr result (world self.new ≡ world self.old) }
+        ensures memory { area_of (meet task.now.r (image_at (world self.old) task.now.dst).r) ≤ room self.old → IsOk result }
+    {
+        let area = drawing::area(&self.images, task);
         if area.is_empty() {
             return Ok(());
         }
@@ -247,7 +291,7 @@ impl Forest {
             None => return Err(Memory),
         };
         self.room(points)?;
-        drawing::draw(&mut self.images, &task, &area, &mut self.pixels);
+        drawing::draw(&mut self.images, task, &area, &mut self.pixels);
         Ok(())
     }
 

@@ -7,7 +7,7 @@ use r9_chan::Op;
 use r9_geom::{Point, Rect};
 
 /// A drawing on image `dst`, within `clip`, into `r`, of image `src` seen through image `mask`, so that point `sp` of the
-/// source and point `mp` of the mask stand at `r.min`.
+/// source and point `mp` of the mask stand at `r.min`. Where there is no mask, all of the source shows.
 #[derive(Clone, Copy)]
 pub struct Task {
     pub dst: u32,
@@ -15,7 +15,7 @@ pub struct Task {
     pub r: Rect,
     pub src: u32,
     pub sp: Point,
-    pub mask: u32,
+    pub mask: Option<u32>,
     pub mp: Point,
     pub op: Op,
     ghost near: { IsRectNearBy (2 ^ 34) r },

@@ -164,6 +164,27 @@ fn draw(
     Ok(())
 }
 
+// Draws with a full mask.
+fn draw_unmasked(
+    forest: &mut Forest,
+    dst: ImageNo,
+    r: Rect,
+    src: ImageNo,
+    sp: Point,
+    op: Op,
+) -> Result<(), Fail>
+    requires dst { IsLive (world forest.old) dst.0 }
+    requires src { IsLive (world forest.old) src.0 }
+    requires near { IsRectNearBy (2 ^ 34) r }
+    requires source_near { IsNearBy (2 ^ 34) sp }
+    ensures kept { (j : ℕ) → IsLive (world forest.old) j → IsLive (world forest.new) j }
+{
+    let Ok(()) = forest.draw_unmasked(dst, WIDE, r, src, sp, op) else {
+        return Err("memory")?;
+    };
+    Ok(())
+}
+
 // A screen of 1s, a fill of 9s, and two windows.
 #[derive(Clone, Copy)]
 struct Stage {
@@ -262,6 +283,29 @@ fn a_source_repeats_within_its_clip_rectangle(rt: HostRuntime) -> Result<(), Fai
     )?;
     let shown = rows(&forest, line, rect(0, 0, 5, 1))?;
     assert_eq!(rt; shown.as_slice(), [6, 5, 6, 0, 0].as_slice());
+    Ok(())
+}
+
+#[test]
+fn all_shows_without_a_mask(rt: HostRuntime) -> Result<(), Fail> {
+    let mut forest = Forest::new(rt.alloc());
+    let all = rect(0, 0, 4, 1);
+    let line = made(&mut forest, all, "k8", 1)?;
+    let half = made(&mut forest, rect(0, 0, 2, 1), "k8", 128)?;
+    let pair = made(&mut forest, rect(0, 0, 2, 1), "k8", 0)?;
+    let grey = made(&mut forest, rect(0, 0, 1, 1), "k8", 150)?;
+    load(&mut forest, pair, rect(0, 0, 2, 1), &[100, 200])?;
+    repeat(&mut forest, pair, WIDE)?;
+    repeat(&mut forest, grey, WIDE)?;
+    draw(&mut forest, line, all, pair, ORIGIN, half, Op::S)?;
+    let shown = rows(&forest, line, all)?;
+    assert_eq!(rt; shown.as_slice(), [50, 100, 1, 1].as_slice());
+    draw_unmasked(&mut forest, line, all, pair, ORIGIN, Op::S)?;
+    let shown = rows(&forest, line, all)?;
+    assert_eq!(rt; shown.as_slice(), [100, 200, 100, 200].as_slice());
+    draw_unmasked(&mut forest, line, rect(1, 0, 3, 1), grey, ORIGIN, Op::S)?;
+    let shown = rows(&forest, line, all)?;
+    assert_eq!(rt; shown.as_slice(), [100, 150, 150, 200].as_slice());
     Ok(())
 }
 

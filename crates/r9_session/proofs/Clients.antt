@@ -1,11 +1,11 @@
 -- A session's connections as the draw device's.
-use Rattle.std.proofs.Common.{◌≡◌, ◌<◌, ◌≤◌, ◌+◌, ◌^◌, ◌&&◌, ◌||◌, ℕ, zero, suc, Bool, true, false, not, cond, eqb, List, [], ◌∷◌, length, get_or, Option, Some, None, Ok, Err, IsSome, refl, sym, ap, subst, ◌∙◌, arith, All}
+use Rattle.std.proofs.Common.{◌≡◌, ◌<◌, ◌≤◌, ◌+◌, ◌^◌, ◌&&◌, ◌||◌, ℕ, zero, suc, Bool, true, false, not, cond, eqb, List, [], ◌∷◌, length, get_or, Option, Some, None, Ok, IsSome, refl, ap, ◌∙◌, arith, All}
 use Rattle.std.specs.Prelude.{is_some, filter, nat_lt, ◌==◌, ◌++◌}
-use Rattle.std.specs.List.{list_any}
-use Rattle.std.specs.Map.{keys_of}
 use Rattle.std.proofs.lemmas.Bool.{eqb-true}
-use Rattle.model_text.specs.Outcome.{Outcome, ◌>>=◌, refuse_if}
+use Rattle.model_text.specs.Outcome.{◌>>=◌, refuse_if}
 use Rattle.model_text.specs.Map.{lookup}
+use Rattle.model_map.specs.Ascending.{AreAbove, Ascend}
+use Rattle.model_map.proofs.Keys.{eqb-same}
 use Rattle.model_tree.specs.Node.{Node}
 use Rattle.model_tree.specs.Tree.{is_of_connection, is_gone, is_ended, check_live}
 use Rattle.model_draw.specs.World.{World, after_leave, client_of, with_client}
@@ -14,10 +14,8 @@ use Rattle.std.proofs.lemmas.Bool.Decides.{nat_tests}
 use Rattle.model_world.specs.Session.{Session}
 use Rattle.model_world.specs.World.{client}
 use Rattle.model_world.specs.Fids.{view_of}
-use Rattle.model_world.specs.Links.{AreAbove, AreWithin, Ascend, IsLinked, is_among, is_connected}
-use Rattle.model_world.proofs.Maps.{eqb-same}
-use Rattle.model_world.proofs.Connections.{numbers_of}
-use Rattle.model_world.proofs.Links.{among_none, left_others, left_ordered, above_filter, ascend_filter}
+use Rattle.model_world.specs.Links.{AreWithin, IsLinked, is_among, is_connected}
+use Rattle.model_world.proofs.Links.{among_none, left_others, ascend_filter}
 use Rattle.r9_session.specs.Clients.{MayLeave}
 
 first_or_other : (most n : ℕ) (ns : List ℕ) → n ≤ most → All (λ m. m ≤ most) ns → (k d : ℕ) → k < length (n ∷ ns) → get_or (n ∷ ns) k d ≤ most

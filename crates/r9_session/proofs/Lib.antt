@@ -1,5 +1,5 @@
 mod SameKinds
 mod Clients
-mod Listings
 mod Walks
 mod Readings
+mod Begun

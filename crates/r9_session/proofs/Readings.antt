@@ -1,12 +1,13 @@
 -- A read of a session's fid.
-use Rattle.std.proofs.Common.{◌≡◌, ℕ, List, Option, Some, Result, Ok, Err, refl, sym, ap, ◌∙◌}
+use Rattle.std.proofs.Common.{◌≡◌, ℕ, List, Some, Result, Ok, Err, ap, ◌∙◌}
 use Rattle.model_text.specs.Outcome.{Outcome}
 use Rattle.model_text.specs.Map.{lookup, with}
+use Rattle.model_map.proofs.Maps.{with-same}
 use Rattle.model_world.specs.Session.{Fid, Session}
-use Rattle.r9_session.specs.declared.refusal.Fault.{Fault}
-use Rattle.r9_session.specs.declared.refusal.Fault.TheVariants as fault
-use Rattle.r9_session.specs.Reads.{IsRead, IsReadOf}
-use Rattle.model_world.proofs.Maps.{with-same}
+use Rattle.r9_files.specs.declared.fault.Fault.{Fault}
+use Rattle.r9_files.specs.declared.fault.Fault.TheVariants as fault
+use Rattle.r9_files.specs.Reads.{IsRead}
+use Rattle.r9_session.specs.Reads.{IsReadOf}
 
 pub read_of : (old : Session) (fid : ℕ) (r : Result (List ℕ) Fault) (found after : Fid) (fids : List (ℕ × Fid)) (defined : Outcome (Fid × List ℕ))
     → lookup old.fids fid ≡ Some found → IsRead found r after defined → fids ≡ with old.fids fid after → IsReadOf old fid r (record old { fids = fids }) defined

@@ -1,9 +1,9 @@
--- Walks and directories.
-use Rattle.std.proofs.Common.{◌≡◌, ℕ, ◌+◌, ◌≤◌, suc, Bool, true, false, cond, eqb, List, [], ◌∷◌, ◌++◌, length, map, Option, Ok, Err, refl, ap, arith}
+-- Walks.
+use Rattle.std.proofs.Common.{◌≡◌, ℕ, ◌+◌, ◌≤◌, List, [], ◌∷◌, ◌++◌, length, map, Option, Ok, Err, ap, arith}
 use Rattle.std.proofs.lemmas.List.{length-append, length-map}
 use Rattle.model_wire.specs.Message.{Qid}
 use Rattle.model_text.specs.Outcome.{Outcome}
-use Rattle.model_tree.specs.Node.{Node, qid, is_directory}
+use Rattle.model_tree.specs.Node.{Node, qid}
 use Rattle.model_tree.specs.Tree.{View, walk}
 use Rattle.model_world.specs.Walking.{walk_on, walked}
 
@@ -21,12 +21,3 @@ pub few_qids : (view : View) (from : Node) (names : List (List ℕ)) (before aft
     → length after ≤ 16
 few_qids view from names before after none is few =
     omega (arith, ap length is, length-append before (map qid (walked view from names).0), ap length none, length-map (walked view from names).0 qid, walked_few view from names)
-
-kind_of : (b : Bool) → eqb (cond b 0x80 0) 0x80 ≡ b
-kind_of true = refl
-kind_of false = refl
-
--- a directory's qid has a kind of its own
-pub qid_tells : (node : Node) → eqb (qid node).kind 0x80 ≡ is_directory node
-unfolding qid
-qid_tells node = kind_of (is_directory node)

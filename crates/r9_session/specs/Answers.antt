@@ -1,17 +1,16 @@
 -- What a session's answer to a message promises.
-use Rattle.std.specs.Prelude.{◌≡◌, ◌⊎◌, ℕ, Bool, true, false, Option, Some, Result, Ok, Err, None, IsSome}
+use Rattle.std.specs.Prelude.{◌≡◌, ◌⊎◌, ◌==◌, ◌&&◌, not, ℕ, Bool, true, false, Option, Some, Result, Ok, Err, None}
 use Rattle.model_text.specs.Outcome.{Outcome}
-use Rattle.model_wire.specs.Message.{T, Twrite}
+use Rattle.model_wire.specs.Message.{T, Twrite, no_tag, tag_of_t}
 use Rattle.model_wire.specs.Spelling.{FitsR}
-use Rattle.model_text.specs.Map.{lookup}
 use Rattle.model_draw.specs.World.{World}
 use Rattle.model_world.specs.Session.{Session}
-use Rattle.model_world.specs.Fids.{Done, Left, is_bound, is_full, clunked}
-use Rattle.model_world.specs.World.{device_for}
+use Rattle.model_world.specs.Answer.{is_version}
+use Rattle.model_world.specs.Fids.{Done, Left, is_bound, is_full}
 use Rattle.r9_wire.specs.declared.message.Rmsg.{Rmsg}
 use Rattle.r9_wire.specs.View.{r_of}
-use Rattle.r9_session.specs.declared.refusal.Fault.{Fault}
-use Rattle.r9_session.specs.declared.refusal.Fault.TheVariants as fault
+use Rattle.r9_files.specs.declared.fault.Fault.{Fault}
+use Rattle.r9_files.specs.declared.fault.Fault.TheVariants as fault
 use Rattle.r9_session.specs.declared.writing.Answered.{Answered}
 
 -- What is answered is what is defined: the session after it and a reply that can be written, or a refusal, which leaves
@@ -45,12 +44,18 @@ IsFree session fid (Ok _) = (is_bound session fid ≡ false) × (is_full session
 IsFree session fid (Err (fault.Refused n)) = ((is_bound session fid ≡ true) × (n ≡ 33)) ⊎ ((is_bound session fid ≡ false) × (is_full session ≡ true) × (n ≡ 44))
 IsFree session fid (Err fault.Memory) = ⊥
 
--- the fid has gone, and the connection that it alone kept alive, or there was none
-abbrev pub IsClunked : (c : ℕ) (old : Session) (before : World) (fid : ℕ) → Result (Unit {0}) Fault → (new : Session) (after : World) → Type 0
-IsClunked c old before fid (Ok _) new after =
-    IsSome (lookup old.fids fid) × (new ≡ (clunked (device_for c) old before fid).0) × (after ≡ (clunked (device_for c) old before fid).1)
-IsClunked c old before fid (Err (fault.Refused n)) new after = (lookup old.fids fid ≡ None) × (n ≡ 32) × (new ≡ old) × (after ≡ before)
-IsClunked c old before fid (Err fault.Memory) new after = Unit {0}
+-- whether a message lacks its tag, and whether it lacks a version
+abbrev pub lacks_tag : T → Bool
+lacks_tag m = not (is_version m) && (tag_of_t m == no_tag)
+
+abbrev pub lacks_version : Session → T → Bool
+lacks_version session m = not (is_version m) && not session.agreed
+
+-- a message lacks neither, or the refusal tells what it lacks
+abbrev pub IsBegun : Session → T → Result (Unit {0}) Fault → Type 0
+IsBegun session m (Ok _) = (lacks_tag m ≡ false) × (lacks_version session m ≡ false)
+IsBegun session m (Err (fault.Refused n)) = ((lacks_tag m ≡ true) × (n ≡ 30)) ⊎ ((lacks_tag m ≡ false) × (lacks_version session m ≡ true) × (n ≡ 31))
+IsBegun session m (Err fault.Memory) = ⊥
 
 abbrev pub is_write : T → Bool
 is_write (Twrite tag fid offset bytes) = true

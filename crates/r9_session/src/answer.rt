@@ -12,14 +12,15 @@ ghost use Rattle.model_world.specs.Links.{IsLinked};
 ghost use Rattle.model_world.specs.World.{device_for};
 ghost use Rattle.r9_draw.specs.World.{world_of};
 ghost use Rattle.r9_wire.specs.View.{r_of, t_of};
-ghost use Rattle.r9_session.specs.Answers.{IsReach, IsReply, is_write, mark_after};
+ghost use Rattle.r9_session.specs.Answers.{IsBegun, IsReach, IsReply, is_write, mark_after};
 
-use crate::refusal::{
-    BAD_MESSAGE, Fault, MSIZE_TOO_SMALL, NO_AUTHENTICATION, VERSION_FIRST, refusal,
-};
 use crate::session::{MAX_MSIZE, Session};
 use crate::writing::Answered;
 use r9_draw::Draw;
+use r9_files::{
+    BAD_MESSAGE, Fault, MSIZE_TOO_SMALL, NO_AUTHENTICATION, PERMISSION_DENIED, VERSION_FIRST,
+    refusal,
+};
 use r9_memory::Memory;
 use r9_text::Bytes;
 use r9_wire::{NO_TAG, Rmsg, Tmsg, WireFault, read_t};
@@ -165,7 +166,7 @@ impl Session {
                 newfid,
                 names,
             } => self.walk(alloc, *tag, *fid, *newfid, names),
-            Tmsg::Open { tag, fid, mode } => self.open(alloc, device, number, *tag, *fid, *mode),
+            Tmsg::Open { tag, fid, mode } => self.open(alloc, *tag, *fid, *mode, device, number),
             Tmsg::Create { fid, .. } | Tmsg::Wstat { fid, .. } | Tmsg::Write { fid, .. } => {
                 self.deny(*fid)
             }
@@ -175,37 +176,29 @@ impl Session {
                 offset,
                 count,
             } => self.read(alloc, device, number, *tag, *fid, *offset, *count),
-            Tmsg::Clunk { tag, fid } => self.clunk_fid(alloc, device, number, *tag, *fid),
-            Tmsg::Remove { tag, fid } => self.remove(alloc, device, number, *tag, *fid),
+            Tmsg::Clunk { tag, fid } => {
+                self.clunk(alloc, device, number, *fid, Rmsg::Clunk { tag: *tag })
+            }
+            Tmsg::Remove { tag, fid } => {
+                let reply = refusal(alloc, *tag, PERMISSION_DENIED)?;
+                self.clunk(alloc, device, number, *fid, reply)
+            }
             Tmsg::Stat { tag, fid } => self.stat(alloc, *tag, *fid),
         }
     }
 
-    /// Answers a message of a session that has agreed on a version.
-    fn answer_to(
-        &mut self,
-        alloc: Global,
-        device: &mut Draw,
-        number: u32,
-        m: &Tmsg,
-        mark: Option<u32>,
-    ) -> Result<Answered, Fault>
-        requires fits { FitsT (t_of m.now) }
-        requires linked { IsLinked number self.old.made self.old.connections (world_of device.old) }
-        ensures answer { IsReply mark self.old (world_of device.old) result self.new (world_of device.new) (λ k. answer_to (device_for number) self.old (world_of device.old) k (t_of m.now)) }
-        ensures cause { IfOk result (λ a. IfSome a.short (λ k. IsCut number self.old (world_of device.old) mark k (t_of m.now))) }
+    /// Whether a message is answered: each but a Tversion needs a tag and an agreed version.
+    fn check_begun(&self, m: &Tmsg) -> Result<(), Fault>
+        ensures { IsBegun self.now (t_of m.now) result }
     {
-        if let Tmsg::Write {
-            tag,
-            fid,
-            bytes,
-            ..
-        } = m
-        {
-            return self.write(alloc, device, number, *tag, *fid, bytes.as_slice(), mark);
+        let begins = is_version(m);
+        if !begins && tag_of(m) == NO_TAG {
+            return Err(Fault::Refused(BAD_MESSAGE));
         }
-        let reply = self.answer_other(alloc, device, number, m)?;
-        Ok(Answered { reply, short: None })
+        if !begins && !self.agreed {
+            return Err(Fault::Refused(VERSION_FIRST));
+        }
+        Ok(())
     }
 
     /// Answers a message that was read.
@@ -223,14 +216,18 @@ impl Session {
         ensures answer { IsReply mark self.old (world_of device.old) result self.new (world_of device.new) (λ k. answer_read (device_for number) self.old (world_of device.old) k (t_of m.now)) }
         ensures cause { IfOk result (λ a. IfSome a.short (λ k. IsCut number self.old (world_of device.old) mark k (t_of m.now))) }
     {
-        let begins = is_version(m);
-        if !begins && tag_of(m) == NO_TAG {
-            return Err(Fault::Refused(BAD_MESSAGE));
+        self.check_begun(m)?;
+        if let Tmsg::Write {
+            tag,
+            fid,
+            bytes,
+            ..
+        } = m
+        {
+            return self.write(alloc, device, number, *tag, *fid, bytes.as_slice(), mark);
         }
-        if !begins && !self.agreed {
-            return Err(Fault::Refused(VERSION_FIRST));
-        }
-        self.answer_to(alloc, device, number, m, mark)
+        let reply = self.answer_other(alloc, device, number, m)?;
+        Ok(Answered { reply, short: None })
     }
 
     /// Reads a message, and answers it.

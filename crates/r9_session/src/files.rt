@@ -1,56 +1,28 @@
 //! Attaching, walking and telling of files (attach(5), walk(5), stat(5)).
 
 ghost use Rattle.std.specs.Prelude.{◌≡◌, ◌≢◌, ◌≤◌, ◌++◌, ℕ, false, List, length, map, Some, IsSome, IfOk, OnOk, IsErrOf};
-ghost use Rattle.model_tree.specs.Node.{qid, row, is_directory};
+ghost use Rattle.model_tree.specs.Node.{qid};
 ghost use Rattle.model_tree.specs.Node as model;
 ghost use Rattle.model_tree.specs.Tree.{root_of};
 ghost use Rattle.model_text.specs.Map.{lookup};
 ghost use Rattle.model_world.specs.Session.{fid_at};
-ghost use Rattle.model_world.specs.Fids.{with_fid, and_fid, is_bound, is_full, is_kind};
+ghost use Rattle.model_world.specs.Fids.{with_fid, and_fid, is_bound, is_full};
 ghost use Rattle.model_world.specs.Walking.{attach_answer, walk_answer, walk_ended, walked, last};
 ghost use Rattle.model_world.specs.Answer.{stat_answer, denied};
 ghost use Rattle.r9_tree.specs.View.{node_of, view_of, IsNode, IsView};
 ghost use Rattle.r9_session.specs.Answers.{IsAnswer, IsFree};
 
-use crate::fid::Fid;
-use crate::refusal::{
-    FID_IN_USE, FID_IS_OPEN, Fault, NO_AUTHENTICATION, PERMISSION_DENIED, TOO_MANY_FIDS,
-    UNKNOWN_ATTACH, UNKNOWN_FID,
-};
 use crate::session::Session;
 use r9_fids::{FidFault, LIMIT};
+use r9_files::{
+    FID_IN_USE, FID_IS_OPEN, Fault, Fid, NO_AUTHENTICATION, PERMISSION_DENIED, TOO_MANY_FIDS,
+    UNKNOWN_ATTACH, UNKNOWN_FID,
+};
 use r9_memory::Memory;
 use r9_text::Bytes;
 use r9_tree::{Kind, Node, TreeView, check_live, qid, root_of, stat, walk};
 use r9_wire::{NO_FID, Names, Qids, Rmsg};
 use std::alloc::Global;
-
-/// The kind of a directory's qid.
-const DIRECTORY: u8 = 0x80;
-
-/// Whether a file is a directory.
-pub fn is_directory(node: &Node) -> bool
-    requires { IsNode node.now }
-    ensures { result ≡ is_directory (node_of node.now) }
-{
-    qid(node).kind == DIRECTORY
-}
-
-/// The number of a kind.
-#[tactic(auto, unfolding(model_tree::specs::Node::row))]
-fn number_of(kind: Kind) -> u8
-    ensures { result ≡ (row kind).number }
-{
-    kind as u8 + 1
-}
-
-/// Whether a file is of a kind.
-pub fn is_kind(node: &Node, kind: Kind) -> bool
-    requires { IsNode node.now }
-    ensures { result ≡ is_kind kind (node_of node.now).kind }
-{
-    number_of(kind) == node.kind
-}
 
 /// How far a walk came: the file that it stands at, and the refusal of the name that it stopped at.
 #[derive(Clone, Copy)]

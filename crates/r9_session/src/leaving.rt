@@ -3,18 +3,18 @@
 ghost use Rattle.std.specs.Prelude.{◌≡◌, filter, not, IfOk, OnOk};
 ghost use Rattle.std.specs.List.{fold};
 ghost use Rattle.model_world.specs.Answer.{clunk_answer};
-ghost use Rattle.model_world.specs.Fids.{cleared, clunked, is_kept, settled};
+ghost use Rattle.model_world.specs.Fids.{cleared, is_kept, settled};
 ghost use Rattle.model_world.specs.Links.{IsLinked};
 ghost use Rattle.model_world.specs.World.{device_for};
-ghost use Rattle.model_wire.specs.Message.{Rclunk};
-ghost use Rattle.model_world.specs.Refusal.{refusal};
+ghost use Rattle.model_wire.specs.Spelling.{FitsR};
 ghost use Rattle.r9_draw.specs.World.{world_of};
-ghost use Rattle.r9_session.specs.Answers.{IsClunked, IsReach};
+ghost use Rattle.r9_wire.specs.View.{r_of};
+ghost use Rattle.r9_session.specs.Answers.{IsReach};
 ghost use Rattle.r9_session.specs.Clients.{MayLeave};
 
-use crate::refusal::{Fault, PERMISSION_DENIED, UNKNOWN_FID, refusal};
 use crate::session::{Session, client};
 use r9_draw::Draw;
+use r9_files::{Fault, UNKNOWN_FID};
 use r9_memory::Memory;
 use r9_text::Numbers;
 use r9_wire::Rmsg;
@@ -72,57 +72,26 @@ impl Session {
         Ok(())
     }
 
-    /// Lets a fid go, and ends the connection that it alone kept alive.
-    fn clunk(
+    /// Lets a fid go, ends the connection that it alone kept alive, and answers by the reply that is given.
+    #[tactic(auto, unfolding(model_world::specs::Answer::clunk_answer))]
+    pub(crate) fn clunk(
         &mut self,
         alloc: Global,
         device: &mut Draw,
         number: u32,
         fid: u32,
-    ) -> Result<(), Fault>
-        requires { IsLinked number self.old.made self.old.connections (world_of device.old) }
-        ensures { IsClunked number self.old (world_of device.old) fid result self.new (world_of device.new) }
+        reply: Rmsg,
+    ) -> Result<Rmsg, Fault>
+        requires linked { IsLinked number self.old.made self.old.connections (world_of device.old) }
+        requires fits { FitsR (r_of reply) }
+        ensures { IsReach self.old (world_of device.old) result self.new (world_of device.new) (clunk_answer (device_for number) self.old (world_of device.old) fid (r_of reply)) }
     {
         if self.fids.get(fid).is_none() {
             return Err(Fault::Refused(UNKNOWN_FID));
         }
         self.fids.clunk(fid);
         self.settle(alloc, device, number)?;
-        Ok(())
-    }
-
-    /// Lets a fid go.
-    #[tactic(auto, unfolding(model_world::specs::Answer::clunk_answer))]
-    pub(crate) fn clunk_fid(
-        &mut self,
-        alloc: Global,
-        device: &mut Draw,
-        number: u32,
-        tag: u16,
-        fid: u32,
-    ) -> Result<Rmsg, Fault>
-        requires { IsLinked number self.old.made self.old.connections (world_of device.old) }
-        ensures { IsReach self.old (world_of device.old) result self.new (world_of device.new) (clunk_answer (device_for number) self.old (world_of device.old) fid (Rclunk tag)) }
-    {
-        self.clunk(alloc, device, number, fid)?;
-        Ok(Rmsg::Clunk { tag })
-    }
-
-    /// Refuses to remove a file, and lets its fid go.
-    #[tactic(auto, unfolding(model_world::specs::Answer::clunk_answer))]
-    pub(crate) fn remove(
-        &mut self,
-        alloc: Global,
-        device: &mut Draw,
-        number: u32,
-        tag: u16,
-        fid: u32,
-    ) -> Result<Rmsg, Fault>
-        requires { IsLinked number self.old.made self.old.connections (world_of device.old) }
-        ensures { IsReach self.old (world_of device.old) result self.new (world_of device.new) (clunk_answer (device_for number) self.old (world_of device.old) fid (refusal tag 38)) }
-    {
-        self.clunk(alloc, device, number, fid)?;
-        Ok(refusal(alloc, tag, PERMISSION_DENIED)?)
+        Ok(reply)
     }
 
     /// Ends all connections of the session, which has the number that is given. Nothing is said of the device where memory ran

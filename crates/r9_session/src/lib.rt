@@ -2,13 +2,10 @@
 #![tactic(auto)]
 
 mod answer;
-mod fid;
 mod files;
 mod leaving;
-mod listing;
 mod opening;
 mod reading;
-mod refusal;
 mod session;
 mod writing;
 

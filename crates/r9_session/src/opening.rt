@@ -15,12 +15,12 @@ ghost use Rattle.r9_tree.specs.View.{node_of, IsNode};
 ghost use Rattle.r9_wire.specs.View.{r_of};
 ghost use Rattle.r9_session.specs.Answers.{IsReach};
 
-use crate::files::{is_directory, is_kind};
-use crate::refusal::{
-    FID_IS_OPEN, FILE_IN_USE, Fault, PERMISSION_DENIED, TOO_MANY_FIDS, UNKNOWN_FID,
-};
 use crate::session::{Session, client};
 use r9_draw::Draw;
+use r9_files::{
+    FID_IS_OPEN, FILE_IN_USE, Fault, PERMISSION_DENIED, TOO_MANY_FIDS, UNKNOWN_FID, is_directory,
+    is_kind,
+};
 use r9_memory::Memory;
 use r9_tree::{Kind, Node, check_live, may, qid};
 use r9_wire::Rmsg;
@@ -133,11 +133,11 @@ impl Session {
     pub fn open(
         &mut self,
         alloc: Global,
-        device: &mut Draw,
-        number: u32,
         tag: u16,
         fid: u32,
         mode: u8,
+        device: &mut Draw,
+        number: u32,
     ) -> Result<Rmsg, Fault>
         requires { IsLinked number self.old.made self.old.connections (world_of device.old) }
         ensures { IsReach self.old (world_of device.old) result self.new (world_of device.new) (open_answer (device_for number) self.old (world_of device.old) tag fid mode) }

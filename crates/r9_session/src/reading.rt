@@ -16,13 +16,12 @@ ghost use Rattle.r9_tree.specs.View.{node_of, view_of, IsNode, IsView};
 ghost use Rattle.r9_session.specs.Answers.{IsReach};
 ghost use Rattle.r9_session.specs.Reads.{IsGiven, IsReadOf, IsTold};
 
-use crate::files::{is_directory, is_kind};
-use crate::refusal::{
-    DRAW_READ_TOO_SHORT, FID_NOT_OPEN, Fault, PERMISSION_DENIED, TOO_MANY_BLOCKED_READS,
-    UNKNOWN_FID,
-};
 use crate::session::{Session, client};
 use r9_draw::{Draw, DrawFault};
+use r9_files::{
+    DRAW_READ_TOO_SHORT, FID_NOT_OPEN, Fault, PERMISSION_DENIED, TOO_MANY_BLOCKED_READS,
+    UNKNOWN_FID, is_directory, is_kind,
+};
 use r9_memory::Memory;
 use r9_text::Bytes;
 use r9_tree::{Kind, Node, TreeView, check_live};

@@ -6,8 +6,8 @@ ghost use Rattle.model_world.specs.Fids as fids;
 ghost use Rattle.model_world.specs.World.{client};
 ghost use Rattle.r9_tree.specs.View.{view_of, IsView};
 
-use crate::fid::Fid;
 use r9_fids::FidTable;
+use r9_files::Fid;
 use r9_memory::Memory;
 use r9_text::Numbers;
 use r9_tree::TreeView;

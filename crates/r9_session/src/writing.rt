@@ -1,23 +1,26 @@
 //! Writing what is open (write(5)).
 
-ghost use Rattle.std.specs.Prelude.{◌≡◌, ◌<◌, ◌^◌, ℕ, Option, length, None, Ok, true, IfOk, IfSome};
+ghost use Rattle.std.specs.Prelude.{◌≡◌, ◌<◌, ◌^◌, ◌⊎◌, ℕ, Option, length, None, Some, Ok, true, IsSome, IfOk, IfSome};
 ghost use Rattle.model_text.specs.Map.{lookup};
+ghost use Rattle.model_draw.specs.Files.{write_ctl};
+ghost use Rattle.model_draw.specs.Memory.{MayRunOut};
 ghost use Rattle.model_tree.specs.Node.{writes};
 ghost use Rattle.model_tree.specs.Tree.{check_live, is_of_connection};
 ghost use Rattle.model_world.specs.Cut.{IsCutWrite};
 ghost use Rattle.model_world.specs.Fids as fids;
 ghost use Rattle.model_world.specs.Links.{IsLinked};
 ghost use Rattle.model_world.specs.Reading.{file_written, write_answer};
-ghost use Rattle.model_world.specs.World.{client, device_for};
+ghost use Rattle.model_world.specs.World.{client, device_for, written_data};
 ghost use Rattle.r9_draw.specs.World.{world_of};
 ghost use Rattle.r9_tree.specs.View.{node_of, IsNode};
+ghost use Rattle.r9_session.specs.Answers.{mark_after};
+ghost use Rattle.r9_session.specs.Writes.{IsWritten, chosen, left_with};
 
-use crate::files::is_kind;
-use crate::refusal::{
-    FID_NOT_OPEN, Fault, NO_IMAGE_MEMORY, PERMISSION_DENIED, UNKNOWN_FID, refusal,
-};
 use crate::session::Session;
 use r9_draw::{Draw, DrawFault};
+use r9_files::{
+    FID_NOT_OPEN, Fault, NO_IMAGE_MEMORY, PERMISSION_DENIED, UNKNOWN_FID, is_kind, refusal,
+};
 use r9_memory::Memory;
 use r9_tree::{Kind, Node, check_live};
 use r9_wire::Rmsg;
@@ -45,72 +48,51 @@ fn writes(mode: u8) -> bool
     mode % 16 == 1 || mode % 16 == 2
 }
 
+/// Writes messages of a connection to the draw device.
+fn write_data(
+    device: &mut Draw,
+    client: u64,
+    bytes: &[u8],
+    mark: Option<u32>,
+) -> Result<Written, Memory>
+    requires live { IsSome (lookup (world_of device.old).clients client) }
+    requires few { length bytes.now < 2 ^ 32 }
+    ensures written { IfOk result (λ w. written_data client (world_of device.old) bytes.now (mark_after mark w.short) ≡ left_with (world_of device.new) w.refusal) }
+    ensures cause { IfOk result (λ w. IfSome w.short (λ k. (mark ≡ Some k) ⊎ MayRunOut client (world_of device.old) bytes.now k)) }
+{
+    let wrote = device.write(client, bytes, mark)?;
+    if wrote.short {
+        return Ok(Written {
+            refusal: Some(NO_IMAGE_MEMORY),
+            short: Some(wrote.done),
+        });
+    }
+    Ok(Written {
+        refusal: wrote.refusal,
+        short: None,
+    })
+}
+
+/// Chooses the image id that a connection's ctl describes.
+fn write_ctl(device: &mut Draw, client: u64, bytes: &[u8]) -> Result<Written, Fault>
+    requires { IsSome (lookup (world_of device.old).clients client) }
+    ensures written { (mark : Option ℕ) → IsWritten mark (world_of device.old) result (world_of device.new) (λ m. chosen (write_ctl client (world_of device.old) bytes.now)) }
+    ensures whole { IfOk result (λ w. w.short ≡ None) }
+{
+    match device.write_ctl(client, bytes) {
+        Ok(()) => Ok(Written {
+            refusal: None,
+            short: None,
+        }),
+        Err(DrawFault::Refused(refusal)) => Err(Fault::Refused(refusal)),
+        Err(DrawFault::Memory) => Err(Fault::Memory),
+    }
+}
+
 impl Session {
-    ghost use Rattle.std.specs.Prelude.{◌⊎◌, Some};
-    ghost use Rattle.model_draw.specs.Memory.{MayRunOut};
-    ghost use Rattle.model_world.specs.World.{written_data};
     ghost use Rattle.model_tree.specs.declared.Kind.TheVariants.{Data};
     ghost use Rattle.model_world.specs.Fids.{is_kind};
-    ghost use Rattle.r9_session.specs.Answers.{IsReply, mark_after};
-    ghost use Rattle.r9_session.specs.Writes.{IsWritten, left_with};
-
-    /// Writes messages to the draw device.
-    fn write_data(
-        &self,
-        device: &mut Draw,
-        number: u32,
-        node: &Node,
-        bytes: &[u8],
-        mark: Option<u32>,
-    ) -> Result<Written, Memory>
-        requires linked { IsLinked number self.now.made self.now.connections (world_of device.old) }
-        requires node { IsNode node.now }
-        requires of { is_of_connection (node_of node.now).kind ≡ true }
-        requires live { check_live (fids.view_of self.now) (node_of node.now) ≡ Ok tt }
-        requires few { length bytes.now < 2 ^ 32 }
-        ensures written { IfOk result (λ w. written_data (client number (node_of node.now).connection) (world_of device.old) bytes.now (mark_after mark w.short) ≡ left_with (world_of device.new) w.refusal) }
-        ensures cause { IfOk result (λ w. IfSome w.short (λ k. (mark ≡ Some k) ⊎ MayRunOut (client number (node_of node.now).connection) (world_of device.old) bytes.now k)) }
-    {
-        let client = self.client_of(device, number, node);
-        let wrote = device.write(client, bytes, mark)?;
-        if wrote.short {
-            return Ok(Written {
-                refusal: Some(NO_IMAGE_MEMORY),
-                short: Some(wrote.done),
-            });
-        }
-        Ok(Written {
-            refusal: wrote.refusal,
-            short: None,
-        })
-    }
-
-    /// Chooses the image id that a connection's ctl describes.
-    fn write_ctl(
-        &self,
-        device: &mut Draw,
-        number: u32,
-        node: &Node,
-        bytes: &[u8],
-    ) -> Result<Written, Fault>
-        requires linked { IsLinked number self.now.made self.now.connections (world_of device.old) }
-        requires node { IsNode node.now }
-        requires of { is_of_connection (node_of node.now).kind ≡ true }
-        requires ctl { is_kind Kind.Ctl (node_of node.now).kind ≡ true }
-        requires live { check_live (fids.view_of self.now) (node_of node.now) ≡ Ok tt }
-        ensures written { (mark : Option ℕ) → IsWritten mark (world_of device.old) result (world_of device.new) (λ m. file_written (device_for number) (world_of device.old) (node_of node.now) bytes.now m) }
-        ensures whole { IfOk result (λ w. w.short ≡ None) }
-    {
-        let client = self.client_of(device, number, node);
-        match device.write_ctl(client, bytes) {
-            Ok(()) => Ok(Written {
-                refusal: None,
-                short: None,
-            }),
-            Err(DrawFault::Refused(refusal)) => Err(Fault::Refused(refusal)),
-            Err(DrawFault::Memory) => Err(Fault::Memory),
-        }
-    }
+    ghost use Rattle.r9_session.specs.Answers.{IsReply};
 
     /// Writes a file. What opens for writing is ctl and data.
     fn write_file(
@@ -130,10 +112,12 @@ impl Session {
             × ((mark ≡ Some k) ⊎ MayRunOut (client number (node_of node.now).connection) (world_of device.old) bytes.now k))) }
     {
         if is_kind(node, Kind::Ctl) {
-            return self.write_ctl(device, number, node, bytes);
+            let client = self.client_of(device, number, node);
+            return write_ctl(device, client, bytes);
         }
         if is_kind(node, Kind::Data) {
-            return Ok(self.write_data(device, number, node, bytes, mark)?);
+            let client = self.client_of(device, number, node);
+            return Ok(write_data(device, client, bytes, mark)?);
         }
         Err(Fault::Refused(PERMISSION_DENIED))
     }

@@ -25,6 +25,9 @@ stood-windows world i s depth p apart = ap (λ (o : Option Image). (unwrap_or o 
 pub stood-live : (world : World) (i : ℕ) (s : Standing) (depth p : ℕ) → i ≢ p → IsLive world p → IsLive (stood world i s depth) p
 stood-live world i s depth p apart live = ap is_some (stood-other world i s depth p apart) ∙ live
 
+pub live-stood : (start made : World) (i : ℕ) (s : Standing) (depth p : ℕ) → i ≢ p → made ≡ stood start i s depth → IsLive start p → IsLive made p
+live-stood start made i s depth p apart stands live = subst (λ (w : World). IsLive w p) (sym stands) (stood-live start i s depth p apart live)
+
 -- what is read of the list before it has the window
 pub read_stood : (start made : World) (i : ℕ) (s : Standing) (depth p : ℕ) (read : List Window) → i ≢ p → made ≡ stood start i s depth → read ≡ (image_at made p).windows → read ≡ (image_at start p).windows
 read_stood start made i s depth p read apart stands is =
@@ -46,7 +49,7 @@ pub attached : (start made between after : List (Option Kept)) (i : ℕ) (s : St
 attached start made between after i s depth list change apart live stands taken same set is covers =
     let w = world_of made in
     let p = s.parent in
-    let live_still : IsLive w p = subst (λ (v : World). IsLive v p) (sym stands) (stood-live (world_of start) i s depth p apart live) in
+    let live_still : IsLive w p = live-stood (world_of start) w i s depth p apart stands live in
     let ws = (image_at w p).windows in
     let F : List Window → Type 0 = λ l. seen (image_at w p).r l (pixels_at made p) ≡ seen (image_at w p).r l (uncovered w p) in
     let shown : seen (image_at w p).r list (pixels_at made p) ≡ seen (image_at w p).r list (uncovered w p) =

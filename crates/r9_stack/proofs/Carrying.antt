@@ -1,5 +1,5 @@
 -- Points carried along with a corner.
-use Rattle.std.proofs.Common.{◌≡◌, ℕ, ◌+◌, ◌^◌, ◌<◌, ◌≤◌, true, refl, arith}
+use Rattle.std.proofs.Common.{◌≡◌, ◌∙◌, ℕ, ◌+◌, ◌^◌, ◌<◌, ◌≤◌, true, refl, sym, arith}
 use Rattle.std.proofs.lemmas.Int.{ints}
 use Rattle.r9_geom.specs.declared.Point.{Point}
 use Rattle.r9_geom.specs.Geometry.{carried, distance, holds, strip, IsNear, IsNearBy}
@@ -47,6 +47,11 @@ strip-along at p n k m fits h =
       top = omega (arith, ints, b.top);
       bottom = omega (arith, ints, b.bottom);
     })
+
+-- the same of a part from a point that was counted
+pub strip-part : (at first p : Point) (n k m : ℕ) {size : ℕ} → first ≡ along at n → k ≡ size → n + size ≤ m → holds (strip first k) p ≡ true → holds (strip at m) p ≡ true
+strip-part at first p n k m is long fits h =
+    strip-along at p n _ m fits ((λ i. holds (strip (sym is i) (sym long i)) p) ∙ h)
 
 -- the column of a point of a strip
 pub strip_column : (at p : Point) (n : ℕ) → holds (strip at n) p ≡ true → distance at.x p.x < n

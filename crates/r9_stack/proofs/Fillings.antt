@@ -1,20 +1,21 @@
 -- What is written beneath windows.
-use Rattle.std.proofs.Common.{◌≡◌, ◌∙◌, ℕ, zero, suc, ℤ, pos, ◌+◌, ◌<◌, ◌≤◌, ◌^◌, ◌+ℤ◌, ◌-ℤ◌, ◌<ℤ◌, ◌≤ℤ◌, Bool, true, false, List, [], ◌∷◌, Option, Some, None, length, get_or, take, lit≤, ⊎_elim, inl, inr, refl, sym, ap, arith}
+use Rattle.std.proofs.Common.{◌≡◌, ◌∙◌, ℕ, zero, suc, ℤ, pos, ◌+◌, ◌<◌, ◌≤◌, ◌^◌, ◌+ℤ◌, ◌<ℤ◌, ◌≤ℤ◌, Bool, true, false, List, [], ◌∷◌, Option, Some, None, length, get_or, take, lit≤, ⊎_elim, inl, inr, refl, sym, ap, arith}
 use Rattle.std.specs.Prelude.{◌&&◌, ◌||◌, ◌==◌, ◌⊎◌, int_le, if◌then◌else◌, is_none, is_some, unwrap_or, cond}
-use Rattle.std.proofs.lemmas.Bool.{false≢true, or_parts}
+use Rattle.std.proofs.lemmas.Bool.{false≢true}
 use Rattle.std.proofs.lemmas.Int.{ints}
 use Rattle.r9_geom.specs.declared.Point.{Point}
 use Rattle.r9_geom.specs.declared.Rect.{Rect}
 use Rattle.r9_geom.specs.Geometry.{distance, holds, is_empty, strip, width, IsNear, IsRectNear, IsRectNearBy}
-use Rattle.r9_geom.proofs.GeometryLemmas.{bounds_of, corner, distance_is, holds_from, int_le_false, near_point, near_wider, same_point, same_tests}
+use Rattle.r9_geom.proofs.GeometryLemmas.{bounds_of, distance_is, holds_from, int_le_false, near_point, near_wider, same_point, same_tests}
 use Rattle.r9_plane.specs.Pixels.{along}
 use Rattle.model_forest.specs.declared.Window.{Window}
 use Rattle.model_forest.specs.Draw.{with_canvas}
-use Rattle.model_forest.specs.View.{is_bare, top_window}
+use Rattle.model_forest.specs.View.{covers, is_bare, top_window}
 use Rattle.model_forest.specs.World.{Image, World, image_at, no_image, with_image, IsForest, IsLive}
 use Rattle.model_forest.proofs.Changes.{World-changed}
-use Rattle.r9_stack.specs.Fills.{covers, IsCovered}
+use Rattle.r9_stack.specs.Fills.{IsCovered}
 use Rattle.r9_stack.proofs.Carrying.{strip_column}
+use Rattle.r9_stack.proofs.Runs.{is_within}
 
 -- nothing that is written where windows cover an image shows
 pub with_canvas-covered : (world : World) (i : ℕ) (area : Point → Bool) (new : Point → ℕ) → IsLive world i → IsCovered world i area → with_canvas world i area new ≡ world
@@ -102,23 +103,16 @@ near_own world i p ok live inside =
 -- a rectangle with points within an image is near
 pub near_within : (world : World) (i : ℕ) (r : Rect) → IsForest world → IsLive world i → is_empty r ≡ false → ((p : Point) → holds r p ≡ true → holds (image_at world i).r p ≡ true) → IsRectNear r
 near_within world i r ok live solid inside =
-    let image = ok.images i live in
-    let own = (image_at world i).r in
-    let parts = or_parts (int_le r.max.x r.min.x) (int_le r.max.y r.min.y) solid in
-    let across = int_le_false r.max.x r.min.x parts.0 in
-    let down = int_le_false r.max.y r.min.y parts.1 in
-    let low = near_own world i r.min ok live (inside r.min (corner r across down)) in
-    let last : Point = record { x = r.max.x -ℤ pos 1; y = r.max.y -ℤ pos 1 } in
-    let last_holds = holds_from r last (record { left = omega (arith, ints); right = omega (arith, ints); top = omega (arith, ints); bottom = omega (arith, ints) }) in
-    let high = bounds_of own last (inside last last_holds) in
-    let far = image.near_max in
+    let is = is_within r (image_at world i).r solid inside in
+    let low = near_own world i r.min ok live is.first in
+    let far = (ok.images i live).near_max in
     record {
       min = low;
       max = record {
-        left = omega (arith, ints, low.left, across);
-        right = omega (arith, ints, high.right, far.right);
-        top = omega (arith, ints, low.top, down);
-        bottom = omega (arith, ints, high.bottom, far.bottom);
+        left = omega (arith, ints, low.left, is.across);
+        right = omega (arith, ints, is.high.right, far.right);
+        top = omega (arith, ints, low.top, is.down);
+        bottom = omega (arith, ints, is.high.bottom, far.bottom);
       };
     }
 
@@ -127,17 +121,11 @@ pub width_own : (world : World) (i : ℕ) (r : Rect) → IsForest world → IsLi
 width_own world i r ok live solid inside =
     let image = ok.images i live in
     let own = (image_at world i).r in
-    let parts = or_parts (int_le r.max.x r.min.x) (int_le r.max.y r.min.y) solid in
-    let across = int_le_false r.max.x r.min.x parts.0 in
-    let down = int_le_false r.max.y r.min.y parts.1 in
-    let low = bounds_of own r.min (inside r.min (corner r across down)) in
-    let last : Point = record { x = r.max.x -ℤ pos 1; y = r.max.y -ℤ pos 1 } in
-    let last_holds = holds_from r last (record { left = omega (arith, ints); right = omega (arith, ints); top = omega (arith, ints); bottom = omega (arith, ints) }) in
-    let high = bounds_of own last (inside last last_holds) in
-    let size = distance_is r.min.x r.max.x (omega (arith, ints, across)) in
+    let is = is_within r own solid inside in
+    let size = distance_is r.min.x r.max.x (omega (arith, ints, is.across)) in
     let whole = distance_is own.min.x own.max.x image.ordered.across in
     let columns : distance own.min.x own.max.x ≤ 2 ^ 35 = image.columns in
-    omega (arith, ints, size, whole, low.left, high.right, columns)
+    omega (arith, ints, size, whole, is.low.left, is.high.right, columns)
 
 -- ---- the windows of a list, one after the other
 

@@ -35,6 +35,10 @@ pub row_lies : (r : Rect) (at q : Point) (row n : ℕ) → n ≡ width r → IsO
 row_lies r at q row n whole ordered is h =
     row_inside r at q row ordered is.left is.top is.below (ap (λ m. holds (strip at m) q) (sym whole) ∙ h)
 
+-- the same from the point at which the row begins
+pub row_of : (r : Rect) (at q : Point) (row n : ℕ) → at ≡ point_at r 0 row → row < height r → n ≡ width r → IsOrdered r → holds (strip at n) q ≡ true → holds r q ≡ true
+row_of r at q row n is below whole ordered h = row_lies r at q row n whole ordered (begins_row r at row is below) h
+
 -- the pixel of a point of a row
 pub grid_pixel : (r : Rect) (pixels : List ℕ) (at q : Point) (row w : ℕ) → w ≡ width r → IsOrdered r → BeginsRow r at row → holds (strip at (width r)) q ≡ true → get_or (grid_row pixels row w) (distance at.x q.x) 0 ≡ get_or pixels (number_of r q) 0
 grid_pixel r pixels at q row w whole ordered is h =

@@ -1,14 +1,15 @@
 -- What an image shows in a row: its own pixels, and over them what its windows show, from the last to the first.
 use Rattle.std.proofs.Common.{◌≡◌, ◌∙◌, ℕ, suc, zero, pos, ◌+◌, ◌-◌, ◌<◌, ◌≤◌, ◌^◌, ◌&&◌, ◌||◌, ◌≤ℤ◌, ◌<ℤ◌, ◌+ℤ◌, Bool, true, false, List, [], ◌∷◌, Option, Some, None, drop, get_or, length, refl, sym, ap, ⊎_elim, arith}
-use Rattle.std.specs.Prelude.{if◌then◌else◌, int_le, is_none, nat_le, nat_lt}
+use Rattle.std.specs.Prelude.{if◌then◌else◌, is_none, nat_le, nat_lt}
 use Rattle.std.specs.Option.{option_map_or}
-use Rattle.std.proofs.lemmas.Bool.{and_from, and_parts, cases_lt, cond-false, cond-true, false≢true, le-leb, leb-true, lt-ltb, ltb-true, or_parts}
+use Rattle.std.proofs.lemmas.Bool.{and_from, and_parts, cases_lt, cond-false, cond-true, false≢true, le-leb, leb-true, lt-ltb, ltb-true}
 use Rattle.std.proofs.lemmas.List.{nil_from_length}
-use Rattle.std.proofs.lemmas.Int.{ints, clamps}
+use Rattle.std.proofs.lemmas.Int.{ints}
 use Rattle.r9_geom.specs.declared.Point.{Point}
 use Rattle.r9_geom.specs.declared.Rect.{Rect}
 use Rattle.r9_geom.specs.Geometry.{carried, distance, height, holds, is_empty, meet, point_at, strip, width, IsNearBy, IsOrdered}
-use Rattle.r9_geom.proofs.GeometryLemmas.{band, band_more, bounds_of, corner, distance_is, empty_holds, holds-meet, holds_from, int_le_false, same_point, same_tests, strip_here}
+use Rattle.r9_geom.proofs.GeometryLemmas.{band, band_more, bounds_of, corner, distance_is, empty_holds, holds-meet, holds_from, same_point, same_tests, strip_here}
+use Rattle.r9_geom.proofs.MinusLemmas.{inner_of}
 use Rattle.r9_plane.specs.Pixels.{along}
 use Rattle.model_forest.specs.declared.Window.{Window}
 use Rattle.model_forest.specs.Paint.{paint}
@@ -76,19 +77,13 @@ pub record IsRowPart (from : Point) (n : ℕ) (part : Rect) : Type 0 where
 
 pub row_part : (from : Point) (n : ℕ) (place part : Rect) → part ≡ meet (strip from n) place → is_empty part ≡ false → IsRowPart from n part
 row_part from n place part is some =
-    let solid = or_parts (int_le part.max.x part.min.x) (int_le part.max.y part.min.y) some in
-    let wide = int_le_false part.max.x part.min.x solid.0 in
-    let tall = int_le_false part.max.y part.min.y solid.1 in
-    let left = ap (λ (r : Rect). r.min.x) is in
-    let right = ap (λ (r : Rect). r.max.x) is in
-    let top = ap (λ (r : Rect). r.min.y) is in
-    let bottom = ap (λ (r : Rect). r.max.y) is in
+    let inner = inner_of (strip from n) place part is some in
     record {
-      left = omega (arith, ints, clamps);
-      some = wide;
-      right = omega (arith, ints, clamps);
-      top = omega (arith, ints, clamps);
-      bottom = omega (arith, ints, clamps);
+      left = inner.left;
+      some = inner.across;
+      right = inner.right;
+      top = omega (arith, ints, inner.top, inner.down, inner.bottom);
+      bottom = omega (arith, ints, inner.top, inner.down, inner.bottom);
     }
 
 pub columns_ordered : (from : Point) (n : ℕ) (part : Rect) (start end : ℕ) → IsRowPart from n part → start ≡ distance from.x part.min.x → end ≡ distance from.x part.max.x → start ≤ end

@@ -6,7 +6,7 @@ use Rattle.std.proofs.lemmas.Int.{ints}
 use Rattle.r9_geom.specs.declared.Point.{Point}
 use Rattle.r9_geom.specs.declared.Rect.{Rect}
 use Rattle.r9_geom.specs.Geometry.{distance, holds, is_empty, strip}
-use Rattle.r9_geom.proofs.GeometryLemmas.{bounds_of, corner, distance_is, holds_from, int_le_false, same_point, same_tests}
+use Rattle.r9_geom.proofs.GeometryLemmas.{bounds_of, corner, distance_is, holds_from, int_le_false, same_point, same_tests, Bounds}
 use Rattle.r9_plane.specs.Pixels.{along}
 use Rattle.r9_plane.proofs.PlaneLemmas.{along_holds}
 use Rattle.model_pixel.specs.Channels.{expand, pack}
@@ -17,23 +17,43 @@ use Rattle.r9_stack.specs.Fills.{fill_at, IsRun}
 use Rattle.r9_stack.proofs.Parts.{put_mid_before, put_mid_behind, put_mid_inside}
 use borrow.Rule.Slice.PartMut.{put_mid}
 
+-- a rectangle with points, which another holds, and its first and last point
+pub record IsWithin (r own : Rect) : Type 0 where
+  pub across : r.min.x <ℤ r.max.x
+  pub down : r.min.y <ℤ r.max.y
+  pub first : holds own r.min ≡ true
+  pub low : Bounds own r.min
+  pub high : Bounds own (record { x = r.max.x -ℤ pos 1; y = r.max.y -ℤ pos 1 })
+
+pub is_within : (r own : Rect) → is_empty r ≡ false → ((p : Point) → holds r p ≡ true → holds own p ≡ true) → IsWithin r own
+is_within r own solid all =
+    let parts = or_parts (int_le r.max.x r.min.x) (int_le r.max.y r.min.y) solid in
+    let across = int_le_false r.max.x r.min.x parts.0 in
+    let down = int_le_false r.max.y r.min.y parts.1 in
+    let first = all r.min (corner r across down) in
+    let last : Point = record { x = r.max.x -ℤ pos 1; y = r.max.y -ℤ pos 1 } in
+    let last_holds = holds_from r last (record { left = omega (arith, ints); right = omega (arith, ints); top = omega (arith, ints); bottom = omega (arith, ints) }) in
+    record {
+      across = across;
+      down = down;
+      first = first;
+      low = bounds_of own r.min first;
+      high = bounds_of own last (all last last_holds);
+    }
+
 pub run_of : (at : Point) (n : ℕ) (given : Rect) → is_empty given ≡ false → ((p : Point) → holds given p ≡ true → holds (strip at n) p ≡ true) → IsRun at n given (distance at.x given.min.x) (distance at.x given.max.x)
 run_of at n given solid all =
-    let parts = or_parts (int_le given.max.x given.min.x) (int_le given.max.y given.min.y) solid in
-    let across = int_le_false given.max.x given.min.x parts.0 in
-    let down = int_le_false given.max.y given.min.y parts.1 in
-    let low = bounds_of (strip at n) given.min (all given.min (corner given across down)) in
-    let last : Point = record { x = given.max.x -ℤ pos 1; y = given.max.y -ℤ pos 1 } in
-    let last_holds = holds_from given last (record { left = omega (arith, ints); right = omega (arith, ints); top = omega (arith, ints); bottom = omega (arith, ints) }) in
-    let high = bounds_of (strip at n) last (all last last_holds) in
+    let is = is_within given (strip at n) solid all in
+    let low = is.low in
+    let high = is.high in
     let first = distance_is at.x given.min.x low.left in
-    let end = distance_is at.x given.max.x (omega (arith, ints, low.left, across)) in
+    let end = distance_is at.x given.max.x (omega (arith, ints, low.left, is.across)) in
     record {
-      some = omega (arith, ints, first, end, across);
+      some = omega (arith, ints, first, end, is.across);
       within = omega (arith, ints, end, high.right);
       begins = same_point given.min (along at (distance at.x given.min.x)) (sym first) (omega (arith, ints, low.top, low.bottom));
       ends = sym end;
-      below = omega (arith, ints, low.top, high.bottom, high.top, down, low.bottom);
+      below = omega (arith, ints, low.top, high.bottom, high.top, is.down, low.bottom);
     }
 
 -- they are the points of the rectangle
@@ -134,11 +154,8 @@ run_written P at n given first end old part run long part_long zero written left
 -- a rectangle with points within a row begins at the row or to the right of it
 pub run_low : (at : Point) (n : ℕ) (given : Rect) → is_empty given ≡ false → ((p : Point) → holds given p ≡ true → holds (strip at n) p ≡ true) → (at.x ≤ℤ given.min.x) × (given.min.x <ℤ given.max.x)
 run_low at n given solid all =
-    let parts = or_parts (int_le given.max.x given.min.x) (int_le given.max.y given.min.y) solid in
-    let across = int_le_false given.max.x given.min.x parts.0 in
-    let down = int_le_false given.max.y given.min.y parts.1 in
-    let low = bounds_of (strip at n) given.min (all given.min (corner given across down)) in
-    (low.left, across)
+    let is = is_within given (strip at n) solid all in
+    (is.low.left, is.across)
 
 pub fill_passes : (world : World) (chan fill : ℕ) (p : Point) → reaches (image_at world fill) p ≡ true → pack chan (expand (image_at world fill).chan (at world fill p)) ≡ fill_at world chan fill p
 fill_passes world chan fill p reached = ap (λ b. if b then pack chan (expand (image_at world fill).chan (at world fill p)) else 0) (sym reached)

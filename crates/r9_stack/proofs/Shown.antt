@@ -1,12 +1,12 @@
 -- What a table shows of the pixels that its images have.
-use Rattle.std.proofs.Common.{◌≡◌, ◌∙◌, ℕ, Bool, true, false, List, [], ◌∷◌, Option, Some, None, map, refl, sym, ap, subst}
+use Rattle.std.proofs.Common.{◌≡◌, ◌∙◌, ℕ, ◌<◌, ◌^◌, Bool, true, false, List, [], ◌∷◌, Option, Some, None, length, map, refl, sym, ap, subst, arith}
 use Rattle.std.specs.Prelude.{◌==◌, is_some, option_map, slice_get, unwrap_or, IsSome}
 use Rattle.std.specs.Option.{option_map_or}
 use Rattle.std.proofs.lemmas.Bool.{false≢true}
 use Rattle.model_forest.specs.declared.Standing.{Standing}
 use Rattle.model_forest.specs.declared.Window.{Window}
 use Rattle.model_forest.specs.World.{Image, World, image_at, no_image, parent_of, with_image, IsForest, IsLive}
-use Rattle.model_forest.specs.Stack.{seen, uncovered, with_windows}
+use Rattle.model_forest.specs.Stack.{after_restack, seen, uncovered, with_windows}
 use Rattle.model_forest.specs.View.{is_bare}
 use Rattle.model_forest.proofs.Changes.{with_image-at, with_image-other, World-changed}
 use Rattle.model_forest.proofs.Uncovers.{seen-covers_more, CoversMore-same}
@@ -58,6 +58,16 @@ StandsOn-group world (i ∷ group) first s ok is stands =
 pub list_is : (world : World) (p : ℕ) (image : Image) (windows list : List Window) (order : List Window → List Window) → image_at world p ≡ image → windows ≡ image.windows → list ≡ order windows → list ≡ order (image_at world p).windows
 list_is world p image windows list order here read made = made ∙ ap order (read ∙ sym (ap (λ (im : Image). im.windows) here))
 
+-- the world with that list
+pub StandsOn-listed : (world : World) (group : List ℕ) (p : ℕ) (list : List Window) (order : List Window → List Window) → StandsOn world group p → list ≡ order (image_at world p).windows → with_windows world p list ≡ after_restack order world group
+StandsOn-listed world group p list order stands is = ap (λ (ws : List Window). with_windows world p ws) is ∙ sym (stands.restacked order)
+
+-- which has no more windows
+pub few-reordered : (world : World) (p : ℕ) (list : List Window) (order : List Window → List Window) → IsForest world → IsLive world p → list ≡ order (image_at world p).windows → ((ws : List Window) → length (order ws) ≡ length ws) → length list < 2 ^ 32
+few-reordered world p list order ok live is long =
+    let few : length (image_at world p).windows < 2 ^ 32 = (ok.images p live).few in
+    omega (arith, ap length is ∙ long (image_at world p).windows, few)
+
 -- in an order that covers the same points, an image shows the same pixels of its own
 pub shown-reordered : (slots : List (Option Kept)) (p : ℕ) (list : List Window) (order : List Window → List Window) → IsLive (world_of slots) p → list ≡ order (image_at (world_of slots) p).windows → ((ws : List Window) (q : Point) → is_bare (order ws) q ≡ is_bare ws q) → seen (image_at (world_of slots) p).r list (pixels_at slots p) ≡ seen (image_at (world_of slots) p).r list (uncovered (world_of slots) p)
 shown-reordered slots p list order live is same =
@@ -74,6 +84,11 @@ live-with_image world i n image live = at (n == i) refl
     at : (b : Bool) → (n == i) ≡ b → is_some (with_image world i (Some image) n) ≡ true
     at true e = rw e refl
     at false e = rw e live
+
+-- images go on living where a list is taken
+pub live-taken : (before between : List (Option Kept)) (p n : ℕ) → world_of between ≡ relisted (world_of before) p (pixels_at before p) [] → IsLive (world_of before) n → IsLive (world_of between) n
+live-taken before between p n taken live =
+    subst (λ (w : World). IsLive w n) (sym taken) (live-with_image (world_of before) p n _ live)
 
 relisted-twice : (world : World) (i : ℕ) (pixels : Point → ℕ) (first second : List Window) → relisted (relisted world i pixels first) i pixels second ≡ relisted world i pixels second
 relisted-twice world i pixels first second =

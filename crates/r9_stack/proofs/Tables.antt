@@ -1,6 +1,6 @@
 -- Slots of images and the numbers of those that are empty, through changes of one slot.
-use Rattle.std.proofs.Common.{◌≡◌, ◌≢◌, ◌∙◌, ℕ, ◌+◌, ◌^◌, ◌<◌, ◌≤◌, Bool, true, false, List, [], ◌∷◌, ◌++◌, length, get_or, set, Option, Some, None, ⊎_elim, refl, sym, ap, subst, arith, reverse, Result, Ok, Err}
-use Rattle.std.specs.Prelude.{OnErr, is_some, option_map, unwrap_or, cond}
+use Rattle.std.proofs.Common.{◌≡◌, ◌≢◌, ◌∙◌, ℕ, ◌+◌, ◌^◌, ◌<◌, ◌≤◌, Bool, true, false, List, [], ◌∷◌, ◌++◌, length, get_or, set, Option, Some, None, ⊎_elim, refl, sym, ap, subst, arith, reverse, Result, Ok, Err, Vec, vec_items, vec_len}
+use Rattle.std.specs.Prelude.{OnErr, is_some, option_map, unwrap_or, cond, if◌then◌else◌}
 use Rattle.std.specs.Option.{option_map_or}
 use Rattle.std.proofs.lemmas.Bool.{cases_lt, both_ways}
 use Rattle.std.proofs.lemmas.List.{get_or_read, get_or-set_same, get_or-set_other, get_or_past, get_or_push, get_or_append_left, length-set, length_push, nil_from_length, reverse-append}
@@ -141,7 +141,7 @@ IsTable-push slots kept room is =
     }
 
 -- an image goes, and its number comes back
-pub IsTable-remove : (slots : List (Option Kept)) (spare : List ℕ) (i : ℕ) → i < length slots → is_some (slot_at slots i) ≡ true → IsTable slots spare → IsTable (set slots i None) (spare ++ i ∷ [])
+IsTable-remove : (slots : List (Option Kept)) (spare : List ℕ) (i : ℕ) → i < length slots → is_some (slot_at slots i) ≡ true → IsTable slots spare → IsTable (set slots i None) (spare ++ i ∷ [])
 IsTable-remove slots spare i inside live is =
     let long = length-set slots i None in
     let more = length_push spare i in
@@ -178,11 +178,16 @@ IsTable-remove slots spare i inside live is =
           (cases_lt k (length spare));
     }
 
+-- the same of a number that came back
+pub IsTable-back : (slots : List (Option Kept)) (spare back : List ℕ) (i : ℕ) → IsLive (world_of slots) i → back ≡ spare ++ i ∷ [] → IsTable slots spare → IsTable (set slots i None) back
+IsTable-back slots spare back i live last is =
+    subst (λ (ns : List ℕ). IsTable (set slots i None) ns) (sym last) (IsTable-remove slots spare i (live_below slots i live) (slot_live slots i live) is)
+
 -- while an image lives, not all numbers are back
-pub spare_below : (slots : List (Option Kept)) (spare : List ℕ) (i : ℕ) → i < length slots → is_some (slot_at slots i) ≡ true → IsTable slots spare → length spare < length slots
-spare_below slots spare i inside live is =
-    let some = get_or-le-sum_by weight slots i None inside in
-    let one : weight (slot_at slots i) ≡ 1 = ap (λ b. as_number b) live in
+pub spare_below : (slots : List (Option Kept)) (spare : List ℕ) (i : ℕ) → IsLive (world_of slots) i → IsTable slots spare → length spare < length slots
+spare_below slots spare i live is =
+    let some = get_or-le-sum_by weight slots i None (live_below slots i live) in
+    let one : weight (slot_at slots i) ≡ 1 = ap (λ b. as_number b) (slot_live slots i live) in
     omega (arith, some, one, is.counted)
 
 -- ---- the numbers
@@ -209,11 +214,20 @@ taken_new old new spare back none long same =
     (λ j. record { made = long j; spare = reverse ((same ∙ empty) j) })
     ∙ sym (ap (λ ns. taken_from (length old) (reverse ns)) empty)
 
+-- one that is pushed where there is room comes back last
+pub pushed : (spare back : List ℕ) (i : ℕ) {done : Bool} → back ≡ (if done then spare ++ i ∷ [] else spare) → done ≡ true → back ≡ spare ++ i ∷ []
+pushed spare back i is done = is ∙ ap (λ b. if b then spare ++ i ∷ [] else spare) done
+
 pub given : (old new : List (Option Kept)) (spare back : List ℕ) (i : ℕ) → length new ≡ length old → back ≡ spare ++ i ∷ [] → numbers_of new back ≡ given_back (numbers_of old spare) i
 given old new spare back i long is = λ j. record { made = long j; spare = reversed back spare i is j }
 
 pub numbers_kept : (old new : List (Option Kept)) (spare back : List ℕ) → length new ≡ length old → back ≡ spare → numbers_of new back ≡ numbers_of old spare
 numbers_kept old new spare back long same = λ j. record { made = long j; spare = reverse (same j) }
+
+-- slots that change in place, with no number given out or back
+pub numbers_same : {A : Type 0} (old new : Vec (Option Kept) A) (spare : List ℕ) → vec_len new ≡ vec_len old → numbers_of (vec_items new) spare ≡ numbers_of (vec_items old) spare
+numbers_same old new spare long =
+    numbers_kept (vec_items old) (vec_items new) spare spare (omega (arith, long, old.ok.0, new.ok.0)) refl
 
 pub on_err : {T E P : Type 0} (r : Result T E) → P → OnErr r P
 on_err (Ok x) p = tt

@@ -6,11 +6,12 @@ use Rattle.r9_geom.specs.declared.Point.{Point}
 use Rattle.r9_geom.specs.Geometry.{distance, holds, IsRectNear}
 use Rattle.r9_geom.proofs.GeometryLemmas.{distance_is}
 use Rattle.model_forest.specs.declared.Window.{Window}
+use Rattle.model_forest.specs.View.{covers}
 use Rattle.model_forest.specs.World.{World, fill_of, image_at, IsForest, IsLive, IsWindowOf}
 use Rattle.model_forest.specs.Stack.{seen, uncovered, with_windows}
 use Rattle.model_forest.proofs.Uncovers.{seen-filled, Uncovers}
 use Rattle.r9_stack.specs.declared.kept.Kept.{Kept}
-use Rattle.r9_stack.specs.Fills.{covers, fill_at}
+use Rattle.r9_stack.specs.Fills.{fill_at}
 use Rattle.r9_stack.specs.Images.{pixels_at, world_of}
 use Rattle.r9_stack.specs.Lists.{relisted}
 use Rattle.r9_stack.proofs.Shown.{canvas_shows, list_changed}

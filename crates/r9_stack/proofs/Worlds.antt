@@ -1,17 +1,20 @@
 -- Worlds of kept images, through changes of one slot.
-use Rattle.std.proofs.Common.{◌≡◌, ◌∙◌, ℕ, ◌<◌, ◌&&◌, Bool, true, false, List, [], ◌∷◌, ◌++◌, Option, Some, None, length, reverse, set, refl, sym, ap, subst, arith}
+use Rattle.std.proofs.Common.{◌≡◌, ◌∙◌, ℕ, ◌<◌, ◌^◌, ◌&&◌, Bool, true, false, List, [], ◌∷◌, ◌++◌, Option, Some, None, length, reverse, set, refl, sym, ap, subst, arith}
 use Rattle.std.specs.Prelude.{if◌then◌else◌, is_some}
 use Rattle.std.proofs.lemmas.Bool.{false≢true}
 use Rattle.std.proofs.lemmas.List.{reverse-append, reverse-reverse}
 use Rattle.r9_geom.specs.declared.Point.{Point}
 use Rattle.r9_geom.specs.declared.Rect.{Rect}
-use Rattle.r9_geom.specs.Geometry.{holds}
+use Rattle.r9_geom.specs.Geometry.{holds, IsOrdered, IsRectNearBy}
+use Rattle.model_pixel.specs.Channels.{depth, is_descriptor}
 use Rattle.model_forest.specs.declared.Window.{Window}
 use Rattle.model_forest.specs.Draw.{with_canvas}
 use Rattle.model_forest.specs.Numbers.{next_number, next_of}
 use Rattle.model_forest.specs.Stack.{seen}
+use Rattle.model_forest.specs.Steps.{after_image, new_image}
 use Rattle.model_forest.specs.View.{is_bare}
-use Rattle.model_forest.specs.World.{Image, image_at, with_image, IsForest, IsLive}
+use Rattle.model_forest.specs.World.{Image, with_image, IsForest, IsLive}
+use Rattle.model_forest.proofs.Steps.{IsForest-after_image}
 use Rattle.r9_stack.specs.declared.kept.Kept.{Kept}
 use Rattle.r9_stack.specs.Images.{image_of, numbers_of, pixels_of, slot_at, world_of, IsTable}
 use Rattle.r9_stack.proofs.Tables.{image_is, last_free, slot_none, slot_past, world_of-push, world_of-set}
@@ -39,16 +42,17 @@ next_free slots spare is = by_cases (reverse spare) refl
         ap (λ ks. world_of slots (next_of (length slots) ks)) e
         ∙ slot_none slots n (last_free slots spare (reverse ns) n spare_is is)
 
+-- the table with an image of one raw pixel under it
+pub IsForest-made : (slots : List (Option Kept)) (spare : List ℕ) (r : Rect) (chan raw : ℕ) (image : Image) → IsTable slots spare → image ≡ new_image r chan raw → is_descriptor chan ≡ true → raw < 2 ^ depth chan → IsRectNearBy (2 ^ 34) r → IsOrdered r → IsForest (world_of slots) → IsForest (with_image (world_of slots) (next_number (numbers_of slots spare)) (Some image))
+unfolding after_image
+IsForest-made slots spare r chan raw image table is lawful fits near ordered ok =
+    subst (λ (im : Image). IsForest (with_image (world_of slots) (next_number (numbers_of slots spare)) (Some im))) (sym is)
+    (IsForest-after_image (world_of slots) (next_number (numbers_of slots spare)) r chan raw (next_free slots spare table) lawful fits near ordered ok)
+
 -- where an image was pushed, or not
 pub IsForest-pushed : (b : Bool) (slots : List (Option Kept)) (kept : Kept) → IsForest (with_image (world_of slots) (length slots) (Some (image_of kept))) → IsForest (world_of slots) → IsForest (world_of (if b then slots ++ Some kept ∷ [] else slots))
 IsForest-pushed true slots kept ok was = subst IsForest (sym (world_of-push slots kept)) ok
 IsForest-pushed false slots kept ok was = was
-
--- a slot whose image changed
-pub world_of-changed : (slots : List (Option Kept)) (i : ℕ) (old new : Kept) (change : Image → Image) → i < length slots → slot_at slots i ≡ Some old → image_of new ≡ change (image_of old) → world_of (set slots i (Some new)) ≡ with_image (world_of slots) i (Some (change (image_at (world_of slots) i)))
-world_of-changed slots i old new change below is image =
-    world_of-set slots i (Some new) below
-    ∙ ap (λ (im : Image). with_image (world_of slots) i (Some im)) (image ∙ ap change (sym (image_is slots i old is)))
 
 -- what is written shows where nothing stands
 pub seen-written : (r : Rect) (windows : List Window) (area : Point → Bool) (value old new : Point → ℕ) → ((p : Point) → area p ≡ true → holds r p ≡ true) → ((p : Point) → new p ≡ (if area p then value p else old p)) → (p : Point) → seen r windows new p ≡ (if area p && is_bare windows p then value p else seen r windows old p)

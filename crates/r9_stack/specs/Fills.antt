@@ -1,12 +1,9 @@
 -- What fills the points that a window uncovers.
-use Rattle.std.specs.Prelude.{◌≡◌, ◌<◌, ◌≤◌, ◌+ℤ◌, pos, ℕ, ◌==◌, Bool, ◌&&◌, List, true, false, if◌then◌else◌}
-use Rattle.std.specs.List.{list_any}
+use Rattle.std.specs.Prelude.{◌≡◌, ◌<◌, ◌≤◌, ◌+ℤ◌, pos, ℕ, Bool, true, false, if◌then◌else◌}
 use Rattle.r9_geom.specs.declared.Point.{Point}
 use Rattle.r9_geom.specs.declared.Rect.{Rect}
-use Rattle.r9_geom.specs.Geometry.{holds}
 use Rattle.r9_plane.specs.Pixels.{along}
 use Rattle.model_pixel.specs.Channels.{expand, pack}
-use Rattle.model_forest.specs.declared.Window.{Window}
 use Rattle.model_forest.specs.World.{World, image_at}
 use Rattle.model_forest.specs.View.{at, is_bare}
 use Rattle.model_forest.specs.Draw.{reaches}
@@ -15,10 +12,6 @@ use Rattle.model_forest.specs.Draw.{reaches}
 abbrev pub fill_at : World → ℕ → ℕ → Point → ℕ
 fill_at world chan fill p =
     if reaches (image_at world fill) p then pack chan (expand (image_at world fill).chan (at world fill p)) else 0
-
--- a window of the image covers the point
-abbrev pub covers : ℕ → Point → List Window → Bool
-covers i q ws = list_any (λ w. w.image == i && holds w.place q) ws
 
 -- windows cover each of these points of the image
 abbrev pub IsCovered : World → ℕ → (Point → Bool) → Type 0

@@ -8,13 +8,14 @@ ghost use Rattle.model_pixel.specs.Channels as channels;
 ghost use Rattle.model_pixel.specs.Channels.{expand, pack};
 ghost use Rattle.r9_plane.specs.Pixels.{along};
 ghost use Rattle.model_forest.specs.Draw.{reaches};
+ghost use Rattle.model_forest.specs.View.{covers};
 ghost use Rattle.model_forest.specs.World.{image_at, IsLive};
-ghost use Rattle.r9_stack.specs.Fills.{covers, fill_at, IsCovered, IsRun};
+ghost use Rattle.r9_stack.specs.Fills.{fill_at, IsCovered, IsRun};
 ghost use Rattle.r9_stack.specs.Images.{image_of};
 
 use super::images::Images;
 use super::kept::Kept;
-use super::reading::along;
+use super::reading::{Columns, along};
 use model_forest::Window;
 use r9_chan::Chan;
 use r9_geom::{Point, Rect, distance};
@@ -22,13 +23,28 @@ use r9_geom::{Point, Rect, distance};
 // How many pixels of a row are filled at a time.
 const BLOCK: usize = 256;
 
-// Pixels of some channels become those of others.
+// A pixel of some channels as one of others.
+fn converted(from: &Chan, to: &Chan, raw: u32) -> u32
+    ensures value { result ≡ pack to.now (expand from.now raw) }
+    ensures range { result < 2 ^ channels.depth to.now }
+{
+    to.pack(from.expand(raw))
+}
+
+// Pixels of some channels become those of others. Most fills are of one colour, so a pixel that is equal to the one before
+// it is not converted again.
 fn convert(from: &Chan, to: &Chan, raws: &mut [u32])
     ensures value { (k : ℕ) → k < length raws.old → slice_index raws.new k ≡ pack to.now (expand from.now (slice_index raws.old k)) }
     ensures range { (k : ℕ) → k < length raws.old → slice_index raws.new k < 2 ^ channels.depth to.now }
 {
+    let mut last = 0;
+    let mut value = converted(from, to, last);
     for k in 0..raws.len() {
-        raws[k] = to.pack(from.expand(raws[k]));
+        if raws[k] != last {
+            last = raws[k];
+            value = converted(from, to, last);
+        }
+        raws[k] = value;
     }
 }
 
@@ -44,20 +60,14 @@ fn reached(image: &Kept, r: &Rect) -> Rect
     }
 }
 
-// The columns of a run of a row: from the first up to the end, counted from the start of the row.
-struct Columns {
-    first: usize,
-    end: usize,
-}
-
 // The columns of a row that a rectangle within it holds.
 fn columns_in(at: Point, count: usize, given: &Rect) -> Columns
     requires some { is_empty given.now ≡ false }
     requires inside { (p : Spot) → IsTrue (holds given.now p) → IsTrue (holds (strip at count) p) }
-    ensures { IsRun at count given.now result.first result.end }
+    ensures { IsRun at count given.now result.start result.end }
 {
     Columns {
-        first: distance(at.x, given.min.x) as usize,
+        start: distance(at.x, given.min.x) as usize,
         end: distance(at.x, given.max.x) as usize,
     }
 }
@@ -106,8 +116,8 @@ impl Images {
         if given.is_empty() {
             return;
         }
-        let Columns { first, end } = columns_in(at, raws.len(), &given);
-        let part = &mut raws[first..end];
+        let Columns { start, end } = columns_in(at, raws.len(), &given);
+        let part = &mut raws[start..end];
         self.read_row(fill, given.min, part);
         convert(&image.chan(), chan, part);
     }

@@ -56,11 +56,11 @@ fn row_from(from: Point, columns: usize) -> Rect
     }
 }
 
-// Some of the columns of a row: from one on, and before another.
+/// Some of the columns of a row, counted from its start: from one on, and before another.
 #[derive(Clone, Copy, Debug)]
-struct Columns {
-    start: usize,
-    end: usize,
+pub(crate) struct Columns {
+    pub(crate) start: usize,
+    pub(crate) end: usize,
 }
 
 // The columns of a row of so many points, from a point to the right, that a place covers.

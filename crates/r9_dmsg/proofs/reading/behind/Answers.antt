@@ -1,7 +1,8 @@
 use Rattle.std.proofs.Common.{ap, refl, Some, rules, tests}
 use Rattle.model_dmsg.specs.Reading.{table, fields_in, low_b, up_a, low_c, low_d, up_d, low_f, up_f, low_i, low_l, up_n, low_n, low_o, up_o, low_r, low_s, up_s, low_t, low_v, low_x, low_y}
 use Rattle.r9_dmsg.specs.declared.message.Dmsg.TheVariants.{LowV}
-use Rattle.r9_dmsg.proofs.Told.{told, no_room, left_out, unknown, fills-up_n, fills-low_n, fills-low_s, fills-low_t, fills-low_x}
+use Rattle.r9_dmsg.proofs.Told.{told, no_room, left_out, unknown}
+use Rattle.r9_dmsg.proofs.Table.{is_listed}
 use Rattle.r9_dmsg.proofs.reading.behind.Goals as goal
 
 pub returns-in-98-clause-told : goal.returns-in-98-clause-told
@@ -33,7 +34,7 @@ returns-in-108-clause-told c = told c.args.letter low_l _ _ _ (ap (fields_in tab
 
 pub returns-in_err-up_n-in-78-clause-told : goal.returns-in_err-up_n-in-78-clause-told
 returns-in_err-up_n-in-78-clause-told c =
-    no_room c.args.letter up_n _ _ (ap (fields_in table) c.in-78.is) c.from_residual.ensures.1 (fills-up_n _ c.in_err-up_n-in-78.ensures.whole)
+    no_room c.args.letter up_n _ _ (ap (fields_in table) c.in-78.is) (ap is_listed c.in-78.is) c.from_residual.ensures.1 c.in_err-up_n-in-78.ensures.whole
 
 pub returns-in_ok-up_n-in-78-clause-told : goal.returns-in_ok-up_n-in-78-clause-told
 returns-in_ok-up_n-in-78-clause-told c =
@@ -41,7 +42,7 @@ returns-in_ok-up_n-in-78-clause-told c =
 
 pub returns-in_err-low_n-in-110-clause-told : goal.returns-in_err-low_n-in-110-clause-told
 returns-in_err-low_n-in-110-clause-told c =
-    no_room c.args.letter low_n _ _ (ap (fields_in table) c.in-110.is) c.from_residual-in_err-low_n-in-110.ensures.1 (fills-low_n _ c.in_err-low_n-in-110.ensures.whole)
+    no_room c.args.letter low_n _ _ (ap (fields_in table) c.in-110.is) (ap is_listed c.in-110.is) c.from_residual-in_err-low_n-in-110.ensures.1 c.in_err-low_n-in-110.ensures.whole
 
 pub returns-in_ok-low_n-in-110-clause-told : goal.returns-in_ok-low_n-in-110-clause-told
 returns-in_ok-low_n-in-110-clause-told c =
@@ -58,7 +59,7 @@ returns-in-114-clause-told c = told c.args.letter low_r _ _ _ (ap (fields_in tab
 
 pub returns-in_err-low_s-in-115-clause-told : goal.returns-in_err-low_s-in-115-clause-told
 returns-in_err-low_s-in-115-clause-told c =
-    no_room c.args.letter low_s _ _ (ap (fields_in table) c.in-115.is) c.from_residual-in_err-low_s-in-115.ensures.1 (fills-low_s _ c.in_err-low_s-in-115.ensures.whole)
+    no_room c.args.letter low_s _ _ (ap (fields_in table) c.in-115.is) (ap is_listed c.in-115.is) c.from_residual-in_err-low_s-in-115.ensures.1 c.in_err-low_s-in-115.ensures.whole
 
 pub returns-in_ok-low_s-in-115-clause-told : goal.returns-in_ok-low_s-in-115-clause-told
 returns-in_ok-low_s-in-115-clause-told c =
@@ -69,7 +70,7 @@ returns-in-83-clause-told c = told c.args.letter up_s _ _ _ (ap (fields_in table
 
 pub returns-in_err-low_t-in-116-clause-told : goal.returns-in_err-low_t-in-116-clause-told
 returns-in_err-low_t-in-116-clause-told c =
-    no_room c.args.letter low_t _ _ (ap (fields_in table) c.in-116.is) c.from_residual-in_err-low_t-in-116.ensures.1 (fills-low_t _ c.in_err-low_t-in-116.ensures.whole)
+    no_room c.args.letter low_t _ _ (ap (fields_in table) c.in-116.is) (ap is_listed c.in-116.is) c.from_residual-in_err-low_t-in-116.ensures.1 c.in_err-low_t-in-116.ensures.whole
 
 pub returns-in_ok-low_t-in-116-clause-told : goal.returns-in_ok-low_t-in-116-clause-told
 returns-in_ok-low_t-in-116-clause-told c =
@@ -81,7 +82,7 @@ returns-in-118-clause-told c = told c.args.letter low_v (Some LowV) _ _ (ap (fie
 
 pub returns-in_err-low_x-in-120-clause-told : goal.returns-in_err-low_x-in-120-clause-told
 returns-in_err-low_x-in-120-clause-told c =
-    no_room c.args.letter low_x _ _ (ap (fields_in table) c.in-120.is) c.from_residual-in_err-low_x-in-120.ensures.1 (fills-low_x _ c.in_err-low_x-in-120.ensures.whole)
+    no_room c.args.letter low_x _ _ (ap (fields_in table) c.in-120.is) (ap is_listed c.in-120.is) c.from_residual-in_err-low_x-in-120.ensures.1 c.in_err-low_x-in-120.ensures.whole
 
 pub returns-in_ok-low_x-in-120-clause-told : goal.returns-in_ok-low_x-in-120-clause-told
 returns-in_ok-low_x-in-120-clause-told c =

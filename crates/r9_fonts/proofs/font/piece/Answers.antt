@@ -1,9 +1,15 @@
-use Rattle.std.proofs.Common.{ap, refl, ◌∙◌, arith}
+use Rattle.std.proofs.Common.{ap, refl, subst, sym, ◌∙◌, arith}
 use Rattle.std.proofs.lemmas.Int.{ints}
 use Rattle.r9_geom.specs.Geometry.{at_min}
-use Rattle.r9_fonts.proofs.Strings.{same_point, same_piece}
+use Rattle.r9_fonts.specs.Near.{IsPieceNear}
+use Rattle.r9_fonts.proofs.Strings.{piece_near, same_point, same_piece}
 use Rattle.r9_fonts.proofs.font.piece.Goals as goal
 
-pub returns : goal.returns
-returns c =
+pub returns-clause-value : goal.returns-clause-value
+returns-clause-value c =
     same_piece _ _ (c.at_min.ensures ∙ ap (at_min c.args.cell.r) (same_point _ _ (omega (arith, ints)) (omega (arith, ints)))) (same_point _ _ (omega (arith, ints)) (omega (arith, ints))) refl
+
+pub returns-clause-near : goal.returns-clause-near
+returns-clause-near c =
+    subst IsPieceNear (sym (returns-clause-value c))
+    (piece_near c.args.ascent c.args.p c.args.sp c.args.cell (omega (arith, ints)) (omega (arith, ints)) (omega (arith, ints)) c.requires.p c.requires.sp c.requires.cell)

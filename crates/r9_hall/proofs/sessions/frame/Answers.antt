@@ -1,12 +1,11 @@
 use Rattle.std.proofs.Common.{rules, ◌≡◌, Option, Some, sym, ap, subst, ◌∙◌}
 use Rattle.std.specs.Option.{option_copied_mut}
 use Rattle.model_text.specs.Map.{lookup, with}
+use Rattle.model_map.proofs.Keys.{lookup_at, with-written}
 use Rattle.model_world.specs.Session.{Session}
 use Rattle.model_world.proofs.Steps.{linked_of}
 use Rattle.r9_draw.specs.World.{world_of}
-use Rattle.r9_draw.proofs.Maps.{with-written}
 use Rattle.r9_hall.specs.StateView.{IsServed}
-use Rattle.r9_hall.proofs.Keys.{lookup_at}
 use Rattle.r9_hall.proofs.sessions.frame.Goals as goal
 
 pub answer-requires-clause-linked : goal.answer-requires-clause-linked

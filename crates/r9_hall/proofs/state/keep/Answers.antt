@@ -1,13 +1,17 @@
-use Rattle.std.proofs.Common.{rules, ◌≡◌, ℕ, List, ap, ◌∙◌}
+use Rattle.std.proofs.Common.{rules, ◌≡◌, ℕ, List, Result, Ok, Err, OnOk, ap, ◌∙◌}
 use Rattle.std.specs.Prelude.{[]}
 use Rattle.std.specs.Map.{set_value}
 use Rattle.std.specs.BTreeMap.{insert_entry}
 use Rattle.std.specs.Ordering.{nat_cmp}
 use Rattle.std.specs.Option.{unwrap_or}
 use Rattle.model_text.specs.Map.{is_key, lookup}
+use Rattle.model_map.proofs.Maps.{with-others, and-others}
 use Rattle.r9_hall.specs.StateView.{waiting}
-use Rattle.model_world.proofs.Maps.{on_ok, with-others, and-others}
 use Rattle.r9_hall.proofs.state.keep.Goals as goal
+
+on_ok : {A E P : Type 0} (r : Result A E) → P → OnOk r P
+on_ok (Ok x) p = p
+on_ok (Err e) p = tt
 
 pub returns-in-Some-clause-others : goal.returns-in-Some-clause-others
 returns-in-Some-clause-others c = on_ok c.push_all.result (λ other apart.

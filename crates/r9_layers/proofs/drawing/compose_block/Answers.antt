@@ -6,7 +6,7 @@ use Rattle.r9_chan.specs.Op.{number}
 use Rattle.r9_plane.specs.Pixels.{along}
 use Rattle.model_forest.specs.View.{at}
 use Rattle.r9_stack.specs.Table.{world}
-use Rattle.r9_layers.specs.Area.{drawing_of}
+use Rattle.r9_layers.specs.Area.{drawing_of, mask_at}
 use Rattle.r9_layers.proofs.Areas.{area_point}
 use borrow.Rule.Slice.PartMut.{put_mid}
 use Rattle.r9_layers.proofs.drawing.compose_block.Goals as goal
@@ -31,12 +31,11 @@ read_at-requires-clause-inside c p h =
     (area_point (world c.args.images.now) (drawing_of c.args.task.now) p
     (c.requires.inside p (subst P (short n c.requires.few) h))).source
 
-pub read_at-requires-2-clause-inside : goal.read_at-requires-2-clause-inside
-read_at-requires-2-clause-inside c p h =
+pub read_masks-requires-clause-inside : goal.read_masks-requires-clause-inside
+read_masks-requires-clause-inside c p h =
     let n = length c.args.row.now in
     let P : ℕ → Type 0 = λ m. holds (strip c.args.at m) p ≡ true in
-    (area_point (world c.args.images.now) (drawing_of c.args.task.now) p
-    (c.requires.inside p (subst P (short n c.requires.few) h))).through
+    c.requires.inside p (subst P (short n c.requires.few) h)
 
 pub returns : goal.returns
 returns c k below =
@@ -47,7 +46,7 @@ returns c k below =
     let W = world c.args.images.now in
     let s : get_or (take n (put_mid 0 n block c.read_at.new.raws)) k 0 ≡ at W task.src (carried (along c.args.at k) task.r.min task.sp) =
     written n c.read_at.new.raws k (c.read_at.auto.raws ∙ long) below ∙ c.read_at.ensures k inside in
-    let m : get_or (take n (put_mid 0 n block c.read_at-2.new.raws)) k 0 ≡ at W task.mask (carried (along c.args.at k) task.r.min task.mp) =
-    written n c.read_at-2.new.raws k (c.read_at-2.auto.raws ∙ long) below ∙ c.read_at-2.ensures k inside in
+    let m : get_or (take n (put_mid 0 n block c.read_masks.new.masks)) k 0 ≡ mask_at W task (along c.args.at k) =
+    written n c.read_masks.new.masks k (c.read_masks.auto.masks ∙ long) below ∙ c.read_masks.ensures k inside in
     c.compose.ensures k (omega (arith, c.compose.auto.d, below))
-    ∙ (λ i. composed_raw (c.info.ensures i).chan (c.info-2.ensures i).chan (c.info-3.ensures i).chan (number task.op) (s i) (m i) (get_or c.args.row.now k 0))
+    ∙ (λ i. composed_raw (c.info.ensures i).chan (c.info-2.ensures i).chan (c.chan_of_mask.ensures i) (number task.op) (s i) (m i) (get_or c.args.row.now k 0))

@@ -21,9 +21,9 @@ returns-in-Some-Some-clause-raws c k below bare =
     let task = c.args.task.now in
     let p = along c.args.at k in
     let s = c.in-Some-Some.ensures (carried p task.r.min task.sp) in
-    let m = c.in-Some-Some.ensures' (carried p task.r.min task.mp) in
+    let m = c.in-Some-Some.ensures' p in
     c.fill.ensures k (omega (arith, below, c.fill.auto.d, c.read_bare_row.auto.raws))
-    ∙ (λ i. composed_raw (c.info-dst.ensures i).chan (c.info-src.ensures i).chan (c.info-mask.ensures i).chan (number task.op) (sym s i) (sym m i) (c.read_bare_row.ensures.raws k below bare i))
+    ∙ (λ i. composed_raw (c.info-dst.ensures i).chan (c.info-src.ensures i).chan (c.chan_of_mask-mask.ensures i) (number task.op) (sym s i) (sym m i) (c.read_bare_row.ensures.raws k below bare i))
     ∙ drawn_is W task p
 
 pub returns-in-Some-Some-clause-range : goal.returns-in-Some-Some-clause-range
@@ -33,10 +33,10 @@ returns-in-Some-Some-clause-range c k below =
     let p = along c.args.at k in
     let own = get_or c.read_bare_row.new.raws k 0 in
     let s = c.in-Some-Some.ensures (carried p task.r.min task.sp) in
-    let m = c.in-Some-Some.ensures' (carried p task.r.min task.mp) in
+    let m = c.in-Some-Some.ensures' p in
     let is : get_or c.fill.new.d k 0 ≡ drawn_on W task p own =
     c.fill.ensures k (omega (arith, below, c.fill.auto.d, c.read_bare_row.auto.raws))
-    ∙ (λ i. composed_raw (c.info-dst.ensures i).chan (c.info-src.ensures i).chan (c.info-mask.ensures i).chan (number task.op) (sym s i) (sym m i) own) in
+    ∙ (λ i. composed_raw (c.info-dst.ensures i).chan (c.info-src.ensures i).chan (c.chan_of_mask-mask.ensures i) (number task.op) (sym s i) (sym m i) own) in
     subst (λ (n : ℕ). n < 2 ^ depth (image_at W task.dst).chan) (sym is) (drawn_on_below W c.keeps.ensures task c.requires.live.dst p own)
 
 pub returns-in_default-clause-raws : goal.returns-in_default-clause-raws

@@ -5,8 +5,8 @@ use Rattle.std.proofs.Common.{ℕ}
 use Rattle.r9_geom.specs.Geometry.{IsRectNear}
 use Rattle.model_forest.specs.World.{Image}
 use Rattle.model_forest.specs.Steps.{shifted_image}
-use Rattle.r9_stack.proofs.Tables.{image_is, live_below}
-use Rattle.r9_stack.proofs.Changed.{changed-table, changed-world, found, not_empty}
+use Rattle.r9_stack.proofs.Tables.{live_below}
+use Rattle.r9_stack.proofs.Changed.{changed-table, changed-world, found_image, not_empty}
 use Rattle.r9_stack.proofs.slots.shift.Goals as goal
 
 pub index_mut-requires : goal.index_mut-requires
@@ -14,11 +14,9 @@ index_mut-requires c = omega (arith, live_below c.args.slots.now.items c.args.i 
 
 pub returns-in-Some-clause-world : goal.returns-in-Some-clause-world
 returns-in-Some-clause-world c =
-    let slots = c.args.slots.now.items in
-    let is = found slots c.args.i c.index_mut.result.now c.in-Some.kept c.requires.live c.index_mut.ensures.value c.in-Some.is in
-    changed-world slots c.args.i c.in-Some.kept c.shift.new.self
+    changed-world c.args.slots.now.items c.args.i c.in-Some.kept c.shift.new.self
     (λ (image : Image) (pixels : Point → ℕ). shifted_image image c.args.min)
-    c.requires.live is c.shift.ensures
+    c.requires.live c.index_mut.ensures.value c.in-Some.is c.shift.ensures
 
 pub returns-in-Some-clause-table : goal.returns-in-Some-clause-table
 returns-in-Some-clause-table c = changed-table c.args.slots.now.items c.args.i c.shift.new.self c.requires.live
@@ -29,6 +27,4 @@ returns-in_default c =
 
 pub shift-requires-clause-places : goal.shift-requires-clause-places
 shift-requires-clause-places c =
-    let slots = c.args.slots.now.items in
-    let is = found slots c.args.i c.index_mut.result.now c.in-Some.kept c.requires.live c.index_mut.ensures.value c.in-Some.is in
-    subst (λ (image : Image). All (λ w. IsRectNear w.place) image.windows) (image_is slots c.args.i c.in-Some.kept is) c.requires.places
+    subst (λ (image : Image). All (λ w. IsRectNear w.place) image.windows) (found_image c.args.slots.now.items c.args.i c.requires.live c.index_mut.ensures.value c.in-Some.is) c.requires.places

@@ -4,7 +4,7 @@ use Rattle.r9_geom.specs.declared.Point.{Point}
 use Rattle.std.proofs.Common.{ℕ}
 use Rattle.model_forest.specs.World.{Image}
 use Rattle.r9_stack.proofs.Tables.{live_below}
-use Rattle.r9_stack.proofs.Changed.{changed-pixels, changed-table, changed-world, found, not_empty}
+use Rattle.r9_stack.proofs.Changed.{changed-pixels, changed-table, changed-world, not_empty}
 use Rattle.r9_stack.proofs.slots.stand.Goals as goal
 
 pub index_mut-requires : goal.index_mut-requires
@@ -12,17 +12,13 @@ index_mut-requires c = omega (arith, live_below c.args.slots.now.items c.args.i 
 
 pub returns-in-Some-clause-world : goal.returns-in-Some-clause-world
 returns-in-Some-clause-world c =
-    let slots = c.args.slots.now.items in
-    let is = found slots c.args.i c.index_mut.result.now c.in-Some.kept c.requires c.index_mut.ensures.value c.in-Some.is in
-    changed-world slots c.args.i c.in-Some.kept c.stand.new.self
+    changed-world c.args.slots.now.items c.args.i c.in-Some.kept c.stand.new.self
     (λ (image : Image) (pixels : Point → ℕ). record image { standing = c.args.standing; depth = c.args.depth })
-    c.requires is c.stand.ensures.image
+    c.requires c.index_mut.ensures.value c.in-Some.is c.stand.ensures.image
 
 pub returns-in-Some-clause-pixels : goal.returns-in-Some-clause-pixels
 returns-in-Some-clause-pixels c =
-    let slots = c.args.slots.now.items in
-    let is = found slots c.args.i c.index_mut.result.now c.in-Some.kept c.requires c.index_mut.ensures.value c.in-Some.is in
-    changed-pixels slots c.args.i c.in-Some.kept c.stand.new.self c.requires is c.stand.ensures.pixels
+    changed-pixels c.args.slots.now.items c.args.i c.in-Some.kept c.stand.new.self c.requires c.index_mut.ensures.value c.in-Some.is c.stand.ensures.pixels
 
 pub returns-in-Some-clause-table : goal.returns-in-Some-clause-table
 returns-in-Some-clause-table c = changed-table c.args.slots.now.items c.args.i c.stand.new.self c.requires

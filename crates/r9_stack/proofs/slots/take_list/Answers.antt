@@ -5,7 +5,7 @@ use Rattle.std.proofs.Common.{ℕ, []}
 use Rattle.model_forest.specs.World.{Image}
 use Rattle.model_forest.specs.Stack.{seen}
 use Rattle.r9_stack.proofs.Tables.{live_below}
-use Rattle.r9_stack.proofs.Changed.{changed-pixels, changed-table, changed-world, found, not_empty}
+use Rattle.r9_stack.proofs.Changed.{changed-pixels, changed-table, changed-world, not_empty}
 use Rattle.r9_stack.proofs.slots.take_list.Goals as goal
 
 pub index_mut-requires : goal.index_mut-requires
@@ -13,17 +13,13 @@ index_mut-requires c = omega (arith, live_below c.args.slots.now.items c.args.i 
 
 pub returns-clause-world : goal.returns-clause-world
 returns-clause-world c =
-    let slots = c.args.slots.now.items in
-    let is = found slots c.args.i c.index_mut.result.now c.in-Some.kept c.requires c.index_mut.ensures.value c.in-Some.is in
-    changed-world slots c.args.i c.in-Some.kept c.take_windows.new.self
+    changed-world c.args.slots.now.items c.args.i c.in-Some.kept c.take_windows.new.self
     (λ (image : Image) (pixels : Point → ℕ). record image { windows = []; canvas = seen image.r [] pixels })
-    c.requires is c.take_windows.ensures.image
+    c.requires c.index_mut.ensures.value c.in-Some.is c.take_windows.ensures.image
 
 pub returns-clause-pixels : goal.returns-clause-pixels
 returns-clause-pixels c =
-    let slots = c.args.slots.now.items in
-    let is = found slots c.args.i c.index_mut.result.now c.in-Some.kept c.requires c.index_mut.ensures.value c.in-Some.is in
-    changed-pixels slots c.args.i c.in-Some.kept c.take_windows.new.self c.requires is c.take_windows.ensures.pixels
+    changed-pixels c.args.slots.now.items c.args.i c.in-Some.kept c.take_windows.new.self c.requires c.index_mut.ensures.value c.in-Some.is c.take_windows.ensures.pixels
 
 pub returns-clause-table : goal.returns-clause-table
 returns-clause-table c = changed-table c.args.slots.now.items c.args.i c.take_windows.new.self c.requires

@@ -6,8 +6,8 @@ use Rattle.r9_stack.proofs.tests.window.Goals as goal
 
 pub returns-clause-live : goal.returns-clause-live
 returns-clause-live c =
-    subst (λ (w : World). IsLive w c.in-Ok.i) (sym c.in-Ok.ensures.made) (window_lives (world c.args.images.now) c.in-Ok.i c.args.parent c.args.parent c.args.r c.args.raw c.requires.parent)
+    subst (λ (w : World). IsLive w c.in-Ok.i) (sym c.in-Ok.ensures.made) (window_lives (world c.args.images.now) c.in-Ok.i c.args.parent c.args.fill c.args.r c.args.raw c.requires.parent)
 
 pub returns-clause-kept : goal.returns-clause-kept
 returns-clause-kept c = λ j live.
-    subst (λ (w : World). IsLive w j) (sym c.in-Ok.ensures.made) (live_window (world c.args.images.now) c.in-Ok.i c.args.parent c.args.parent c.args.r c.args.raw j c.requires.parent live)
+    subst (λ (w : World). IsLive w j) (sym c.in-Ok.ensures.made) (live_window (world c.args.images.now) c.in-Ok.i c.args.parent c.args.fill c.args.r c.args.raw j c.requires.parent live)

@@ -1,4 +1,4 @@
-use Rattle.std.proofs.Common.{◌≡◌, true, false, refl, sym, ap, ◌∙◌, rules}
+use Rattle.std.proofs.Common.{◌≡◌, ◌^◌, true, false, refl, sym, ap, ◌∙◌, rules, arith}
 use Rattle.std.specs.Prelude.{is_some}
 use Rattle.std.proofs.lemmas.Result.{err_from_is_err_and}
 use Rattle.r9_geom.specs.Geometry.{is_empty}
@@ -8,7 +8,7 @@ use Rattle.model_draw.specs.World.{client_of}
 use Rattle.model_draw.specs.Making.{farthest, is_near_rect, is_too_large}
 use Rattle.r9_draw.specs.World.{world_of}
 use Rattle.r9_draw.specs.Plans.{screen_for}
-use Rattle.r9_draw.proofs.Rects.{near-of, points-of}
+use Rattle.r9_draw.proofs.Rects.{near-of, points-of, wider}
 use Rattle.r9_draw.proofs.Allocating.{Passes, allocate-made, allocate-refused, allocate-unlawful, fits-of, fresh-of, refreshed-of, shaped-of}
 use Rattle.r9_draw.proofs.draw.Draw.allocate.Goals as goal
 
@@ -19,7 +19,7 @@ returns-in_default-clause-refused c =
     (fresh-of c.args.self.now.book.book c.args.client c.args.asked.now.id c.if-asked-eq0.false none) (refreshed-of _ c.if-asked-gt2.false) c.in_default.ensures.unknown
 
 pub rows_len-requires-clause-near : goal.rows_len-requires-clause-near
-rows_len-requires-clause-near c = near-of c.args.asked.now.r (search rules)
+rows_len-requires-clause-near c = wider (2 ^ 32) (2 ^ 33) c.args.asked.now.r (omega arith) (near-of c.args.asked.now.r (search rules))
 
 pub rows_len-requires-clause-points : goal.rows_len-requires-clause-points
 rows_len-requires-clause-points c = points-of c.args.asked.now.r (search rules)

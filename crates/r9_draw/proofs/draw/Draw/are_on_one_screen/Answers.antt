@@ -4,20 +4,21 @@ use Rattle.model_draw.specs.Moving.{is_on_screen}
 use Rattle.model_images.specs.Book.{screen_of}
 use Rattle.r9_draw.specs.World.{world_of}
 use Rattle.r9_draw.specs.Restacking.{group_of, ids_of}
-use Rattle.r9_draw.proofs.Group.{length-numbers, none-one, one-all, one-elsewhere, one-further, one-screen, shown-length}
+use Rattle.model_dmsg.proofs.Rest.{length-numbers_of}
+use Rattle.r9_draw.proofs.Group.{none-one, one-all, one-elsewhere, one-further, one-screen, shown-length}
 use Rattle.r9_draw.proofs.draw.Draw.are_on_one_screen.Goals as goal
 
 pub returns-then-len-eq0 : goal.returns-then-len-eq0
 returns-then-len-eq0 c =
     let world = world_of c.args.self.now in
-    let many = shown-length c.args.client world (ids_of c.args.asked.now) c.requires ∙ length-numbers w32 _ c.args.asked.now.ids.now in
+    let many = shown-length c.args.client world (ids_of c.args.asked.now) c.requires ∙ length-numbers_of w32 _ c.args.asked.now.ids.now in
     sym (none-one world.book (group_of c.args.client world c.args.asked.now) (many ∙ sym c.len.ensures ∙ c.if-len-eq0.true))
 
 pub returns-then-not-is_on_screen : goal.returns-then-not-is_on_screen
 returns-then-not-is_on_screen c =
     let world = world_of c.args.self.now in
     let group = group_of c.args.client world c.args.asked.now in
-    let many : length group ≡ length c.args.asked.now.ids.now / 4 = shown-length c.args.client world (ids_of c.args.asked.now) c.requires ∙ length-numbers w32 _ c.args.asked.now.ids.now in
+    let many : length group ≡ length c.args.asked.now.ids.now / 4 = shown-length c.args.client world (ids_of c.args.asked.now) c.requires ∙ length-numbers_of w32 _ c.args.asked.now.ids.now in
     let end = c.len-k-end.ensures in
     let below = c.loop-k-test.true in
     let here : c.loop-k.k < length group = omega (arith, many, end, below) in
@@ -30,7 +31,7 @@ pub loop-k-preserved : goal.loop-k-preserved
 loop-k-preserved c =
     let world = world_of c.args.self.now in
     let group = group_of c.args.client world c.args.asked.now in
-    let many : length group ≡ length c.args.asked.now.ids.now / 4 = shown-length c.args.client world (ids_of c.args.asked.now) c.requires ∙ length-numbers w32 _ c.args.asked.now.ids.now in
+    let many : length group ≡ length c.args.asked.now.ids.now / 4 = shown-length c.args.client world (ids_of c.args.asked.now) c.requires ∙ length-numbers_of w32 _ c.args.asked.now.ids.now in
     let end = c.len-k-end.ensures in
     let below = c.loop-k-test.true in
     let p = is_on_screen world.book c.screen_of-screen.result in
@@ -40,7 +41,7 @@ pub returns : goal.returns
 returns c =
     let world = world_of c.args.self.now in
     let group = group_of c.args.client world c.args.asked.now in
-    let many : length group ≡ length c.args.asked.now.ids.now / 4 = shown-length c.args.client world (ids_of c.args.asked.now) c.requires ∙ length-numbers w32 _ c.args.asked.now.ids.now in
+    let many : length group ≡ length c.args.asked.now.ids.now / 4 = shown-length c.args.client world (ids_of c.args.asked.now) c.requires ∙ length-numbers_of w32 _ c.args.asked.now.ids.now in
     let end = c.len-k-end.ensures in
     let above = c.loop-k-test.false in
     let some = c.if-len-eq0.false in

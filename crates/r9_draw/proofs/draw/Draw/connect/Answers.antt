@@ -1,4 +1,4 @@
-use Rattle.r9_draw.proofs.Maps.{manager-inserted}
+use Rattle.r9_draw.proofs.Manager.{manager-inserted}
 use Rattle.r9_draw.proofs.draw.Draw.connect.Goals as goal
 
 pub invariant_of-self-clause-manager : goal.invariant_of-self-clause-manager

@@ -9,9 +9,10 @@ use Rattle.r9_draw.specs.World.{world_of}
 use Rattle.r9_draw.specs.Gone.{CanRelease, images_without, numbers_without}
 use Rattle.r9_draw.proofs.Kept.{can-release}
 use Rattle.r9_draw.proofs.Worlds.{freed-world, kept-after}
-use Rattle.r9_draw.proofs.Maps.{manager-with, not_manager, not_owner}
+use Rattle.r9_draw.proofs.Manager.{manager-with, not_manager, not_owner}
 use Rattle.model_images.proofs.Spare.{free_id-gives}
 use Rattle.r9_draw.proofs.Spare.{spare-freed}
+use Rattle.r9_draw.proofs.Ties.{ties-freed}
 use Rattle.r9_draw.proofs.draw.Draw.free_id.Goals as goal
 
 pub release-requires : goal.release-requires
@@ -59,3 +60,9 @@ invariant_of-self-2-clause-spare c =
     (c.free_id_frees.ensures.freed before.book.book c.args.client c.args.id freed before.kept.screens c.in-Ok.ensures.freed)
     (c.free_id_frees.ensures.rest before.book.book c.args.client c.args.id freed c.in-Ok.ensures.freed)
     (free_id-gives before.book.book c.args.client c.args.id freed c.in-Ok.ensures.freed)
+
+pub invariant_of-self-2-clause-ties : goal.invariant_of-self-2-clause-ties
+invariant_of-self-2-clause-ties c =
+    let before = c.args.self.now in
+    let freed : Freed = record { book = c.free_id.new.self.book; gone = c.in-Ok.gone } in
+    ties-freed before.book.book c.args.client c.args.id freed (not_manager before.clients.entries c.args.client c.requires.live before.manager) before.ties c.in-Ok.ensures.freed

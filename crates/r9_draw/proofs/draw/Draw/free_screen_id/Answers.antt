@@ -8,9 +8,10 @@ use Rattle.r9_draw.specs.World.{world_of}
 use Rattle.r9_draw.specs.Gone.{CanRelease, images_without, numbers_without}
 use Rattle.r9_draw.proofs.Kept.{can-release}
 use Rattle.r9_draw.proofs.Worlds.{kept-after, screen-freed-world}
-use Rattle.r9_draw.proofs.Maps.{not_manager, not_owner}
+use Rattle.r9_draw.proofs.Manager.{not_manager, not_owner}
 use Rattle.model_images.proofs.Spare.{free_screen-gives}
 use Rattle.r9_draw.proofs.Spare.{spare-freed}
+use Rattle.model_images.proofs.Ties.{HasTies-free_screen}
 use Rattle.r9_draw.proofs.draw.Draw.free_screen_id.Goals as goal
 
 pub release-requires : goal.release-requires
@@ -54,3 +55,9 @@ invariant_of-self-2-clause-spare c =
     (c.free_screen_frees.ensures.freed before.book.book c.args.client c.args.id freed before.kept.screens c.in-Ok.ensures.freed)
     (c.free_screen_frees.ensures.rest before.book.book c.args.client c.args.id freed c.in-Ok.ensures.freed)
     (free_screen-gives before.book.book c.args.client c.args.id freed c.in-Ok.ensures.freed)
+
+pub invariant_of-self-2-clause-ties : goal.invariant_of-self-2-clause-ties
+invariant_of-self-2-clause-ties c =
+    let before = c.args.self.now in
+    let freed : Freed = record { book = c.free_screen.new.self.book; gone = c.in-Ok.gone } in
+    HasTies-free_screen before.book.book c.args.client c.args.id freed before.ties c.in-Ok.ensures.freed

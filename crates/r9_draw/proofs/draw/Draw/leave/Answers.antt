@@ -10,9 +10,11 @@ use Rattle.r9_draw.specs.World.{world_of}
 use Rattle.r9_draw.specs.Gone.{CanRelease, images_without, numbers_without}
 use Rattle.r9_draw.proofs.Kept.{can-release}
 use Rattle.r9_draw.proofs.Worlds.{kept-after, left-world}
-use Rattle.r9_draw.proofs.Maps.{manager-without, not_manager, not_owner}
+use Rattle.r9_draw.proofs.Manager.{manager-without, not_manager, not_owner}
 use Rattle.model_images.proofs.Spare.{GivesBack, leave-gives}
 use Rattle.r9_draw.proofs.Spare.{spare-freed}
+use Rattle.model_images.specs.Ties.{HasTies}
+use Rattle.model_images.proofs.Ties.{HasTies-leave}
 use Rattle.r9_draw.proofs.draw.Draw.leave.Goals as goal
 
 pub release-requires : goal.release-requires
@@ -58,3 +60,9 @@ invariant_of-self-2-clause-spare c =
     (subst (IsFreed before.book.book) c.in_ok-gone.ensures.left (c.leave_frees.ensures.freed before.book.book c.args.client before.kept.screens))
     (subst (KeepsRest before.book.book) c.in_ok-gone.ensures.left (c.leave_frees.ensures.rest before.book.book c.args.client))
     (subst (GivesBack before.book.book) c.in_ok-gone.ensures.left (leave-gives before.book.book c.args.client))
+
+pub invariant_of-self-2-clause-ties : goal.invariant_of-self-2-clause-ties
+invariant_of-self-2-clause-ties c =
+    let before = c.args.self.now in
+    subst (λ (f : Freed). HasTies f.book) c.in_ok-gone.ensures.left
+    (HasTies-leave before.book.book c.args.client (not_manager before.clients.entries c.args.client c.requires before.manager) before.ties)

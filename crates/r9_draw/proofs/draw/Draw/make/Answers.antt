@@ -5,8 +5,9 @@ use Rattle.model_draw.specs.World.{Client}
 use Rattle.r9_layers.specs.Forest.{numbers, world}
 use Rattle.r9_draw.specs.World.{world_of}
 use Rattle.r9_draw.proofs.Making.{keeps, kept-made, makes}
-use Rattle.r9_draw.proofs.Maps.{manager-with, not_manager}
+use Rattle.r9_draw.proofs.Manager.{manager-with, not_manager}
 use Rattle.r9_draw.proofs.Spare.{spare-added}
+use Rattle.r9_draw.proofs.Ties.{ties-made}
 use Rattle.r9_draw.proofs.draw.Draw.make.Goals as goal
 
 pub invariant_of-self-clause-kept : goal.invariant_of-self-clause-kept
@@ -35,3 +36,8 @@ pub invariant_of-self-clause-spare : goal.invariant_of-self-clause-spare
 invariant_of-self-clause-spare c =
     let before = c.args.self.now in
     spare-added c.make_for.result before.book.book c.make_for.new.book.book c.args.client c.args.making.now.id (next_number (numbers before.forest)) c.args.making.now.screen before.spare c.make_for.ensures.book c.make_for.ensures.kept_book
+
+pub invariant_of-self-clause-ties : goal.invariant_of-self-clause-ties
+invariant_of-self-clause-ties c =
+    let before = c.args.self.now in
+    ties-made c.make_for.result before.book.book c.make_for.new.book.book c.args.client c.args.making.now.id (next_number (numbers before.forest)) c.args.making.now.screen before.ties c.make_for.ensures.book c.make_for.ensures.kept_book

@@ -1,5 +1,6 @@
 use Rattle.r9_layers.specs.Forest.{world}
 use Rattle.r9_draw.proofs.Screening.{kept-made_screen, spare-made_screen}
+use Rattle.r9_draw.proofs.Ties.{ties-made_screen}
 use Rattle.r9_draw.proofs.draw.Draw.make_screen.Goals as goal
 
 pub invariant_of-self-clause-kept : goal.invariant_of-self-clause-kept
@@ -11,3 +12,9 @@ pub invariant_of-self-clause-spare : goal.invariant_of-self-clause-spare
 invariant_of-self-clause-spare c =
     let before = c.args.self.now in
     spare-made_screen c.new_screen.result before.book.book c.new_screen.new.self.book c.args.client c.args.screening.now before.spare c.new_screen.ensures.made c.new_screen.ensures.kept
+
+pub invariant_of-self-clause-ties : goal.invariant_of-self-clause-ties
+invariant_of-self-clause-ties c =
+    let before = c.args.self.now in
+    let s = c.args.screening.now in
+    ties-made_screen c.new_screen.result before.book.book c.new_screen.new.self.book c.args.client s.id s.public s.image.0 s.fill.0 before.ties c.new_screen.ensures.made c.new_screen.ensures.kept

@@ -9,6 +9,7 @@ use Rattle.model_draw.specs.World.{World, background, started}
 use Rattle.r9_layers.specs.Forest.{numbers, world}
 use Rattle.r9_draw.proofs.Starting.{kept-started, near-display}
 use Rattle.r9_draw.proofs.Starting.{spare-started}
+use Rattle.r9_draw.proofs.Ties.{ties-started}
 use Rattle.r9_draw.proofs.draw.Draw.start.Goals as goal
 
 pub invariant_of-result-clause-kept : goal.invariant_of-result-clause-kept
@@ -38,3 +39,8 @@ pub invariant_of-result-clause-spare : goal.invariant_of-result-clause-spare
 invariant_of-result-clause-spare c =
     let number : c.in_ok-display.display.0 ≡ 0 = c.in_ok-display.ensures.number ∙ ap next_number c.new-forest.ensures.numbers in
     spare-started c.add_display.new.book.book (ap (λ (n : ℕ). add_id empty_book 0 0 n None) (sym number) ∙ c.in_ok-add_display.ensures)
+
+pub invariant_of-result-clause-ties : goal.invariant_of-result-clause-ties
+invariant_of-result-clause-ties c =
+    let number : c.in_ok-display.display.0 ≡ 0 = c.in_ok-display.ensures.number ∙ ap next_number c.new-forest.ensures.numbers in
+    ties-started c.add_display.new.book.book (ap (λ (n : ℕ). add_id empty_book 0 0 n None) (sym number) ∙ c.in_ok-add_display.ensures)

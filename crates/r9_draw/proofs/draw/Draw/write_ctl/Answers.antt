@@ -1,7 +1,7 @@
 use Rattle.std.proofs.Common.{ℕ, List, ap, ◌∙◌}
 use Rattle.model_text.specs.Map.{lookup}
 use Rattle.model_draw.specs.World.{Client}
-use Rattle.r9_draw.proofs.Maps.{manager-with}
+use Rattle.r9_draw.proofs.Manager.{manager-with}
 use Rattle.r9_draw.proofs.draw.Draw.write_ctl.Goals as goal
 
 pub invariant_of-self-clause-manager : goal.invariant_of-self-clause-manager

@@ -10,4 +10,4 @@ returns-then-not-has_all-clause-refused c =
 pub returns-in-Ok-clause-ok : goal.returns-in-Ok-clause-ok
 returns-in-Ok-clause-ok c =
     let cells = ap (λ (f : Font). f.cells) c.self.view_is in
-    laid_by c.args.self.now c.deref.result.now c.deref-2.result.now c.self.inside.ascent c.has_all.result _ _ c.args.indices.now _ c.has_all.ensures (c.deref.ensures.value ∙ cells) (search rules) (c.deref-2.ensures.value ∙ cells) (ap (λ (f : Font). f.ascent) c.self.view_is) c.in-Ok.ensures
+    laid_by c.args.self.now c.deref.result.now c.deref-2.result.now c.self.inside.ascent c.has_all.result _ _ c.args.indices.now _ c.has_all.ensures (c.deref.ensures.value ∙ cells) (search rules) (c.deref-2.ensures.value ∙ cells) (ap (λ (f : Font). f.ascent) c.self.view_is) c.in-Ok.ensures.value

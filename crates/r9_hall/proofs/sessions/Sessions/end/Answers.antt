@@ -1,7 +1,7 @@
 use Rattle.std.proofs.Common.{◌≡◌, ℕ, List, refl, ◌∙◌}
 use Rattle.model_text.specs.Map.{lookup, without}
+use Rattle.model_map.proofs.Keys.{without_at}
 use Rattle.model_world.specs.Session.{Session}
-use Rattle.r9_hall.proofs.Keys.{without_at}
 use Rattle.r9_hall.proofs.States.{ended_turn}
 use Rattle.r9_hall.proofs.sessions.Sessions.end.Goals as goal
 

@@ -1,4 +1,4 @@
-use Rattle.std.proofs.Common.{◌≡◌, ◌∙◌, ◌+◌, ◌-◌, ◌*◌, ◌<◌, ◌≤◌, ◌^◌, suc, true, List, ◌∷◌, length, get_or, drop, lit≤, refl, sym, ap, subst, arith}
+use Rattle.std.proofs.Common.{◌≡◌, ◌∙◌, ◌+◌, ◌-◌, ◌*◌, ◌<◌, ◌≤◌, ◌^◌, ℕ, suc, true, List, ◌∷◌, length, get_or, drop, take, lit≤, refl, sym, ap, subst, arith}
 use Rattle.std.specs.Prelude.{if◌then◌else◌}
 use Rattle.std.proofs.lemmas.Int.{ints}
 use Rattle.r9_geom.specs.declared.Point.{Point as Spot}
@@ -14,6 +14,7 @@ use Rattle.r9_stack.specs.Table.{beneath, world}
 use Rattle.r9_stack.proofs.Parts.{length-part}
 use Rattle.r9_stack.proofs.Pictures.{drop_one, read_over_row, readable, shown_more, shown_over, view-shown, window_row_inside, IsReadable}
 use Rattle.r9_stack.proofs.images.Images.+view.Goals as goal
+use Rattle.r9_stack.proofs.images.Images.+view.Goals.{read_over-After-carried-at}
 
 abbrev no_window : Window
 no_window = record { image = 0; place = no_rect }
@@ -33,32 +34,34 @@ read_over-carried-at-requires-clause-point t c =
       bottom = omega (arith, ints, y, c.requires.near.bottom);
     }
 
+-- where the image shows the part of the row that the window covers
+at : (t : ℕ) (c : read_over-After-carried-at t) → c.carried-at.result ≡ carried (along c.args.from c.covered-part.result.start) c.args.window.now.place.min (image_at (world c.args.self.now) c.args.window.now.image).r.min
+at t c =
+    let own = c.rect.ensures.value ∙ ap (λ (im : Image). im.r) (sym c.get.ensures.image) in
+    c.carried-at.ensures ∙ (λ i. carried (c.along.ensures i) c.args.window.now.place.min (own i).min)
+
+-- how long that part is
+long : (t : ℕ) (c : read_over-After-carried-at t) → length (take (c.covered-part.result.end - c.covered-part.result.start) (drop c.covered-part.result.start c.args.raws.now)) ≡ c.covered-part.result.end - c.covered-part.result.start
+long t c =
+    let part = c.covered-part.result in
+    length-part c.args.raws.now part.start (part.end - part.start) (omega (arith, c.covered-part.ensures.ordered, c.covered-part.ensures.within))
+
 pub read_over-read_view-requires : goal.read_over-read_view-requires
 read_over-read_view-requires t c =
     let w = c.args.window.now in
-    let from = c.args.from in
-    let raws = c.args.raws.now in
     let part = c.covered-part.result in
     let is = c.covered-part.ensures in
-    let world = world c.args.self.now in
-    let own = c.rect.ensures.value ∙ ap (λ (im : Image). im.r) (sym c.get.ensures.image) in
-    let at = c.carried-at.ensures ∙ (λ i. carried (c.along.ensures i) w.place.min (own i).min) in
-    let long = length-part raws part.start (part.end - part.start) (omega (arith, is.ordered, is.within)) in
-    (subst (λ n. 2 * (2 ^ 32 - (image_at world w.image).depth) < n) c.decreases (omega arith), (c.requires.live, λ p h. window_row_inside world w from c.carried-at.result p (length raws) part.start part.end _ c.requires.size is.points is.within c.if-part.true long at h))
+    let here = world c.args.self.now in
+    let before = (goal.at.read_over-read_view-requires t c).After-carried-at in
+    (subst (λ n. 2 * (2 ^ 32 - (image_at here w.image).depth) < n) c.decreases (omega arith), (c.requires.live, λ p h. window_row_inside here w c.args.from c.carried-at.result p (length c.args.raws.now) part.start part.end _ c.requires.size is.points is.within c.if-part.true (long t before) (at t before) h))
 
 pub read_over-returns-then-part : goal.read_over-returns-then-part
 read_over-returns-then-part t c k below =
-    let w = c.args.window.now in
-    let from = c.args.from in
-    let raws = c.args.raws.now in
     let part = c.covered-part.result in
     let is = c.covered-part.ensures in
-    let world = world c.args.self.now in
-    let own = c.rect.ensures.value ∙ ap (λ (im : Image). im.r) (sym c.get.ensures.image) in
-    let at = c.carried-at.ensures ∙ (λ i. carried (c.along.ensures i) w.place.min (own i).min) in
-    let long = length-part raws part.start (part.end - part.start) (omega (arith, is.ordered, is.within)) in
-    read_over_row world w from c.carried-at.result raws c.read_view.new.raws part.start part.end k is.points is.within c.if-part.true (c.read_view.auto.raws ∙ long) at
-    (λ j short. c.read_view.ensures j (omega (arith, long, short)))
+    let before = (goal.at.read_over-returns-then-part t c).After-carried-at in
+    read_over_row (world c.args.self.now) c.args.window.now c.args.from c.carried-at.result c.args.raws.now c.read_view.new.raws part.start part.end k is.points is.within c.if-part.true (c.read_view.auto.raws ∙ long t before) (at t before)
+    (λ j short. c.read_view.ensures j (omega (arith, long t before, short)))
     below
 
 pub read_view-read_over-requires : goal.read_view-read_over-requires

@@ -1,4 +1,4 @@
-use Rattle.std.proofs.Common.{◌≡◌, ◌∙◌, ◌+◌, ◌<◌, ◌≤◌, ◌^◌, true, length, get_or, take, refl, sym, subst, ap, arith}
+use Rattle.std.proofs.Common.{◌≡◌, ◌∙◌, ◌+◌, ◌<◌, ◌≤◌, ◌^◌, length, get_or, take, refl, sym, subst, ap, arith}
 use Rattle.std.specs.Prelude.{if◌then◌else◌}
 use Rattle.std.proofs.lemmas.Int.{ints}
 use Rattle.std.proofs.lemmas.List.{length-take-le}
@@ -13,9 +13,14 @@ use Rattle.model_forest.proofs.Sound.{view-below}
 use Rattle.r9_plane.specs.Pixels.{along}
 use Rattle.r9_stack.specs.Images.{image_of, pixels_of}
 use Rattle.r9_stack.specs.Table.{world}
-use Rattle.r9_stack.proofs.Carrying.{strip-along}
+use Rattle.r9_stack.proofs.Carrying.{strip-part}
 use Rattle.r9_stack.proofs.Fillings.{filled_more, strip_filled, strip_split}
 use Rattle.r9_stack.proofs.images.Images.copy_row.Goals as goal
+use Rattle.r9_stack.proofs.images.Images.copy_row.Goals.{After-along}
+
+-- how long the part of the block is
+short : (c : After-along) → length (take c.min-size.result c.loop-done.block) ≡ c.min-size.result
+short c = length-take-le c.min-size.result c.loop-done.block (omega (arith, c.min-size.ensures, c.min-size.array_long))
 
 pub loop-done-init : goal.loop-done-init
 loop-done-init c = record {
@@ -26,23 +31,14 @@ loop-done-init c = record {
 
 pub read_view-requires-clause-inside : goal.read_view-requires-clause-inside
 read_view-requires-clause-inside c p h =
-    let done = c.loop-done.done in
-    let size = c.min-size.result in
-    let fits : done + size ≤ c.args.count = omega (arith, c.min-size.ensures, c.loop-done.invariant.within) in
-    let short : length (take size c.loop-done.block) ≡ size = length-take-le size c.loop-done.block (omega (arith, c.min-size.ensures, c.min-size.array_long)) in
-    let part : holds (strip (along c.args.from done) size) p ≡ true = (λ i. holds (strip (sym c.along.ensures i) (sym short i)) p) ∙ h in
-    c.requires.inside_from p (strip-along c.args.from p done size c.args.count fits part)
+    let size_is = short (goal.at.read_view-requires-clause-inside c).After-along in
+    c.requires.inside_from p (strip-part c.args.from c.along.result p c.loop-done.done _ c.args.count c.along.ensures size_is (omega (arith, c.min-size.ensures, c.loop-done.invariant.within)) h)
 
 pub put_row-requires-clause-inside : goal.put_row-requires-clause-inside
 put_row-requires-clause-inside c p h =
-    let done = c.loop-done.done in
-    let size = c.min-size.result in
-    let fits : done + size ≤ c.args.count = omega (arith, c.min-size.ensures, c.loop-done.invariant.within) in
-    let short : length (take size c.loop-done.block) ≡ size = length-take-le size c.loop-done.block (omega (arith, c.min-size.ensures, c.min-size.array_long)) in
-    let long : length c.read_view.new.raws ≡ size = c.read_view.auto.raws ∙ short in
-    let part : holds (strip (along c.args.at done) size) p ≡ true = (λ i. holds (strip (sym c.along-in-loop-done.ensures i) (sym long i)) p) ∙ h in
+    let long = c.read_view.auto.raws ∙ short (goal.at.put_row-requires-clause-inside c).After-along in
     ap (λ (image : Image). holds image.r p) c.loop-done.invariant.image
-    ∙ c.requires.inside p (strip-along c.args.at p done size c.args.count fits part)
+    ∙ c.requires.inside p (strip-part c.args.at c.along-in-loop-done.result p c.loop-done.done _ c.args.count c.along-in-loop-done.ensures long (omega (arith, c.min-size.ensures, c.loop-done.invariant.within)) h)
 
 pub put_row-requires-clause-raws : goal.put_row-requires-clause-raws
 unfolding world
@@ -58,8 +54,8 @@ loop-done-preserved c =
     let done = c.loop-done.done in
     let size = c.min-size.result in
     let fits : done + size ≤ c.args.count = omega (arith, c.min-size.ensures, c.loop-done.invariant.within) in
-    let short : length (take size c.loop-done.block) ≡ size = length-take-le size c.loop-done.block (omega (arith, c.min-size.ensures, c.min-size.array_long)) in
-    let long : length c.read_view.new.raws ≡ size = c.read_view.auto.raws ∙ short in
+    let size_is = short (goal.at.loop-done-preserved c).After-along in
+    let long : length c.read_view.new.raws ≡ size = c.read_view.auto.raws ∙ size_is in
     let w = world c.args.self.now in
     let at = c.args.at in
     let from = c.args.from in
@@ -79,7 +75,7 @@ loop-done-preserved c =
           ∙ (λ j. if holds (strip (c.along-in-loop-done.ensures j) (long j)) p then get_or part (distance (c.along-in-loop-done.ensures j).x p.x) 0 else old)
           ∙ strip_filled (along at done) size p part picture old
           (λ k below.
-          c.read_view.ensures k (omega (arith, short, below))
+          c.read_view.ensures k (omega (arith, size_is, below))
           ∙ ap (λ (q : Point). view w c.args.old (along q k)) c.along.ensures
           ∙ ap (view w c.args.old) (same_point (along (along from done) k) (carried (along (along at done) k) at from) (omega (arith, ints)) (omega (arith, ints)))))
           (c.loop-done.invariant.pixels p);

@@ -13,7 +13,7 @@ use Rattle.r9_stack.specs.Images.{image_of, pixels_of}
 use Rattle.r9_stack.specs.Table.{world}
 use Rattle.r9_stack.proofs.Carrying.{carried_back, strip-carried}
 use Rattle.r9_stack.proofs.Fillings.{filled_more}
-use Rattle.r9_stack.proofs.Grids.{begins_row, near_row, row_lies}
+use Rattle.r9_stack.proofs.Grids.{begins_row, near_row, row_of}
 use Rattle.r9_stack.proofs.images.Images.copy_rows.Goals as goal
 
 pub loop-row-init : goal.loop-row-init
@@ -61,10 +61,9 @@ pub copy_row-requires-clause-inside : goal.copy_row-requires-clause-inside
 copy_row-requires-clause-inside c p h =
     let r = c.args.r.now in
     let below : c.loop-row.row < height r = omega (arith, c.loop-row-test.true, c.height-row-end.ensures) in
-    let is = begins_row r c.point_at-at.result c.loop-row.row c.point_at-at.ensures below in
     ap (λ (image : Image). holds image.r p) c.loop-row.invariant.image
     ∙ ap (λ (own : Rect). holds own p) c.requires.rect
-    ∙ row_lies r c.point_at-at.result p c.loop-row.row c.width-width.result c.width-width.ensures c.requires.ordered is h
+    ∙ row_of r c.point_at-at.result p c.loop-row.row c.width-width.result c.point_at-at.ensures below c.width-width.ensures c.requires.ordered h
 
 pub copy_row-requires-clause-inside_from : goal.copy_row-requires-clause-inside_from
 copy_row-requires-clause-inside_from c p h =
@@ -75,10 +74,9 @@ copy_row-requires-clause-inside_from c p h =
     let from = c.rect.result.min in
     let own_is : c.rect.result ≡ own = c.rect.ensures.value ∙ sym (ap (λ (image : Image). image.r) c.get.ensures.image) in
     let below : c.loop-row.row < height r = omega (arith, c.loop-row-test.true, c.height-row-end.ensures) in
-    let is = begins_row r at c.loop-row.row c.point_at-at.ensures below in
     let there : holds (strip (carried at r.min from) c.width-width.result) p ≡ true = ap (λ (start : Point). holds (strip start c.width-width.result) p) (sym c.carried.ensures) ∙ h in
     let back = strip-carried at r.min from p c.width-width.result there in
-    let inside = row_lies r at (carried p from r.min) c.loop-row.row c.width-width.result c.width-width.ensures c.requires.ordered is back in
+    let inside = row_of r at (carried p from r.min) c.loop-row.row c.width-width.result c.point_at-at.ensures below c.width-width.ensures c.requires.ordered back in
     ap (holds own) (sym (ap (λ (o : Rect). carried (carried p from r.min) r.min o.min) (sym own_is) ∙ carried_back p r.min from))
     ∙ sym (views.holds-carried r own (carried p from r.min) c.requires.size)
     ∙ inside

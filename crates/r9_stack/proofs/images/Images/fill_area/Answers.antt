@@ -7,7 +7,7 @@ use Rattle.model_forest.specs.World.{World, image_at, IsLive}
 use Rattle.r9_stack.specs.Fills.{fill_at}
 use Rattle.r9_stack.specs.Table.{beneath, world}
 use Rattle.r9_stack.proofs.Fillings.{filled_more, width_own}
-use Rattle.r9_stack.proofs.Grids.{begins_row, near_row, row_lies}
+use Rattle.r9_stack.proofs.Grids.{begins_row, near_row, row_of}
 use Rattle.r9_stack.proofs.images.Images.fill_area.Goals as goal
 
 pub loop-row-init : goal.loop-row-init
@@ -27,19 +27,13 @@ fill_row-requires-clause-fill c = subst (λ (w : World). IsLive w c.args.fill) (
 
 pub fill_row-requires-clause-inside : goal.fill_row-requires-clause-inside
 fill_row-requires-clause-inside c p h =
-    let area = c.args.area.now in
-    let below : c.loop-row.row < height area = omega (arith, c.loop-row-test.true, c.height-row-end.ensures) in
-    let is = begins_row area c.point_at.result c.loop-row.row c.point_at.ensures below in
     ap (λ (w : World). holds (image_at w c.args.i).r p) c.loop-row.invariant.same_world
-    ∙ c.requires.inside p (row_lies area c.point_at.result p c.loop-row.row c.width-width.result c.width-width.ensures c.requires.ordered is h)
+    ∙ c.requires.inside p (row_of c.args.area.now c.point_at.result p c.loop-row.row c.width-width.result c.point_at.ensures (omega (arith, c.loop-row-test.true, c.height-row-end.ensures)) c.width-width.ensures c.requires.ordered h)
 
 pub fill_row-requires-clause-covered : goal.fill_row-requires-clause-covered
 fill_row-requires-clause-covered c p h =
-    let area = c.args.area.now in
-    let below : c.loop-row.row < height area = omega (arith, c.loop-row-test.true, c.height-row-end.ensures) in
-    let is = begins_row area c.point_at.result c.loop-row.row c.point_at.ensures below in
     ap (λ (w : World). is_bare (image_at w c.args.i).windows p) c.loop-row.invariant.same_world
-    ∙ c.requires.covered p (row_lies area c.point_at.result p c.loop-row.row c.width-width.result c.width-width.ensures c.requires.ordered is h)
+    ∙ c.requires.covered p (row_of c.args.area.now c.point_at.result p c.loop-row.row c.width-width.result c.point_at.ensures (omega (arith, c.loop-row-test.true, c.height-row-end.ensures)) c.width-width.ensures c.requires.ordered h)
 
 pub fill_row-requires-clause-near : goal.fill_row-requires-clause-near
 fill_row-requires-clause-near c =

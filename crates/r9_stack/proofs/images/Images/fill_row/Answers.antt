@@ -1,6 +1,7 @@
 use Rattle.std.proofs.Common.{◌≡◌, ◌∙◌, ◌+◌, ◌≤◌, true, length, take, refl, sym, subst, ap, arith}
 use Rattle.std.specs.Prelude.{if◌then◌else◌}
 use Rattle.std.proofs.lemmas.List.{length-take-le}
+use Rattle.r9_geom.specs.declared.Point.{Point}
 use Rattle.r9_geom.specs.Geometry.{holds, strip, IsNear}
 use Rattle.r9_geom.proofs.GeometryLemmas.{strip_none}
 use Rattle.model_forest.specs.World.{World, image_at, IsLive}
@@ -9,9 +10,17 @@ use Rattle.r9_plane.specs.Pixels.{along}
 use Rattle.r9_plane.proofs.PlaneLemmas.{along_holds}
 use Rattle.r9_stack.specs.Fills.{fill_at}
 use Rattle.r9_stack.specs.Table.{beneath, world}
-use Rattle.r9_stack.proofs.Carrying.{strip-along}
+use Rattle.r9_stack.proofs.Carrying.{strip-part}
 use Rattle.r9_stack.proofs.Fillings.{filled_more, near_own, strip_split}
 use Rattle.r9_stack.proofs.images.Images.fill_row.Goals as goal
+use Rattle.r9_stack.proofs.images.Images.fill_row.Goals.{After-along}
+
+-- a part of the block has the points of a part of the row
+long : (c : After-along) → length (take c.min-size.result c.loop-done.block) ≡ c.min-size.result
+long c = length-take-le c.min-size.result c.loop-done.block (omega (arith, c.min-size.ensures, c.along.array_long))
+
+in_row : (c : After-along) (p : Point) → holds (strip c.along.result (length (take c.min-size.result c.loop-done.block))) p ≡ true → holds (strip c.args.at c.args.count) p ≡ true
+in_row c p h = strip-part c.args.at c.along.result p c.loop-done.done _ c.args.count c.along.ensures (long c) (omega (arith, c.min-size.ensures, c.loop-done.invariant.within)) h
 
 pub loop-done-init : goal.loop-done-init
 loop-done-init c = record {
@@ -38,30 +47,20 @@ fill_run-requires-clause-near c =
 
 pub fill_run-requires-clause-inside : goal.fill_run-requires-clause-inside
 fill_run-requires-clause-inside c p h =
-    let done = c.loop-done.done in
-    let size = c.min-size.result in
-    let fits : done + size ≤ c.args.count = omega (arith, c.min-size.ensures, c.loop-done.invariant.within) in
-    let long : length (take size c.loop-done.block) ≡ size = length-take-le size c.loop-done.block (omega (arith, c.min-size.ensures, c.along.array_long)) in
-    let part : holds (strip (along c.args.at done) size) p ≡ true = (λ i. holds (strip (sym c.along.ensures i) (sym long i)) p) ∙ h in
     ap (λ (w : World). holds (image_at w c.args.i).r p) c.loop-done.invariant.same_world
-    ∙ c.requires.inside p (strip-along c.args.at p done size c.args.count fits part)
+    ∙ c.requires.inside p (in_row (goal.at.fill_run-requires-clause-inside c).After-along p h)
 
 pub fill_run-requires-clause-covered : goal.fill_run-requires-clause-covered
 fill_run-requires-clause-covered c p h =
-    let done = c.loop-done.done in
-    let size = c.min-size.result in
-    let fits : done + size ≤ c.args.count = omega (arith, c.min-size.ensures, c.loop-done.invariant.within) in
-    let long : length (take size c.loop-done.block) ≡ size = length-take-le size c.loop-done.block (omega (arith, c.min-size.ensures, c.along.array_long)) in
-    let part : holds (strip (along c.args.at done) size) p ≡ true = (λ i. holds (strip (sym c.along.ensures i) (sym long i)) p) ∙ h in
     ap (λ (w : World). is_bare (image_at w c.args.i).windows p) c.loop-done.invariant.same_world
-    ∙ c.requires.covered p (strip-along c.args.at p done size c.args.count fits part)
+    ∙ c.requires.covered p (in_row (goal.at.fill_run-requires-clause-covered c).After-along p h)
 
 pub loop-done-preserved : goal.loop-done-preserved
 loop-done-preserved c =
     let done = c.loop-done.done in
     let size = c.min-size.result in
     let fits : done + size ≤ c.args.count = omega (arith, c.min-size.ensures, c.loop-done.invariant.within) in
-    let long : length (take size c.loop-done.block) ≡ size = length-take-le size c.loop-done.block (omega (arith, c.min-size.ensures, c.along.array_long)) in
+    let size_is = long (goal.at.loop-done-preserved c).After-along in
     let w = world c.args.self.now in
     let same = c.loop-done.invariant.same_world in
     let here = c.args.i in
@@ -74,7 +73,7 @@ loop-done-preserved c =
           (fill_at w (image_at w here).chan c.args.fill p) (beneath c.args.self.now here p) (beneath c.loop-done.self here p) (beneath c.fill_run.new.self here p)
           (strip_split c.args.at p done size)
           (c.fill_run.ensures.beneath p
-          ∙ (λ j. if holds (strip (c.along.ensures j) (long j)) p then fill_at (same j) (image_at (same j) here).chan c.args.fill p else beneath c.loop-done.self here p))
+          ∙ (λ j. if holds (strip (c.along.ensures j) (size_is j)) p then fill_at (same j) (image_at (same j) here).chan c.args.fill p else beneath c.loop-done.self here p))
           (c.loop-done.invariant.below p);
     }
 

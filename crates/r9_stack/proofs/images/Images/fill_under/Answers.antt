@@ -3,9 +3,9 @@ use Rattle.std.specs.Prelude.{◌&&◌, ◌||◌, ◌==◌, if◌then◌else◌}
 use Rattle.std.proofs.lemmas.List.{take_all}
 use Rattle.r9_geom.specs.Geometry.{holds}
 use Rattle.model_forest.specs.declared.Window.{Window}
-use Rattle.model_forest.specs.View.{is_bare}
+use Rattle.model_forest.specs.View.{covers, is_bare}
 use Rattle.model_forest.specs.World.{Image, World, image_at, no_rect}
-use Rattle.r9_stack.specs.Fills.{covers, fill_at}
+use Rattle.r9_stack.specs.Fills.{fill_at}
 use Rattle.r9_stack.specs.Table.{beneath, world}
 use Rattle.r9_stack.proofs.Fillings.{covers_more, filled_more, place_covered, within_or}
 use Rattle.r9_stack.proofs.images.Images.fill_under.Goals as goal

@@ -2,8 +2,9 @@ use Rattle.std.proofs.Common.{◌≡◌, take}
 use Rattle.std.specs.Prelude.{◌&&◌, if◌then◌else◌}
 use Rattle.r9_geom.specs.declared.Point.{Point}
 use Rattle.r9_geom.specs.Geometry.{holds}
+use Rattle.model_forest.specs.View.{covers}
 use Rattle.model_forest.specs.World.{image_at}
-use Rattle.r9_stack.specs.Fills.{covers, fill_at}
+use Rattle.r9_stack.specs.Fills.{fill_at}
 use Rattle.r9_stack.specs.Table.{beneath, numbers, world}
 use Rattle.r9_stack.proofs.images.Images.fill_under.Given as goal
 

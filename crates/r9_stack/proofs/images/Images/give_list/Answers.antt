@@ -1,8 +1,8 @@
-use Rattle.std.proofs.Common.{◌≡◌, ◌∙◌, refl, subst, sym, arith, length}
+use Rattle.std.proofs.Common.{◌∙◌, subst, sym, arith}
 use Rattle.model_forest.specs.World.{IsForest}
 use Rattle.r9_stack.specs.Images.{pixels_at, world_of}
 use Rattle.r9_stack.specs.Table.{beneath, numbers, world}
-use Rattle.r9_stack.proofs.Tables.{numbers_kept}
+use Rattle.r9_stack.proofs.Tables.{numbers_same}
 use Rattle.r9_stack.proofs.Shown.{relisted-shown}
 use Rattle.r9_stack.proofs.images.Images.give_list.Goals as goal
 
@@ -29,6 +29,4 @@ returns-clause-world c =
 pub returns-clause-numbers : goal.returns-clause-numbers
 unfolding numbers
 returns-clause-numbers c =
-    let table = c.args.self.now in
-    let long : length c.set_list.new.slots.items ≡ length table.slots.items = omega (arith, c.set_list.new.slots.ok.0, table.slots.ok.0, c.set_list.ensures.len) in
-    numbers_kept table.slots.items c.set_list.new.slots.items table.spare.items table.spare.items long refl
+    numbers_same c.args.self.now.slots c.set_list.new.slots c.args.self.now.spare.items c.set_list.ensures.len

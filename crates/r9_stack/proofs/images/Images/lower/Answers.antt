@@ -1,17 +1,23 @@
-use Rattle.std.proofs.Common.{◌∙◌, ◌^◌, ◌<◌, List, length, map, ap, sym, subst, arith}
+use Rattle.std.proofs.Common.{◌≡◌, ◌∙◌, List, map, ap, sym, subst, arith}
 use Rattle.std.specs.Prelude.{IsSome}
 use Rattle.std.proofs.lemmas.List.Elements.{All-map}
 use Rattle.r9_info.specs.declared.ImageNo.{ImageNo}
-use Rattle.model_forest.specs.declared.Window.{Window}
 use Rattle.model_forest.specs.World.{image_at, parent_of, IsForest}
-use Rattle.model_forest.specs.Stack.{after_lower, lowered, with_windows}
+use Rattle.model_forest.specs.Stack.{after_lower, lowered}
 use Rattle.model_forest.proofs.Stacks.{length-lowered}
 use Rattle.model_forest.proofs.Steps.{IsForest-after_lower}
 use Rattle.model_forest.proofs.Uncovers.{is_bare-lowered}
 use Rattle.r9_stack.specs.Table.{beneath, world}
 use Rattle.r9_stack.specs.Images.{image_of}
-use Rattle.r9_stack.proofs.Shown.{list_is, shown-reordered}
+use Rattle.r9_stack.proofs.Shown.{few-reordered, list_is, shown-reordered, StandsOn-listed}
 use Rattle.r9_stack.proofs.images.Images.lower.Goals as goal
+use Rattle.r9_stack.proofs.images.Images.lower.Goals.{In_ok-list}
+
+-- the list that was made
+list : (c : In_ok-list) → c.in_ok-list.list.items ≡ lowered (map (λ i. i.0) c.args.group.now) (image_at (world c.args.self.now) c.in-Some.parent).windows
+list c =
+    list_is (world c.args.self.now) c.in-Some.parent (image_of c.get.result.now) c.windows.result.now c.in_ok-list.list.items (lowered (map (λ i. i.0) c.args.group.now))
+    c.get.ensures.image c.windows.ensures.items c.in_ok-list.ensures
 
 pub returns-in_default-clause-lowered : goal.returns-in_default-clause-lowered
 unfolding world after_lower
@@ -22,36 +28,27 @@ pub give_list-requires-clause-few : goal.give_list-requires-clause-few
 unfolding world
 give_list-requires-clause-few c =
     let group = map (λ i. i.0) c.args.group.now in
-    let w = world c.args.self.now in
-    let p = c.in-Some.parent in
-    let list = list_is w p (image_of c.get.result.now) c.windows.result.now c.in_ok-list.list.items (lowered group) c.get.ensures.image c.windows.ensures.items c.in_ok-list.ensures in
-    let few : length (image_at w p).windows < 2 ^ 32 = (c.args.self.now.forest.images p c.in-Some.ensures.parent.live).few in
-    omega (arith, ap length list ∙ length-lowered group (image_at w p).windows, few, c.in_ok-list.list.ok.0)
+    let few = few-reordered (world c.args.self.now) c.in-Some.parent c.in_ok-list.list.items (lowered group) c.args.self.now.forest c.in-Some.ensures.parent.live (list (goal.at.give_list-requires-clause-few c).In_ok-list) (length-lowered group) in
+    omega (arith, few, c.in_ok-list.list.ok.0)
 
 pub give_list-requires-clause-shown : goal.give_list-requires-clause-shown
 unfolding world beneath
 give_list-requires-clause-shown c =
     let group = map (λ i. i.0) c.args.group.now in
-    let w = world c.args.self.now in
-    let p = c.in-Some.parent in
-    let list = list_is w p (image_of c.get.result.now) c.windows.result.now c.in_ok-list.list.items (lowered group) c.get.ensures.image c.windows.ensures.items c.in_ok-list.ensures in
-    shown-reordered c.args.self.now.slots.items p c.in_ok-list.list.items (lowered group) c.in-Some.ensures.parent.live list (is_bare-lowered group)
+    shown-reordered c.args.self.now.slots.items c.in-Some.parent c.in_ok-list.list.items (lowered group) c.in-Some.ensures.parent.live
+    (list (goal.at.give_list-requires-clause-shown c).In_ok-list) (is_bare-lowered group)
 
 pub give_list-requires-clause-forest : goal.give_list-requires-clause-forest
 unfolding world after_lower
 give_list-requires-clause-forest c =
     let group = map (λ i. i.0) c.args.group.now in
     let w = world c.args.self.now in
-    let p = c.in-Some.parent in
-    let list = list_is w p (image_of c.get.result.now) c.windows.result.now c.in_ok-list.list.items (lowered group) c.get.ensures.image c.windows.ensures.items c.in_ok-list.ensures in
-    subst IsForest (c.in-Some.ensures.parent.restacked (lowered group) ∙ ap (λ (ws : List Window). with_windows w p ws) (sym list))
+    subst IsForest (sym (StandsOn-listed w group c.in-Some.parent c.in_ok-list.list.items (lowered group) c.in-Some.ensures.parent (list (goal.at.give_list-requires-clause-forest c).In_ok-list)))
     (IsForest-after_lower w group (All-map (λ n. IsSome (parent_of w n)) (λ (i : ImageNo). i.0) c.args.group.now c.requires.windows) c.args.self.now.forest)
 
 pub returns-clause-lowered : goal.returns-clause-lowered
-unfolding world after_lower
+unfolding after_lower
 returns-clause-lowered c =
     let group = map (λ i. i.0) c.args.group.now in
-    let w = world c.args.self.now in
-    let p = c.in-Some.parent in
-    let list = list_is w p (image_of c.get.result.now) c.windows.result.now c.in_ok-list.list.items (lowered group) c.get.ensures.image c.windows.ensures.items c.in_ok-list.ensures in
-    c.give_list.ensures.world ∙ ap (λ (ws : List Window). with_windows w p ws) list ∙ sym (c.in-Some.ensures.parent.restacked (lowered group))
+    c.give_list.ensures.world
+    ∙ StandsOn-listed (world c.args.self.now) group c.in-Some.parent c.in_ok-list.list.items (lowered group) c.in-Some.ensures.parent (list (goal.at.returns-clause-lowered c).In_ok-list)

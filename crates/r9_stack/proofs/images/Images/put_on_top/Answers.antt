@@ -1,13 +1,32 @@
-use Rattle.std.proofs.Common.{◌≡◌, ◌∙◌, ◌+◌, ◌<◌, ◌^◌, ◌∷◌, List, length, ap, refl, sym, subst, arith, vec_capacity}
+use Rattle.std.proofs.Common.{◌≡◌, ◌∙◌, ◌∷◌, List, length, ap, sym, subst, arith}
 use Rattle.model_forest.specs.declared.Window.{Window}
-use Rattle.model_forest.specs.World.{World, image_at, IsForest, IsLive}
+use Rattle.model_forest.specs.World.{image_at, IsForest}
 use Rattle.model_forest.proofs.Uncovers.{CoversMore-cons}
+use Rattle.model_forest.specs.Stack.{with_windows}
 use Rattle.r9_stack.specs.Images.{world_of}
+use Rattle.r9_stack.specs.Lists.{stood}
 use Rattle.r9_stack.specs.Table.{numbers, world}
-use Rattle.r9_stack.proofs.Attached.{attached, read_stood, stood-live}
-use Rattle.r9_stack.proofs.Shown.{live-with_image}
-use Rattle.r9_stack.proofs.Tables.{numbers_kept}
+use Rattle.r9_stack.proofs.Attached.{attached, live-stood, read_stood}
+use Rattle.r9_stack.proofs.Shown.{live-taken}
+use Rattle.r9_stack.proofs.Tables.{numbers_same}
 use Rattle.r9_stack.proofs.images.Images.put_on_top.Goals as goal
+use Rattle.r9_stack.proofs.images.Images.put_on_top.Goals.{After-deref, After-set_list}
+
+-- what is read of the list
+read : (c : After-deref) → c.deref.result.now ≡ (image_at (world c.args.self.now) c.args.standing.parent).windows
+unfolding world
+read c =
+    read_stood (world c.args.self.now) (world_of c.stand.new.slots.items) c.args.i c.args.standing c.args.depth c.args.standing.parent c.deref.result.now
+    c.requires.apart c.stand.ensures.world (c.deref.ensures.value ∙ c.take_list-windows.ensures.items)
+
+-- the world once the list has the window
+listed : (c : After-set_list) → world_of c.set_list.new.slots.items ≡ with_windows (stood (world c.args.self.now) c.args.i c.args.standing c.args.depth) c.args.standing.parent (record { image = c.args.i; place = c.args.place } ∷ (image_at (world c.args.self.now) c.args.standing.parent).windows)
+unfolding world
+listed c =
+    attached c.args.self.now.slots.items c.stand.new.slots.items c.take_list-windows.new.slots.items c.set_list.new.slots.items c.args.i c.args.standing c.args.depth c.on_top.new.list.items (λ (ws : List Window). record { image = c.args.i; place = c.args.place } ∷ ws)
+    c.requires.apart c.requires.parent c.stand.ensures.world c.take_list-windows.ensures.world c.take_list-windows.ensures.pixels c.set_list.ensures.world
+    (c.on_top.ensures.items ∙ ap (λ (ws : List Window). record { image = c.args.i; place = c.args.place } ∷ ws) (c.deref.ensures.value ∙ c.take_list-windows.ensures.items))
+    (CoversMore-cons (record { image = c.args.i; place = c.args.place }))
 
 pub stand-requires : goal.stand-requires
 unfolding world
@@ -16,36 +35,20 @@ stand-requires c = c.requires.live
 pub take_list-windows-requires : goal.take_list-windows-requires
 unfolding world
 take_list-windows-requires c =
-    let p = c.args.standing.parent in
-    subst (λ (w : World). IsLive w p) (sym c.stand.ensures.world)
-    (stood-live (world_of c.args.self.now.slots.items) c.args.i c.args.standing c.args.depth p c.requires.apart c.requires.parent)
+    live-stood (world c.args.self.now) (world_of c.stand.new.slots.items) c.args.i c.args.standing c.args.depth c.args.standing.parent c.requires.apart c.stand.ensures.world c.requires.parent
 
 pub on_top-requires-clause-room : goal.on_top-requires-clause-room
-unfolding world
-on_top-requires-clause-room c =
-    let start = world_of c.args.self.now.slots.items in
-    let p = c.args.standing.parent in
-    let read = read_stood start (world_of c.stand.new.slots.items) c.args.i c.args.standing c.args.depth c.args.standing.parent c.deref.result.now c.requires.apart c.stand.ensures.world (c.deref.ensures.value ∙ c.take_list-windows.ensures.items) in
-    let room : length (image_at start p).windows < vec_capacity c.args.list = c.requires.room in
-    omega (arith, ap length read, room)
+on_top-requires-clause-room c = omega (arith, ap length (read (goal.at.on_top-requires-clause-room c).After-deref), c.requires.room)
 
 pub set_list-requires-clause-live : goal.set_list-requires-clause-live
 unfolding world
 set_list-requires-clause-live c =
     let p = c.args.standing.parent in
-    subst (λ (w : World). IsLive w p) (sym c.take_list-windows.ensures.world)
-    (live-with_image (world_of c.stand.new.slots.items) p p _
-    (subst (λ (w : World). IsLive w p) (sym c.stand.ensures.world)
-    (stood-live (world_of c.args.self.now.slots.items) c.args.i c.args.standing c.args.depth p c.requires.apart c.requires.parent)))
+    live-taken c.stand.new.slots.items c.take_list-windows.new.slots.items p p c.take_list-windows.ensures.world
+    (live-stood (world c.args.self.now) (world_of c.stand.new.slots.items) c.args.i c.args.standing c.args.depth p c.requires.apart c.stand.ensures.world c.requires.parent)
 
 pub set_list-requires-clause-few : goal.set_list-requires-clause-few
-unfolding world
-set_list-requires-clause-few c =
-    let start = world_of c.args.self.now.slots.items in
-    let p = c.args.standing.parent in
-    let read = read_stood start (world_of c.stand.new.slots.items) c.args.i c.args.standing c.args.depth c.args.standing.parent c.deref.result.now c.requires.apart c.stand.ensures.world (c.deref.ensures.value ∙ c.take_list-windows.ensures.items) in
-    let few : length (image_at start p).windows + 1 < 2 ^ 32 = c.requires.few in
-    omega (arith, ap length read, few, c.on_top.ensures.len)
+set_list-requires-clause-few c = omega (arith, ap length (read (goal.at.set_list-requires-clause-few c).After-deref), c.requires.few, c.on_top.ensures.len)
 
 pub invariant_of-self : goal.invariant_of-self
 unfolding world
@@ -54,28 +57,14 @@ invariant_of-self c =
     record {
       table = c.set_list.ensures.table table.spare.items (c.take_list-windows.ensures.table table.spare.items (c.stand.ensures.table table.spare.items table.table));
       room = omega (arith, table.room, c.set_list.ensures.len, c.take_list-windows.ensures.len, c.stand.ensures.len);
-      forest =
-          subst IsForest
-          (sym (attached table.slots.items c.stand.new.slots.items c.take_list-windows.new.slots.items c.set_list.new.slots.items c.args.i c.args.standing c.args.depth c.on_top.new.list.items
-          (λ (ws : List Window). record { image = c.args.i; place = c.args.place } ∷ ws)
-          c.requires.apart c.requires.parent c.stand.ensures.world c.take_list-windows.ensures.world c.take_list-windows.ensures.pixels c.set_list.ensures.world
-          (c.on_top.ensures.items ∙ ap (λ (ws : List Window). record { image = c.args.i; place = c.args.place } ∷ ws) (c.deref.ensures.value ∙ c.take_list-windows.ensures.items))
-          (CoversMore-cons (record { image = c.args.i; place = c.args.place }))))
-          c.requires.forest;
+      forest = subst IsForest (sym (listed (goal.at.invariant_of-self c).After-set_list)) c.requires.forest;
     }
 
 pub returns-clause-world : goal.returns-clause-world
 unfolding world
-returns-clause-world c =
-    attached c.args.self.now.slots.items c.stand.new.slots.items c.take_list-windows.new.slots.items c.set_list.new.slots.items c.args.i c.args.standing c.args.depth c.on_top.new.list.items
-    (λ (ws : List Window). record { image = c.args.i; place = c.args.place } ∷ ws)
-    c.requires.apart c.requires.parent c.stand.ensures.world c.take_list-windows.ensures.world c.take_list-windows.ensures.pixels c.set_list.ensures.world
-    (c.on_top.ensures.items ∙ ap (λ (ws : List Window). record { image = c.args.i; place = c.args.place } ∷ ws) (c.deref.ensures.value ∙ c.take_list-windows.ensures.items))
-    (CoversMore-cons (record { image = c.args.i; place = c.args.place }))
+returns-clause-world c = listed (goal.at.returns-clause-world c).After-set_list
 
 pub returns-clause-numbers : goal.returns-clause-numbers
 unfolding numbers
 returns-clause-numbers c =
-    let table = c.args.self.now in
-    let long : length c.set_list.new.slots.items ≡ length table.slots.items = omega (arith, c.set_list.new.slots.ok.0, table.slots.ok.0, c.set_list.ensures.len, c.take_list-windows.ensures.len, c.stand.ensures.len) in
-    numbers_kept table.slots.items c.set_list.new.slots.items table.spare.items table.spare.items long refl
+    numbers_same c.args.self.now.slots c.set_list.new.slots c.args.self.now.spare.items (c.set_list.ensures.len ∙ c.take_list-windows.ensures.len ∙ c.stand.ensures.len)

@@ -28,14 +28,14 @@ returns-then-is_empty-clause-raws c k below =
     let out = fails c.args.at (length c.args.raws.now) c.strip.result given (reaches image) c.strip.ensures c.reached-given.ensures k below none in
     c.requires.zero k below ∙ sym (fill_fails w c.args.chan.now c.args.fill (along c.args.at k) (ap (λ (im : Image). reaches im (along c.args.at k)) c.get-image.ensures.image ∙ out))
 
-pub columns_in-first-requires-clause-inside : goal.columns_in-first-requires-clause-inside
-columns_in-first-requires-clause-inside c p h =
+pub columns_in-start-requires-clause-inside : goal.columns_in-start-requires-clause-inside
+columns_in-start-requires-clause-inside c p h =
     ap (λ (r : Rect). holds r p) (sym c.strip.ensures)
     ∙ (and_parts (holds c.strip.result p) (reaches (image_of c.get-image.result.now) p) (sym (c.reached-given.ensures p) ∙ h)).0
 
 pub read_row-requires-clause-near : goal.read_row-requires-clause-near
 read_row-requires-clause-near c =
-    let run = c.columns_in-first.ensures in
+    let run = c.columns_in-start.ensures in
     let near = c.requires.near in
     subst (IsNearBy (2 ^ 41)) (sym run.begins)
     (record {
@@ -49,9 +49,9 @@ pub read_row-requires-clause-inside : goal.read_row-requires-clause-inside
 read_row-requires-clause-inside c p h =
     let image = image_of c.get-image.result.now in
     let given = c.reached-given.result in
-    let first = c.columns_in-first.result.first in
-    let end = c.columns_in-first.result.end in
-    let run = c.columns_in-first.ensures in
+    let first = c.columns_in-start.result.start in
+    let end = c.columns_in-start.result.end in
+    let run = c.columns_in-start.ensures in
     let long = length-part c.args.raws.now first (end - first) (omega (arith, run.some, run.within)) in
     let inside : holds given p ≡ true = sym (run_strip c.args.at (length c.args.raws.now) given first end run p) ∙ ap (λ n. holds (strip given.min n) p) (sym long) ∙ h in
     ap (λ (im : Image). reaches im p) c.get-image.ensures.image
@@ -67,9 +67,9 @@ returns-clause-raws c =
     let given = c.reached-given.result in
     let raws = c.args.raws.now in
     let n = length raws in
-    let first = c.columns_in-first.result.first in
-    let end = c.columns_in-first.result.end in
-    let run = c.columns_in-first.ensures in
+    let first = c.columns_in-start.result.start in
+    let end = c.columns_in-start.result.end in
+    let run = c.columns_in-start.ensures in
     let long = length-part raws first (end - first) (omega (arith, run.some, run.within)) in
     let here = c.get-image.ensures.image in
     let word : c.chan.result ≡ (image_at w fill).chan = c.chan.ensures ∙ sym (ap (λ (im : Image). im.chan) here) in
@@ -90,9 +90,9 @@ returns-clause-raws c =
 pub returns-clause-range : goal.returns-clause-range
 returns-clause-range c =
     let raws = c.args.raws.now in
-    let first = c.columns_in-first.result.first in
-    let end = c.columns_in-first.result.end in
-    let run = c.columns_in-first.ensures in
+    let first = c.columns_in-start.result.start in
+    let end = c.columns_in-start.result.end in
+    let run = c.columns_in-start.ensures in
     let bits = depth c.args.chan.now in
     let long = length-part raws first (end - first) (omega (arith, run.some, run.within)) in
     run_written (λ k v. v < 2 ^ bits) c.args.at (length raws) c.reached-given.result first end raws c.convert.new.raws run refl

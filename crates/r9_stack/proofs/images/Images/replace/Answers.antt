@@ -12,15 +12,66 @@ use Rattle.model_forest.proofs.Steps.{IsForest-copied, IsForest-moved_to, IsFore
 use Rattle.r9_stack.specs.Images.{image_of}
 use Rattle.r9_stack.specs.Table.{numbers, world}
 use Rattle.r9_stack.proofs.Replaced.{above_is, above_old, above_world, replaced_is}
-use Rattle.r9_stack.proofs.Shown.{stands-live}
-use Rattle.r9_stack.proofs.Standings.{fill_live, fill_stands, parent_live, parent_stands}
+use Rattle.r9_stack.proofs.Shown.{live-with_image, stands-live}
+use Rattle.r9_stack.proofs.Standings.{fill_live, fill_stands, parent_live, parent_of_window, parent_stands, stands_as}
 use Rattle.r9_stack.proofs.Worlds.{next_free}
 use Rattle.r9_stack.proofs.images.Images.replace.Goals as goal
+use Rattle.r9_stack.proofs.images.Images.replace.Goals.{After-carried_rect-far, In_ok-i}
+
+-- the image beneath has as many windows where the new one is made
+beside : (c : In_ok-i) → length (image_at (world c.insert.new.self) c.in-Some.standing.parent).windows ≡ length c.windows-count.result.now
+unfolding world
+beside c =
+    let w = world c.args.self.now in
+    let p = c.in-Some.standing.parent in
+    let below = parent_of_window w c.args.old c.in-Some.standing c.args.self.now.forest c.requires.window c.get-below.ensures.image c.in-Some.ensures in
+    ap (λ (v : World). length (image_at v p).windows) c.in_ok-i.ensures.world
+    ∙ ap (λ (o : Option Image). length (unwrap_or o no_image).windows) (with_image-free w c.in_ok-i.i p (Some (image_of c.in_ok-kept.kept)) c.in_ok-i.ensures.free below)
+    ∙ ap (λ (image : Image). length image.windows) c.get.ensures.image
+    ∙ ap length (sym c.windows-count.ensures.items)
+
+-- the world with the new window above the other
+above : (c : After-carried_rect-far) → world c.put_over.new.self ≡ above_world (world c.args.self.now) c.in_ok-i.i c.args.old c.in-Some.standing.parent c.args.r c.carried_rect-place.result c.args.raw c.args.keep
+unfolding world
+above c =
+    let w = world c.args.self.now in
+    let old = c.args.old in
+    let s = c.in-Some.standing in
+    let here = c.get-below.ensures.image in
+    c.put_over.ensures.world
+    ∙ above_is w (world c.insert.new.self) c.in_ok-i.i old s c.depth-depth.result c.args.r c.carried_rect-place.result c.args.raw c.args.keep (image_of c.in_ok-kept.kept)
+    c.in_ok-i.ensures.free (parent_of_window w old s c.args.self.now.forest c.requires.window here c.in-Some.ensures) c.in_ok-kept.ensures (stands_as w old here c.in-Some.ensures)
+    (c.depth-depth.ensures ∙ sym (ap (λ (image : Image). image.depth) here)) c.in_ok-i.ensures.world
+
+-- the other is as it was
+still : (c : After-carried_rect-far) → world c.put_over.new.self c.args.old ≡ world c.args.self.now c.args.old
+unfolding world
+still c =
+    let w = world c.args.self.now in
+    let old = c.args.old in
+    ap (λ (v : World). v old) (above c)
+    ∙ above_old w c.in_ok-i.i old c.in-Some.standing c.args.r c.carried_rect-place.result c.args.raw c.args.keep c.args.self.now.forest c.in_ok-i.ensures.free
+    (stands-live w old c.requires.window) (stands_as w old c.get-below.ensures.image c.in-Some.ensures)
+
+still_stands : (c : After-carried_rect-far) → (image_at (world c.put_over.new.self) c.args.old).standing ≡ Some c.in-Some.standing
+still_stands c =
+    ap (λ (o : Option Image). (unwrap_or o no_image).standing) (still c) ∙ stands_as (world c.args.self.now) c.args.old c.get-below.ensures.image c.in-Some.ensures
+
+still_below : (c : After-carried_rect-far) → IsLive (world c.put_over.new.self) c.in-Some.standing.parent
+unfolding world
+still_below c =
+    parent_live (world c.put_over.new.self) c.args.old c.in-Some.standing c.put_over.new.self.forest
+    (ap is_some (still c) ∙ stands-live (world c.args.self.now) c.args.old c.requires.window) (still_stands c)
+
+-- where it moves, by its own rectangle
+far : (c : After-carried_rect-far) → c.carried_rect-far.result ≡ carried_rect (image_at (world c.args.self.now) c.args.old).r (image_at (world c.args.self.now) c.args.old).r.min outside
+far c =
+    c.carried_rect-far.ensures
+    ∙ ap (λ (own : Rect). carried_rect own own.min outside) (c.rect-own.ensures.value ∙ sym (ap (λ (image : Image). image.r) c.get-below.ensures.image))
 
 pub get-requires : goal.get-requires
 unfolding world
-get-requires c =
-    parent_live (world c.args.self.now) c.args.old c.in-Some.standing c.args.self.now.forest (stands-live (world c.args.self.now) c.args.old c.requires.window) (ap (λ (image : Image). image.standing) c.get-below.ensures.image ∙ sym c.in-Some.ensures)
+get-requires c = parent_of_window (world c.args.self.now) c.args.old c.in-Some.standing c.args.self.now.forest c.requires.window c.get-below.ensures.image c.in-Some.ensures
 
 pub insert-requires : goal.insert-requires
 unfolding world numbers
@@ -35,63 +86,24 @@ pub put_over-requires-clause-parent : goal.put_over-requires-clause-parent
 unfolding world
 put_over-requires-clause-parent c =
     let w = world c.args.self.now in
-    let old = c.args.old in
-    let s = c.in-Some.standing in
-    let p = s.parent in
-    let ok : IsForest w = c.args.self.now.forest in
-    let here = c.get-below.ensures.image in
-    let stands : (image_at w old).standing ≡ Some s = ap (λ (image : Image). image.standing) here ∙ sym c.in-Some.ensures in
-    let live : IsLive w old = stands-live w old c.requires.window in
-    let below : IsLive w p = parent_live w old s ok live stands in
-    subst (λ (v : World). IsLive v p) (sym c.in_ok-i.ensures.world) (ap is_some (with_image-free w c.in_ok-i.i p (Some (image_of c.in_ok-kept.kept)) c.in_ok-i.ensures.free below) ∙ below)
+    let p = c.in-Some.standing.parent in
+    let below = parent_of_window w c.args.old c.in-Some.standing c.args.self.now.forest c.requires.window c.get-below.ensures.image c.in-Some.ensures in
+    subst (λ (v : World). IsLive v p) (sym c.in_ok-i.ensures.world) (live-with_image w c.in_ok-i.i p (image_of c.in_ok-kept.kept) below)
 
 pub put_over-requires-clause-apart : goal.put_over-requires-clause-apart
 unfolding world
-put_over-requires-clause-apart c =
+put_over-requires-clause-apart c same =
     let w = world c.args.self.now in
-    let old = c.args.old in
-    let s = c.in-Some.standing in
-    let p = s.parent in
-    let ok : IsForest w = c.args.self.now.forest in
-    let here = c.get-below.ensures.image in
-    let stands : (image_at w old).standing ≡ Some s = ap (λ (image : Image). image.standing) here ∙ sym c.in-Some.ensures in
-    let live : IsLive w old = stands-live w old c.requires.window in
-    let below : IsLive w p = parent_live w old s ok live stands in
-    λ same. live-apart w c.in_ok-i.i p c.in_ok-i.ensures.free below (sym same)
+    let below = parent_of_window w c.args.old c.in-Some.standing c.args.self.now.forest c.requires.window c.get-below.ensures.image c.in-Some.ensures in
+    live-apart w c.in_ok-i.i c.in-Some.standing.parent c.in_ok-i.ensures.free below (sym same)
 
 pub put_over-requires-clause-room : goal.put_over-requires-clause-room
 unfolding world
-put_over-requires-clause-room c =
-    let w = world c.args.self.now in
-    let old = c.args.old in
-    let s = c.in-Some.standing in
-    let p = s.parent in
-    let ok : IsForest w = c.args.self.now.forest in
-    let here = c.get-below.ensures.image in
-    let stands : (image_at w old).standing ≡ Some s = ap (λ (image : Image). image.standing) here ∙ sym c.in-Some.ensures in
-    let live : IsLive w old = stands-live w old c.requires.window in
-    let below : IsLive w p = parent_live w old s ok live stands in
-    let count : length c.windows-count.result.now ≡ length (image_at w p).windows = ap length (c.windows-count.ensures.items ∙ sym (ap (λ (image : Image). image.windows) c.get.ensures.image)) in
-    let windows : (image_at (world c.insert.new.self) p).windows ≡ (image_at w p).windows =
-    ap (λ (v : World). (image_at v p).windows) c.in_ok-i.ensures.world ∙ ap (λ (o : Option Image). (unwrap_or o no_image).windows) (with_image-free w c.in_ok-i.i p (Some (image_of c.in_ok-kept.kept)) c.in_ok-i.ensures.free below) in
-    omega (arith, ap length windows, count, c.in_ok-list.ensures.exact)
+put_over-requires-clause-room c = omega (arith, beside (goal.at.put_over-requires-clause-room c).In_ok-i, c.in_ok-list.ensures.exact)
 
 pub put_over-requires-clause-few : goal.put_over-requires-clause-few
 unfolding world
-put_over-requires-clause-few c =
-    let w = world c.args.self.now in
-    let old = c.args.old in
-    let s = c.in-Some.standing in
-    let p = s.parent in
-    let ok : IsForest w = c.args.self.now.forest in
-    let here = c.get-below.ensures.image in
-    let stands : (image_at w old).standing ≡ Some s = ap (λ (image : Image). image.standing) here ∙ sym c.in-Some.ensures in
-    let live : IsLive w old = stands-live w old c.requires.window in
-    let below : IsLive w p = parent_live w old s ok live stands in
-    let count : length c.windows-count.result.now ≡ length (image_at w p).windows = ap length (c.windows-count.ensures.items ∙ sym (ap (λ (image : Image). image.windows) c.get.ensures.image)) in
-    let windows : (image_at (world c.insert.new.self) p).windows ≡ (image_at w p).windows =
-    ap (λ (v : World). (image_at v p).windows) c.in_ok-i.ensures.world ∙ ap (λ (o : Option Image). (unwrap_or o no_image).windows) (with_image-free w c.in_ok-i.i p (Some (image_of c.in_ok-kept.kept)) c.in_ok-i.ensures.free below) in
-    omega (arith, ap length windows, count, c.if-count.false, c.windows-count.ensures.few)
+put_over-requires-clause-few c = omega (arith, beside (goal.at.put_over-requires-clause-few c).In_ok-i, c.if-count.false, c.windows-count.ensures.few)
 
 pub put_over-requires-clause-forest : goal.put_over-requires-clause-forest
 unfolding world
@@ -100,163 +112,52 @@ put_over-requires-clause-forest c =
     let old = c.args.old in
     let s = c.in-Some.standing in
     let p = s.parent in
-    let ok : IsForest w = c.args.self.now.forest in
-    let here = c.get-below.ensures.image in
-    let stands : (image_at w old).standing ≡ Some s = ap (λ (image : Image). image.standing) here ∙ sym c.in-Some.ensures in
-    let live : IsLive w old = stands-live w old c.requires.window in
-    let below : IsLive w p = parent_live w old s ok live stands in
-    let count : length c.windows-count.result.now ≡ length (image_at w p).windows = ap length (c.windows-count.ensures.items ∙ sym (ap (λ (image : Image). image.windows) c.get.ensures.image)) in
     let i = c.in_ok-i.i in
-    let place = c.carried_rect-place.result in
-    let two = above_world w i old p c.args.r place c.args.raw c.args.keep in
-    let free = c.in_ok-i.ensures.free in
-    let depth = c.depth-depth.ensures ∙ sym (ap (λ (image : Image). image.depth) here) in
-    let above = above_is w (world c.insert.new.self) i old s c.depth-depth.result c.args.r place c.args.raw c.args.keep (image_of c.in_ok-kept.kept) free below c.in_ok-kept.ensures stands depth c.in_ok-i.ensures.world in
+    let here = c.get-below.ensures.image in
+    let below = parent_of_window w old s c.args.self.now.forest c.requires.window here c.in-Some.ensures in
+    let stands = stands_as w old here c.in-Some.ensures in
+    let count = ap (λ (image : Image). length image.windows) c.get.ensures.image ∙ ap length (sym c.windows-count.ensures.items) in
     let room : length (image_at w p).windows + 1 < 2 ^ 32 = omega (arith, count, c.if-count.false, c.windows-count.ensures.few) in
-    subst IsForest (sym above)
-    (subst (λ (there : Rect). IsForest (above_world w i old p c.args.r there c.args.raw c.args.keep)) (sym c.carried_rect-place.ensures)
-    (IsForest-replacement w i old p c.args.r c.args.corner c.args.raw c.args.keep free (parent_stands w old s stands) room c.requires.near c.requires.ordered c.requires.corner c.requires.raw ok))
+    subst IsForest
+    (sym (above_is w (world c.insert.new.self) i old s c.depth-depth.result c.args.r c.carried_rect-place.result c.args.raw c.args.keep (image_of c.in_ok-kept.kept) c.in_ok-i.ensures.free below c.in_ok-kept.ensures stands (c.depth-depth.ensures ∙ sym (ap (λ (image : Image). image.depth) here)) c.in_ok-i.ensures.world))
+    (subst (λ (place : Rect). IsForest (above_world w i old p c.args.r place c.args.raw c.args.keep)) (sym c.carried_rect-place.ensures)
+    (IsForest-replacement w i old p c.args.r c.args.corner c.args.raw c.args.keep c.in_ok-i.ensures.free (parent_stands w old s stands) room c.requires.near c.requires.ordered c.requires.corner c.requires.raw c.args.self.now.forest))
 
 pub move_window-requires-clause-parent : goal.move_window-requires-clause-parent
 unfolding world
-move_window-requires-clause-parent c =
-    let w = world c.args.self.now in
-    let old = c.args.old in
-    let s = c.in-Some.standing in
-    let p = s.parent in
-    let ok : IsForest w = c.args.self.now.forest in
-    let here = c.get-below.ensures.image in
-    let stands : (image_at w old).standing ≡ Some s = ap (λ (image : Image). image.standing) here ∙ sym c.in-Some.ensures in
-    let live : IsLive w old = stands-live w old c.requires.window in
-    let below : IsLive w p = parent_live w old s ok live stands in
-    let i = c.in_ok-i.i in
-    let place = c.carried_rect-place.result in
-    let two = above_world w i old p c.args.r place c.args.raw c.args.keep in
-    let free = c.in_ok-i.ensures.free in
-    let depth = c.depth-depth.ensures ∙ sym (ap (λ (image : Image). image.depth) here) in
-    let above = above_is w (world c.insert.new.self) i old s c.depth-depth.result c.args.r place c.args.raw c.args.keep (image_of c.in_ok-kept.kept) free below c.in_ok-kept.ensures stands depth c.in_ok-i.ensures.world in
-    let v = world c.put_over.new.self in
-    let now : v ≡ two = c.put_over.ensures.world ∙ above in
-    let still : v old ≡ w old = ap (λ (u : World). u old) now ∙ above_old w i old s c.args.r place c.args.raw c.args.keep ok free live stands in
-    let stands_now : (image_at v old).standing ≡ Some s = ap (λ (o : Option Image). (unwrap_or o no_image).standing) still ∙ stands in
-    let live_now : IsLive v old = ap is_some still ∙ live in
-    let ok_now : IsForest v = c.put_over.new.self.forest in
-    let own_now : c.rect-own.result ≡ (image_at v old).r = c.rect-own.ensures.value ∙ sym (ap (λ (image : Image). image.r) here) ∙ sym (ap (λ (o : Option Image). (unwrap_or o no_image).r) still) in
-    parent_live v old s ok_now live_now stands_now
+move_window-requires-clause-parent c = still_below (goal.at.move_window-requires-clause-parent c).After-carried_rect-far
 
 pub move_window-requires-clause-fill : goal.move_window-requires-clause-fill
 unfolding world
-move_window-requires-clause-fill c =
-    let w = world c.args.self.now in
-    let old = c.args.old in
-    let s = c.in-Some.standing in
-    let p = s.parent in
-    let ok : IsForest w = c.args.self.now.forest in
-    let here = c.get-below.ensures.image in
-    let stands : (image_at w old).standing ≡ Some s = ap (λ (image : Image). image.standing) here ∙ sym c.in-Some.ensures in
-    let live : IsLive w old = stands-live w old c.requires.window in
-    let below : IsLive w p = parent_live w old s ok live stands in
-    let i = c.in_ok-i.i in
-    let place = c.carried_rect-place.result in
-    let two = above_world w i old p c.args.r place c.args.raw c.args.keep in
-    let free = c.in_ok-i.ensures.free in
-    let depth = c.depth-depth.ensures ∙ sym (ap (λ (image : Image). image.depth) here) in
-    let above = above_is w (world c.insert.new.self) i old s c.depth-depth.result c.args.r place c.args.raw c.args.keep (image_of c.in_ok-kept.kept) free below c.in_ok-kept.ensures stands depth c.in_ok-i.ensures.world in
-    let v = world c.put_over.new.self in
-    let now : v ≡ two = c.put_over.ensures.world ∙ above in
-    let still : v old ≡ w old = ap (λ (u : World). u old) now ∙ above_old w i old s c.args.r place c.args.raw c.args.keep ok free live stands in
-    let stands_now : (image_at v old).standing ≡ Some s = ap (λ (o : Option Image). (unwrap_or o no_image).standing) still ∙ stands in
-    let live_now : IsLive v old = ap is_some still ∙ live in
-    let ok_now : IsForest v = c.put_over.new.self.forest in
-    let own_now : c.rect-own.result ≡ (image_at v old).r = c.rect-own.ensures.value ∙ sym (ap (λ (image : Image). image.r) here) ∙ sym (ap (λ (o : Option Image). (unwrap_or o no_image).r) still) in
-    fill_live v old s ok_now stands_now
+move_window-requires-clause-fill c = fill_live (world c.put_over.new.self) c.args.old c.in-Some.standing c.put_over.new.self.forest (still_stands (goal.at.move_window-requires-clause-fill c).After-carried_rect-far)
 
 pub move_window-requires-clause-fills : goal.move_window-requires-clause-fills
 unfolding world
-move_window-requires-clause-fills c =
-    let w = world c.args.self.now in
-    let old = c.args.old in
-    let s = c.in-Some.standing in
-    let p = s.parent in
-    let ok : IsForest w = c.args.self.now.forest in
-    let here = c.get-below.ensures.image in
-    let stands : (image_at w old).standing ≡ Some s = ap (λ (image : Image). image.standing) here ∙ sym c.in-Some.ensures in
-    let live : IsLive w old = stands-live w old c.requires.window in
-    let below : IsLive w p = parent_live w old s ok live stands in
-    let i = c.in_ok-i.i in
-    let place = c.carried_rect-place.result in
-    let two = above_world w i old p c.args.r place c.args.raw c.args.keep in
-    let free = c.in_ok-i.ensures.free in
-    let depth = c.depth-depth.ensures ∙ sym (ap (λ (image : Image). image.depth) here) in
-    let above = above_is w (world c.insert.new.self) i old s c.depth-depth.result c.args.r place c.args.raw c.args.keep (image_of c.in_ok-kept.kept) free below c.in_ok-kept.ensures stands depth c.in_ok-i.ensures.world in
-    let v = world c.put_over.new.self in
-    let now : v ≡ two = c.put_over.ensures.world ∙ above in
-    let still : v old ≡ w old = ap (λ (u : World). u old) now ∙ above_old w i old s c.args.r place c.args.raw c.args.keep ok free live stands in
-    let stands_now : (image_at v old).standing ≡ Some s = ap (λ (o : Option Image). (unwrap_or o no_image).standing) still ∙ stands in
-    let live_now : IsLive v old = ap is_some still ∙ live in
-    let ok_now : IsForest v = c.put_over.new.self.forest in
-    let own_now : c.rect-own.result ≡ (image_at v old).r = c.rect-own.ensures.value ∙ sym (ap (λ (image : Image). image.r) here) ∙ sym (ap (λ (o : Option Image). (unwrap_or o no_image).r) still) in
-    fill_stands v old s stands_now
+move_window-requires-clause-fills c = fill_stands (world c.put_over.new.self) c.args.old c.in-Some.standing (still_stands (goal.at.move_window-requires-clause-fills c).After-carried_rect-far)
 
 pub move_window-requires-clause-forest : goal.move_window-requires-clause-forest
 unfolding world
 move_window-requires-clause-forest c =
-    let w = world c.args.self.now in
-    let old = c.args.old in
-    let s = c.in-Some.standing in
-    let p = s.parent in
-    let ok : IsForest w = c.args.self.now.forest in
-    let here = c.get-below.ensures.image in
-    let stands : (image_at w old).standing ≡ Some s = ap (λ (image : Image). image.standing) here ∙ sym c.in-Some.ensures in
-    let live : IsLive w old = stands-live w old c.requires.window in
-    let below : IsLive w p = parent_live w old s ok live stands in
-    let i = c.in_ok-i.i in
-    let place = c.carried_rect-place.result in
-    let two = above_world w i old p c.args.r place c.args.raw c.args.keep in
-    let free = c.in_ok-i.ensures.free in
-    let depth = c.depth-depth.ensures ∙ sym (ap (λ (image : Image). image.depth) here) in
-    let above = above_is w (world c.insert.new.self) i old s c.depth-depth.result c.args.r place c.args.raw c.args.keep (image_of c.in_ok-kept.kept) free below c.in_ok-kept.ensures stands depth c.in_ok-i.ensures.world in
     let v = world c.put_over.new.self in
-    let now : v ≡ two = c.put_over.ensures.world ∙ above in
-    let still : v old ≡ w old = ap (λ (u : World). u old) now ∙ above_old w i old s c.args.r place c.args.raw c.args.keep ok free live stands in
-    let stands_now : (image_at v old).standing ≡ Some s = ap (λ (o : Option Image). (unwrap_or o no_image).standing) still ∙ stands in
-    let live_now : IsLive v old = ap is_some still ∙ live in
-    let ok_now : IsForest v = c.put_over.new.self.forest in
-    let own_now : c.rect-own.result ≡ (image_at v old).r = c.rect-own.ensures.value ∙ sym (ap (λ (image : Image). image.r) here) ∙ sym (ap (λ (o : Option Image). (unwrap_or o no_image).r) still) in
+    let p = c.in-Some.standing.parent in
+    let before = (goal.at.move_window-requires-clause-forest c).After-carried_rect-far in
     let near : IsNearBy (2 ^ 34) outside = record { left = omega (arith, ints); right = omega (arith, ints); top = omega (arith, ints); bottom = omega (arith, ints) } in
-    subst (λ (far : Rect). IsForest (with_windows v p (moved old far (image_at v p).windows)))
-    (sym (c.carried_rect-far.ensures ∙ ap (λ (own : Rect). carried_rect own own.min outside) own_now))
-    (IsForest-moved_to v ok_now old p outside (parent_live v old s ok_now live_now stands_now) near)
+    subst (λ (there : Rect). IsForest (with_windows v p (moved c.args.old there (image_at v p).windows)))
+    (sym (far before ∙ sym (ap (λ (o : Option Image). carried_rect (unwrap_or o no_image).r (unwrap_or o no_image).r.min outside) (still before))))
+    (IsForest-moved_to v c.put_over.new.self.forest c.args.old p outside (still_below before) near)
 
 pub returns-clause-made : goal.returns-clause-made
 unfolding world
 returns-clause-made c =
     let w = world c.args.self.now in
     let old = c.args.old in
-    let s = c.in-Some.standing in
-    let p = s.parent in
-    let ok : IsForest w = c.args.self.now.forest in
-    let here = c.get-below.ensures.image in
-    let stands : (image_at w old).standing ≡ Some s = ap (λ (image : Image). image.standing) here ∙ sym c.in-Some.ensures in
-    let live : IsLive w old = stands-live w old c.requires.window in
-    let below : IsLive w p = parent_live w old s ok live stands in
+    let p = c.in-Some.standing.parent in
     let i = c.in_ok-i.i in
-    let place = c.carried_rect-place.result in
-    let two = above_world w i old p c.args.r place c.args.raw c.args.keep in
-    let free = c.in_ok-i.ensures.free in
-    let depth = c.depth-depth.ensures ∙ sym (ap (λ (image : Image). image.depth) here) in
-    let above = above_is w (world c.insert.new.self) i old s c.depth-depth.result c.args.r place c.args.raw c.args.keep (image_of c.in_ok-kept.kept) free below c.in_ok-kept.ensures stands depth c.in_ok-i.ensures.world in
-    let v = world c.put_over.new.self in
-    let now : v ≡ two = c.put_over.ensures.world ∙ above in
-    let still : v old ≡ w old = ap (λ (u : World). u old) now ∙ above_old w i old s c.args.r place c.args.raw c.args.keep ok free live stands in
-    let stands_now : (image_at v old).standing ≡ Some s = ap (λ (o : Option Image). (unwrap_or o no_image).standing) still ∙ stands in
-    let live_now : IsLive v old = ap is_some still ∙ live in
-    let ok_now : IsForest v = c.put_over.new.self.forest in
-    let own_now : c.rect-own.result ≡ (image_at v old).r = c.rect-own.ensures.value ∙ sym (ap (λ (image : Image). image.r) here) ∙ sym (ap (λ (o : Option Image). (unwrap_or o no_image).r) still) in
-    let own : c.rect-own.result ≡ (image_at w old).r = c.rect-own.ensures.value ∙ sym (ap (λ (image : Image). image.r) here) in
-    let far = c.carried_rect-far.ensures ∙ ap (λ (r : Rect). carried_rect r r.min outside) own in
+    let two = above_world w i old p c.args.r c.carried_rect-place.result c.args.raw c.args.keep in
+    let own = carried_rect (image_at w old).r (image_at w old).r.min outside in
+    let before = (goal.at.returns-clause-made c).After-carried_rect-far in
     c.move_window.ensures.world
-    ∙ ap (λ (u : World). with_windows u p (moved old c.carried_rect-far.result (image_at u p).windows)) now
-    ∙ ap (λ (there : Rect). with_windows two p (moved old there (image_at two p).windows)) far
-    ∙ ap (λ (there : Rect). with_windows (above_world w i old p c.args.r there c.args.raw c.args.keep) p (moved old (carried_rect (image_at w old).r (image_at w old).r.min outside) (image_at (above_world w i old p c.args.r there c.args.raw c.args.keep) p).windows)) c.carried_rect-place.ensures
-    ∙ replaced_is w i old s c.args.r c.args.corner c.args.raw c.args.keep ok free live stands
+    ∙ ap (λ (v : World). with_windows v p (moved old c.carried_rect-far.result (image_at v p).windows)) (above before)
+    ∙ ap (λ (there : Rect). with_windows two p (moved old there (image_at two p).windows)) (far before)
+    ∙ ap (λ (there : Rect). with_windows (above_world w i old p c.args.r there c.args.raw c.args.keep) p (moved old own (image_at (above_world w i old p c.args.r there c.args.raw c.args.keep) p).windows)) c.carried_rect-place.ensures
+    ∙ replaced_is w i old c.in-Some.standing c.args.r c.args.corner c.args.raw c.args.keep c.args.self.now.forest c.in_ok-i.ensures.free (stands-live w old c.requires.window) (stands_as w old c.get-below.ensures.image c.in-Some.ensures)

@@ -1,9 +1,9 @@
-use Rattle.std.proofs.Common.{◌≡◌, length, refl, sym, subst, arith}
+use Rattle.std.proofs.Common.{sym, subst, arith}
 use Rattle.model_forest.specs.World.{IsForest}
 use Rattle.model_forest.proofs.Placed.{IsForest-shifted}
 use Rattle.r9_stack.specs.Images.{world_of}
 use Rattle.r9_stack.specs.Table.{numbers, world}
-use Rattle.r9_stack.proofs.Tables.{numbers_kept}
+use Rattle.r9_stack.proofs.Tables.{numbers_same}
 use Rattle.r9_stack.proofs.Uncovered.{near_places}
 use Rattle.r9_stack.proofs.images.Images.shift_own.Goals as goal
 
@@ -32,6 +32,4 @@ returns-clause-world c = c.shift.ensures.world
 pub returns-clause-numbers : goal.returns-clause-numbers
 unfolding numbers
 returns-clause-numbers c =
-    let table = c.args.self.now in
-    let long : length c.shift.new.slots.items ≡ length table.slots.items = omega (arith, c.shift.new.slots.ok.0, table.slots.ok.0, c.shift.ensures.len) in
-    numbers_kept table.slots.items c.shift.new.slots.items table.spare.items table.spare.items long refl
+    numbers_same c.args.self.now.slots c.shift.new.slots c.args.self.now.spare.items c.shift.ensures.len

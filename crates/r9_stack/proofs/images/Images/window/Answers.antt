@@ -1,28 +1,22 @@
-use Rattle.std.proofs.Common.{◌≡◌, ◌∙◌, ◌<◌, ◌^◌, Some, true, length, ap, sym, subst, arith}
+use Rattle.std.proofs.Common.{◌≡◌, ◌∙◌, ◌<◌, ◌^◌, length, ap, sym, subst, arith}
 use Rattle.model_pixel.specs.Channels as channels
 use Rattle.model_pixel.specs.Channels.{is_descriptor}
-use Rattle.model_forest.specs.Numbers.{next_number}
-use Rattle.model_forest.specs.World.{Image, image_at, with_image, IsForest}
-use Rattle.model_forest.specs.Steps.{after_image}
-use Rattle.model_forest.proofs.Steps.{IsForest-after_image, IsForest-after_window}
-use Rattle.r9_stack.specs.Images.{image_of, world_of}
+use Rattle.model_forest.specs.World.{Image, image_at, IsForest}
+use Rattle.model_forest.proofs.Steps.{IsForest-after_window}
+use Rattle.r9_stack.specs.Images.{image_of}
 use Rattle.r9_stack.specs.Table.{numbers, world}
 use Rattle.r9_stack.proofs.Attached.{made_window}
-use Rattle.r9_stack.proofs.Worlds.{next_free}
+use Rattle.r9_stack.proofs.Worlds.{IsForest-made}
 use Rattle.r9_stack.proofs.images.Images.window.Goals as goal
 
 pub insert-requires : goal.insert-requires
-unfolding world numbers after_image
+unfolding world numbers
 insert-requires c =
     let table = c.args.self.now in
-    let slots = table.slots.items in
-    let i = next_number (numbers table) in
-    let w = world_of slots in
     let chan = c.chan-chan.ensures ∙ sym (ap (λ (im : Image). im.chan) c.get-below.ensures.image) in
-    let lawful : is_descriptor c.chan-chan.result ≡ true = ap is_descriptor chan ∙ (table.forest.images c.args.parent c.requires.parent).chan in
     let raw = subst (λ n. c.args.raw < 2 ^ channels.depth n) (sym chan) c.requires.raw in
-    subst (λ (im : Image). IsForest (with_image w i (Some im))) (sym c.in_ok-kept.ensures)
-    (IsForest-after_image w i c.args.r c.chan-chan.result c.args.raw (next_free slots table.spare.items table.table) lawful raw c.requires.near c.requires.ordered table.forest)
+    IsForest-made table.slots.items table.spare.items c.args.r c.chan-chan.result c.args.raw (image_of c.in_ok-kept.kept) table.table c.in_ok-kept.ensures
+    (ap is_descriptor chan ∙ (table.forest.images c.args.parent c.requires.parent).chan) raw c.requires.near c.requires.ordered table.forest
 
 pub put_on_top-requires-clause-forest : goal.put_on_top-requires-clause-forest
 unfolding world

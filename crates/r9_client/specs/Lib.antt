@@ -1,0 +1,3 @@
+pub mod Clients
+pub mod Counted
+pub mod Fonts

@@ -1,0 +1,24 @@
+use Rattle.std.proofs.Common.{ℕ, List, ◌^◌, ap, ◌∙◌, arith}
+use Rattle.model_text.specs.Map.{lookup}
+use Rattle.model_draw.specs.World.{Client}
+use Rattle.r9_layers.specs.Forest.{world}
+use Rattle.r9_draw.proofs.Kept.{kept-drawn}
+use Rattle.r9_draw.proofs.Manager.{manager-with}
+use Rattle.r9_draw.proofs.Rects.{point-wider, wider}
+use Rattle.r9_draw.proofs.draw.Draw.load_cell.Goals as goal
+
+pub draw_unmasked-requires-clause-near : goal.draw_unmasked-requires-clause-near
+draw_unmasked-requires-clause-near c = wider (2 ^ 32) (2 ^ 34) c.args.loading.now.r (omega arith) c.requires.ready.near
+
+pub draw_unmasked-requires-clause-source_near : goal.draw_unmasked-requires-clause-source_near
+draw_unmasked-requires-clause-source_near c = point-wider (2 ^ 32) (2 ^ 34) c.args.loading.now.sp (omega arith) c.requires.ready.source_near
+
+pub invariant_of-self-2-clause-kept : goal.invariant_of-self-2-clause-kept
+invariant_of-self-2-clause-kept c =
+    let before = c.args.self.now in
+    kept-drawn (world before.forest) (world c.draw_unmasked.new.self) before.book.book _ before.kept c.requires.ready.cache c.in_ok-draw_unmasked.ensures.ok
+
+pub invariant_of-self-2-clause-manager : goal.invariant_of-self-2-clause-manager
+invariant_of-self-2-clause-manager c =
+    let before = c.args.self.now in
+    ap (λ (es : List (ℕ × Client)). lookup es 0) c.set_cell.ensures ∙ manager-with before.clients.entries c.args.client _ c.requires.live before.manager

@@ -1,0 +1,17 @@
+//! What fids stand for and how they are open, what is given of a directory's listing (read(5)), and what a refusal says
+//! (error(5)).
+#![tactic(auto)]
+
+mod fault;
+mod fid;
+mod kinds;
+mod listing;
+
+pub use fault::{
+    BAD_MESSAGE, BAD_OFFSET, DRAW_READ_TOO_SHORT, FID_IN_USE, FID_IS_OPEN, FID_NOT_OPEN,
+    FILE_IN_USE, Fault, MSIZE_TOO_SMALL, NO_AUTHENTICATION, NO_IMAGE_MEMORY, PERMISSION_DENIED,
+    READ_TOO_SHORT, TOO_MANY_BLOCKED_READS, TOO_MANY_FIDS, UNKNOWN_ATTACH, UNKNOWN_FID,
+    VERSION_FIRST, refusal,
+};
+pub use fid::Fid;
+pub use kinds::{is_directory, is_kind};

@@ -1,0 +1,15 @@
+use Rattle.std.proofs.Common.{◌∙◌}
+use Rattle.model_world.specs.World.{device_for}
+use Rattle.r9_draw.specs.World.{world_of}
+use Rattle.r9_wire.specs.View.{t_of}
+use Rattle.r9_session.proofs.Begun.{begun}
+use Rattle.r9_session.proofs.session.Session.answer_read.Goals as goal
+
+pub returns : goal.returns
+returns c =
+    let begins = c.in_ok-check_begun.ensures in
+    let said = c.in_ok-reply.ensures c.args.mark in
+    record {
+      answer = (begun (device_for c.args.number) c.args.self.now (world_of c.args.device.now) c.args.mark (t_of c.args.m.now) begins.0 begins.1 ∙ said.0, said.1);
+      cause = tt;
+    }

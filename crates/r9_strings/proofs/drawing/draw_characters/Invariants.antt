@@ -1,0 +1,15 @@
+use Rattle.std.proofs.Common.{◌≡◌, ◌≤◌, drop}
+use Rattle.std.specs.List.{fold}
+use Rattle.model_forest.specs.Draw.{after_draw}
+use Rattle.r9_layers.specs.Forest.{numbers, room, world}
+use Rattle.r9_strings.specs.Drawings.{characters}
+use Rattle.r9_strings.proofs.Strings.{Alike}
+use Rattle.r9_strings.proofs.drawing.draw_characters.Given as goal
+
+abbrev pub invariant-loop-piece : goal.invariant-loop-piece
+invariant-loop-piece l = record {
+  alike : Alike (world l.fn.forest) (world l.forest);
+  numbers : numbers l.forest ≡ numbers l.fn.forest;
+  grown : room l.fn.forest ≤ room l.forest;
+  rest : fold after_draw (world l.forest) (characters l.lettering (drop l.piece-index l.pieces)) ≡ fold after_draw (world l.fn.forest) (characters l.lettering l.pieces);
+}

@@ -1,0 +1,35 @@
+use Rattle.std.proofs.Common.{◌∙◌}
+use Rattle.std.proofs.lemmas.List.Elements.{All-weaker}
+use Rattle.model_fonts.specs.declared.Piece.{Piece}
+use Rattle.model_draw.specs.Writing.{background_rect}
+use Rattle.r9_fonts.specs.View.{layout_of}
+use Rattle.r9_layers.specs.Forest.{room, world}
+use Rattle.r9_strings.specs.Ready.{Fits}
+use Rattle.r9_strings.proofs.Strings.{laid_is, string_drawn, Alike, Alike-same, Alike-under, CanLetter-still, Fits-still}
+use Rattle.r9_strings.proofs.drawing.draw_string.Goals as goal
+
+pub draw_characters-requires-clause-images : goal.draw_characters-requires-clause-images
+draw_characters-requires-clause-images c =
+    CanLetter-still _ _ c.args.lettering.now
+    (Alike-under (world c.args.forest.now) _ _ c.args.lettering.now _ c.requires.ready.dst (c.in_ok-room_for_characters.ensures.same.world ∙ c.in_ok-room_for_background.ensures.same.world) c.draw_background.ensures.drawn)
+    c.requires.ready
+
+pub draw_characters-requires-clause-room : goal.draw_characters-requires-clause-room
+draw_characters-requires-clause-room c =
+    let before = world c.room_for_background.new.forest in
+    let live = (Alike-same (world c.args.forest.now) before c.in_ok-room_for_background.ensures.same.world).lives _ c.requires.ready.dst in
+    let alike : Alike before (world c.draw_background.new.forest) = Alike-under before _ _ c.args.lettering.now _ live c.in_ok-room_for_characters.ensures.same.world c.draw_background.ensures.drawn in
+    All-weaker (λ (piece : Piece). Fits before c.args.lettering.now.dst.0 (room c.room_for_characters.new.forest) piece.r) (λ (piece : Piece). Fits (world c.draw_background.new.forest) c.args.lettering.now.dst.0 (room c.draw_background.new.forest) piece.r)
+    (λ piece fits. Fits-still _ _ _ _ _ piece.r alike c.draw_background.ensures.room fits) _ c.in_ok-room_for_characters.ensures.ok
+
+pub returns-clause-drawn : goal.returns-clause-drawn
+returns-clause-drawn c =
+    let W = world c.args.forest.now in
+    let laid = laid_is c.args.font.now c.args.lettering.now.p c.args.lettering.now.sp c.args.indices.now (layout_of c.in-Ok.laid) c.requires.all c.in-Ok.ensures.ok in
+    string_drawn W _ _ _ c.args.font.now c.args.lettering.now c.args.indices.now (layout_of c.in-Ok.laid) c.background_rect-under.result _ laid
+    (c.background_rect-under.ensures.value
+    ∙ (λ j. background_rect c.args.lettering.now.p c.in-Ok.laid.end (c.ascent.ensures j) (c.info.ensures j).r))
+    c.as_slice-pieces.ensures
+    (c.in_ok-room_for_characters.ensures.same.world ∙ c.in_ok-room_for_background.ensures.same.world)
+    c.draw_background.ensures.drawn
+    c.draw_characters.ensures.drawn

@@ -1,0 +1,172 @@
+//! A string is drawn piece by piece, once there is room for each of them.
+
+ghost use Rattle.std.specs.Prelude.{◌≡◌, ◌^◌, ◌≤◌, true, length, All, IfSome, OnErr, OnOk};
+ghost use Rattle.std.specs.List.{fold, list_all};
+ghost use Rattle.r9_geom.specs.Geometry.{IsNearBy, IsRectNearBy};
+ghost use Rattle.model_fonts.specs.Font.{has_index};
+ghost use Rattle.model_forest.specs.Draw.{after_draw};
+ghost use Rattle.model_forest.specs.World.{IsLive};
+ghost use Rattle.model_draw.specs.Writing as writing;
+ghost use Rattle.r9_fonts.specs.Near.{IsPieceNear};
+ghost use Rattle.r9_layers.specs.Forest.{numbers, room, world, IsUnchanged};
+ghost use Rattle.r9_strings.specs.Drawings.{background, characters, drawings, letter};
+ghost use Rattle.r9_strings.specs.Ready.{CanLetter, Fits};
+
+use crate::lettering::Lettering;
+use r9_fonts::{Font, Piece};
+use r9_geom::{Point, Rect};
+use r9_info::ImageNo;
+use r9_layers::Forest;
+use r9_memory::Memory;
+
+// Makes room for what is drawn into r on an image.
+fn room_for(forest: &mut Forest, dst: ImageNo, r: &Rect) -> Result<(), Memory>
+    requires { IsLive (world forest.old) dst.0 }
+    ensures ok { OnOk result (Fits (world forest.old) dst.0 (room forest.new) r.now) }
+    ensures room { room forest.old ≤ room forest.new }
+    ensures same { IsUnchanged forest.old forest.new }
+{
+    let cut = r.meet(&forest.info(dst).r);
+    if cut.is_empty() {
+        return Ok(());
+    }
+    match cut.width().checked_mul(cut.height()) {
+        Some(points) => forest.room(points),
+        None => Err(Memory),
+    }
+}
+
+// Makes room for the background, where there is one, which is drawn into r.
+fn room_for_background(forest: &mut Forest, lettering: &Lettering, r: &Rect) -> Result<(), Memory>
+    requires { IsLive (world forest.old) lettering.now.dst.0 }
+    ensures ok { OnOk result (IfSome lettering.now.background (λ _. Fits (world forest.old) lettering.now.dst.0 (room forest.new) r.now)) }
+    ensures room { room forest.old ≤ room forest.new }
+    ensures same { IsUnchanged forest.old forest.new }
+{
+    match lettering.background {
+        Some(_) => room_for(forest, lettering.dst, r),
+        None => Ok(()),
+    }
+}
+
+// Makes room for each of the characters.
+fn room_for_characters(forest: &mut Forest, dst: ImageNo, pieces: &[Piece]) -> Result<(), Memory>
+    requires { IsLive (world forest.old) dst.0 }
+    ensures ok { OnOk result (All (λ piece. Fits (world forest.old) dst.0 (room forest.new) piece.r) pieces.now) }
+    ensures room { room forest.old ≤ room forest.new }
+    ensures same { IsUnchanged forest.old forest.new }
+{
+    for piece in pieces {
+        room_for(forest, dst, &piece.r)?;
+    }
+    Ok(())
+}
+
+// Draws the background, where there is one, into r, for which there is room.
+fn draw_background(forest: &mut Forest, lettering: &Lettering, r: &Rect)
+    requires images { CanLetter (world forest.old) lettering.now }
+    requires near { IsRectNearBy (2 ^ 34) r.now }
+    requires room { IfSome lettering.now.background (λ _. Fits (world forest.old) lettering.now.dst.0 (room forest.old) r.now) }
+    ensures drawn { world forest.new ≡ fold after_draw (world forest.old) (background lettering.now r.now) }
+    ensures numbers { numbers forest.new ≡ numbers forest.old }
+    ensures room { room forest.old ≤ room forest.new }
+{
+    let Some(background) = lettering.background else {
+        return;
+    };
+    let Ok(()) = forest.draw_unmasked(
+        lettering.dst,
+        lettering.clipr,
+        *r,
+        background.image,
+        background.p,
+        lettering.op,
+    ) else {
+        unreachable!()
+    };
+}
+
+// Draws the characters, for each of which there is room.
+fn draw_characters(forest: &mut Forest, lettering: &Lettering, pieces: &[Piece])
+    requires images { CanLetter (world forest.old) lettering.now }
+    requires near { All IsPieceNear pieces.now }
+    requires room { All (λ piece. Fits (world forest.old) lettering.now.dst.0 (room forest.old) piece.r) pieces.now }
+    ensures drawn { world forest.new ≡ fold after_draw (world forest.old) (characters lettering.now pieces.now) }
+    ensures numbers { numbers forest.new ≡ numbers forest.old }
+    ensures room { room forest.old ≤ room forest.new }
+{
+    for piece in pieces {
+        draw_character(forest, lettering, piece);
+    }
+}
+
+// Draws one of them.
+fn draw_character(forest: &mut Forest, lettering: &Lettering, piece: &Piece)
+    requires images { CanLetter (world forest.old) lettering.now }
+    requires near { IsPieceNear piece.now }
+    requires room { Fits (world forest.old) lettering.now.dst.0 (room forest.old) piece.now.r }
+    ensures drawn { world forest.new ≡ after_draw (world forest.old) (letter lettering.now piece.now) }
+    ensures numbers { numbers forest.new ≡ numbers forest.old }
+    ensures room { room forest.old ≤ room forest.new }
+{
+    let Ok(()) = forest.draw(
+        lettering.dst,
+        lettering.clipr,
+        piece.r,
+        lettering.src,
+        piece.sp,
+        lettering.font_image,
+        piece.mp,
+        lettering.op,
+    ) else {
+        unreachable!()
+    };
+}
+
+// What a background fills: from the pen's place at the beginning to that at the end, as high as the font's image, with the
+// writing line the ascent below its upper edge.
+fn background_rect(p: Point, end: Point, ascent: u8, font_r: &Rect) -> Rect
+    requires p { IsNearBy (2 ^ 32) p }
+    requires end { IsNearBy (2 ^ 33) end }
+    requires font { IsRectNearBy (2 ^ 32) font_r.now }
+    ensures value { result ≡ writing.background_rect p end ascent font_r.now }
+    ensures near { IsRectNearBy (2 ^ 34) result }
+{
+    let top = p.y - i64::from(ascent);
+    Rect {
+        min: Point { x: p.x, y: top },
+        max: Point {
+            x: end.x,
+            y: top + (font_r.max.y - font_r.min.y),
+        },
+    }
+}
+
+/// Draws a string whole, or, where memory runs out, nothing: room for the largest of its pieces is made before the first is
+/// drawn. Its characters are those of the font at the indices, one after the other (draw(3)).
+pub fn draw_string(
+    forest: &mut Forest,
+    font: &Font,
+    lettering: &Lettering,
+    indices: &[u16],
+) -> Result<(), Memory>
+    requires ready { CanLetter (world forest.old) lettering.now }
+    requires few { length indices.now ≤ 65535 }
+    requires all { list_all (has_index font.now) indices.now ≡ true }
+    ensures drawn { OnOk result (world forest.new ≡ fold after_draw (world forest.old) (drawings (world forest.old) font.now lettering.now indices.now)) }
+    ensures numbers { numbers forest.new ≡ numbers forest.old }
+    ensures room { room forest.old ≤ room forest.new }
+    ensures kept { OnErr result (world forest.new ≡ world forest.old) }
+{
+    let Ok(laid) = font.layout(lettering.p, lettering.sp, indices) else {
+        return Err(Memory);
+    };
+    let font_r = forest.info(lettering.font_image).r;
+    let under = background_rect(lettering.p, laid.end, font.ascent(), &font_r);
+    let pieces = laid.pieces.as_slice();
+    room_for_background(forest, lettering, &under)?;
+    room_for_characters(forest, lettering.dst, pieces)?;
+    draw_background(forest, lettering, &under);
+    draw_characters(forest, lettering, pieces);
+    Ok(())
+}

@@ -1,0 +1,10 @@
+//! Strings of characters, drawn on images (draw(3)).
+#![tactic(auto)]
+
+mod drawing;
+mod lettering;
+#[cfg(test)]
+mod tests;
+
+pub use drawing::draw_string;
+pub use lettering::{Background, Lettering};
