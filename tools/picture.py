@@ -4,11 +4,13 @@
     tools/picture.py middle.png --size 128x96 --chan x8r8g8b8 < replies
     tools/picture.py middle.png --size 128x96 --chan x8r8g8b8 --read 1 < replies
     tools/picture.py screen.png < replies
+    tools/picture.py screen.png --scale 4 < replies
 
 With --size and --chan it is the data of an Rread, the last one or the one that --read counts from 1: the
 rows of a rectangle that a draw message `r` asked for (draw(3)), whose left edge stands at a whole byte.
 Without them it is the image file (image(6)) behind the line `S n`. Colours are widened to 8 bits by
-repeating their bits; where there is alpha, the PNG has it, and colours are divided by it.
+repeating their bits; where there is alpha, the PNG has it, and colours are divided by it. With --scale N each
+pixel is N by N.
 
 It is outside the proof. Needs: Python 3.9 or later, its standard library alone.
 """
@@ -87,8 +89,8 @@ def png_chunk(kind, data):
     return struct.pack(">I", len(data)) + kind + data + struct.pack(">I", zlib.crc32(kind + data))
 
 
-def picture(word, left, right, height, rows):
-    """The PNG file of rows of pixels."""
+def picture(word, left, right, height, rows, scale=1):
+    """The PNG file of rows of pixels, each of them so many by so many."""
     channels, bits = formats.channels(word), formats.depth(word)
     row_bytes, width = formats.row_bytes(bits, left, right), right - left
     if bits > 8 and bits % 8 or bits < 8 and 8 % bits:
@@ -100,9 +102,9 @@ def picture(word, left, right, height, rows):
     for at in range(0, len(rows), row_bytes):
         pixels = raw_pixels(rows[at : at + row_bytes], bits, left, right)
         for pixel in set(pixels) - seen.keys():
-            seen[pixel] = png_bytes(pixel, channels, has_alpha)
-        lines.append(b"\0" + b"".join(seen[pixel] for pixel in pixels))
-    header = struct.pack(">IIBBBBB", width, height, 8, 6 if has_alpha else 2, 0, 0, 0)
+            seen[pixel] = scale * png_bytes(pixel, channels, has_alpha)
+        lines += scale * [b"\0" + b"".join(seen[pixel] for pixel in pixels)]
+    header = struct.pack(">IIBBBBB", scale * width, scale * height, 8, 6 if has_alpha else 2, 0, 0, 0)
     chunks = [(b"IHDR", header), (b"IDAT", zlib.compress(b"".join(lines), 9)), (b"IEND", b"")]
     return b"\x89PNG\r\n\x1a\n" + b"".join(png_chunk(kind, data) for kind, data in chunks)
 
@@ -113,14 +115,20 @@ def size_of(text):
     return tuple(map(int, text.split("x")))
 
 
+def scale_of(text):
+    if not re.fullmatch(r"[1-9]|1[0-6]", text):
+        raise ValueError(f"no scale: {text}")
+    return int(text)
+
+
 def chosen_picture(replies, options):
     """The PNG file that the options choose."""
     if options.size is not None:
         width, height = options.size
-        return picture(options.chan, 0, width, height, chosen_read(replies, options.read))
+        return picture(options.chan, 0, width, height, chosen_read(replies, options.read), options.scale)
     if replies.screen is None:
         raise NoPicture("no line `S n`, and no --size of an Rread")
-    return picture(*read_image_file(replies.screen))
+    return picture(*read_image_file(replies.screen), options.scale)
 
 
 def main(words):
@@ -129,6 +137,7 @@ def main(words):
     parser.add_argument("--size", type=size_of, metavar="WxH", help="width and height of what an Rread has")
     parser.add_argument("--chan", type=formats.channels_word, metavar="C", help="its channels")
     parser.add_argument("--read", type=int, metavar="N", help="the Nth Rread, not the last one")
+    parser.add_argument("--scale", type=scale_of, default=1, metavar="N", help="each pixel N by N, up to 16")
     options = parser.parse_args(words)
     if (options.size is None) != (options.chan is None) or options.read is not None and options.size is None:
         parser.error("an Rread has no size and channels of its own: give --size and --chan")

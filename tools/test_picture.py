@@ -54,6 +54,10 @@ class Pictures(unittest.TestCase):
                 png = picture.picture(formats.channels_word(channels), left, right, height, bytes.fromhex(rows))
                 self.assertEqual(pixels_of(png), (right - left, height, bytes.fromhex(pixels)))
 
+    def test_scale(self):
+        png = picture.picture(formats.channels_word("k8"), 0, 2, 1, b"\x00\xff", 2)
+        self.assertEqual(pixels_of(png), (4, 2, 2 * bytes.fromhex("000000 000000 ffffff ffffff")))
+
     def test_no_pictures(self):
         for channels, width, height, rows in NO_PICTURES:
             with self.subTest(channels), self.assertRaises(picture.NoPicture):
