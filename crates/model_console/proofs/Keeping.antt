@@ -1,10 +1,9 @@
 -- Forgetting the front of the text changes nothing else.
-use Rattle.std.proofs.Common.{◌≡◌, inl, inr, eqb, ℕ, ◌+◌, ◌-◌, ◌≤◌, Bool, true, false, cond, ◌&&◌, not, List, [], ◌∷◌, ◌++◌, length, take, drop, Some, refl, sym, ap, ◌∙◌, arith, append_assoc, length-append, length-drop}
+use Rattle.std.proofs.Common.{◌≡◌, eqb, ℕ, ◌+◌, ◌-◌, Bool, true, false, cond, ◌&&◌, not, List, [], ◌∷◌, ◌++◌, length, take, drop, Some, refl, sym, ap, ◌∙◌, append_assoc}
 use Rattle.std.proofs.lemmas.List.{take-append-drop, take_all}
-use Rattle.std.proofs.lemmas.Bool.{cases_lt, leb-true}
+use Rattle.std.proofs.lemmas.Bool.{leb-true}
 use Rattle.std.proofs.Math.Dec.{leb}
 use Rattle.std.proofs.lemmas.List.Sums.{fold-append}
-use Rattle.std.proofs.Math.Seq.{drop-append-add}
 use Rattle.std.specs.List.{fold, concat}
 use Rattle.std.specs.Option.{unwrap_or}
 use Rattle.model_console.specs.Console.{Console, empty, last_of, text, remembered, keyed, cooked_key, with_raw, with_text, with_line_ended, without_last, is_key, has_room, read, given, after_read, rest}

@@ -3,10 +3,10 @@ use Rattle.std.specs.Prelude.{◌≡◌, ℕ, List, [], ◌∷◌, Option, Some,
 use Rattle.r9_geom.specs.declared.Point.{Point}
 use Rattle.r9_geom.specs.declared.Rect.{Rect}
 use Rattle.model_text.specs.Outcome.{Outcome, ◌>>=◌}
-use Rattle.model_dmsg.specs.Message.{Message, Writing, LowB, LowC, LowD, LowF, LowI, LowL, UpN, LowN, UpO, LowR, LowS, LowX, LowY}
+use Rattle.model_dmsg.specs.Message.{Message, Writing, LowB, LowD, LowF, LowI, LowL, UpN, LowN, UpO, LowR, LowS, LowX, LowY}
 use Rattle.model_draw.specs.World.{World, client_of, look, at_number, started, after_connect}
-use Rattle.model_draw.specs.Act.{Written, act, written}
-use Rattle.model_draw.specs.Files.{read_data, read_ctl, write_ctl}
+use Rattle.model_draw.specs.Act.{act, written}
+use Rattle.model_draw.specs.Files.{read_ctl, write_ctl}
 use Rattle.model_draw.specs.Act as a
 use Rattle.model_draw.specs.Making as m
 use Rattle.model_draw.specs.Drawing as d

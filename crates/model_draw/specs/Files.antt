@@ -1,7 +1,6 @@
 -- Reads and writes of a connection's files `data` and `ctl` (draw(3)), and the display as a file.
 use Rattle.std.specs.Prelude.{ℕ, ◌==◌, pos, Bool, not, ◌||◌, nat_lt, is_some, List, [], ◌++◌, length, Ok, if◌then◌else◌}
 use Rattle.std.specs.Int.{w32, from_le_bytes}
-use Rattle.r9_geom.specs.declared.Rect.{Rect}
 use Rattle.model_text.specs.Field.{field, number_field}
 use Rattle.model_text.specs.Outcome.{Outcome, ◌>>=◌, refuse_if}
 use Rattle.model_pixel.specs.Channels.{depth, name}

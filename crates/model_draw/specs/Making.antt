@@ -5,7 +5,7 @@ use Rattle.std.specs.List.{sum_by}
 use Rattle.r9_geom.specs.declared.Rect.{Rect}
 use Rattle.r9_geom.specs.Geometry.{is_empty}
 use Rattle.model_pixel.specs.Channels.{colour_of, is_descriptor, pack}
-use Rattle.model_text.specs.Map.{lookup, and, without}
+use Rattle.model_text.specs.Map.{and, without}
 use Rattle.model_text.specs.Outcome.{Outcome, ◌>>=◌, refuse_if}
 use Rattle.model_imgfile.specs.ImageFile.{rows_len}
 use Rattle.model_forest.specs.World.{World as Images}

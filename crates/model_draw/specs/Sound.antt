@@ -1,5 +1,5 @@
 -- What each world of the draw device keeps: the book and the images speak of the same things.
-use Rattle.std.specs.Prelude.{◌≡◌, ◌<◌, ◌^◌, ℕ, true, All, Some, IsSome, []}
+use Rattle.std.specs.Prelude.{◌≡◌, ℕ, true, All}
 use Rattle.model_forest.specs.World.{IsForest, IsLive}
 use Rattle.model_images.specs.declared.Thing.TheVariants.{Image}
 use Rattle.model_images.specs.Release.{is_used}

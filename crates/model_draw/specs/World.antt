@@ -1,5 +1,5 @@
 -- What a draw device has: images, what ids and names refer to, and its connections (draw(3)).
-use Rattle.std.specs.Prelude.{ℕ, ◌==◌, ◌-◌, pos, Bool, false, List, [], filter, not, Option, Some, None}
+use Rattle.std.specs.Prelude.{ℕ, ◌==◌, ◌-◌, Bool, false, List, [], not, None}
 use Rattle.std.specs.Option.{option_map_or}
 use Rattle.std.specs.Result.{result_unwrap_or}
 use Rattle.std.specs.List.{fold}
@@ -11,7 +11,7 @@ use Rattle.model_fonts.specs.Font.{Font}
 use Rattle.model_forest.specs.World.{World as Images, Image as ImageState, image_at}
 use Rattle.model_forest.specs.Numbers.{Numbers, no_numbers, next_number, taken, given_back}
 use Rattle.model_forest.specs.Steps.{after_image, after_release}
-use Rattle.model_images.specs.Book.{Book, empty_book, image, image_id, screen_of, add_id}
+use Rattle.model_images.specs.Book.{Book, empty_book, image, image_id, add_id}
 use Rattle.model_images.specs.declared.Thing.{Thing}
 use Rattle.model_images.specs.declared.Thing.TheVariants.{Image, Screen}
 use Rattle.model_images.specs.Release.{Freed, leave}

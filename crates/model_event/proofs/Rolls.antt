@@ -1,9 +1,7 @@
 -- A history and one event more.
-use Rattle.std.proofs.Common.{◌≡◌, ℕ, List, [], ◌∷◌, ◌++◌, refl}
+use Rattle.std.proofs.Common.{◌≡◌, List, [], ◌∷◌, ◌++◌, refl}
 use Rattle.r9_event.specs.declared.event.Event.{Event}
-use Rattle.r9_event.specs.declared.event.Entry.{Entry}
 use Rattle.model_event.specs.Legal.{Roll, Allowed, AllowedFrom, roll_after, roll_from}
-use Rattle.model_event.specs.Journal.{events_of, AreNumbered}
 
 pub roll_from-push : (roll : Roll) (events : List Event) (event : Event) → roll_from roll (events ++ event ∷ []) ≡ roll_after (roll_from roll events) event
 roll_from-push roll [] event = refl

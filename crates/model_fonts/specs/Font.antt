@@ -1,5 +1,5 @@
 -- Fonts of the draw device and how a string is laid out (draw(3)).
-use Rattle.std.specs.Prelude.{ℕ, ◌^◌, pos, ◌+ℤ◌, ◌-ℤ◌, Bool, not, nat_lt, List, [], ◌∷◌, length, replicate, slice_set, slice_index_or, map, Ok}
+use Rattle.std.specs.Prelude.{ℕ, pos, ◌+ℤ◌, ◌-ℤ◌, Bool, not, nat_lt, List, [], ◌∷◌, length, replicate, slice_set, slice_index_or, map, Ok}
 use Rattle.std.specs.List.{list_all, sum_by, All}
 use Rattle.r9_geom.specs.declared.Point.{Point}
 use Rattle.r9_geom.specs.Geometry.{at_min, IsRectNearBy}
@@ -61,9 +61,6 @@ layout font p sp indices = do
   let cells = map (cell font.cells) indices in
       Ok (record { pieces = pieces font.ascent p sp cells; end = advanced p (sum_by (λ c. c.width) cells) })
 
--- the character's rectangle is within 2^32 of 0
-abbrev pub IsCellInReach : Cell → Type 0
-IsCellInReach c = IsRectNearBy (2 ^ 32) c.r
-
-abbrev pub AreInReach : List Cell → Type 0
-AreInReach cells = All IsCellInReach cells
+-- the rectangle of each character is no further than n from 0
+abbrev pub AreWithin : (n : ℕ) → List Cell → Type 0
+AreWithin n cells = All (λ (c : Cell). IsRectNearBy n c.r) cells

@@ -1,3 +1,4 @@
+pub mod Ascending
 pub mod Keys
 pub mod Maps
-pub mod Ascending
+pub mod Positions

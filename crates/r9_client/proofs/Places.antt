@@ -1,23 +1,10 @@
 -- The place of an id among entries that ascend.
-use Rattle.std.proofs.Common.{◌≡◌, ℕ, suc, ◌+◌, ◌<◌, ◌≤◌, Bool, true, false, cond, List, [], ◌∷◌, length, Option, Some, None, Less, Equal, Greater, nat_cmp, refl, sym, ap, subst, ◌∙◌, arith}
+use Rattle.std.proofs.Common.{◌≡◌, ℕ, suc, ◌+◌, ◌<◌, Bool, true, false, cond, List, [], ◌∷◌, length, Some, None, Less, Equal, Greater, nat_cmp, refl, sym, ap, subst, ◌∙◌, arith}
 use Rattle.std.specs.Prelude.{nat_lt, nat_le, not, ◌==◌, slice_set, slice_index_or, if◌then◌else◌}
-use Rattle.std.specs.Option.{unwrap_or}
 use Rattle.std.specs.List.{position_or_len, insert, remove}
 use Rattle.std.specs.Cmp.{nat_cmp_is}
 use Rattle.std.proofs.lemmas.Bool.Decides.{nat_tests}
-use Rattle.std.proofs.lemmas.List.Sums.{prefix_len-le-length}
-use borrow.Author.Tests.{ltb-false}
 use Rattle.model_text.specs.Map.{and, without}
-
-at_most : (i n : ℕ) (b : Bool) → nat_lt i n ≡ b → i ≤ n → unwrap_or (cond b (Some i) None) n ≡ i
-at_most i n true e h = refl
-at_most i n false e h = omega (arith, ltb-false)
-
-pub place_or_end : {X : Type 0} (p : X → Bool) (xs : List X) (found : Option ℕ) (place : ℕ)
-    → found ≡ cond (nat_lt (position_or_len p xs) (length xs)) (Some (position_or_len p xs)) None
-    → place ≡ unwrap_or found (length xs) → place ≡ position_or_len p xs
-place_or_end p xs found place is chosen =
-    chosen ∙ ap (λ (o : Option ℕ). unwrap_or o (length xs)) is ∙ at_most (position_or_len p xs) (length xs) _ refl (prefix_len-le-length (λ x. not (p x)) xs)
 
 found_place : (b : Bool) (i place : ℕ) → Some place ≡ cond b (Some i) None → place ≡ i
 found_place true i place e = cc

@@ -1,16 +1,17 @@
 //! What a connection has beside its ids.
 
-ghost use Rattle.std.specs.Prelude.{◌≡◌, [], true, length, is_some, IsSome, OnOk, OnErr};
+ghost use Rattle.std.specs.Prelude.{◌≡◌, ◌^◌, [], true, length, is_some, IfSome, IsSome, OnOk, OnErr};
 ghost use Rattle.std.specs.Option.{option_map};
 ghost use Rattle.r9_chan.specs.Op.{number};
+ghost use Rattle.r9_geom.specs.Geometry.{IsRectNearBy};
 ghost use Rattle.model_text.specs.Map.{lookup, with, and, without};
-ghost use Rattle.model_fonts.specs.Font.{has_index, IsCellInReach};
+ghost use Rattle.model_fonts.specs.Font.{has_index, AreWithin};
 ghost use Rattle.model_draw.specs.World.{new_client};
 ghost use Rattle.model_draw.specs.Making.{forget_id};
 ghost use Rattle.r9_client.specs.Clients.{entry_of};
 ghost use Rattle.r9_client.specs.Fonts.{font_at, with_character_of};
 
-use crate::fonts::{Fonts, set_character};
+use crate::fonts::{ClientFont, Fonts, set_character};
 use crate::sizes::Sizes;
 use r9_chan::Op;
 use r9_fonts::{Cell, Font};
@@ -133,35 +134,38 @@ pub fn replace_pending(clients: &mut Clients, client: u64, rows: Bytes) -> Bytes
     }
 }
 
-/// The font that an image id of a connection is, where it is one.
+/// The font that an image id of a connection is, where it is one. Its characters are within 2^32 of 0.
 pub fn font_of(clients: &Clients, client: u64, id: u32) -> Option<&Font>
     requires { IsSome (lookup clients.now.entries client) }
-    ensures { option_map (λ f. f.now) result ≡ lookup (entry_of clients.now.entries client).fonts id }
+    ensures found { option_map (λ f. f.now) result ≡ lookup (entry_of clients.now.entries client).fonts id }
+    ensures near { IfSome result (λ f. AreWithin (2 ^ 32) f.now.cells) }
 {
-    match clients.get(&client) {
-        Some(owner) => owner.fonts.get(&id),
-        None => None,
-    }
+    let owner = clients.get(&client)?;
+    let font = owner.fonts.get(&id)?;
+    Some(font.get())
 }
 
-/// An image id of a connection becomes a font; the font that it was goes. After Memory all is as before.
+/// An image id of a connection becomes a font; the font that it was goes. The font's characters are within 2^32 of 0. After
+/// Memory all is as before.
 pub fn put_font(clients: &mut Clients, client: u64, id: u32, font: Font) -> Result<(), Memory>
-    requires { IsSome (lookup clients.old.entries client) }
+    requires live { IsSome (lookup clients.old.entries client) }
+    requires near { AreWithin (2 ^ 32) font.cells }
     ensures ok { OnOk result (clients.new.entries ≡ with clients.old.entries client (record (entry_of clients.old.entries client) { fonts = and (entry_of clients.old.entries client).fonts id font })) }
     ensures kept { OnErr result (clients.new.entries ≡ clients.old.entries) }
 {
     if let Some(owner) = clients.get_mut(&client) {
-        owner.fonts.insert(id, font)?;
+        owner.fonts.insert(id, ClientFont::new(font))?;
     }
     Ok(())
 }
 
-/// Another character at an index of the font that an image id of a connection is. Takes no memory.
+/// Another character at an index of the font that an image id of a connection is. Its rectangle is within 2^32 of 0. Takes no
+/// memory.
 pub fn set_cell(clients: &mut Clients, client: u64, id: u32, index: u16, cell: Cell)
     requires live { IsSome (lookup clients.old.entries client) }
     requires font { IsSome (lookup (entry_of clients.old.entries client).fonts id) }
     requires index { has_index (font_at (entry_of clients.old.entries client).fonts id) index ≡ true }
-    requires reach { IsCellInReach cell }
+    requires near { IsRectNearBy (2 ^ 32) cell.r }
     ensures { clients.new.entries ≡ with clients.old.entries client (record (entry_of clients.old.entries client) { fonts = with_character_of (entry_of clients.old.entries client).fonts id index cell }) }
 {
     if let Some(owner) = clients.get_mut(&client) {

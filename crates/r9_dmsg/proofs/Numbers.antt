@@ -6,11 +6,6 @@ use Rattle.std.specs.Int.{Width, byte_len, from_le_bytes}
 use Rattle.std.proofs.lemmas.List.{take-take, drop-take, drop-drop}
 use Rattle.model_dmsg.specs.Reading.{numbers, numbers_of, some_bytes}
 
-pub length-numbers_of : (w : Width) (n : ℕ) (bytes : List ℕ) → length (numbers_of w n bytes) ≡ n
-unfolding numbers_of
-length-numbers_of w zero bytes = refl
-length-numbers_of w (suc n) bytes = ap suc (length-numbers_of w n (drop (byte_len w) bytes))
-
 pub number_at_place : (w : Width) (n k : ℕ) (bytes : List ℕ) → k < n
     → get_or (numbers_of w n bytes) k 0 ≡ from_le_bytes w (take (byte_len w) (drop (byte_len w * k) bytes))
 unfolding numbers_of

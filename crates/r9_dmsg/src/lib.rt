@@ -17,6 +17,3 @@ pub use naming::{NameUse, Naming};
 pub use reading::next_msg;
 pub use restacking::Restacking;
 pub use writing::{Background, Writing};
-
-#[cfg(test)]
-mod tests;

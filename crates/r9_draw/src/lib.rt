@@ -20,6 +20,3 @@ mod write;
 pub use draw::Draw;
 pub use fault::DrawFault;
 pub use write::Wrote;
-
-#[cfg(test)]
-mod tests;

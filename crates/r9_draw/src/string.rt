@@ -111,11 +111,11 @@ impl Draw {
         ensures kept { OnErr result (world_of self.new ≡ world_of self.old) }
     {
         let Ok(lettering) = self.lettering(client, asked) else {
-            return Err(Memory);
+            unreachable!()
         };
         let indices = self.indices(asked)?;
         let Some(font) = font_of(&self.clients, client, asked.fontid) else {
-            return Err(Memory);
+            unreachable!()
         };
         draw_string(&mut self.forest, font, &lettering, &indices)?;
         set_op(&mut self.clients, client, Op::SoverD);

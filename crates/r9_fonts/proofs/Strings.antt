@@ -1,5 +1,5 @@
 -- One character more of a string.
-use Rattle.std.proofs.Common.{◌≡◌, ℕ, suc, ◌+◌, ◌^◌, ◌<◌, ◌≤◌, ℤ, pos, neg_ℤ, ◌+ℤ◌, ◌≤ℤ◌, List, [], ◌∷◌, ◌++◌, length, get_or, drop, map, refl, sym, ap, ◌∙◌, append_assoc, append-nil, arith}
+use Rattle.std.proofs.Common.{◌≡◌, ℕ, suc, ◌+◌, ◌*◌, ◌^◌, ◌<◌, ◌≤◌, ℤ, pos, neg_ℤ, ◌+ℤ◌, ◌≤ℤ◌, List, [], ◌∷◌, ◌++◌, length, get_or, drop, map, refl, sym, ap, ◌∙◌, append_assoc, append-nil, arith}
 use Rattle.std.specs.Prelude.{nat_lt, Bool, true, false, Ok, Err}
 use Rattle.std.specs.List.{sum_by, list_all}
 use borrow.Author.Tests.{ltb-true}
@@ -10,9 +10,9 @@ use Rattle.std.proofs.lemmas.List.Sums.{sum_by-cons, AllPass-from_list_all}
 use Rattle.r9_geom.specs.declared.Point.{Point}
 use Rattle.model_fonts.specs.declared.Cell.{Cell}
 use Rattle.model_fonts.specs.declared.Piece.{Piece}
-use Rattle.r9_geom.specs.Geometry.{IsNearBy}
-use Rattle.model_fonts.specs.Font.{Font, Layout, IsCellInReach, advanced, cell, layout, piece, pieces}
-use Rattle.r9_fonts.specs.Near.{IsPieceNear}
+use Rattle.r9_geom.specs.Geometry.{IsNearBy, IsRectNearBy}
+use Rattle.model_fonts.specs.Font.{Font, Layout, advanced, cell, layout, piece, pieces}
+use Rattle.r9_fonts.specs.Near.{IsPieceNearBy}
 
 -- the characters of the indices from one on
 abbrev pub from : List Cell → List ℕ → ℕ → List Cell
@@ -52,9 +52,9 @@ nearer n m p h k = record {
 }
 
 -- what is drawn of a character is near, where the pen and the source's point are
-pub piece_near : (ascent : ℕ) (p sp : Point) (c : Cell) → ascent ≤ 255 → neg_ℤ (pos 128) ≤ℤ c.left → c.left ≤ℤ pos 127
-    → IsNearBy (2 ^ 32 + 2 ^ 24) p → IsNearBy (2 ^ 32 + 2 ^ 24) sp → IsCellInReach c → IsPieceNear (piece ascent p sp c)
-piece_near ascent p sp c high low_left high_left pen source cell = record {
+pub piece_near : (ascent : ℕ) (p sp : Point) (c : Cell) (n m : ℕ) → ascent ≤ 255 → neg_ℤ (pos 128) ≤ℤ c.left → c.left ≤ℤ pos 127 → 3 * n + 2 ^ 25 ≤ m
+    → IsNearBy (n + 2 ^ 24) p → IsNearBy (n + 2 ^ 24) sp → IsRectNearBy n c.r → IsPieceNearBy m (piece ascent p sp c)
+piece_near ascent p sp c n m high low_left high_left wide pen source cell = record {
   r = record {
     min = record {
       left = omega (arith, ints, pen.left);
@@ -75,7 +75,7 @@ piece_near ascent p sp c high low_left high_left pen source cell = record {
     top = omega (arith, ints, source.top, cell.min.top);
     bottom = omega (arith, ints, source.bottom, cell.min.bottom);
   };
-  mp = nearer (2 ^ 32) (2 ^ 34) c.r.min (omega arith) cell.min;
+  mp = nearer n m c.r.min (omega arith) cell.min;
 }
 
 widths : (cells : List Cell) (indices : List ℕ) (i : ℕ) → i < length indices

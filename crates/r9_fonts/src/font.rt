@@ -1,11 +1,11 @@
 //! Fonts.
 
-ghost use Rattle.std.specs.Prelude.{◌≡◌, ◌+◌, ◌≤◌, ◌^◌, true, nat_lt, ℕ, length, map, Ok, Err, All, IfOk, IfErr, OnOk, OnErr};
+ghost use Rattle.std.specs.Prelude.{◌≡◌, ◌+◌, ◌*◌, ◌≤◌, ◌^◌, true, nat_lt, ℕ, length, map, Ok, Err, All, IfOk, IfErr, OnOk, OnErr};
 ghost use Rattle.std.specs.List.{list_all, sum_by};
-ghost use Rattle.r9_geom.specs.Geometry.{IsNearBy};
-ghost use Rattle.model_fonts.specs.Font.{Font, AreInReach, IsCellInReach, advanced, cell, has_index, layout, new_font, piece, pieces, with_cell};
+ghost use Rattle.r9_geom.specs.Geometry.{IsNearBy, IsRectNearBy};
+ghost use Rattle.model_fonts.specs.Font.{Font, AreWithin, advanced, cell, has_index, layout, new_font, piece, pieces, with_cell};
 ghost use Rattle.model_fonts.specs.declared.Cell.{Cell};
-ghost use Rattle.r9_fonts.specs.Near.{IsPieceNear};
+ghost use Rattle.r9_fonts.specs.Near.{IsPieceNearBy};
 ghost use Rattle.r9_fonts.specs.View.{layout_of};
 
 use crate::layout::Layout;
@@ -25,7 +25,7 @@ pub enum FontFault {
 }
 
 /// The characters of a font, and how far above the writing line its image begins, in pixels. The rectangles of the
-/// characters are within 2^32 of 0.
+/// characters are within 2^33 of 0.
 #[derive(Debug, Drop)]
 pub struct Font {
     alloc: Global,
@@ -38,16 +38,16 @@ impl Model for Font {
 
     ghost view = { λ f. record { ascent = f.ascent; cells = f.cells.items } };
 
-    ghost invariant = { λ f. AreInReach f.cells.items };
+    ghost invariant = { λ f. AreWithin (2 ^ 33) f.cells.items };
 }
 
 // The character, right of the pen at p and above the writing line.
 fn piece(ascent: u8, p: Point, sp: Point, cell: Cell) -> Piece
-    requires p { IsNearBy (2 ^ 32 + 2 ^ 24) p }
-    requires sp { IsNearBy (2 ^ 32 + 2 ^ 24) sp }
-    requires cell { IsCellInReach cell }
+    requires p { IsNearBy (2 ^ 34) p }
+    requires sp { IsNearBy (2 ^ 34) sp }
+    requires cell { IsRectNearBy (2 ^ 33) cell.r }
     ensures value { result ≡ piece ascent p sp cell }
-    ensures near { IsPieceNear result }
+    ensures near { (n m : ℕ) → 3 * n + 2 ^ 25 ≤ m → IsNearBy (n + 2 ^ 24) p → IsNearBy (n + 2 ^ 24) sp → IsRectNearBy n cell.r → IsPieceNearBy m result }
 {
     let left = i64::from(cell.left);
     let min = Point {
@@ -91,14 +91,14 @@ fn laid_out(
     sp: Point,
     indices: &[u16],
 ) -> Result<Layout, Memory>
-    requires cells { AreInReach cells.now }
-    requires p { IsNearBy (2 ^ 32) p }
-    requires sp { IsNearBy (2 ^ 32) sp }
+    requires cells { AreWithin (2 ^ 33) cells.now }
+    requires p { IsNearBy (2 ^ 33) p }
+    requires sp { IsNearBy (2 ^ 33) sp }
     requires few { length indices.now ≤ 65535 }
     requires within { list_all (λ i. nat_lt i (length cells.now)) indices.now ≡ true }
     ensures value { IfOk result (λ l. layout_of l ≡ record { pieces = pieces ascent p sp (map (cell cells.now) indices.now); end = advanced p (sum_by (λ (c : Cell). c.width) (map (cell cells.now) indices.now)) }) }
-    ensures near { IfOk result (λ l. All IsPieceNear l.pieces) }
-    ensures end { IfOk result (λ l. IsNearBy (2 ^ 33) l.end) }
+    ensures near { (n m : ℕ) → 3 * n + 2 ^ 25 ≤ m → IsNearBy n p → IsNearBy n sp → AreWithin n cells.now → IfOk result (λ l. All (IsPieceNearBy m) l.pieces) }
+    ensures end { (n m : ℕ) → n + 2 ^ 24 ≤ m → IsNearBy n p → IfOk result (λ l. IsNearBy m l.end) }
     ensures line { IfOk result (λ l. l.end.y ≡ p.y) }
 {
     let mut pieces = Vec::with_capacity(alloc, indices.len())?;
@@ -155,10 +155,10 @@ impl Font {
     }
 
     #[tactic(auto, unfolding(model_fonts::specs::Font::with_cell))]
-    /// Sets the character at an index. Refused by 15 exactly where the font has no such index. Its rectangle is within 2^32 of
+    /// Sets the character at an index. Refused by 15 exactly where the font has no such index. Its rectangle is within 2^33 of
     /// 0. Takes no memory.
     pub fn set(&mut self, index: u16, cell: Cell) -> Result<(), u8>
-        requires { IsCellInReach cell }
+        requires { IsRectNearBy (2 ^ 33) cell.r }
         ensures ok { OnOk result (with_cell self.old index cell ≡ Ok self.new) }
         ensures refused { IfErr result (λ n. with_cell self.old index cell ≡ Err n) }
         ensures kept { OnErr result (self.new ≡ self.old) }
@@ -173,15 +173,15 @@ impl Font {
 
     /// The pieces of a string, in its order: for each character where it is drawn, with the pen at p on the writing line at
     /// first, and the points of the source, at first sp, and of the font's image there; and where the pen ends. Refused by
-    /// 15 exactly where an index is not one of the font's. The points are within 2^32 of 0, so what is drawn is within 2^34
-    /// of it, and the pen, which stays on the line, within 2^33.
+    /// 15 exactly where an index is not one of the font's. The points are within 2^33 of 0. Where they and the characters are
+    /// within n of it, what is drawn is within three times n and 2^25, and the pen, which stays on the line, within n and 2^24.
     pub fn layout(&self, p: Point, sp: Point, indices: &[u16]) -> Result<Layout, FontFault>
-        requires p { IsNearBy (2 ^ 32) p }
-        requires sp { IsNearBy (2 ^ 32) sp }
+        requires p { IsNearBy (2 ^ 33) p }
+        requires sp { IsNearBy (2 ^ 33) sp }
         requires few { length indices.now ≤ 65535 }
         ensures ok { IfOk result (λ l. layout self.now p sp indices.now ≡ Ok (layout_of l)) }
-        ensures near { IfOk result (λ l. All IsPieceNear l.pieces) }
-        ensures end { IfOk result (λ l. IsNearBy (2 ^ 33) l.end) }
+        ensures near { (n m : ℕ) → 3 * n + 2 ^ 25 ≤ m → IsNearBy n p → IsNearBy n sp → AreWithin n self.now.cells → IfOk result (λ l. All (IsPieceNearBy m) l.pieces) }
+        ensures end { (n m : ℕ) → n + 2 ^ 24 ≤ m → IsNearBy n p → IfOk result (λ l. IsNearBy m l.end) }
         ensures line { IfOk result (λ l. l.end.y ≡ p.y) }
         ensures refused { IfErr result (λ f. IfRefused f (λ n. layout self.now p sp indices.now ≡ Err n)) }
     {

@@ -8,6 +8,3 @@ mod world;
 
 pub use hall::Hall;
 pub use world::World;
-
-#[cfg(test)]
-mod tests;

@@ -1,10 +1,8 @@
 -- The place of an id among ids that ascend.
-use Rattle.std.proofs.Common.{◌≡◌, ℕ, suc, ◌+◌, ◌≤◌, Bool, true, false, cond, List, [], ◌∷◌, length, Option, Some, None, refl, ap, ◌∙◌, arith}
-use Rattle.std.specs.Prelude.{nat_lt, not, if◌then◌else◌}
-use Rattle.std.specs.Option.{unwrap_or}
+use Rattle.std.proofs.Common.{◌≡◌, ℕ, suc, ◌+◌, ◌≤◌, Bool, true, false, cond, List, [], ◌∷◌, length, refl, ap, arith}
+use Rattle.std.specs.Prelude.{not, if◌then◌else◌}
 use Rattle.std.specs.List.{position_or_len, insert}
 use Rattle.std.proofs.lemmas.List.Sums.{prefix_len-le-length}
-use borrow.Author.Tests.{ltb-false}
 use Rattle.model_images.specs.declared.ImageId.{ImageId}
 use Rattle.model_images.specs.declared.ScreenId.{ScreenId}
 use Rattle.model_images.specs.Book.{comes_before, put_image_id, put_screen_id}
@@ -15,16 +13,6 @@ inserted true n x e xs rest h = refl
 inserted false n x e xs rest h =
     let more : 1 + n ≡ suc n = omega arith in
     rw more (ap (λ ys. x ∷ ys) h)
-
-at_most : (i n : ℕ) (b : Bool) → nat_lt i n ≡ b → i ≤ n → unwrap_or (cond b (Some i) None) n ≡ i
-at_most i n true e h = refl
-at_most i n false e h = omega (arith, ltb-false)
-
-pub place_or_end : {X : Type 0} (p : X → Bool) (xs : List X) (found : Option ℕ) (place : ℕ)
-    → found ≡ cond (nat_lt (position_or_len p xs) (length xs)) (Some (position_or_len p xs)) None
-    → place ≡ unwrap_or found (length xs) → place ≡ position_or_len p xs
-place_or_end p xs found place is chosen =
-    chosen ∙ ap (λ (o : Option ℕ). unwrap_or o (length xs)) is ∙ at_most (position_or_len p xs) (length xs) _ refl (prefix_len-le-length (λ x. not (p x)) xs)
 
 pub place_within : {X : Type 0} (p : X → Bool) (xs : List X) (place : ℕ) → place ≡ position_or_len p xs → place ≤ length xs
 place_within p xs place is = omega (arith, is, prefix_len-le-length (λ x. not (p x)) xs)

@@ -16,6 +16,3 @@ pub use book::Book;
 pub use fault::BookFault;
 pub use freed::Freed;
 pub use model_images::Thing;
-
-#[cfg(test)]
-mod tests;

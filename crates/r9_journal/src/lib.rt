@@ -9,6 +9,3 @@ mod writing;
 pub use reading::{JournalFault, Record, read_record};
 pub use roll::Roll;
 pub use writing::{entry_len, write_entry, write_reply};
-
-#[cfg(test)]
-mod tests;

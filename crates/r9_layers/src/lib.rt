@@ -4,8 +4,6 @@
 mod drawing;
 mod forest;
 mod task;
-#[cfg(test)]
-mod tests;
 
 pub use forest::Forest;
 pub use r9_info::{ImageNo, Info};

@@ -3,7 +3,6 @@ pub mod Carrying
 mod Changed
 mod Fillings
 pub mod Grids
-mod Living
 mod Ordered
 pub mod Parts
 mod Pictures
@@ -15,7 +14,7 @@ mod Rows
 mod Runs
 mod Shifts
 mod Shown
-mod Standings
+pub mod Standings
 mod Tables
 mod Uncovered
 mod Worlds

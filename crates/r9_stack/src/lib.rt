@@ -12,8 +12,6 @@ mod reading;
 mod replacing;
 mod slots;
 mod stacking;
-#[cfg(test)]
-mod tests;
 mod writing;
 
 pub use images::Images;

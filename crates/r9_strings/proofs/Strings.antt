@@ -191,6 +191,9 @@ pub can_lay : (font : Font) (p sp : Point) (indices : List ℕ) → list_all (ha
 unfolding layout
 can_lay font p sp indices all = rw all refl
 
+pub never_refused : (font : Font) (p sp : Point) (indices : List ℕ) (n : ℕ) → list_all (has_index font) indices ≡ true → layout font p sp indices ≡ Err n → ⊥
+never_refused font p sp indices n all refused = let e = sym (can_lay font p sp indices all) ∙ refused in absurd cc
+
 pub laid_is : (font : Font) (p sp : Point) (indices : List ℕ) (laid : Layout) → list_all (has_index font) indices ≡ true → layout font p sp indices ≡ Ok laid → laid ≡ laid_out font p sp indices
 unfolding layout
 laid_is font p sp indices laid all is = ap (λ (o : Outcome Layout). result_unwrap_or o (laid_out font p sp indices)) (sym is ∙ can_lay font p sp indices all)

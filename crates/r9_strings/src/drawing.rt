@@ -1,19 +1,20 @@
 //! A string is drawn piece by piece, once there is room for each of them.
 
-ghost use Rattle.std.specs.Prelude.{◌≡◌, ◌^◌, ◌≤◌, true, length, All, IfSome, OnErr, OnOk};
+ghost use Rattle.std.specs.Prelude.{◌≡◌, ◌^◌, ◌≤◌, true, length, All, IfOk, IfSome, OnErr, OnOk};
 ghost use Rattle.std.specs.List.{fold, list_all};
 ghost use Rattle.r9_geom.specs.Geometry.{IsNearBy, IsRectNearBy};
-ghost use Rattle.model_fonts.specs.Font.{has_index};
+ghost use Rattle.model_fonts.specs.Font.{has_index, AreWithin};
 ghost use Rattle.model_forest.specs.Draw.{after_draw};
 ghost use Rattle.model_forest.specs.World.{IsLive};
 ghost use Rattle.model_draw.specs.Writing as writing;
-ghost use Rattle.r9_fonts.specs.Near.{IsPieceNear};
+ghost use Rattle.r9_fonts.specs.Near.{IsPieceNearBy};
+ghost use Rattle.r9_fonts.specs.View.{layout_of};
 ghost use Rattle.r9_layers.specs.Forest.{numbers, room, world, IsUnchanged};
-ghost use Rattle.r9_strings.specs.Drawings.{background, characters, drawings, letter};
+ghost use Rattle.r9_strings.specs.Drawings.{background, characters, drawings, laid_out, letter};
 ghost use Rattle.r9_strings.specs.Ready.{CanLetter, Fits};
 
 use crate::lettering::Lettering;
-use r9_fonts::{Font, Piece};
+use r9_fonts::{Font, FontFault, Layout, Piece};
 use r9_geom::{Point, Rect};
 use r9_info::ImageNo;
 use r9_layers::Forest;
@@ -89,7 +90,7 @@ fn draw_background(forest: &mut Forest, lettering: &Lettering, r: &Rect)
 // Draws the characters, for each of which there is room.
 fn draw_characters(forest: &mut Forest, lettering: &Lettering, pieces: &[Piece])
     requires images { CanLetter (world forest.old) lettering.now }
-    requires near { All IsPieceNear pieces.now }
+    requires near { All (IsPieceNearBy (2 ^ 34)) pieces.now }
     requires room { All (λ piece. Fits (world forest.old) lettering.now.dst.0 (room forest.old) piece.r) pieces.now }
     ensures drawn { world forest.new ≡ fold after_draw (world forest.old) (characters lettering.now pieces.now) }
     ensures numbers { numbers forest.new ≡ numbers forest.old }
@@ -103,7 +104,7 @@ fn draw_characters(forest: &mut Forest, lettering: &Lettering, pieces: &[Piece])
 // Draws one of them.
 fn draw_character(forest: &mut Forest, lettering: &Lettering, piece: &Piece)
     requires images { CanLetter (world forest.old) lettering.now }
-    requires near { IsPieceNear piece.now }
+    requires near { IsPieceNearBy (2 ^ 34) piece.now }
     requires room { Fits (world forest.old) lettering.now.dst.0 (room forest.old) piece.now.r }
     ensures drawn { world forest.new ≡ after_draw (world forest.old) (letter lettering.now piece.now) }
     ensures numbers { numbers forest.new ≡ numbers forest.old }
@@ -142,8 +143,26 @@ fn background_rect(p: Point, end: Point, ascent: u8, font_r: &Rect) -> Rect
     }
 }
 
+// The pieces of the string, and where the pen ends.
+fn laid_out(font: &Font, lettering: &Lettering, indices: &[u16]) -> Result<Layout, Memory>
+    requires p { IsNearBy (2 ^ 32) lettering.now.p }
+    requires sp { IsNearBy (2 ^ 32) lettering.now.sp }
+    requires near { AreWithin (2 ^ 32) font.now.cells }
+    requires few { length indices.now ≤ 65535 }
+    requires all { list_all (has_index font.now) indices.now ≡ true }
+    ensures laid { IfOk result (λ l. layout_of l ≡ laid_out font.now lettering.now.p lettering.now.sp indices.now) }
+    ensures near { IfOk result (λ l. All (IsPieceNearBy (2 ^ 34)) l.pieces) }
+    ensures end { IfOk result (λ l. IsNearBy (2 ^ 33) l.end) }
+{
+    match font.layout(lettering.p, lettering.sp, indices) {
+        Ok(laid) => Ok(laid),
+        Err(FontFault::Memory) => Err(Memory),
+        Err(FontFault::Refused(_)) => unreachable!(),
+    }
+}
+
 /// Draws a string whole, or, where memory runs out, nothing: room for the largest of its pieces is made before the first is
-/// drawn. Its characters are those of the font at the indices, one after the other (draw(3)).
+/// drawn. Its characters are those of the font at the indices, one after the other (draw(3)), and within 2^32 of 0.
 pub fn draw_string(
     forest: &mut Forest,
     font: &Font,
@@ -151,6 +170,7 @@ pub fn draw_string(
     indices: &[u16],
 ) -> Result<(), Memory>
     requires ready { CanLetter (world forest.old) lettering.now }
+    requires near { AreWithin (2 ^ 32) font.now.cells }
     requires few { length indices.now ≤ 65535 }
     requires all { list_all (has_index font.now) indices.now ≡ true }
     ensures drawn { OnOk result (world forest.new ≡ fold after_draw (world forest.old) (drawings (world forest.old) font.now lettering.now indices.now)) }
@@ -158,9 +178,7 @@ pub fn draw_string(
     ensures room { room forest.old ≤ room forest.new }
     ensures kept { OnErr result (world forest.new ≡ world forest.old) }
 {
-    let Ok(laid) = font.layout(lettering.p, lettering.sp, indices) else {
-        return Err(Memory);
-    };
+    let laid = laid_out(font, lettering, indices)?;
     let font_r = forest.info(lettering.font_image).r;
     let under = background_rect(lettering.p, laid.end, font.ascent(), &font_r);
     let pieces = laid.pieces.as_slice();

@@ -3,8 +3,6 @@
 
 mod drawing;
 mod lettering;
-#[cfg(test)]
-mod tests;
 
 pub use drawing::draw_string;
 pub use lettering::{Background, Lettering};

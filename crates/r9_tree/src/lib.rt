@@ -23,6 +23,3 @@ pub fn listings_tell_their_pieces()
     ensures sized { (view : ModelView) (node : ModelNode) → All IsSized (stats view node) }
     ensures first { (piece rest : List ℕ) → IsSized piece → first_length (piece ++ rest) ≡ length piece }
 {}
-
-#[cfg(test)]
-mod tests;

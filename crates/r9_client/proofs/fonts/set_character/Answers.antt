@@ -1,21 +1,20 @@
-use Rattle.std.proofs.Common.{◌≡◌, true, rules, Some, subst}
+use Rattle.std.proofs.Common.{◌≡◌, rules, Some, true, subst}
 use Rattle.std.specs.Map.{keys_of}
 use Rattle.model_text.specs.Map.{lookup, with}
 use Rattle.model_map.proofs.Keys.{with-written}
 use Rattle.model_map.proofs.Ascending.{ascend-from_sorted}
 use Rattle.model_fonts.specs.Font.{Font, has_index}
-use Rattle.r9_client.proofs.Characters.{font_is, never_refused, character_written}
+use Rattle.r9_client.proofs.Characters.{font_is, character_written}
 use Rattle.r9_client.proofs.fonts.set_character.Goals as goal
 
-pub unreachable-requires-in-Err : goal.unreachable-requires-in-Err
-unreachable-requires-in-Err c =
+pub set-requires-clause-index : goal.set-requires-clause-index
+set-requires-clause-index c =
     let found : lookup c.args.fonts.now.entries c.args.id ≡ Some c.in-Some.font.now = search rules in
-    let has = subst (λ (f : Font). has_index f c.args.index ≡ true) (font_is c.args.fonts.now.entries c.args.id c.in-Some.font.now found) c.requires.index in
-    never_refused c.in-Some.font.now c.args.index c.in-Err.field-0 c.args.cell has c.in-Err.ensures.refused
+    subst (λ (f : Font). has_index f c.args.index ≡ true) (font_is c.args.fonts.now.entries c.args.id c.in-Some.font.now found) c.requires.index
 
 pub returns : goal.returns
 returns c =
     let fonts = c.args.fonts.now.entries in
     let found : lookup fonts c.args.id ≡ Some c.in-Some.font.now = search rules in
     let written : (c.get_mut.follows.lender c.set.new.self).entries ≡ with fonts c.args.id c.set.new.self = with-written fonts _ c.args.id c.set.new.self (c.get_mut.follows.holds c.set.new.self).0 in
-    character_written fonts _ c.args.id c.args.index c.args.cell c.in-Some.font.now c.set.new.self (ascend-from_sorted (keys_of fonts) c.get_mut.ensures.ordered) found c.in-Ok.ensures.ok written
+    character_written fonts _ c.args.id c.args.index c.args.cell c.in-Some.font.now c.set.new.self (ascend-from_sorted (keys_of fonts) c.get_mut.ensures.ordered) found c.set.ensures written

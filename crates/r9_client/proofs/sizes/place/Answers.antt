@@ -2,7 +2,7 @@ use Rattle.std.proofs.Common.{ℕ, rules, tests}
 use Rattle.std.specs.Prelude.{nat_le}
 use Rattle.std.proofs.lemmas.Iterator.{YieldsList-from_slice}
 use Rattle.std.proofs.lemmas.Iterator.Search.{position_from_yields_List}
-use Rattle.r9_client.proofs.Places.{place_or_end}
+use Rattle.model_map.proofs.Positions.{place_or_end}
 use Rattle.r9_client.proofs.sizes.place.Goals as goal
 
 pub returns-clause-place : goal.returns-clause-place

@@ -3,7 +3,8 @@ use Rattle.std.proofs.lemmas.Iterator.{YieldsList-from_slice}
 use Rattle.std.proofs.lemmas.Iterator.Search.{position_from_yields_List}
 use Rattle.model_images.specs.declared.ImageId.{ImageId}
 use Rattle.model_images.specs.Book.{comes_before}
-use Rattle.r9_images.proofs.Places.{place_or_end, place_within}
+use Rattle.model_map.proofs.Positions.{place_or_end}
+use Rattle.r9_images.proofs.Places.{place_within}
 use Rattle.r9_images.proofs.lists.image_place.Goals as goal
 
 pub returns-clause-place : goal.returns-clause-place

@@ -1,6 +1,5 @@
 use Rattle.std.proofs.Common.{◌^◌, pos, negsuc, arith}
 use Rattle.std.proofs.lemmas.Int.{ints}
-use Rattle.r9_geom.specs.declared.Rect.{Rect}
 use Rattle.r9_geom.specs.Geometry.{IsRectNearBy}
 use Rattle.r9_imgfile.proofs.tests.parts_of_a_small_file.Goals as goal
 

@@ -5,7 +5,7 @@ use Rattle.model_draw.specs.Writing.{background_rect}
 use Rattle.r9_fonts.specs.View.{layout_of}
 use Rattle.r9_layers.specs.Forest.{room, world}
 use Rattle.r9_strings.specs.Ready.{Fits}
-use Rattle.r9_strings.proofs.Strings.{laid_is, string_drawn, Alike, Alike-same, Alike-under, CanLetter-still, Fits-still}
+use Rattle.r9_strings.proofs.Strings.{string_drawn, Alike, Alike-same, Alike-under, CanLetter-still, Fits-still}
 use Rattle.r9_strings.proofs.drawing.draw_string.Goals as goal
 
 pub draw_characters-requires-clause-images : goal.draw_characters-requires-clause-images
@@ -25,10 +25,9 @@ draw_characters-requires-clause-room c =
 pub returns-clause-drawn : goal.returns-clause-drawn
 returns-clause-drawn c =
     let W = world c.args.forest.now in
-    let laid = laid_is c.args.font.now c.args.lettering.now.p c.args.lettering.now.sp c.args.indices.now (layout_of c.in-Ok.laid) c.requires.all c.in-Ok.ensures.ok in
-    string_drawn W _ _ _ c.args.font.now c.args.lettering.now c.args.indices.now (layout_of c.in-Ok.laid) c.background_rect-under.result _ laid
+    string_drawn W _ _ _ c.args.font.now c.args.lettering.now c.args.indices.now (layout_of c.in_ok-laid.laid) c.background_rect-under.result _ c.in_ok-laid.ensures.laid
     (c.background_rect-under.ensures.value
-    ∙ (λ j. background_rect c.args.lettering.now.p c.in-Ok.laid.end (c.ascent.ensures j) (c.info.ensures j).r))
+    ∙ (λ j. background_rect c.args.lettering.now.p c.in_ok-laid.laid.end (c.ascent.ensures j) (c.info.ensures j).r))
     c.as_slice-pieces.ensures
     (c.in_ok-room_for_characters.ensures.same.world ∙ c.in_ok-room_for_background.ensures.same.world)
     c.draw_background.ensures.drawn

@@ -17,7 +17,7 @@ pub returns-then-not-has_all-clause-refused : goal.returns-then-not-has_all-clau
 returns-then-not-has_all-clause-refused c =
     let w = world_of c.args.self.now in
     let k = c.args.client in
-    let found : lookup (client_of w k).fonts c.args.asked.now.fontid ≡ Some c.in-Some.font.now = sym c.font_of.ensures ∙ ap (λ o. option_map (λ f. f.now) o) c.in-Some.is in
+    let found : lookup (client_of w k).fonts c.args.asked.now.fontid ≡ Some c.in-Some.font.now = sym c.font_of.ensures.found ∙ ap (λ o. option_map (λ f. f.now) o) c.in-Some.is in
     let l : Lettering = record {
       dst = c.in_ok-dst.dst;
       src = c.in_ok-src.src;
@@ -45,7 +45,7 @@ pub returns-clause-drawn : goal.returns-clause-drawn
 returns-clause-drawn c =
     let w = world_of c.args.self.now in
     let k = c.args.client in
-    let found : lookup (client_of w k).fonts c.args.asked.now.fontid ≡ Some c.in-Some.font.now = sym c.font_of.ensures ∙ ap (λ o. option_map (λ f. f.now) o) c.in-Some.is in
+    let found : lookup (client_of w k).fonts c.args.asked.now.fontid ≡ Some c.in-Some.font.now = sym c.font_of.ensures.found ∙ ap (λ o. option_map (λ f. f.now) o) c.in-Some.is in
     let font : font_of_id w k c.args.asked.now.fontid ≡ c.in-Some.font.now = ap (λ (o : Option Font). option_map_or (λ f. f) o (new_font 0 0)) found in
     let l : Lettering = record {
       dst = c.in_ok-dst.dst;

@@ -1,5 +1,12 @@
+use Rattle.std.proofs.Common.{◌^◌, sym, subst}
+use Rattle.model_fonts.specs.Font.{Font, AreWithin}
+use Rattle.model_fonts.proofs.Within.{within-new}
 use Rattle.r9_draw.proofs.Manager.{manager-changed}
 use Rattle.r9_draw.proofs.draw.Draw.make_font.Goals as goal
+
+pub put_font-requires-clause-near : goal.put_font-requires-clause-near
+put_font-requires-clause-near c =
+    subst (λ (font : Font). AreWithin (2 ^ 32) font.cells) (sym c.in_ok-font.ensures) (within-new (2 ^ 32) c.args.n c.args.ascent)
 
 pub invariant_of-self-clause-manager : goal.invariant_of-self-clause-manager
 invariant_of-self-clause-manager c =

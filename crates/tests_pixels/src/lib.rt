@@ -1,0 +1,11 @@
+//! Tests of images and windows, of drawing on them, and of strings, through their public calls.
+#![tactic(auto)]
+
+#[cfg(test)]
+mod layers;
+#[cfg(test)]
+mod shapes;
+#[cfg(test)]
+mod stack;
+#[cfg(test)]
+mod strings;
