@@ -6,6 +6,3 @@ mod line;
 mod transcript;
 
 pub use console::Console;
-
-#[cfg(test)]
-mod tests;

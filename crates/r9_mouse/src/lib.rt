@@ -7,6 +7,3 @@ mod spelling;
 pub use model_mouse::Mouse;
 pub use queue::MouseQueue;
 pub use spelling::{read_mouse, text};
-
-#[cfg(test)]
-mod tests;

@@ -17,6 +17,3 @@ pub use model_wctl::{Amount, Choice};
 pub use options::Options;
 pub use reading::read_wctl;
 pub use rectangle::apply;
-
-#[cfg(test)]
-mod tests;

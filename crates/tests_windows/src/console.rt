@@ -1,4 +1,4 @@
-use super::*;
+use r9_cons::Console;
 use std::test::Fail;
 
 #[test]

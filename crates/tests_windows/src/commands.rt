@@ -1,5 +1,5 @@
-use super::*;
 use r9_geom::{Point, Rect};
+use r9_wctl::{Amount, Choice, Options, Wctl, WctlFault, apply, read_wctl};
 use std::test::Fail;
 
 fn rect(left: i64, top: i64, right: i64, bottom: i64) -> Rect {

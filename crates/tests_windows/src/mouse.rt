@@ -1,4 +1,4 @@
-use super::*;
+use r9_mouse::{Mouse, MouseQueue, read_mouse, text};
 use std::test::Fail;
 
 fn event(x: i32, buttons: u8, msec: u32) -> Mouse {
