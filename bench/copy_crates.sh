@@ -8,6 +8,6 @@ copy_crates() {
 		for part in src specs proofs; do
 			if [ -d "$root/crates/$crate/$part" ]; then cp -r "$root/crates/$crate/$part" "$folder/crates/$crate/"; fi
 		done
-		grep "^$crate:" "$root/crates.txt" >>"$folder/crates.txt"
+		grep "^$crate[ :]" "$root/crates.txt" >>"$folder/crates.txt"
 	done
 }
