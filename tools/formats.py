@@ -3,7 +3,9 @@
 It is outside the proof: it shares nothing with the proved program, and the proved program nothing with it.
 """
 
+import argparse
 import re
+import sys
 from dataclasses import dataclass
 from typing import List, Optional, Tuple
 
@@ -11,19 +13,39 @@ HEADER = b"rio9 1"
 LEAST_MESSAGE, MOST_OF_A_MESSAGE = 7, 65560
 LAST_SESSION, LAST_MARK = 0xFFFFFFFF, 0xFFFF
 
-NUMBER = rb"(0|[1-9][0-9]*)"
-EVENT_LINE = re.compile(rb"([BTE]) " + NUMBER + rb"|M " + NUMBER + rb" ((?:[0-9a-f]{2})+)(?: !" + NUMBER + rb")?|(X)")
-REPLY_LINE = re.compile(rb"R " + NUMBER + rb" ((?:[0-9a-f]{2})+)")
-SCREEN_LINE = re.compile(rb"S " + NUMBER)
+LAST_LIVE, BYTES_OF_NO_RECORD = 1024, 2**30
+
+NUMBER, MARK = re.compile(rb"0|[1-9][0-9]{0,9}"), re.compile(rb"!(?:0|[1-9][0-9]{0,9})")
+HEX_DIGITS = re.compile(rb"(?:[0-9a-f]{2})+")
 
 BEGIN, MESSAGE, TAKE, END, STOP = "BMTEX"
 
 
 class BadText(Exception):
-    """A text that is none of its kind. It tells the line and why."""
+    """A text that is none of its kind. It tells the line, the word where one is at fault, and why."""
 
-    def __init__(self, line, why):
-        super().__init__(f"line {line}: {why}")
+    def __init__(self, line, why, place=None, word=None):
+        shown = "" if word is None else f" `{word if len(word) <= 40 else word[:37] + '...'}`"
+        super().__init__(f"line {line}: {why}" if place is None else f"line {line}, word {place}{shown}: {why}")
+        self.line = line
+
+
+def stop(name, why):
+    """Ends a tool that was given wrong words or files."""
+    sys.stderr.write(f"{name}: {why}\n")
+    sys.exit(2)
+
+
+def why_not(error):
+    """What an OSError tells, in one line."""
+    return f"{error.strerror}: {error.filename}" if error.filename else str(error.strerror or error)
+
+
+class Words(argparse.ArgumentParser):
+    """A reader of a tool's words, whose complaints are one line."""
+
+    def error(self, message):
+        stop(self.prog, f"{message} (--help tells the words)")
 
 
 @dataclass(frozen=True)
@@ -44,19 +66,58 @@ class Replies:
     screen: Optional[bytes]
 
 
-def fault_of(event):
-    """Why no record can have an event, or None. It looks at the event alone: not at which sessions live."""
-    if event.kind != STOP and not 1 <= event.session <= LAST_SESSION:
-        return f"no number of a session: {event.session}"
+class BadEvent(ValueError):
+    """An event that cannot come next. `part` is what of it is at fault: event, session, message or mark."""
+
+    def __init__(self, part, why):
+        super().__init__(why)
+        self.part = part
+
+
+class Roll:
+    """Which sessions have begun and which live: with the event itself that decides whether it may come next."""
+
+    def __init__(self):
+        self.begun, self.live, self.stopped = 0, set(), False
+
+    def enter(self, event):
+        """Takes the next event of a record, or raises BadEvent."""
+        if self.stopped:
+            raise BadEvent("event", "nothing follows a stop")
+        if event.kind == STOP:
+            self.stopped = True
+            return
+        self.check_session(event.kind, event.session)
+        if event.kind == MESSAGE:
+            check_message(event)
+        if event.kind == BEGIN:
+            self.begun += 1
+            self.live.add(event.session)
+        elif event.kind == END:
+            self.live.remove(event.session)
+
+    def check_session(self, kind, session):
+        if not 1 <= session <= LAST_SESSION:
+            raise BadEvent("session", f"a session is a number from 1 to {LAST_SESSION}")
+        if kind == BEGIN and session != self.begun + 1:
+            raise BadEvent("session", f"the next session to begin is {self.begun + 1}")
+        if kind == BEGIN and len(self.live) == LAST_LIVE:
+            raise BadEvent("session", f"{LAST_LIVE} sessions live, which is the most")
+        if kind != BEGIN and session > self.begun:
+            raise BadEvent("session", f"session {session} has not begun")
+        if kind in (MESSAGE, END) and session not in self.live:
+            raise BadEvent("session", f"session {session} has ended")
+
+
+def check_message(event):
+    """Raises BadEvent where no record can have a message or its mark."""
+    size, told = len(event.message), int.from_bytes(event.message[:4], "little")
+    if not LEAST_MESSAGE <= size <= MOST_OF_A_MESSAGE:
+        raise BadEvent("message", f"a message has {LEAST_MESSAGE} to {MOST_OF_A_MESSAGE} bytes, and this one {size}")
+    if told != size:
+        raise BadEvent("message", f"the size field is {told}, and the message has {size} bytes")
     if event.mark is not None and not 0 <= event.mark <= LAST_MARK:
-        return f"a mark is at most {LAST_MARK}: {event.mark}"
-    if event.kind != MESSAGE:
-        return None
-    if not LEAST_MESSAGE <= len(event.message) <= MOST_OF_A_MESSAGE:
-        return f"a message has {LEAST_MESSAGE} to {MOST_OF_A_MESSAGE} bytes, not {len(event.message)}"
-    if int.from_bytes(event.message[:4], "little") != len(event.message):
-        return "the size field is not the number of bytes"
-    return None
+        raise BadEvent("mark", f"a mark is at most {LAST_MARK}")
 
 
 def is_record(text):
@@ -65,30 +126,66 @@ def is_record(text):
 
 
 def read_record(text):
-    """The events of a record; each line is looked at alone."""
+    """The events of a record."""
+    if len(text) >= BYTES_OF_NO_RECORD:
+        raise BadText(1, f"a record has fewer than {BYTES_OF_NO_RECORD} bytes, and this one {len(text)}")
     lines = text.split(b"\n")
     if lines[0] != HEADER:
-        raise BadText(1, "the header is missing")
+        raise BadText(1, "the header is missing: rio9 1")
     if lines.pop() != b"":
         raise BadText(len(lines) + 1, "the last newline is missing")
-    return [read_event(number, line) for number, line in enumerate(lines[1:], 2)]
+    roll, events = Roll(), []
+    for number, line in enumerate(lines[1:], 2):
+        events.append(read_event(number, line))
+        try:
+            roll.enter(events[-1])
+        except BadEvent as error:
+            place = {"event": 1, "session": 2, "message": 3, "mark": 4}[error.part]
+            raise BadText(number, error, place, line.decode().split(" ")[place - 1]) from None
+    return events
+
+
+class LineWords:
+    """The words of a line, each with one blank before the next; each is taken as what it has to be."""
+
+    def __init__(self, number, line):
+        self.number, self.words, self.place = number, line.split(b" "), 0
+
+    def take(self, form, wanted):
+        word = self.words[self.place] if self.place < len(self.words) else b""
+        self.place += 1
+        if not form.fullmatch(word):
+            raise BadText(self.number, f"{wanted} is wanted", self.place, word.decode(errors="backslashreplace"))
+        return word
+
+    def take_number(self, wanted="a number without sign and leading zeros"):
+        return int(self.take(NUMBER, wanted))
+
+    def take_bytes(self):
+        return bytes.fromhex(self.take(HEX_DIGITS, "an even number of lower-case hex digits").decode())
+
+    def is_over(self):
+        return self.place >= len(self.words)
+
+    def end(self):
+        if not self.is_over():
+            extra = self.words[self.place].decode(errors="backslashreplace")
+            raise BadText(self.number, "the line goes on", self.place + 1, extra)
 
 
 def read_event(number, line):
-    found = EVENT_LINE.fullmatch(line)
-    if not found:
-        raise BadText(number, "no line of a record")
-    kind, session, sender, digits, mark, stop = found.groups()
-    if stop:
-        event = Event(STOP)
-    elif kind:
-        event = Event(kind.decode(), int(session))
-    else:
-        event = Event(MESSAGE, int(sender), bytes.fromhex(digits.decode()), None if mark is None else int(mark))
-    fault = fault_of(event)
-    if fault:
-        raise BadText(number, fault)
-    return event
+    """The event of a line, looked at alone."""
+    words = LineWords(number, line)
+    kind = words.take(re.compile(rb"[BMTEX]"), "B, M, T, E or X").decode()
+    session, message, mark = 0, b"", None
+    if kind != STOP:
+        session = words.take_number()
+    if kind == MESSAGE:
+        message = words.take_bytes()
+        if not words.is_over():
+            mark = int(words.take(MARK, "a mark, as !1,")[1:])
+    words.end()
+    return Event(kind, session, message, mark)
 
 
 def write_record(events):
@@ -113,13 +210,19 @@ def read_replies(text):
     while at < len(text):
         end = text.find(b"\n", at)
         line, number = text[at : end if end >= 0 else len(text)], number + 1
-        reply, screen = REPLY_LINE.fullmatch(line), SCREEN_LINE.fullmatch(line)
-        if end < 0 or not (reply or screen):
-            raise BadText(number, "no reply line")
+        if end < 0:
+            raise BadText(number, "the newline is missing")
+        words = LineWords(number, line)
+        kind, count = words.take(re.compile(rb"[RS]"), "R or S"), words.take_number()
+        message = words.take_bytes() if kind == b"R" else b""
+        words.end()
         at = end + 1
-        if screen:
-            return Replies(messages, text[at : at + int(screen[1])])
-        messages.append((int(reply[1]), bytes.fromhex(reply[2].decode())))
+        if kind == b"R":
+            messages.append((count, message))
+        elif len(text) - at != count:
+            raise BadText(number, f"{len(text) - at} bytes stand behind the line", 2, str(count))
+        else:
+            return Replies(messages, text[at:])
     return Replies(messages, None)
 
 
@@ -151,6 +254,14 @@ def channels_word(text):
     for letter, bits in zip(text[::2], text[1::2]):
         word = word << 8 | CHANNEL_KINDS[letter] << 4 | int(bits)
     return word
+
+
+def channels_option(text):
+    """The descriptor that an option names."""
+    try:
+        return channels_word(text)
+    except ValueError as error:
+        raise argparse.ArgumentTypeError(error) from None
 
 
 def depth(word):

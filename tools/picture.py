@@ -1,17 +1,19 @@
 #!/usr/bin/env python3
 """Writes a picture of what `rio9 replay` gives, as a PNG file.
 
+    tools/picture.py screen.png < output
+    tools/picture.py screen.png --scale 4 < file
     tools/picture.py middle.png --size 128x96 --chan x8r8g8b8 < replies
     tools/picture.py middle.png --size 128x96 --chan x8r8g8b8 --read 1 < replies
-    tools/picture.py screen.png < replies
-    tools/picture.py screen.png --scale 4 < replies
 
-With --size and --chan it is the data of an Rread, the last one or the one that --read counts from 1: the
-rows of a rectangle that a draw message `r` asked for (draw(3)), whose left edge stands at a whole byte.
-Without them it is the image file (image(6)) behind the line `S n`. Colours are widened to 8 bits by
+The input is what a run printed: reply lines, and with --screen the line `S n` and an image file (image(6)) of n
+bytes behind them. It may also be such a file alone. The picture is the image file's; with --size and --chan it is
+the data of an Rread, the last one or the one that --read counts from 1: the rows of a rectangle that a draw
+message `r` asked for (draw(3)), whose left edge stands at a whole byte. Colours are widened to 8 bits by
 repeating their bits; where there is alpha, the PNG has it, and colours are divided by it. With --scale N each
 pixel is N by N.
 
+Status 1 where the input has no such picture, 2 where a word or a file is wrong; one line tells why.
 It is outside the proof. Needs: Python 3.9 or later, its standard library alone.
 """
 
@@ -25,6 +27,7 @@ import formats
 import record
 
 HEADER_BYTES = 60
+HEADER = re.compile(rb" *([rgbkax][1-8]){1,4}( +-?[0-9]+){4} ")
 
 
 class NoPicture(Exception):
@@ -41,13 +44,23 @@ def chosen_read(replies, number):
     return reads[at - 1]
 
 
+def is_image_file(data):
+    """Whether bytes begin as an image file does: five fields of 11 characters, each with a blank behind it."""
+    return HEADER.fullmatch(data[:HEADER_BYTES]) is not None and all(data[at] == 32 for at in range(11, HEADER_BYTES, 12))
+
+
 def read_image_file(data):
     """Channels, left and right edge, height and rows of an image file."""
-    fields = data[:HEADER_BYTES].decode().split()
-    if len(data) < HEADER_BYTES or len(fields) != 5:
+    if len(data) < HEADER_BYTES or not is_image_file(data):
         raise NoPicture("no image file")
+    fields = data[:HEADER_BYTES].decode().split()
     left, upper, right, lower = map(int, fields[1:])
     return formats.channels_word(fields[0]), left, right, lower - upper, data[HEADER_BYTES:]
+
+
+def read_output(data):
+    """The replies and the image file of a run's output; an image file alone is the output of a run without replies."""
+    return formats.Replies([], data) if is_image_file(data) else formats.read_replies(data)
 
 
 def raw_pixels(row, bits, left, right):
@@ -110,14 +123,14 @@ def picture(word, left, right, height, rows, scale=1):
 
 
 def size_of(text):
-    if not re.fullmatch(r"[0-9]+x[0-9]+", text):
-        raise ValueError(f"no size: {text}")
+    if not re.fullmatch(r"[1-9][0-9]{0,4}x[1-9][0-9]{0,4}", text):
+        raise argparse.ArgumentTypeError(f"no size, as 128x96: {text}")
     return tuple(map(int, text.split("x")))
 
 
 def scale_of(text):
     if not re.fullmatch(r"[1-9]|1[0-6]", text):
-        raise ValueError(f"no scale: {text}")
+        raise argparse.ArgumentTypeError(f"no scale from 1 to 16: {text}")
     return int(text)
 
 
@@ -132,22 +145,24 @@ def chosen_picture(replies, options):
 
 
 def main(words):
-    parser = argparse.ArgumentParser(prog="picture.py", description=__doc__.split("\n")[0])
+    parser = formats.Words(prog="picture.py", description=__doc__.split("\n")[0])
     parser.add_argument("out", help="the PNG file")
     parser.add_argument("--size", type=size_of, metavar="WxH", help="width and height of what an Rread has")
-    parser.add_argument("--chan", type=formats.channels_word, metavar="C", help="its channels")
+    parser.add_argument("--chan", type=formats.channels_option, metavar="C", help="its channels")
     parser.add_argument("--read", type=int, metavar="N", help="the Nth Rread, not the last one")
     parser.add_argument("--scale", type=scale_of, default=1, metavar="N", help="each pixel N by N, up to 16")
     options = parser.parse_args(words)
     if (options.size is None) != (options.chan is None) or options.read is not None and options.size is None:
         parser.error("an Rread has no size and channels of its own: give --size and --chan")
     try:
-        png = chosen_picture(formats.read_replies(sys.stdin.buffer.read()), options)
+        png = chosen_picture(read_output(sys.stdin.buffer.read()), options)
+        with open(options.out, "wb") as file:
+            file.write(png)
     except (NoPicture, formats.BadText, ValueError) as error:
         sys.stderr.write(f"picture.py: {error}\n")
         return 1
-    with open(options.out, "wb") as file:
-        file.write(png)
+    except OSError as error:
+        formats.stop("picture.py", formats.why_not(error))
     return 0
 
 

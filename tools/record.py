@@ -6,7 +6,8 @@
     tools/record.py explain < shapes.replies
 
 What explain gives for a record is what write takes, and write gives the same record back, byte for byte.
-Explained replies are for reading alone. This tool is outside the proof: it shares nothing with the program,
+Explained replies are for reading alone. Both refuse what is no record, as the program does, and tell the line and
+the word at fault: status 1. Wrong options are status 2. This tool is outside the proof: it shares nothing with the program,
 and nothing in it is proved; tools/test_record.py tests it. Needs: Python 3.9 or later, its standard library.
 
 The readable lines. A word that begins with `#` begins a comment.
@@ -15,7 +16,7 @@ The readable lines. A word that begins with `#` begins a comment.
     1 Tversion msize=65560 version=9P2000           it sends a message of intro(5): the fields by name
     1 Twalk fid=0 newfid=1 draw new                 a list stands last, its members as words
     1 Twrite tag=7 fid=2 offset=0 mark=1            memory runs out after one draw message
-        d dst=0 src=5 mask=1 r=0,0,10,10 sp=0,0 mp=0,0
+        d dstid=0 srcid=5 maskid=1 dstr=0,0,10,10 srcp=0,0 maskp=0,0
         y id=5 r=0,0,4,1                            the bytes of a write stand beneath it, indented: messages
         hex 000000ff 0000ff00                       of draw(3), bytes in hex, and text
         text "ab\\n"
@@ -24,7 +25,7 @@ The readable lines. A word that begins with `#` begins a comment.
     1 end                                           session 1 ends
     stop                                            memory runs out for good
 
-What may be left out: a tag that is 1, or NOTAG in Tversion; afid NOFID; uname ""; a mark. Text of other
+Fields have the names of docs/FORMATS.md. What may be left out: a tag that is 1, or NOTAG in Tversion; afid NOFID; uname ""; a mark. Text of other
 characters than letters, digits and ._/+:- stands in quotation marks, as in JSON. A number may be hex, with 0x.
 A rectangle is its left, upper, right and lower edge; a point x and y; channels are as x8r8g8b8 (image(6));
 an operator is its name in draw(2) or its number.
@@ -36,7 +37,6 @@ option --chan C (x8r8g8b8). So the words for a write may be wrong where a sessio
 bytes are exact in any case.
 """
 
-import argparse
 import json
 import re
 import sys
@@ -44,7 +44,7 @@ from dataclasses import dataclass
 from typing import Callable, Optional
 
 import formats
-from formats import BEGIN, END, MESSAGE, STOP, TAKE, BadText, Event
+from formats import BEGIN, END, MESSAGE, STOP, TAKE, BadEvent, BadText, Event
 
 # Bytes to values: what fields take theirs from.
 
@@ -104,10 +104,9 @@ def number(size, signed=False, hexadecimal=False, words=None):
 
 
 def hear_number(word):
-    try:
-        return int(word, 0)
-    except ValueError:
-        raise ValueError(f"no number: {word}") from None
+    if not re.fullmatch(r"-?(0x[0-9a-f]{1,16}|0|[1-9][0-9]{0,19})", word):
+        raise ValueError("a number is wanted")
+    return int(word, 0)
 
 
 def number_bytes(value, size, signed=False):
@@ -123,7 +122,7 @@ def numbers(count):
     def hear(word):
         values = tuple(hear_number(part) for part in word.split(","))
         if len(values) != count:
-            raise ValueError(f"{count} numbers are wanted: {word}")
+            raise ValueError(f"{count} numbers with commas between are wanted")
         return values
 
     return Form(
@@ -144,7 +143,12 @@ def text(size, errors="strict"):
             raise NotWhole from None
 
     def put(value):
-        data = value.encode("utf-8", errors)
+        try:
+            data = value.encode("utf-8", errors)
+        except UnicodeEncodeError:
+            raise ValueError("the text has half a character, which UTF-8 has not") from None
+        if len(data) >= 256**size:
+            raise ValueError(f"the text has {len(data)} bytes, and at most {256**size - 1} fit")
         return number_bytes(len(data), size) + data
 
     return Form(take, put, say_text, hear_text)
@@ -161,7 +165,10 @@ def say_text(value):
 
 
 def hear_text(word):
-    return json.loads(word) if word.startswith('"') else word
+    try:
+        return json.loads(word) if word.startswith('"') else word
+    except ValueError:
+        raise ValueError("a text in quotation marks is written as in JSON") from None
 
 
 def say_qid(value):
@@ -192,7 +199,7 @@ BITS, COLOUR = number(4, hexadecimal=True), number(4, hexadecimal=True)
 OPERATOR = number(1, words=dict(enumerate(OPERATORS)))
 CHANNELS = Form(LONG.take, LONG.put, say_channels, hear_channels)
 POINT, RECTANGLE = numbers(2), numbers(4)
-STRING, NAME = text(2), text(1, "surrogateescape")
+STRING, NAME, LONG_TEXT = text(2), text(1, "surrogateescape"), text(4)
 QID = Form(take_qid, None, say_qid, None)
 
 REQUIRED = object()
@@ -235,8 +242,6 @@ def put_fields(fields, values):
     for field in fields:
         if field.count is not None:
             values[field.count] = len(values[field.name])
-            if values[field.count] > field.most:
-                raise ValueError(f"more than {field.most} {field.name}")
     lists = [values[field.name] if field.count else [values[field.name]] for field in fields]
     return b"".join(field.form.put(value) for field, members in zip(fields, lists) for value in members)
 
@@ -253,26 +258,47 @@ def say_fields(fields, values):
     return words + members
 
 
-def hear_fields(fields, words):
-    """The values that words give to fields."""
-    given, members, values = {}, [value for key, value in words if key is None], {}
-    for key, value in words:
-        if key in given:
-            raise ValueError(f"{key} stands twice")
-        if key is not None:
-            given[key] = value
+class BadWord(ValueError):
+    """A word of a readable line that is at fault, and why."""
+
+    def __init__(self, word, why):
+        super().__init__(why)
+        self.word = word
+
+
+def hear_fields(fields, name, words):
+    """The values that words give to the fields of what `name` names."""
+    given, members, values = {}, [word for word in words if word.key is None], {}
+    for word in words:
+        if word.key in given:
+            raise BadWord(word, f"{word.key} stands twice")
+        if word.key is not None:
+            given[word.key] = word
     for field in shown(fields):
         if field.count is not None:
-            values[field.name], members = [field.form.hear(member) for member in members], []
+            if len(members) > field.most:
+                raise BadWord(members[field.most], f"{name.value} has at most {field.most} {field.name}")
+            values[field.name], members = [hear_word(field.form, word) for word in members], []
         elif field.name in given:
-            values[field.name] = field.form.hear(given.pop(field.name))
+            values[field.name] = hear_word(field.form, given.pop(field.name))
         elif field.usual is not REQUIRED:
             values[field.name] = field.usual
         else:
-            raise ValueError(f"{field.name} is missing")
-    for extra in [*given, *members]:
-        raise ValueError(f"what is {extra}?")
+            raise BadWord(name, f"{field.name} is missing")
+    for extra in [*given.values(), *members]:
+        raise BadWord(extra, f"{name.value} has no such field")
     return values
+
+
+def hear_word(form, word):
+    """The value of a word, which fits its field."""
+    try:
+        value = form.hear(word.value)
+        if form.put is not None:
+            form.put(value)
+        return value
+    except ValueError as error:
+        raise BadWord(word, error) from None
 
 
 # The messages of 9P2000 (intro(5)).
@@ -343,10 +369,13 @@ STAT = (
 )
 
 
+MARK = Field("mark", SHORT, None)
+
+
 def line_fields(message):
     """The fields of a message's line: its own, its tag, and the mark where memory runs out."""
     tag = Field("tag", TAG, NOTAG if message.name in ("Tversion", "Rversion") else 1)
-    return (tag, *message.fields, Field("mark", SHORT, None))
+    return (tag, *message.fields, MARK)
 
 
 def read_message(data):
@@ -369,17 +398,15 @@ def write_message(message, values, payload):
     body = put_fields(message.fields, values)
     if message.data:
         body += number_bytes(len(payload), message.data) + payload
-    elif payload:
-        raise ValueError(f"{message.name} has no bytes beneath it")
     return number_bytes(7 + len(body), 4) + bytes([message.kind]) + TAG.put(values["tag"]) + body
 
 
 # The messages of the draw device (draw(3)).
 
 STRING_FIELDS = (
-    Field("dst", LONG),
-    Field("src", LONG),
-    Field("font", LONG),
+    Field("dstid", LONG),
+    Field("srcid", LONG),
+    Field("fontid", LONG),
     Field("p", POINT),
     Field("clipr", RECTANGLE),
     Field("sp", POINT),
@@ -392,7 +419,7 @@ LETTERS = {
     # Makes an image, or a window on a screen.
     "b": (
         ID,
-        Field("screen", LONG),
+        Field("screenid", LONG),
         Field("refresh", BYTE),
         Field("chan", CHANNELS),
         Field("repl", BYTE),
@@ -401,17 +428,17 @@ LETTERS = {
         Field("color", COLOUR),
     ),
     # Makes an image a screen.
-    "A": (ID, Field("image", LONG), Field("fill", LONG), Field("public", BYTE)),
+    "A": (ID, Field("imageid", LONG), Field("fillid", LONG), Field("public", BYTE)),
     # Sets repl and the clip rectangle.
-    "c": (Field("dst", LONG), Field("repl", BYTE), Field("clipr", RECTANGLE)),
+    "c": (Field("dstid", LONG), Field("repl", BYTE), Field("clipr", RECTANGLE)),
     # Draws.
     "d": (
-        Field("dst", LONG),
-        Field("src", LONG),
-        Field("mask", LONG),
-        Field("r", RECTANGLE),
-        Field("sp", POINT),
-        Field("mp", POINT),
+        Field("dstid", LONG),
+        Field("srcid", LONG),
+        Field("maskid", LONG),
+        Field("dstr", RECTANGLE),
+        Field("srcp", POINT),
+        Field("maskp", POINT),
     ),
     # Switches messages for finding faults on and off.
     "D": (Field("debug", BYTE),),
@@ -422,8 +449,8 @@ LETTERS = {
     "i": (ID, Field("n", LONG), Field("ascent", BYTE)),
     # Loads a character into a font.
     "l": (
-        Field("cache", LONG),
-        Field("src", LONG),
+        Field("cacheid", LONG),
+        Field("srcid", LONG),
         Field("index", SHORT),
         Field("r", RECTANGLE),
         Field("sp", POINT),
@@ -442,7 +469,7 @@ LETTERS = {
     "r": (ID, Field("r", RECTANGLE)),
     # Draws a string, and a string on a background.
     "s": (*STRING_FIELDS, INDICES),
-    "x": (*STRING_FIELDS, Field("bg", LONG), Field("bgp", POINT), INDICES),
+    "x": (*STRING_FIELDS, Field("bgid", LONG), Field("bgp", POINT), INDICES),
     # Makes an id for a public screen.
     "S": (ID, Field("chan", CHANNELS)),
     # Moves windows to the top or the bottom.
@@ -459,98 +486,162 @@ LETTERS = {
 WORD = re.compile(r'(?:([a-z]+)=)?("(?:[^"\\]|\\.)*"|[^\s"#=]+)(?=\s|$)')
 
 
+@dataclass(frozen=True)
+class Word:
+    """A word of a line: its place, counted from 1, as it stands there, its key or None, and its value."""
+
+    place: int
+    shown: str
+    key: Optional[str]
+    value: str
+
+
 def words_of(line):
-    """The words of a line, each with its key or None, without the comment."""
+    """The words of a line, without the comment."""
     words, rest = [], line.strip()
     while rest and not rest.startswith("#"):
         found = WORD.match(rest)
         if not found:
-            raise ValueError(f"no word: {rest}")
-        words.append(found.groups())
+            shown = rest.split()[0]
+            raise BadWord(Word(len(words) + 1, shown, None, shown), "this is no word")
+        words.append(Word(len(words) + 1, found[0], *found.groups()))
         rest = rest[found.end() :].lstrip()
     return words
 
 
 @dataclass
 class Block:
-    """A line that is not indented, and the bytes that stand beneath it."""
+    """A line that is not indented, the bytes that stand beneath it, and where these begin."""
 
     line: int
     words: list
     payload: bytes = b""
+    first: Optional[tuple] = None
+
+
+@dataclass
+class Heard:
+    """The event of a block, and the words of it that may be at fault: by the part of the event that they tell."""
+
+    event: Event
+    parts: dict
 
 
 def write(readable):
-    """The record of readable lines."""
-    blocks = []
+    """The record of readable lines. Of several mistakes it tells the first."""
+    blocks, mistakes = [], []
     for line, content in enumerate(readable.split("\n"), 1):
         try:
             words = words_of(content)
             if words and not content[0].isspace():
                 blocks.append(Block(line, words))
-            elif words and blocks:
-                blocks[-1].payload += payload_of(words)
             elif words:
-                raise ValueError("an indented line belongs to the message above it")
-        except ValueError as error:
-            raise BadText(line, error) from None
-    return formats.write_record([event_of(block) for block in blocks])
+                add_payload(blocks, line, words)
+        except BadWord as error:
+            mistakes.append(bad_text(line, error))
+    try:
+        events = events_of(blocks)
+    except BadText as mistake:
+        mistakes.append(mistake)
+    if mistakes:
+        raise min(mistakes, key=lambda mistake: mistake.line)
+    return formats.write_record(events)
+
+
+def events_of(blocks):
+    """The events of blocks, which together are a record."""
+    roll, events, size = formats.Roll(), [], len(formats.HEADER) + 1
+    for block in blocks:
+        events.append(event_of(block, roll))
+        size += len(formats.event_line(events[-1])) + 1
+        if size >= formats.BYTES_OF_NO_RECORD:
+            raise BadText(block.line, f"with this line the record has {formats.BYTES_OF_NO_RECORD} bytes or more")
+    return events
+
+
+def bad_text(line, error):
+    """The mistake of a word of a line."""
+    return BadText(line, error, error.word.place, error.word.shown)
+
+
+def add_payload(blocks, line, words):
+    """Adds the bytes of an indented line to the message above it."""
+    if not blocks:
+        raise BadWord(words[0], "an indented line belongs to the message above it")
+    blocks[-1].payload += payload_of(words)
+    blocks[-1].first = blocks[-1].first or (line, words[0])
 
 
 def payload_of(words):
     """The bytes of an indented line."""
-    (key, first), rest = words[0], words[1:]
-    if key is None and first in LETTERS:
-        return first.encode() + put_fields(LETTERS[first], hear_fields(LETTERS[first], rest))
-    loose = [value for key, value in rest if key is None]
-    if key is not None or len(loose) < len(rest) or first not in ("hex", "text"):
-        raise ValueError(f"no draw message, text or hex: {first}")
-    return hex_bytes(loose) if first == "hex" else "".join(map(hear_text, loose)).encode()
+    first, rest = words[0], words[1:]
+    if first.key is None and first.value in LETTERS:
+        fields = LETTERS[first.value]
+        return first.value.encode() + put_fields(fields, hear_fields(fields, first, rest))
+    if first.key is not None or first.value not in ("hex", "text"):
+        raise BadWord(first, "a draw message, hex or text is wanted")
+    for word in rest:
+        if word.key is not None:
+            raise BadWord(word, f"{first.value} has no fields")
+    if first.value == "hex":
+        return hex_bytes(rest)
+    return "".join(hear_word(LONG_TEXT, word) for word in rest).encode()
 
 
 def hex_bytes(words):
-    return bytes.fromhex("".join(words))
+    """The bytes of words of hex digits, which may be cut anywhere."""
+    for word in words:
+        if not re.fullmatch(r"[0-9a-f]+", word.value):
+            raise BadWord(word, "lower-case hex digits are wanted")
+    digits = "".join(word.value for word in words)
+    if len(digits) % 2:
+        raise BadWord(words[-1], "the number of hex digits is odd")
+    return bytes.fromhex(digits)
 
 
-def event_of(block):
+def event_of(block, roll):
+    """The event of a block, which may come next."""
     try:
-        event = hear_event(block.words, block.payload)
-        if event.kind != MESSAGE and block.payload:
-            raise ValueError("only a message has bytes beneath it")
-        fault = formats.fault_of(event)
-        if fault:
-            raise ValueError(fault)
-        return event
-    except ValueError as error:
-        raise BadText(block.line, error) from None
+        heard = hear_event(block.words, block.payload)
+        try:
+            roll.enter(heard.event)
+        except BadEvent as error:
+            raise BadWord(heard.parts.get(error.part, block.words[0]), error) from None
+    except BadWord as error:
+        raise bad_text(block.line, error) from None
+    if block.first is not None and not heard.parts.get("bytes"):
+        line, word = block.first
+        raise bad_text(line, BadWord(word, "the line above has no bytes beneath it"))
+    return heard.event
 
 
 def hear_event(words, payload):
-    values = [value for _, value in words]
-    if values == ["stop"]:
-        return Event(STOP)
-    if len(values) == 2 and values[0] == "session":
-        return Event(BEGIN, hear_number(values[1]))
-    if len(values) < 2 or not values[0].isdecimal():
-        raise ValueError("no event: session N, N Tmessage, N hex, N take, N end or stop is wanted")
-    session, name, rest = int(values[0]), values[1], words[2:]
-    if name in ("take", "end") and not rest:
-        return Event(TAKE if name == "take" else END, session)
-    if name == "hex":
-        return hear_hex(session, rest)
-    if name not in BY_NAME:
-        raise ValueError(f"no event or message: {name}")
-    message = BY_NAME[name]
-    fields = hear_fields(line_fields(message), rest)
-    return Event(MESSAGE, session, write_message(message, fields, payload), fields["mark"])
-
-
-HEX_FIELDS = (Field("mark", SHORT, None), Field("digits", Form(None, None, str, str), count="n"))
-
-
-def hear_hex(session, words):
-    fields = hear_fields(HEX_FIELDS, words)
-    return Event(MESSAGE, session, hex_bytes(fields["digits"]), fields["mark"])
+    first, rest = words[0], words[2:]
+    values = [word.value for word in words if word.key is None]
+    if values == ["stop"] and len(words) == 1:
+        return Heard(Event(STOP), {})
+    if first.shown == "session" and len(words) == 2 and words[1].key is None:
+        return Heard(Event(BEGIN, hear_word(LONG, words[1])), {"session": words[1]})
+    if len(words) < 2 or first.key is not None or not first.value[0].isdigit():
+        raise BadWord(first, "no event: session N, N Tmessage, N hex, N take, N end or stop is wanted")
+    session, name = hear_word(LONG, first), words[1]
+    parts = {"session": first, "message": name}
+    if name.shown in ("take", "end"):
+        for word in rest:
+            raise BadWord(word, "the line goes on")
+        return Heard(Event(TAKE if name.shown == "take" else END, session), parts)
+    parts["mark"] = next((word for word in rest if word.key == "mark"), name)
+    if name.shown == "hex":
+        mark = hear_fields((MARK,), name, [word for word in rest if word.key])["mark"]
+        return Heard(Event(MESSAGE, session, hex_bytes([word for word in rest if not word.key]), mark), parts)
+    if name.shown not in BY_NAME:
+        raise BadWord(name, "no event or message of this name")
+    message = BY_NAME[name.shown]
+    fields = hear_fields(line_fields(message), name, rest)
+    if message.data == 2 and len(payload) > 0xFFFF:
+        raise BadWord(name, f"{len(payload)} bytes stand beneath it, and at most 65535 fit")
+    parts["bytes"] = message.data > 0
+    return Heard(Event(MESSAGE, session, write_message(message, fields, payload), fields["mark"]), parts)
 
 
 # Explaining.
@@ -602,8 +693,8 @@ def explain_event(explainer, event):
         return [f"{event.session} {'take' if event.kind == TAKE else 'end'}"]
     found = read_message(event.message)
     if found is None or found[0] not in T_MESSAGES:
-        fields = {"mark": event.mark, "digits": [event.message.hex()]}
-        return [" ".join([str(event.session), "hex", *say_fields(HEX_FIELDS, fields)])]
+        mark = say_fields((MARK,), {"mark": event.mark})
+        return [" ".join([str(event.session), "hex", *mark, event.message.hex()])]
     message, fields, payload = found
     line = message_line(event.session, message, {**fields, "mark": event.mark})
     file = follow(explainer, event.session, message.name, fields)
@@ -720,7 +811,7 @@ def explain_replies(replies):
         lines.append(message_line(session, message, fields))
         lines += stat_lines(payload) or payload_lines(payload, BYTES_ON_A_LINE)
     if replies.screen is not None:
-        lines.append(f"screen of {len(replies.screen)} bytes: {' '.join(replies.screen[:60].decode().split())}")
+        lines.append(f"screen of {len(replies.screen)} bytes: {' '.join(replies.screen[:60].decode(errors='replace').split())}")
     return lines
 
 
@@ -739,20 +830,28 @@ def stat_lines(payload):
 
 
 def main(words):
-    parser = argparse.ArgumentParser(prog="record.py", description=__doc__.split("\n")[0])
+    parser = formats.Words(prog="record.py", description=__doc__.split("\n")[0])
     parser.add_argument("job", choices=["write", "explain"])
-    parser.add_argument("--chan", type=formats.channels_word, default="x8r8g8b8", help="the display's channels")
+    parser.add_argument("--chan", type=formats.channels_option, default="x8r8g8b8", help="the display's channels")
     options = parser.parse_args(words)
-    data = sys.stdin.buffer.read()
     try:
-        if options.job == "write":
-            sys.stdout.buffer.write(write(data.decode()))
-        else:
-            sys.stdout.buffer.write(explain(data, options.chan).encode())
-    except (BadText, UnicodeDecodeError) as error:
+        data = sys.stdin.buffer.read()
+        made = write(readable_text(data)) if options.job == "write" else explain(data, options.chan).encode()
+        sys.stdout.buffer.write(made)
+        sys.stdout.buffer.flush()
+    except BadText as error:
         sys.stderr.write(f"record.py: {error}\n")
         return 1
+    except OSError as error:
+        formats.stop("record.py", formats.why_not(error))
     return 0
+
+
+def readable_text(data):
+    try:
+        return data.decode()
+    except UnicodeDecodeError as error:
+        raise BadText(data.count(b"\n", 0, error.start) + 1, "no UTF-8") from None
 
 
 if __name__ == "__main__":

@@ -72,11 +72,19 @@ class Pictures(unittest.TestCase):
                 picture.chosen_read(replies, number)
 
     def test_screen(self):
-        replies = formats.read_replies(rread(b"one") + b"S 62\n" + IMAGE_FILE)
-        png = picture.picture(*picture.read_image_file(replies.screen))
-        self.assertEqual(pixels_of(png), (2, 1, bytes.fromhex("000000 ffffff")))
-        with self.assertRaises(picture.NoPicture):
-            picture.read_image_file(IMAGE_FILE[:59])
+        for output in (IMAGE_FILE, b"S 62\n" + IMAGE_FILE, rread(b"one") + b"S 62\n" + IMAGE_FILE):
+            with self.subTest(output[:10]):
+                replies = picture.read_output(output)
+                png = picture.picture(*picture.read_image_file(replies.screen))
+                self.assertEqual(pixels_of(png), (2, 1, bytes.fromhex("000000 ffffff")))
+
+    def test_no_screen(self):
+        for data in (IMAGE_FILE[:59], IMAGE_FILE.replace(b"k8", b"q8"), b"R" + IMAGE_FILE, IMAGE_FILE[1:]):
+            with self.subTest(data[:20]), self.assertRaises(picture.NoPicture):
+                picture.read_image_file(data)
+        for output in (b"S 61\n" + IMAGE_FILE, b"S 63\n" + IMAGE_FILE):
+            with self.subTest(output[:10]), self.assertRaises(formats.BadText):
+                picture.read_output(output)
 
 
 if __name__ == "__main__":

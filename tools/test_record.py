@@ -11,6 +11,7 @@ import pathlib
 import random
 import sys
 import unittest
+import unittest.mock
 
 import formats
 import record
@@ -47,25 +48,25 @@ LINES = [
     ("1 Tremove fid=1", "M 1 0b0000007a010001000000"),
     ("1 Tstat fid=1", "M 1 0b0000007c010001000000"),
     ("1 Twstat fid=1\n    hex 00ff", "M 1 0f0000007e010001000000020000ff"),
-    ("4294967295 hex 0700000064ffff", "M 4294967295 0700000064ffff"),
+    ("1 hex 0700000064ffff", "M 1 0700000064ffff"),
     ("1 hex mark=0 070000007f0100", "M 1 070000007f0100 !0"),
 ]
 
 # Draw messages, and their bytes.
 DRAW = [
-    ("b id=5 screen=1 refresh=2 chan=x8r8g8b8 repl=0 r=0,0,64,48 clipr=-1,-2,3,4 color=0x11223344",
+    ("b id=5 screenid=1 refresh=2 chan=x8r8g8b8 repl=0 r=0,0,64,48 clipr=-1,-2,3,4 color=0x11223344",
      "62 05000000 01000000 02 28180868 00 00000000000000004000000030000000 fffffffffeffffff0300000004000000 44332211"),
-    ("b id=5 screen=0 refresh=0 chan=0x00000058 repl=1 r=0,0,1,1 clipr=0,0,1,1 color=0xffffff00",
+    ("b id=5 screenid=0 refresh=0 chan=0x00000058 repl=1 r=0,0,1,1 clipr=0,0,1,1 color=0xffffff00",
      "62 05000000 00000000 00 58000000 01 00000000000000000100000001000000 00000000000000000100000001000000 00ffffff"),
-    ("A id=1 image=2 fill=3 public=1", "41 01000000 02000000 03000000 01"),
-    ("c dst=2 repl=1 clipr=0,0,1,2", "63 02000000 01 00000000000000000100000002000000"),
-    ("d dst=0 src=5 mask=1 r=0,0,10,11 sp=-1,2 mp=3,4",
+    ("A id=1 imageid=2 fillid=3 public=1", "41 01000000 02000000 03000000 01"),
+    ("c dstid=2 repl=1 clipr=0,0,1,2", "63 02000000 01 00000000000000000100000002000000"),
+    ("d dstid=0 srcid=5 maskid=1 dstr=0,0,10,11 srcp=-1,2 maskp=3,4",
      "64 00000000 05000000 01000000 00000000000000000a0000000b000000 ffffffff02000000 0300000004000000"),
     ("D debug=1", "44 01"),
     ("f id=258", "66 02010000"),
     ("F id=4", "46 04000000"),
     ("i id=6 n=128 ascent=7", "69 06000000 80000000 07"),
-    ("l cache=6 src=3 index=258 r=1,5,4,6 sp=38,10 left=-2 width=4",
+    ("l cacheid=6 srcid=3 index=258 r=1,5,4,6 sp=38,10 left=-2 width=4",
      "6c 06000000 03000000 0201 01000000050000000400000006000000 260000000a000000 fe 04"),
     ("N id=9 in=1 name=pic", "4e 09000000 01 03 706963"),
     ('N id=9 in=0 name="p\\udcff"', "4e 09000000 00 02 70ff"),
@@ -75,9 +76,9 @@ DRAW = [
     ("O op=SoverD", "4f 0b"),
     ("O op=12", "4f 0c"),
     ("r id=0 r=9,9,10,10", "72 00000000 09000000090000000a0000000a000000"),
-    ("s dst=0 src=1 font=7 p=10,20 clipr=0,0,64,48 sp=1,2 0 258",
+    ("s dstid=0 srcid=1 fontid=7 p=10,20 clipr=0,0,64,48 sp=1,2 0 258",
      "73 00000000 01000000 07000000 0a00000014000000 00000000000000004000000030000000 0100000002000000 0200 0000 0201"),
-    ("x dst=0 src=1 font=7 p=10,20 clipr=0,0,64,48 sp=1,2 bg=3 bgp=4,5 6",
+    ("x dstid=0 srcid=1 fontid=7 p=10,20 clipr=0,0,64,48 sp=1,2 bgid=3 bgp=4,5 6",
      "78 00000000 01000000 07000000 0a00000014000000 00000000000000004000000030000000 0100000002000000 0100"
      "03000000 0400000005000000 0600"),
     ("S id=2 chan=k8", "53 02000000 38000000"),
@@ -102,62 +103,102 @@ OPEN_DATA = """session 1
 1 Topen fid=2 mode=readwrite
 """
 MAKE_BITS = """1 Twrite fid=2 offset=0
-    b id=5 screen=0 refresh=0 chan=k1 repl=0 r=0,0,16,2 clipr=0,0,16,2 color=0xffffffff
+    b id=5 screenid=0 refresh=0 chan=k1 repl=0 r=0,0,16,2 clipr=0,0,16,2 color=0xffffffff
 """
 
-# What writing takes that explaining does not give.
+# What writing takes that explaining does not give, and what that gives.
 LOOSE = [
-    ("\n# a comment\nsession 1   # another\n\n", "session 1\n"),
+    ("\n# a comment\n\n", ""),
     ('1 Tattach aname="" uname="" fid=0x0', '1 Tattach fid=0 aname=""\n'),
-    ("1 Topen mode=2 fid=0", "1 Topen fid=0 mode=readwrite\n"),
-    ('1 Twrite fid=9 offset=0\n\thex ff 0001\n\n  # between\n\ttext "a" b',
+    ("1 Topen mode=2 fid=0   # another", "1 Topen fid=0 mode=readwrite\n"),
+    ('1 Twrite fid=9 offset=0\n\thex f f0001\n\n  # between\n\ttext "a" b',
      "1 Twrite fid=9 offset=0\n    hex ff00016162\n"),
     ("1 hex 07000000 7f 0100", "1 hex 070000007f0100\n"),
 ]
 
-# Readable texts that cannot be written, and the line that tells why.
+WRITE = "session 1\n1 Twrite fid=0 offset=0\n"
+
+# Readable texts that cannot be written, and the line and the word at fault.
 UNREADABLE = [
-    ("hello", 1),
-    ("session", 1),
-    ("session 1\n    v", 1),
-    ("    v", 1),
-    ("1 Thello fid=0", 1),
-    ("1 Tclunk", 1),
-    ("1 Tclunk fid=0 newfid=1", 1),
-    ("1 Tclunk fid=0 fid=0", 1),
-    ("1 Tclunk fid=0 extra", 1),
-    ("1 Tclunk fid=4294967296", 1),
-    ("1 Tclunk fid=-1", 1),
-    ("1 Tclunk fid=0 tag=65536", 1),
-    ("1 Tclunk fid=0 mark=65536", 1),
-    ("stop\nsession 0", 2),
-    ("4294967296 end", 1),
-    ('1 Tclunk fid="0"x', 1),
-    ("1 Tclunk fid=0\n    v", 1),
-    ("1 Twalk fid=0 newfid=1 " + "a " * 17, 1),
-    ("1 hex 0800000064ffff", 1),
-    ("1 hex 07000000", 1),
-    ("1 hex zz", 1),
-    ("stop\n1 Twrite fid=0 offset=0\n    hex 0", 3),
-    ("stop\n1 Twrite fid=0 offset=0\n    hex 00\n    q id=0", 4),
-    ("1 Twrite fid=0 offset=0\n    O op=Over", 2),
-    ("1 Twrite fid=0 offset=0\n    r id=0 r=0,0,1", 2),
-    ("1 Twrite fid=0 offset=0\n    S id=0 chan=m8", 2),
-    ("1 Twrite fid=0 offset=0\n    hex " + "00" * 65538, 1),
+    ("hello", 1, 1),
+    ("session", 1, 1),
+    ("session 4294967296", 1, 2),
+    ("session 1\n    v", 2, 1),
+    ("    v", 1, 1),
+    ("01 take", 1, 1),
+    ("1 take 2", 1, 3),
+    ("1 Thello fid=0", 1, 2),
+    ("1 Tclunk", 1, 2),
+    ("1 Tclunk fid=0 newfid=1", 1, 4),
+    ("1 Tclunk fid=0 fid=0", 1, 4),
+    ("1 Tclunk fid=0 extra", 1, 4),
+    ("1 Tclunk fid=4294967296", 1, 3),
+    ("1 Tclunk fid=-1", 1, 3),
+    ("1 Tclunk fid=1_0", 1, 3),
+    ("1 Tclunk tag=65536 fid=0", 1, 3),
+    ("1 Tclunk fid=0 mark=65536", 1, 4),
+    ("1 hex 0700000064ffff mark=65536", 1, 4),
+    ("4294967296 end", 1, 1),
+    ('1 Tclunk fid="0"x', 1, 3),
+    ('1 Tattach fid=0 aname="\\q"', 1, 4),
+    ('1 Tattach fid=0 aname="\\udcff"', 1, 4),
+    ("session 1\n1 Tclunk fid=0\n    v", 3, 1),
+    ("1 Twalk fid=0 newfid=1 " + "a " * 17, 1, 21),
+    ("session 1\n1 hex 0800000064ffff", 2, 2),
+    ("session 1\n1 hex 07000000", 2, 2),
+    ("1 hex zz", 1, 3),
+    ("1 hex 07 FF", 1, 4),
+    (WRITE + "    hex 00 0", 3, 3),
+    (WRITE + "    hex 00\n    q id=0", 4, 1),
+    (WRITE + "    O op=Over", 3, 2),
+    (WRITE + "    O op=Clear S", 3, 3),
+    (WRITE + "    r id=0 r=0,0,1", 3, 3),
+    (WRITE + "    S id=0 chan=m8", 3, 3),
+    (WRITE + "    n id=0 name=" + "a" * 256, 3, 3),
+    (WRITE + "    hex " + "00" * 65538, 2, 2),
+    (WRITE + "    hex 0\n2 end\n    hex q", 3, 2),
+    ("2 end\n1 hex q", 1, 1),
+    # Which event may come next.
+    ("session 2", 1, 2),
+    ("session 1\nsession 1", 2, 2),
+    ("session 1\n2 take", 2, 1),
+    ("session 1\n1 end\n1 take\n1 end", 4, 1),
+    ("session 1\n1 end\n1 Tclunk fid=0", 3, 1),
+    ("session 0", 1, 2),
+    ("stop\nsession 1", 2, 1),
+    ("\n".join(f"session {n}" for n in range(1, 1026)), 1025, 2),
 ]
 
-# Texts that are no records, and the line that does not fit.
+# Texts that are no records, and the line that does not fit, and the word where one is at fault.
 NO_RECORDS = [
-    (b"rio9 1", 1),
-    (b"rio9 1\nB 1", 2),
-    (b"rio9 1\nB 01\n", 2),
-    (b"rio9 1\nB 1\n\n", 3),
-    (b"rio9 1\nB 1\nM 1 0700000064FFFF\n", 3),
-    (b"rio9 1\nB 1\nM 1 0800000064ffff\n", 3),
-    (b"rio9 1\nB 1\nM 1 0700000064ffff !01\n", 3),
-    (b"rio9 1\nB 1\nM 1 0700000064ffff !65536\n", 3),
-    (b"rio9 1\nX 1\n", 2),
-    (b"rio9 1\nB 0\n", 2),
+    (b"rio9 1", 1, None),
+    (b"rio9 1\nB 1", 2, None),
+    (b"rio9 1 \nB 1\n", 1, None),
+    (b"rio9 1\nB 01\n", 2, 2),
+    (b"rio9 1\nB  1\n", 2, 2),
+    (b"rio9 1\nB 1 1\n", 2, 3),
+    (b"rio9 1\nB 1\n\n", 3, 1),
+    (b"rio9 1\nB 1\nM 1\n", 3, 3),
+    (b"rio9 1\nB 1\nM 1 0700000064FFFF\n", 3, 3),
+    (b"rio9 1\nB 1\nM 1 0800000064ffff\n", 3, 3),
+    (b"rio9 1\nB 1\nM 1 0700000064ffff !01\n", 3, 4),
+    (b"rio9 1\nB 1\nM 1 0700000064ffff !65536\n", 3, 4),
+    (b"rio9 1\nX 1\n", 2, 2),
+    (b"rio9 1\nB 0\n", 2, 2),
+    (b"rio9 1\nB 2\n", 2, 2),
+    (b"rio9 1\nB 1\nB 1\n", 3, 2),
+    (b"rio9 1\nT 1\n", 2, 2),
+    (b"rio9 1\nB 1\nE 1\nM 1 0700000064ffff\n", 4, 2),
+    (b"rio9 1\nX\nX\n", 3, 1),
+    (b"rio9 1\nB 99999999999\n", 2, 2),
+]
+
+# Texts that no run prints.
+NO_OUTPUTS = [
+    (b"R 1 070000006d0100", 1, None),
+    (b"R 1 070000006d0100\nQ\n", 2, 1),
+    (b"R 1 070000006D0100\n", 1, 3),
+    (b"S 3\nabcd", 1, 2),
 ]
 
 WALK_REPLIES = """1 Rversion msize=65560 version=9P2000
@@ -191,12 +232,18 @@ def write_of(draw):
     )
 
 
+def fault(line, word):
+    """What a mistake there begins with."""
+    return f"^line {line}: " if word is None else f"^line {line}, word {word}( `|:)"
+
+
 class Tables(unittest.TestCase):
     def test_lines(self):
         for readable, line in LINES:
+            begun = ("", ()) if readable in ("session 1", "stop") else ("session 1\n", ("B 1",))
             with self.subTest(readable):
-                self.assertEqual(record.write(readable), record_of(line))
-                self.assertEqual(record.explain(record_of(line)), readable + "\n")
+                self.assertEqual(record.write(begun[0] + readable), record_of(*begun[1], line))
+                self.assertEqual(record.explain(record_of(*begun[1], line)), begun[0] + readable + "\n")
 
     def test_draw_messages(self):
         before = record.write(OPEN_DATA + MAKE_BITS)
@@ -213,17 +260,31 @@ class Tables(unittest.TestCase):
     def test_loose_lines(self):
         for loose, exact in LOOSE:
             with self.subTest(loose):
-                self.assertEqual(record.explain(record.write(loose)), exact)
+                self.assertEqual(record.explain(record.write("session 1\n" + loose)), "session 1\n" + exact)
 
     def test_unreadable_lines(self):
-        for readable, line in UNREADABLE:
-            with self.subTest(readable[:60]), self.assertRaisesRegex(formats.BadText, f"^line {line}: "):
+        for readable, line, word in UNREADABLE:
+            with self.subTest(readable[:60]), self.assertRaisesRegex(formats.BadText, fault(line, word)):
                 record.write(readable)
 
-    def test_no_records(self):
-        for text, line in NO_RECORDS:
-            with self.subTest(text), self.assertRaisesRegex(formats.BadText, f"^line {line}: "):
+    def test_what_is_no_record_and_no_output(self):
+        for text, line, word in NO_RECORDS + NO_OUTPUTS:
+            with self.subTest(text), self.assertRaisesRegex(formats.BadText, fault(line, word)):
                 record.explain(text)
+
+    def test_a_record_of_too_many_bytes(self):
+        text = b"rio9 1\nB 1\nB 2\n"
+        with unittest.mock.patch.object(formats, "BYTES_OF_NO_RECORD", len(text) + 1):
+            self.assertEqual(record.write(record.explain(text)), text)
+        with unittest.mock.patch.object(formats, "BYTES_OF_NO_RECORD", len(text)):
+            with self.assertRaisesRegex(formats.BadText, "^line 1: "):
+                record.explain(text)
+            with self.assertRaisesRegex(formats.BadText, "^line 2: "):
+                record.write("session 1\nsession 2\n")
+
+    def test_a_take_after_the_end(self):
+        text = b"rio9 1\nB 1\nE 1\nT 1\nB 2\nX\n"
+        self.assertEqual(record.write(record.explain(text)), text)
 
 
 class Files(unittest.TestCase):
@@ -242,7 +303,7 @@ class Files(unittest.TestCase):
         self.shows("1 Twalk fid=0 newfid=2 snarf\n1 Twrite fid=2 offset=0\n    v", "    v")
 
     def test_rows_are_cut_by_what_is_known_of_the_image(self):
-        made = "    b id=6 screen=0 refresh=0 chan=k8 repl=0 r=0,0,2,2 clipr=0,0,2,2 color=0x00000000\n"
+        made = "    b id=6 screenid=0 refresh=0 chan=k8 repl=0 r=0,0,2,2 clipr=0,0,2,2 color=0x00000000\n"
         rows = "    y id=6 r=0,0,1,2\n    hex 0102\n    v"
         self.shows("1 Twrite fid=2 offset=0\n" + made + rows, "    v")
         self.shows("1 Twrite fid=2 offset=0\n" + rows, "    hex 010276")
@@ -287,9 +348,17 @@ class RoundTrip(unittest.TestCase):
                 self.returns(path.read_bytes(), path)
         sys.stderr.write(f"{len(found)} records taken\n")
 
-    def test_the_example_is_what_its_lines_write(self):
-        readable = (TOP / "examples/shapes.txt").read_text(encoding="utf-8")
-        self.assertEqual(record.write(readable), (TOP / "examples/shapes.record").read_bytes())
+    def test_the_examples_are_what_their_lines_write(self):
+        for path in sorted(TOP.glob("examples/*.txt")):
+            with self.subTest(path.name):
+                written = record.write(path.read_text(encoding="utf-8"))
+                self.assertEqual(written, path.with_suffix(".record").read_bytes())
+
+    def test_the_longest_write(self):
+        for payload in (65537 * b"a", 65537 * b"\x01"):
+            size = (23 + len(payload)).to_bytes(4, "little")
+            head = size + bytes.fromhex("76010002000000" + 8 * "00") + len(payload).to_bytes(4, "little")
+            self.returns(record_of("B 1", f"M 1 {(head + payload).hex()}"), "the longest write")
 
     def test_any_messages(self):
         """Messages of the tables with bytes changed, and any bytes as messages and as draw messages."""

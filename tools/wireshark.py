@@ -101,7 +101,7 @@ class Connection:
 
 
 def tag_of(message):
-    return struct.unpack("<H", message[5:7])[0]
+    return int.from_bytes(message[5:7], "little")
 
 
 def write_capture(record, replies):
@@ -138,19 +138,20 @@ def write_capture(record, replies):
 
 def main(words):
     if len(words) != 3:
-        sys.stderr.write("usage: wireshark.py RECORD REPLIES OUT.pcap\n")
-        return 1
-    with open(words[0], "rb") as file:
-        record = file.read()
-    with open(words[1], "rb") as file:
-        replies = file.read()
+        formats.stop("wireshark.py", "the names of a record, of its replies and of the capture are wanted")
     try:
+        with open(words[0], "rb") as file:
+            record = file.read()
+        with open(words[1], "rb") as file:
+            replies = file.read()
         capture, counts = write_capture(formats.read_record(record), formats.read_replies(replies))
+        with open(words[2], "wb") as file:
+            file.write(capture)
     except formats.BadText as error:
         sys.stderr.write(f"wireshark.py: {error}\n")
         return 1
-    with open(words[2], "wb") as file:
-        file.write(capture)
+    except OSError as error:
+        formats.stop("wireshark.py", formats.why_not(error))
     sys.stderr.write(f"{counts[0]} messages, {counts[1]} replies\n")
     return 0
 

@@ -12,7 +12,7 @@ import tempfile
 
 HERE = os.path.dirname(os.path.abspath(__file__))
 sys.path.insert(0, os.path.join(os.path.dirname(HERE), "replay"))
-from run import PROGRAM, measure, message, number, string
+from run import PROGRAM, measure, message, need_program, number, string
 
 CORNERS = [(40 * i % 440, 30 * i % 330) for i in range(132)]
 
@@ -93,6 +93,7 @@ def best(text, program):
 
 
 def main():
+    need_program()
     with tempfile.TemporaryDirectory() as folder:
         plain = os.path.join(folder, "plain")
         subprocess.run(["rustc", "--edition", "2021", "-O", "-C", "target-cpu=x86-64-v2", "-o", plain, os.path.join(HERE, "plain.rs")], check=True)

@@ -14,6 +14,13 @@ ROOT = os.path.dirname(os.path.dirname(os.path.dirname(os.path.abspath(__file__)
 PROGRAM = os.path.join(ROOT, "crates", "rio9", "out", "rio9")
 
 
+def need_program():
+    """Ends with one line where the program is not built."""
+    if not os.access(PROGRAM, os.X_OK):
+        sys.stderr.write(f"{PROGRAM} is not built: cd crates/rio9 && rt run -- replay < stdin\n")
+        sys.exit(2)
+
+
 def number(value, size):
     return value.to_bytes(size, "little")
 
@@ -81,6 +88,7 @@ def show(name, text, status, messages=0, rounds=5):
 
 
 def main():
+    need_program()
     for size in (10**4, 10**5, 10**6, 10**7, 10**8):
         show("junk behind a record", record(3) + b"junk\n" * (size // 5), 2)
     for count in (10**4, 10**5, 4 * 10**5):

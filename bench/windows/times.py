@@ -1,29 +1,23 @@
 #!/usr/bin/env python3
-"""Times windows by `rio9 replay`: the records of tools/generator.py beside plain Rust without proofs, drawing/plain.rs, and
-windows that are raised, by what they cover.
+"""Times windows: `rio9 gen`, which makes a record of windows that are raised, lowered, moved and drawn on and runs it, beside a
+peer, and windows that are raised, by what they cover.
 
-Wants Python 3, rustc, and the built program (`cd crates/rio9 && rt run -- replay < stdin` builds it). It prints the seconds of
-both, less those of a record without the messages that count, and their ratio.
+    bench/windows/times.py PEER
+
+The peer is a plain program with the same words, which is given by its path. Wants Python 3 and the built program (`cd
+crates/rio9 && rt run -- replay < stdin` builds it). What both print of events and replies has to be equal. It prints the
+seconds of both, the less of two, and their ratio; and the most memory of `gen`.
 """
 import os
 import subprocess
 import sys
-import tempfile
 
 HERE = os.path.dirname(os.path.abspath(__file__))
-ROOT = os.path.dirname(os.path.dirname(HERE))
 sys.path.insert(0, os.path.join(os.path.dirname(HERE), "drawing"))
-from times import X8R8G8B8, best, number, record, rect, twrite
-from run import PROGRAM
+from times import X8R8G8B8, best, number, record, rect
+from run import PROGRAM, need_program
 
-TOOLS = os.path.join(ROOT, "tools")
-
-
-def generated(count):
-    """The record of the generator's number, in which so many messages raise, lower, move and draw."""
-    lines = subprocess.run([sys.executable, os.path.join(TOOLS, "generator.py"), str(count)], capture_output=True, check=True)
-    made = subprocess.run([sys.executable, os.path.join(TOOLS, "record.py"), "write"], input=lines.stdout, capture_output=True, check=True)
-    return made.stdout
+COUNTS = (1000, 10_000, 100_000)
 
 
 def raised(side, count):
@@ -35,17 +29,21 @@ def raised(side, count):
     return [screen + b"".join(windows)] + raises
 
 
-def main():
-    with tempfile.TemporaryDirectory() as folder:
-        plain = os.path.join(folder, "plain")
-        source = os.path.join(ROOT, "bench", "drawing", "plain.rs")
-        subprocess.run(["rustc", "--edition", "2021", "-O", "-C", "target-cpu=x86-64-v2", "-o", plain, source], check=True)
-        empty = generated(1)
-        for count in (1000, 4000):
-            text = generated(count)
-            ours = best(text, [PROGRAM, "replay"])[0] - best(empty, [PROGRAM, "replay"])[0]
-            theirs = best(text, [plain])[0] - best(empty, [plain])[0]
-            print(f"{count:>6} messages of the generator {ours:8.4f} s, plain {theirs:8.4f} s, ratio {ours / theirs:5.2f}")
+def counts(program, n):
+    """The lines of events and replies that a program prints of a number."""
+    return subprocess.run([program, "gen", str(n)], capture_output=True, check=True).stdout.splitlines()[:2]
+
+
+def main(words):
+    if len(words) != 1 or not os.access(words[0], os.X_OK):
+        sys.exit("times.py: the path of a peer is wanted, a program that can be run")
+    need_program()
+    for count in COUNTS:
+        if counts(PROGRAM, count) != counts(words[0], count):
+            sys.exit(f"times.py: the programs count differently where {count} messages are made")
+        ours, memory = best(b"", [PROGRAM, "gen", str(count)])[:2]
+        theirs = best(b"", [words[0], "gen", str(count)])[0]
+        print(f"gen {count:>6} {ours:8.4f} s, peer {theirs:8.4f} s, ratio {ours / theirs:5.2f}, memory {memory / 2**20:6.1f} MiB")
     for side in (20, 100, 400):
         one = best(record(raised(side, 1)), [PROGRAM, "replay"])[0]
         many = best(record(raised(side, 20000)), [PROGRAM, "replay"])[0]
@@ -53,4 +51,4 @@ def main():
 
 
 if __name__ == "__main__":
-    main()
+    main(sys.argv[1:])

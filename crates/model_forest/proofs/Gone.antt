@@ -1,5 +1,5 @@
 -- An image goes, on which nothing stands and which no list has.
-use Rattle.std.proofs.Common.{◌≡◌, ◌≢◌, ℕ, true, false, Option, Some, None, [], sym, ◌∙◌, ap, subst}
+use Rattle.std.proofs.Common.{◌≡◌, ◌≢◌, ◌≤◌, ℕ, true, false, Option, Some, None, [], sym, ◌∙◌, ap, subst}
 use Rattle.std.specs.Prelude.{is_some, option_map, unwrap_or, All, IsTrue}
 use Rattle.std.specs.Option.{option_map_or}
 use Rattle.std.proofs.lemmas.Bool.{false≢true}
@@ -8,7 +8,7 @@ use Rattle.model_forest.specs.declared.Window.{Window}
 use Rattle.model_forest.specs.World.{World, fill_of, image_at, no_image, parent_of, with_image, IsForest, IsImage, IsLive, IsWindowOf}
 use Rattle.model_forest.proofs.Changes.{with_image-at, with_image-each, with_image-other}
 use Rattle.model_forest.proofs.Listed.{All-unlisted}
-use Rattle.model_forest.proofs.Sound.{is_listed, none_or_some, some_same, IsForestBut}
+use Rattle.model_forest.proofs.Sound.{is_listed, times, none_or_some, some_same, IsForestBut}
 
 -- what stands somewhere has a fill, which is not i where no image has i
 fill-apart : (standing : Option Standing) (i n : ℕ) → option_map (λ s. s.fill) standing ≢ Some i → option_map (λ s. s.parent) standing ≡ Some n → option_map_or (λ s. s.fill) standing 0 ≢ i
@@ -45,6 +45,7 @@ IsForest-gone world i alone fills unlisted ok =
           rw (below n p now live stood) (ok.parents n p live stood);
       listed = λ n p now stands. let at_n = was n now in let live = rw at_n at now in let stood = rw at_n at stands in
           rw (below n p now live stood) (ok.listed n p (apart n now) live stood);
+      once = with_image-each world i None (λ p slot. (n : ℕ) → is_some slot ≡ true → times (unwrap_or slot no_image).windows n ≤ 1) (λ n now. absurd (false≢true now)) (λ p other. ok.once p);
     }
   where
     differs : (n : ℕ) → IsLive (with_image world i None) n → n ≢ i

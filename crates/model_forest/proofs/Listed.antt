@@ -1,12 +1,13 @@
 -- Which images have a window in a list that was changed.
 use Rattle.std.proofs.Common.{◌≡◌, ◌≢◌, ℕ, ◌+◌, ◌<◌, ◌≤◌, Bool, true, false, Option, None, Some, List, [], ◌∷◌, length, refl, sym, ◌∙◌, ap, subst, eq-eqb, cond, arith}
-use Rattle.std.specs.Prelude.{◌==◌, ◌||◌, not, unwrap_or, All, IsSome, IsTrue, filter, map, if◌then◌else◌}
+use Rattle.std.specs.Prelude.{◌==◌, ◌||◌, not, is_some, unwrap_or, All, IsSome, IsTrue, filter, map, if◌then◌else◌}
 use Rattle.std.specs.List.{list_any}
 use Rattle.std.proofs.lemmas.Bool.{false_from_ne_true, ne_eqb, or_parts, or_right, true≢false}
 use Rattle.std.proofs.lemmas.Bool.Decides.{Decides-eqb}
 use Rattle.std.proofs.lemmas.List.Elements.{All-cons, All-head, All-nil, All-tail}
-use Rattle.std.proofs.lemmas.List.Filters.{length-filter_both}
+use Rattle.std.proofs.lemmas.List.Filters.{length-filter_both, sum_by-filter_both}
 use Rattle.std.proofs.lemmas.List.Folds.{list_any-append}
+use Rattle.std.proofs.lemmas.List.Sums.{sum_by-append, sum_by-cons}
 use Rattle.std.proofs.lemmas.Map.Views.{any-filter_same}
 use Rattle.r9_geom.specs.declared.Rect.{Rect}
 use Rattle.model_forest.specs.declared.Window.{Window}
@@ -14,7 +15,7 @@ use Rattle.model_forest.specs.World.{World, image_at, parent_of, IsForest, IsLiv
 use Rattle.model_forest.specs.Stack.{is_in, lowered, moved, moved_window, raised, without}
 use Rattle.model_forest.specs.Steps.{put_above}
 use Rattle.model_forest.proofs.Changes.{live-standing}
-use Rattle.model_forest.proofs.Sound.{is_listed}
+use Rattle.model_forest.proofs.Sound.{is_listed, times}
 
 or_assoc : (a b c : Bool) → ((a || b) || c) ≡ (a || (b || c))
 or_assoc true b c = refl
@@ -133,6 +134,82 @@ pub listed-placed : (place : Window → Rect) (ws : List Window) (n : ℕ) → i
 listed-placed place [] n = refl
 listed-placed place (w ∷ ws) n = ap (λ b. (w.image == n) || b) (listed-placed place ws n)
 
+-- ---- how often an image stands in a list
+
+abbrev is_of : ℕ → Window → ℕ
+is_of n w = cond (w.image == n) 1 0
+
+times-cons : (w : Window) (ws : List Window) (n : ℕ) → times (w ∷ ws) n ≡ is_of n w + times ws n
+times-cons w ws n = sum_by-cons (is_of n) w ws
+
+twice_not : (b : Bool) → b ≡ not (not b)
+twice_not true = refl
+twice_not false = refl
+
+pub times-raised : (group : List ℕ) (ws : List Window) (n : ℕ) → times (raised group ws) n ≡ times ws n
+times-raised group ws n =
+    sum_by-append (is_of n) (filter (is_in group) ws) (filter (λ w. not (is_in group w)) ws)
+    ∙ sum_by-filter_both (is_in group) (λ w. not (is_in group w)) (λ w. refl) (is_of n) ws
+
+pub times-lowered : (group : List ℕ) (ws : List Window) (n : ℕ) → times (lowered group ws) n ≡ times ws n
+times-lowered group ws n =
+    sum_by-append (is_of n) (filter (λ w. not (is_in group w)) ws) (filter (is_in group) ws)
+    ∙ sum_by-filter_both (λ w. not (is_in group w)) (is_in group) (λ w. twice_not (is_in group w)) (is_of n) ws
+
+pub times-moved : (i : ℕ) (place : Rect) (ws : List Window) (n : ℕ) → times (moved i place ws) n ≡ times ws n
+times-moved i place [] n = refl
+times-moved i place (w ∷ ws) n =
+    times-cons (moved_window i place w) (moved i place ws) n ∙ ap (λ k. cond (k == n) 1 0 + times (moved i place ws) n) (image-moved_window i place w)
+    ∙ ap (λ m. is_of n w + m) (times-moved i place ws n) ∙ sym (times-cons w ws n)
+
+pub times-placed : (place : Window → Rect) (ws : List Window) (n : ℕ) → times (map (λ w. record { image = w.image; place = place w }) ws) n ≡ times ws n
+times-placed place [] n = refl
+times-placed place (w ∷ ws) n =
+    times-cons (record { image = w.image; place = place w }) (map (λ w. record { image = w.image; place = place w }) ws) n
+    ∙ ap (λ m. is_of n w + m) (times-placed place ws n) ∙ sym (times-cons w ws n)
+
+pub times-without : (i : ℕ) (ws : List Window) (n : ℕ) → times (without i ws) n ≤ times ws n
+times-without i ws n =
+    let both = sum_by-filter_both (λ w. w.image == i) (λ w. not (w.image == i)) (λ w. refl) (is_of n) ws in
+    omega (arith, both)
+
+times-put_above : (w : Window) (old : ℕ) (ws : List Window) (n : ℕ) → times (put_above w old ws) n ≤ is_of n w + times ws n
+times-put_above w old [] n = omega arith
+times-put_above w old (v ∷ ws) n =
+    elim (v.image == old) as (λ b. times (if b then w ∷ v ∷ ws else v ∷ put_above w old ws) n ≤ is_of n w + times (v ∷ ws) n) [
+      | true ↦ (let new = times-cons w (v ∷ ws) n in omega (arith, new))
+      | false ↦
+          let rest = times-put_above w old ws n in
+          let new = times-cons v (put_above w old ws) n in
+          let was = times-cons v ws n in
+          omega (arith, rest, new, was)
+    ]
+
+times-unlisted : (ws : List Window) (n : ℕ) → is_listed ws n ≡ false → times ws n ≡ 0
+times-unlisted [] n none = refl
+times-unlisted (w ∷ ws) n none =
+    let parts = or_parts (w.image == n) (is_listed ws n) none in
+    let rest = times-unlisted ws n parts.1 in
+    times-cons w ws n ∙ ap (λ b. cond b 1 0 + times ws n) parts.0 ∙ (let none : 0 + times ws n ≡ 0 = omega (arith, rest) in none)
+
+-- one more that the list has not
+pub once-new : (w : Window) (ws : List Window) → is_listed ws w.image ≡ false → ((n : ℕ) → times ws n ≤ 1) → (n : ℕ) → times (w ∷ ws) n ≤ 1
+once-new w ws none once n = subst (λ k. k ≤ 1) (sym (times-cons w ws n)) (by_cases (w.image == n) refl)
+  where
+    by_cases : (b : Bool) → (w.image == n) ≡ b → cond b 1 0 + times ws n ≤ 1
+    by_cases true e =
+        let same : w.image ≡ n = (Decides-eqb w.image n).0 e in
+        let gone : times ws n ≡ 0 = times-unlisted ws n (subst (λ k. is_listed ws k ≡ false) same none) in
+        omega (arith, gone)
+    by_cases false e = let most = once n in omega (arith, most)
+
+pub once-put_above : (w : Window) (old : ℕ) (ws : List Window) → is_listed ws w.image ≡ false → ((n : ℕ) → times ws n ≤ 1) → (n : ℕ) → times (put_above w old ws) n ≤ 1
+once-put_above w old ws none once n =
+    let most = times-put_above w old ws n in
+    let new = once-new w ws none once n in
+    let is = times-cons w ws n in
+    omega (arith, most, new, is)
+
 -- an image in the list of another is a window of it
 pub stands_on : (world : World) → IsForest world → (n i : ℕ) → IsLive world n → IsTrue (is_listed (image_at world n).windows i) → parent_of world i ≡ Some n
 stands_on world ok n i live here =
@@ -169,3 +246,9 @@ group_parent world i rest are ok = by_parent (parent_of world i) refl (All-head 
     by_parent : (parent : Option ℕ) → parent_of world i ≡ parent → IsSome parent → IsLive world (unwrap_or parent 0)
     by_parent None e some = absurd (true≢false (sym some))
     by_parent (Some p) e some = ok.parents i p (live-standing world i p e) e
+
+-- a number that is free stands in no list
+pub unlisted-free : (world : World) → IsForest world → (n i : ℕ) → IsLive world n → world i ≡ None → is_listed (image_at world n).windows i ≡ false
+unlisted-free world ok n i live free =
+    unlisted world ok n i live
+    (λ stands. true≢false (sym (live-standing world i n stands) ∙ ap is_some free))

@@ -14,7 +14,7 @@ use Rattle.model_forest.specs.World.{Image, World, image_at, no_image, origin_po
 use Rattle.model_forest.specs.Stack.{moved, moved_window, with_windows}
 use Rattle.model_forest.specs.Steps.{carried_rect, clamped_rect, shifted_image}
 use Rattle.model_forest.proofs.Changes.{with_image-at}
-use Rattle.model_forest.proofs.Listed.{listed-moved, listed-placed}
+use Rattle.model_forest.proofs.Listed.{listed-moved, listed-placed, times-moved, times-placed}
 use Rattle.model_forest.proofs.Sound.{IsForestBut-any, IsForestBut-with_image, IsForest-all, IsStill, IsStill-with_image, IsWindowOf-placed, SameStand, SameStand-itself}
 use Rattle.model_forest.proofs.Windows.{IsForest-with_windows}
 
@@ -41,6 +41,7 @@ IsForest-moved world i p place live size reach ok =
     (All-map (IsWindowOf world p) (moved_window i place) ws
     (All-weaker (IsWindowOf world p) (λ w. IsWindowOf world p (moved_window i place w)) (λ w. IsWindowOf-moved world i p place w size reach) ws (ok.windows p live)))
     (λ n was. listed-moved i place ws n ∙ was)
+    (λ n. subst (λ k. k ≤ 1) (sym (times-moved i place ws n)) (ok.once p n live))
     ok
 
 -- what is carried has the same size
@@ -126,4 +127,5 @@ IsForest-shifted world i min live near ok =
     (λ w is. IsWindowOf-placed world new i w (carried_rect w.place old.r.min min) still (SameSize-carried w.place old.r.min min) (rw here (carried_reach w.place old.r min is.reach)) is)
     old.windows (ok.windows i live)))
     (λ n apart was. listed-placed (λ w. carried_rect w.place old.r.min min) old.windows n ∙ was)
+    (λ n. subst (λ k. k ≤ 1) (sym (times-placed (λ w. carried_rect w.place old.r.min min) old.windows n)) (ok.once i n live))
     (IsForestBut-any None world ok))

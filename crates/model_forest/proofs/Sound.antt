@@ -1,7 +1,7 @@
 -- What each world of images keeps, through changes of one image.
-use Rattle.std.proofs.Common.{◌≡◌, ◌≢◌, ℕ, zero, suc, ◌<◌, ◌^◌, Bool, true, false, List, [], Option, Some, None, length, refl, sym, ◌∙◌, ap, subst, eq-eqb, arith}
+use Rattle.std.proofs.Common.{◌≡◌, ◌≢◌, ℕ, zero, suc, ◌<◌, ◌≤◌, ◌^◌, Bool, true, false, List, [], Option, Some, None, length, refl, sym, ◌∙◌, ap, subst, eq-eqb, arith}
 use Rattle.std.specs.Prelude.{is_some, option_map, unwrap_or, ◌==◌, All, IsTrue}
-use Rattle.std.specs.List.{list_any}
+use Rattle.std.specs.List.{list_any, count_by}
 use Rattle.std.specs.Option.{option_map_or}
 use Rattle.std.proofs.lemmas.Bool.{true≢false, false≢true}
 use Rattle.std.proofs.lemmas.Bool.Decides.{Decides-eqb}
@@ -20,6 +20,10 @@ use Rattle.model_forest.proofs.Views.{window-at}
 -- a window of this image is in the list
 abbrev pub is_listed : List Window → ℕ → Bool
 is_listed ws n = list_any (λ w. w.image == n) ws
+
+-- how often an image stands in a list
+abbrev pub times : List Window → ℕ → ℕ
+times ws n = count_by (λ w. w.image == n) ws
 
 -- what the windows of a world rest on, of an image after and before
 pub record SameStand (new old : Image) : Type 0 where
@@ -84,6 +88,7 @@ pub record IsForestBut (out : Option ℕ) (world : World) : Type 0 where
   pub windows : (n : ℕ) → IsLive world n → All (IsWindowOf world n) (image_at world n).windows
   pub parents : (n p : ℕ) → IsLive world n → parent_of world n ≡ Some p → IsLive world p
   pub listed : (n p : ℕ) → out ≢ Some n → IsLive world n → parent_of world n ≡ Some p → IsTrue (is_listed (image_at world p).windows n)
+  pub once : (i n : ℕ) → IsLive world i → times (image_at world i).windows n ≤ 1
 
 pub IsForestBut-any : (out : Option ℕ) (world : World) → IsForest world → IsForestBut out world
 IsForestBut-any out world ok = record {
@@ -91,6 +96,7 @@ IsForestBut-any out world ok = record {
   windows = ok.windows;
   parents = ok.parents;
   listed = λ n p apart. ok.listed n p;
+  once = ok.once;
 }
 
 pub none_or_some : (n : ℕ) → None ≢ Some n
@@ -105,6 +111,7 @@ IsForest-all world ok = record {
   windows = ok.windows;
   parents = ok.parents;
   listed = λ n p. ok.listed n p (none_or_some n);
+  once = ok.once;
 }
 
 -- once that one is in its parent's list
@@ -114,6 +121,7 @@ IsForest-listed world i listed ok = record {
   windows = ok.windows;
   parents = ok.parents;
   listed = λ n p. by_cases n p (n == i) refl;
+  once = ok.once;
 }
   where
     by_cases : (n p : ℕ) (b : Bool) → (n == i) ≡ b → IsLive world n → parent_of world n ≡ Some p → IsTrue (is_listed (image_at world p).windows n)
@@ -126,17 +134,18 @@ IsForest-listed world i listed ok = record {
         live stands
 
 -- a world whose images stand as they stood
-pub IsForestBut-still : (old new : World) (out : Option ℕ) → IsStill old new → ((n : ℕ) → IsLive old n → IsImage (image_at new n)) → ((n : ℕ) → IsLive old n → All (IsWindowOf new n) (image_at new n).windows) → ((p n : ℕ) → out ≢ Some n → IsTrue (is_listed (image_at old p).windows n) → IsTrue (is_listed (image_at new p).windows n)) → IsForestBut out old → IsForestBut out new
-IsForestBut-still old new out still images windows listed ok = record {
+pub IsForestBut-still : (old new : World) (out : Option ℕ) → IsStill old new → ((n : ℕ) → IsLive old n → IsImage (image_at new n)) → ((n : ℕ) → IsLive old n → All (IsWindowOf new n) (image_at new n).windows) → ((p n : ℕ) → out ≢ Some n → IsTrue (is_listed (image_at old p).windows n) → IsTrue (is_listed (image_at new p).windows n)) → ((i n : ℕ) → IsLive old i → times (image_at new i).windows n ≤ 1) → IsForestBut out old → IsForestBut out new
+IsForestBut-still old new out still images windows listed once ok = record {
   images = λ n now. images n (sym (still.live n) ∙ now);
   windows = λ n now. windows n (sym (still.live n) ∙ now);
   parents = λ n p now stands. still.live p ∙ ok.parents n p (sym (still.live n) ∙ now) (rw (still.same n).standing at stands);
   listed = λ n p apart now stands. listed p n apart (ok.listed n p apart (sym (still.live n) ∙ now) (rw (still.same n).standing at stands));
+  once = λ i n now. once i n (sym (still.live i) ∙ now);
 }
 
 -- one image changes and stands as it stood
-pub IsForestBut-with_image : (world : World) (out : Option ℕ) (i : ℕ) (image : Image) → IsLive world i → SameStand image (image_at world i) → IsImage image → All (IsWindowOf (with_image world i (Some image)) i) image.windows → ((n : ℕ) → out ≢ Some n → IsTrue (is_listed (image_at world i).windows n) → IsTrue (is_listed image.windows n)) → IsForestBut out world → IsForestBut out (with_image world i (Some image))
-IsForestBut-with_image world out i image live same is stand listed ok =
+pub IsForestBut-with_image : (world : World) (out : Option ℕ) (i : ℕ) (image : Image) → IsLive world i → SameStand image (image_at world i) → IsImage image → All (IsWindowOf (with_image world i (Some image)) i) image.windows → ((n : ℕ) → out ≢ Some n → IsTrue (is_listed (image_at world i).windows n) → IsTrue (is_listed image.windows n)) → ((n : ℕ) → times image.windows n ≤ 1) → IsForestBut out world → IsForestBut out (with_image world i (Some image))
+IsForestBut-with_image world out i image live same is stand listed once ok =
     let new : World = with_image world i (Some image) in
     let still : IsStill world new = IsStill-with_image world i image live same in
     IsForestBut-still world new out still
@@ -146,17 +155,18 @@ IsForestBut-with_image world out i image live same is stand listed ok =
     let min : (image_at new n).r.min ≡ (image_at world n).r.min = ap (λ (slot : Option Image). (unwrap_or slot no_image).r.min) (with_image-other world i n (Some image) other) in
     All-weaker (IsWindowOf world n) (IsWindowOf new n) (λ w. IsWindowOf-still world new n w still min) (image_at world n).windows (ok.windows n was)))
     (with_image-each world i (Some image) (λ p slot. (n : ℕ) → out ≢ Some n → IsTrue (is_listed (image_at world p).windows n) → IsTrue (is_listed (unwrap_or slot no_image).windows n)) listed (λ p other n apart was. was))
+    (with_image-each world i (Some image) (λ p slot. (n : ℕ) → IsLive world p → times (unwrap_or slot no_image).windows n ≤ 1) (λ n was. once n) (λ p other n was. ok.once p n was))
     ok
 
 -- an image gets another list of windows, each of which stands on it
-pub IsForestBut-with_list : (world : World) (out : Option ℕ) (i : ℕ) (image : Image) → IsLive world i → SameStand image (image_at world i) → image.r.min ≡ (image_at world i).r.min → IsImage image → All (IsWindowOf world i) image.windows → ((n : ℕ) → out ≢ Some n → IsTrue (is_listed (image_at world i).windows n) → IsTrue (is_listed image.windows n)) → IsForestBut out world → IsForestBut out (with_image world i (Some image))
-IsForestBut-with_list world out i image live same min is stand listed ok =
+pub IsForestBut-with_list : (world : World) (out : Option ℕ) (i : ℕ) (image : Image) → IsLive world i → SameStand image (image_at world i) → image.r.min ≡ (image_at world i).r.min → IsImage image → All (IsWindowOf world i) image.windows → ((n : ℕ) → out ≢ Some n → IsTrue (is_listed (image_at world i).windows n) → IsTrue (is_listed image.windows n)) → ((n : ℕ) → times image.windows n ≤ 1) → IsForestBut out world → IsForestBut out (with_image world i (Some image))
+IsForestBut-with_list world out i image live same min is stand listed once ok =
     let new : World = with_image world i (Some image) in
     let still : IsStill world new = IsStill-with_image world i image live same in
     let here : (image_at new i).r.min ≡ (image_at world i).r.min = ap (λ (slot : Option Image). (unwrap_or slot no_image).r.min) (with_image-at world i (Some image)) ∙ min in
     IsForestBut-with_image world out i image live same is
     (All-weaker (IsWindowOf world i) (IsWindowOf new i) (λ w. IsWindowOf-still world new i w still here) image.windows stand)
-    listed ok
+    listed once ok
 
 -- one image gets other contents, and its windows stay
 pub IsForest-with_image : (world : World) (i : ℕ) (image : Image) → IsLive world i → SameStand image (image_at world i) → image.r.min ≡ (image_at world i).r.min → image.windows ≡ (image_at world i).windows → IsImage image → IsForest world → IsForest (with_image world i (Some image))
@@ -165,6 +175,7 @@ IsForest-with_image world i image live same min windows is ok =
     (IsForestBut-with_list world None i image live same min is
     (rw windows (ok.windows i live))
     (λ n apart was. rw windows was)
+    (λ n. rw windows (ok.once i n live))
     (IsForestBut-any None world ok))
 
 -- the windows of an image still stand where another comes
@@ -197,6 +208,7 @@ IsForestBut-new_image world i image free is none stands_on ok =
           let live : IsLive world n = rw same at now in
           let stood : parent_of world n ≡ Some p = rw same at stands in
           rw (with_image-free world i p (Some image) free (ok.parents n p live stood)) (ok.listed n p live stood);
+      once = with_image-each world i (Some image) (λ p slot. (n : ℕ) → is_some slot ≡ true → times (unwrap_or slot no_image).windows n ≤ 1) (λ n now. rw none (omega arith)) (λ p other. ok.once p);
     }
   where
     kept : (p : ℕ) → IsLive world p → IsLive (with_image world i (Some image)) p

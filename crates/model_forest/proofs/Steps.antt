@@ -1,5 +1,5 @@
 -- Each step keeps what a world of images keeps.
-use Rattle.std.proofs.Common.{◌≡◌, ℕ, ◌+◌, ◌<◌, ◌^◌, Bool, true, false, Option, Some, None, List, [], ◌∷◌, length, refl, sym, ap, ◌∙◌, subst, eq-eqb, arith}
+use Rattle.std.proofs.Common.{◌≡◌, ℕ, ◌+◌, ◌<◌, ◌≤◌, ◌^◌, Bool, true, false, Option, Some, None, List, [], ◌∷◌, length, refl, sym, ap, ◌∙◌, subst, eq-eqb, arith}
 use Rattle.std.specs.Prelude.{◌==◌, ◌&&◌, not, is_some, option_map, unwrap_or, All, IsSome, IsTrue, if◌then◌else◌}
 use Rattle.std.specs.Option.{option_map_or}
 use Rattle.std.proofs.lemmas.Bool.{or_left, or_right, true≢false}
@@ -21,7 +21,7 @@ use Rattle.model_forest.proofs.Raws.{drawn_below}
 use Rattle.model_forest.proofs.Sound.{is_listed, IsImage-like, IsStill, IsForestBut, IsForestBut-any, IsForestBut-new_image, IsForest-listed, IsForest-with_image, none_or_some, some_same, view-below, IsWindowOf-new_image}
 use Rattle.model_forest.proofs.Stacks.{All-IsWindowOf-new, All-lowered, All-raised, made, IsImage-made, IsImage-new_window, length-lowered, length-raised}
 use Rattle.model_forest.proofs.Windows.{IsForestBut-with_windows, IsForest-with_windows, IsStill-with_windows, parent_of-with_windows, with_windows-other, windows-with_windows, windows-with_windows_or}
-use Rattle.model_forest.proofs.Listed.{All-put_above, length-put_above, length-without, listed-lowered, listed-put_above, listed-put_above_new, listed-raised, listed-without, listed-without_other, group_parent, parent-apart, unlisted, window_of}
+use Rattle.model_forest.proofs.Listed.{All-put_above, once-new, once-put_above, times-lowered, times-raised, times-without, unlisted-free, length-put_above, length-without, listed-lowered, listed-put_above, listed-put_above_new, listed-raised, listed-without, listed-without_other, group_parent, parent-apart, unlisted, window_of}
 use Rattle.model_forest.proofs.Placed.{carried_min_near, IsForest-moved, IsForest-shifted, SameSize-carried}
 use Rattle.model_forest.proofs.Gone.{IsForest-gone}
 
@@ -32,6 +32,7 @@ IsForest-nothing world none = record {
   windows = λ n live. absurd (not_live n live);
   parents = λ n p live. absurd (not_live n live);
   listed = λ n p live. absurd (not_live n live);
+  once = λ n _ live. absurd (not_live n live);
 }
   where
     not_live : (n : ℕ) → IsLive world n → ⊥
@@ -108,7 +109,8 @@ IsForest-after_window world i parent fill r raw free live fill_live depth few fi
     let more : IsForestBut (Some i) (with_windows new parent windows) =
     IsForestBut-with_windows new (Some i) parent windows (rw still live) (omega arith)
     (All-IsWindowOf-new world i parent fill r raw free live fill_live near ok)
-    (λ n apart was. or_right (i == n) _ (rw still at was)) but in
+    (λ n apart was. or_right (i == n) _ (rw still at was))
+    (once-new (record { image = i; place = r }) (image_at world parent).windows (unlisted-free world ok parent i live free) (λ n. ok.once parent n live)) but in
     let below : parent_of (with_windows new parent windows) i ≡ Some parent =
     parent_of-with_windows new parent windows i (rw still live) ∙ ap (λ (slot : Option Image). option_map (λ s. s.parent) (unwrap_or slot no_image).standing) (with_image-at world i (Some image)) in
     IsForest-listed (with_windows new parent windows) i
@@ -131,6 +133,7 @@ IsForest-after_raise world (i ∷ rest) are ok =
     (subst (λ n. n < 2 ^ 32) (sym (length-raised group ws)) (ok.images p live).few)
     (All-raised (IsWindowOf world p) group ws (ok.windows p live))
     (λ n was. listed-raised group ws n ∙ was)
+    (λ n. subst (λ k. k ≤ 1) (sym (times-raised group ws n)) (ok.once p n live))
     ok
 
 -- or below them
@@ -146,6 +149,7 @@ IsForest-after_lower world (i ∷ rest) are ok =
     (subst (λ n. n < 2 ^ 32) (sym (length-lowered group ws)) (ok.images p live).few)
     (All-lowered (IsWindowOf world p) group ws (ok.windows p live))
     (λ n was. listed-lowered group ws n ∙ was)
+    (λ n. subst (λ k. k ≤ 1) (sym (times-lowered group ws n)) (ok.once p n live))
     ok
 
 -- an image with no windows goes, first from its parent's list
@@ -179,6 +183,7 @@ IsForest-after_release world i can ok = by_parent (parent_of world i) refl
         (length-without i ws (2 ^ 32) (ok.images p live).few)
         (All-filter (λ w. not (w.image == i)) (IsWindowOf world p) ws (ok.windows p live))
         (λ n apart was. listed-without_other i ws n (λ same. apart (ap (λ (k : ℕ). Some k) (sym same))) ∙ was)
+        (λ n. let less = times-without i ws n in let most = ok.once p n live in omega (arith, less, most))
         (IsForestBut-any (Some i) world ok))
 
     by_parent : (parent : Option ℕ) → parent_of world i ≡ parent → IsForest (after_release world i)
@@ -260,6 +265,7 @@ IsForest-put_above world i old p fresh place free e room is none standing depth 
     IsForestBut-with_windows new (Some i) p (put_above first old ws) (rw there live) few
     (All-put_above (IsWindowOf new p) first old ws first_is are)
     (λ n apart was. listed-put_above first old ws n was)
+    (once-put_above first old ws (rw there (unlisted-free world ok p i live free)) (λ n. rw there (ok.once p n live)))
     but in
     let old_listed : IsTrue (is_listed ws old) = rw there (ok.listed old p old_live e) in
     let listed : IsTrue (is_listed (image_at (with_windows new p (put_above first old ws)) p).windows i) =

@@ -1,5 +1,5 @@
 -- A forest whose image gets another list of windows.
-use Rattle.std.proofs.Common.{◌≡◌, ◌≢◌, ℕ, ◌<◌, ◌^◌, Bool, true, false, Option, Some, None, List, length, refl, ap}
+use Rattle.std.proofs.Common.{◌≡◌, ◌≢◌, ℕ, ◌<◌, ◌≤◌, ◌^◌, Bool, true, false, Option, Some, None, List, length, refl, ap}
 use Rattle.std.specs.Prelude.{◌==◌, is_some, option_map, unwrap_or, All, IsTrue, if◌then◌else◌}
 use Rattle.std.specs.List.{list_any}
 use Rattle.std.specs.Option.{option_map_or}
@@ -14,7 +14,7 @@ use Rattle.model_forest.specs.Draw.{reaches}
 use Rattle.model_forest.specs.Stack.{filled, seen, uncovered, with_windows}
 use Rattle.model_forest.proofs.Changes.{with_image-at, with_image-each, with_image-other}
 use Rattle.model_forest.proofs.Raws.{converted_below}
-use Rattle.model_forest.proofs.Sound.{is_listed, IsImage-like, IsStill, IsStill-with_image, IsForestBut, IsForestBut-any, IsForestBut-with_list, IsForest-all}
+use Rattle.model_forest.proofs.Sound.{is_listed, times, IsImage-like, IsStill, IsStill-with_image, IsForestBut, IsForestBut-any, IsForestBut-with_list, IsForest-all}
 use Rattle.model_forest.proofs.Stacks.{seen_below}
 use Rattle.model_forest.proofs.Views.{All-top_window}
 
@@ -67,17 +67,17 @@ pub lives-with_windows : (world : World) (i : ℕ) (ws : List Window) (n : ℕ) 
 lives-with_windows world i ws n live = (IsStill-with_windows world i ws live).live n
 
 -- an image gets another list of windows, each of which stands on it
-pub IsForestBut-with_windows : (world : World) (out : Option ℕ) (i : ℕ) (ws : List Window) → IsLive world i → length ws < 2 ^ 32 → All (IsWindowOf world i) ws → ((n : ℕ) → out ≢ Some n → IsTrue (is_listed (image_at world i).windows n) → IsTrue (is_listed ws n)) → IsForestBut out world → IsForestBut out (with_windows world i ws)
-IsForestBut-with_windows world out i ws live few stand listed ok =
+pub IsForestBut-with_windows : (world : World) (out : Option ℕ) (i : ℕ) (ws : List Window) → IsLive world i → length ws < 2 ^ 32 → All (IsWindowOf world i) ws → ((n : ℕ) → out ≢ Some n → IsTrue (is_listed (image_at world i).windows n) → IsTrue (is_listed ws n)) → ((n : ℕ) → times ws n ≤ 1) → IsForestBut out world → IsForestBut out (with_windows world i ws)
+IsForestBut-with_windows world out i ws live few stand listed once ok =
     let image = image_at world i in
     let was = ok.images i live in
     let new : Image = record image { windows = ws; canvas = seen image.r ws (uncovered world i) } in
     let is : IsImage new =
     IsImage-like image image.repl image.clipr new.canvas ws was.repeats was.clip few
     (λ p. seen_below image.r ws (uncovered world i) (channels.depth image.chan) p (λ bare. uncovered_below world out i p ok live)) was in
-    IsForestBut-with_list world out i new live (record { standing = refl; depth = refl; chan = refl; size = record { width = refl; height = refl } }) refl is stand listed ok
+    IsForestBut-with_list world out i new live (record { standing = refl; depth = refl; chan = refl; size = record { width = refl; height = refl } }) refl is stand listed once ok
 
-pub IsForest-with_windows : (world : World) (i : ℕ) (ws : List Window) → IsLive world i → length ws < 2 ^ 32 → All (IsWindowOf world i) ws → ((n : ℕ) → IsTrue (list_any (λ w. w.image == n) (image_at world i).windows) → IsTrue (list_any (λ w. w.image == n) ws)) → IsForest world → IsForest (with_windows world i ws)
-IsForest-with_windows world i ws live few stand listed ok =
+pub IsForest-with_windows : (world : World) (i : ℕ) (ws : List Window) → IsLive world i → length ws < 2 ^ 32 → All (IsWindowOf world i) ws → ((n : ℕ) → IsTrue (list_any (λ w. w.image == n) (image_at world i).windows) → IsTrue (list_any (λ w. w.image == n) ws)) → ((n : ℕ) → times ws n ≤ 1) → IsForest world → IsForest (with_windows world i ws)
+IsForest-with_windows world i ws live few stand listed once ok =
     IsForest-all (with_windows world i ws)
-    (IsForestBut-with_windows world None i ws live few stand (λ n apart. listed n) (IsForestBut-any None world ok))
+    (IsForestBut-with_windows world None i ws live few stand (λ n apart. listed n) once (IsForestBut-any None world ok))

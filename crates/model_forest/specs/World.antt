@@ -1,7 +1,7 @@
 -- A forest of images (draw(3)): images by number, each with the windows that stand on it.
 use Rattle.std.specs.Prelude.{◌≡◌, ℕ, ◌+◌, ◌-◌, ◌^◌, ◌<◌, ◌≤◌, length, ◌-ℤ◌, ◌==◌, IsSome, IsTrue, All, ◌≢◌, option_map, Bool, true, false, List, [], Option, Some, None, unwrap_or, pos, if◌then◌else◌}
 use Rattle.std.specs.Option.{option_map_or}
-use Rattle.std.specs.List.{list_any}
+use Rattle.std.specs.List.{list_any, count_by}
 use Rattle.r9_geom.specs.declared.Point.{Point}
 use Rattle.r9_geom.specs.declared.Rect.{Rect}
 use Rattle.r9_geom.specs.Geometry.{carried, height, width, HasPoints, IsNearBy, IsOrdered, IsRectNearBy}
@@ -109,6 +109,8 @@ pub record IsForest (world : World) : Type 0 where
   pub parents : (i p : ℕ) → IsLive world i → parent_of world i ≡ Some p → IsLive world p
   -- a window stands in the list of its parent
   pub listed : (i p : ℕ) → IsLive world i → parent_of world i ≡ Some p → IsTrue (list_any (λ w. w.image == i) (image_at world p).windows)
+  -- no image stands twice in a list
+  pub once : (i n : ℕ) → IsLive world i → count_by (λ w. w.image == n) (image_at world i).windows ≤ 1
 
 -- the image may go: nothing stands on it, and it fills for no window
 pub record CanGo (world : World) (i : ℕ) : Type 0 where

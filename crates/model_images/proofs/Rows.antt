@@ -190,6 +190,27 @@ in_order : gone (window >>= λ b. after_free (free_screen b 1 1) >>= λ b. after
 unfolding everything
 in_order = refl
 
+-- a window in a window, of which only the inner one's id is left: both windows go, and both fills
+abbrev nested : Outcome Book
+nested = do
+  book ← window
+  book ← add_id book 1 7 3 None
+  book ← new_screen book 1 2 false 2 3
+  add_id book 1 11 4 (Some 1)
+
+abbrev inner : Outcome Book
+inner = do
+  book ← nested
+  book ← after_free (free_screen book 1 1)
+  book ← after_free (free_screen book 1 2)
+  book ← after_free (free_id book 1 6)
+  book ← after_free (free_id book 1 7)
+  after_free (free_id book 1 10)
+
+both_fills : gone (inner >>= λ b. free_id b 1 11) ≡ Ok (Image 4 ∷ Screen 1 ∷ Image 2 ∷ Screen 0 ∷ Image 1 ∷ Image 3 ∷ [])
+unfolding everything
+both_fills = refl
+
 -- a connection ends: image ids and then screen ids
 left : (window >>= λ b. Ok (leave b 1).gone) ≡ Ok (Image 2 ∷ Screen 0 ∷ Image 1 ∷ [])
 unfolding everything

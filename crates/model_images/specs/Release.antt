@@ -1,6 +1,6 @@
 -- What lives, and what goes when a reference goes (draw(3)). An image lives while an id refers to it, or a screen on it or
 -- with it as fill. A screen lives while an id or a window on it refers to it.
-use Rattle.std.specs.Prelude.{◌≡◌, is_some, ℕ, zero, suc, ◌==◌, ◌+◌, ◌*◌, Bool, true, false, not, ◌&&◌, ◌||◌, List, [], ◌∷◌, ◌++◌, length, filter, slice_set, Option, Some, None, Ok, if◌then◌else◌}
+use Rattle.std.specs.Prelude.{◌≡◌, is_some, ℕ, zero, suc, ◌==◌, ◌+◌, ◌*◌, Bool, true, false, not, ◌&&◌, ◌||◌, List, [], ◌∷◌, ◌++◌, All, find, length, filter, slice_set, Option, Some, None, Ok, if◌then◌else◌}
 use Rattle.std.specs.Option.{option_map_or}
 use Rattle.std.specs.List.{list_any, fold}
 use Rattle.model_text.specs.Outcome.{Outcome, ◌>>=◌, value_or_refuse}
@@ -52,7 +52,21 @@ abbrev pub has_gone : Freed → Thing → Bool
 has_gone freed thing = list_any (same_thing thing) freed.gone
 
 -- Each of these things has lost a reference. One to which nothing refers goes, and then what it referred to has lost a
--- reference, before the other things are looked at.
+-- reference, before the other things are looked at, until there is none left.
+pub data Releases (after : Freed) : Freed → List Thing → Type 0 where
+  none_left : Releases after after []
+  stays :
+      (freed : Freed) (thing : Thing) (things : List Thing)
+      → (is_used freed.book thing || has_gone freed thing) ≡ true
+      → Releases after freed things
+      → Releases after freed (thing ∷ things)
+  goes :
+      (freed : Freed) (thing : Thing) (things : List Thing)
+      → (is_used freed.book thing || has_gone freed thing) ≡ false
+      → Releases after (with_gone freed thing) (references freed.book thing ++ things)
+      → Releases after freed (thing ∷ things)
+
+-- the same for so many things
 abbrev pub settled : ℕ → Freed → List Thing → Freed
 settled zero freed things = freed
 settled (suc steps) freed [] = freed
@@ -62,10 +76,11 @@ settled (suc steps) freed (thing ∷ things) =
       | false ↦ settled steps (with_gone freed thing) (references freed.book thing ++ things)
     ]
 
--- Enough steps: a screen goes once and has two images, and each of these and of the first things may have a screen.
+-- Enough steps, so that none is left: a window goes once and has a screen, and a screen has two images.
 abbrev pub steps_for : Book → List Thing → ℕ
-steps_for book things = 2 * length things + 4 * length book.screens
+steps_for book things = 3 * (length things + length book.windows)
 
+-- what `Releases` says, computed
 abbrev pub released : Freed → List Thing → Freed
 released freed things = settled (steps_for freed.book things) freed things
 
@@ -146,6 +161,17 @@ pub record IsFreed (book : Book) (freed : Freed) : Type 0 where
   pub gone_unused : (thing : Thing) → has_gone freed thing ≡ true → is_used freed.book thing ≡ false
   pub once : IsOnce freed.gone
   pub screens : HasScreens freed.book
+
+-- what was used and is used no longer has gone
+abbrev pub IsComplete : Book → Freed → Type 0
+IsComplete book freed =
+    (thing : Thing) → is_used book thing ≡ true → is_used freed.book thing ≡ false → has_gone freed thing ≡ true
+
+-- each id and each window is found where it is looked up, so that it stands once
+pub record FindsAll (book : Book) : Type 0 where
+  pub image_ids : All (λ e. find (is_image_id e.client e.id) book.image_ids ≡ Some e) book.image_ids
+  pub screen_ids : All (λ e. find (is_screen_id e.client e.id) book.screen_ids ≡ Some e) book.screen_ids
+  pub windows : All (λ w. find (λ v. v.image == w.image) book.windows ≡ Some w) book.windows
 
 -- ---- in which order things go
 

@@ -2,9 +2,10 @@
 //! (draw(3)). No code: the functions have laws as their contracts, and no bodies.
 #![tactic(auto)]
 
-ghost use Rattle.std.specs.Prelude.{◌≡◌, ℕ, Ok, []};
+ghost use Rattle.std.specs.Prelude.{◌≡◌, ◌↔◌, ℕ, List, Ok, []};
 ghost use Rattle.model_images.specs.Book.{Book};
-ghost use Rattle.model_images.specs.Release.{Freed, HasScreens, IsFreed, IsInOrder, KeepsOthers, KeepsRest, free_id, free_screen, leave};
+ghost use Rattle.model_images.specs.Release.{FindsAll, Freed, HasScreens, IsComplete, IsFreed, IsInOrder, KeepsOthers, KeepsRest, Releases, free_id, free_screen, leave, released};
+ghost use Rattle.model_images.specs.declared.Thing.{Thing};
 
 use r9_text::Bytes;
 
@@ -58,9 +59,16 @@ pub enum Thing {
     Screen(u32),
 }
 
+/// A release ends, and what it leaves is what is computed.
+pub fn release_ends()
+    ensures { (after freed : Freed) (things : List Thing) → Releases after freed things ↔ (after ≡ released freed things) }
+{}
+
 /// What goes where an image id is freed.
 pub fn free_id_frees()
     ensures freed { (book : Book) (client id : ℕ) (freed : Freed) → HasScreens book → free_id book client id ≡ Ok freed → IsFreed book freed }
+    ensures complete { (book : Book) (client id : ℕ) (freed : Freed) → FindsAll book → free_id book client id ≡ Ok freed → IsComplete book freed }
+    ensures finds { (book : Book) (client id : ℕ) (freed : Freed) → FindsAll book → free_id book client id ≡ Ok freed → FindsAll freed.book }
     ensures others { (book : Book) (client id : ℕ) (freed : Freed) → free_id book client id ≡ Ok freed → KeepsOthers book client freed.book }
     ensures order { (book : Book) (client id : ℕ) (freed : Freed) → free_id book client id ≡ Ok freed → IsInOrder book [] freed.gone }
     ensures rest { (book : Book) (client id : ℕ) (freed : Freed) → free_id book client id ≡ Ok freed → KeepsRest book freed }
@@ -69,6 +77,8 @@ pub fn free_id_frees()
 /// What goes where a screen id is freed.
 pub fn free_screen_frees()
     ensures freed { (book : Book) (client id : ℕ) (freed : Freed) → HasScreens book → free_screen book client id ≡ Ok freed → IsFreed book freed }
+    ensures complete { (book : Book) (client id : ℕ) (freed : Freed) → FindsAll book → free_screen book client id ≡ Ok freed → IsComplete book freed }
+    ensures finds { (book : Book) (client id : ℕ) (freed : Freed) → FindsAll book → free_screen book client id ≡ Ok freed → FindsAll freed.book }
     ensures others { (book : Book) (client id : ℕ) (freed : Freed) → free_screen book client id ≡ Ok freed → KeepsOthers book client freed.book }
     ensures order { (book : Book) (client id : ℕ) (freed : Freed) → free_screen book client id ≡ Ok freed → IsInOrder book [] freed.gone }
     ensures rest { (book : Book) (client id : ℕ) (freed : Freed) → free_screen book client id ≡ Ok freed → KeepsRest book freed }
@@ -77,6 +87,8 @@ pub fn free_screen_frees()
 /// What goes where a connection ends.
 pub fn leave_frees()
     ensures freed { (book : Book) (client : ℕ) → HasScreens book → IsFreed book (leave book client) }
+    ensures complete { (book : Book) (client : ℕ) → FindsAll book → IsComplete book (leave book client) }
+    ensures finds { (book : Book) (client : ℕ) → FindsAll book → FindsAll (leave book client).book }
     ensures others { (book : Book) (client : ℕ) → KeepsOthers book client (leave book client).book }
     ensures order { (book : Book) (client : ℕ) → IsInOrder book [] (leave book client).gone }
     ensures rest { (book : Book) (client : ℕ) → KeepsRest book (leave book client) }

@@ -8,11 +8,14 @@ use Rattle.model_wire.specs.Reading.{message_of}
 use Rattle.model_tree.specs.declared.Kind.TheVariants.{Data}
 use Rattle.model_tree.specs.Node.{writes}
 use Rattle.model_draw.specs.World as draw
+use Rattle.model_draw.specs.Act.{no_memory}
 use Rattle.model_draw.specs.Memory.{MayRunOut}
 use Rattle.model_world.specs.Session.{Fid, Session}
 use Rattle.model_world.specs.Fids.{is_kind}
 use Rattle.model_world.specs.Reading.{is_open_for}
-use Rattle.model_world.specs.World.{World, client}
+use Rattle.model_world.specs.Answer.{answer}
+use Rattle.model_world.specs.Refusal.{Refuses}
+use Rattle.model_world.specs.World.{World, client, device_for}
 
 -- A write of an open `data` file may stop after k of its draw messages: its mark says so, or the message behind them may want
 -- memory.
@@ -29,12 +32,17 @@ IsCut c session device mark k (Twrite tag fid offset bytes) = IsCutWrite c sessi
 IsCut c session device mark k _ = ⊥
 
 -- the bytes of a message spell such a write
-pub record IsCutMessage (c : ℕ) (session : Session) (device : draw.World) (bytes : List ℕ) (mark : Option ℕ) (k : ℕ) : Type 0 where
+pub record IsCutSpelled (c : ℕ) (session : Session) (device : draw.World) (bytes : List ℕ) (mark : Option ℕ) (k : ℕ) : Type 0 where
   pub m : T
   pub spelled : message_of bytes ≡ Some m
   pub cut : IsCut c session device mark k m
 
--- the event is such a write of a session that lives
+-- and with the mark k the reply to it is the refusal of want of memory
+pub record IsCutMessage (c : ℕ) (session : Session) (device : draw.World) (bytes : List ℕ) (mark : Option ℕ) (k : ℕ) : Type 0 where
+  pub spells : IsCutSpelled c session device bytes mark k
+  pub refused : Refuses no_memory (answer (device_for c) session device bytes (Some k)).reply
+
+-- the event is such a message to a session that lives
 pub record IsCutServed (world : World) (c : ℕ) (bytes : List ℕ) (mark : Option ℕ) (k : ℕ) : Type 0 where
   pub session : Session
   pub lives : lookup world.sessions c ≡ Some session

@@ -5,6 +5,7 @@ pub mod Fids
 pub mod Walking
 pub mod Reading
 pub mod Answer
+pub mod Refused
 pub mod World
 pub mod Replay
 pub mod Links

@@ -1,5 +1,5 @@
 -- The texts of the refusals, by their numbers.
-use Rattle.std.specs.Prelude.{◌==◌, ℕ, nat_lt, List, [], ◌∷◌, codes, if◌then◌else◌}
+use Rattle.std.specs.Prelude.{◌≡◌, ◌==◌, ℕ, nat_lt, List, [], ◌∷◌, codes, if◌then◌else◌}
 use Rattle.model_wire.specs.Message.{R, Rerror}
 
 abbrev pub text_in : List (ℕ × List ℕ) → ℕ → List ℕ
@@ -36,3 +36,8 @@ refusal_text n = if nat_lt n 30 then text_in draw_texts n else text_in file_text
 
 abbrev pub refusal : (tag number : ℕ) → R
 refusal tag number = Rerror tag (refusal_text number)
+
+-- the reply is the refusal of a number
+abbrev pub Refuses : ℕ → R → Type 0
+Refuses number (Rerror tag text) = text ≡ refusal_text number
+Refuses number _ = ⊥

@@ -6,8 +6,6 @@ mod channel;
 mod colour;
 mod descriptor;
 mod operator;
-#[cfg(test)]
-mod tests;
 
 pub use colour::Colour;
 pub use descriptor::{BadChan, Chan, ChanText};

@@ -1,3 +1,3 @@
-pub mod Places
+mod Counting
 pub mod Characters
 pub mod Owners

@@ -1,5 +1,5 @@
 -- The entry of a connection that lives.
-use Rattle.std.proofs.Common.{◌≡◌, ℕ, List, Option, Some, None, IsSome, Result, Ok, Err, OnErr, refl, ap, ◌∙◌}
+use Rattle.std.proofs.Common.{◌≡◌, ℕ, List, Option, Some, None, IsSome, Result, Ok, Err, OnOk, OnErr, refl, ap, ◌∙◌}
 use Rattle.std.specs.Option.{option_map_or}
 use Rattle.model_text.specs.Map.{lookup, with, and, without}
 use Rattle.model_map.proofs.Maps.{with-here, and-here}
@@ -18,6 +18,15 @@ forgotten client id sizes fonts s f = λ i. record client { sizes = s i; fonts =
 pub on_err : {A E P : Type 0} (r : Result A E) → P → OnErr r P
 on_err (Ok x) p = tt
 on_err (Err e) p = p
+
+-- what follows from a fact of an answer is one of it too
+pub on_ok_too : {A E P Q : Type 0} (r : Result A E) → (P → Q) → OnOk r P → OnOk r Q
+on_ok_too (Ok x) follows p = follows p
+on_ok_too (Err e) follows p = tt
+
+pub on_err_too : {A E P Q : Type 0} (r : Result A E) → (P → Q) → OnErr r P → OnErr r Q
+on_err_too (Ok x) follows p = tt
+on_err_too (Err e) follows p = follows p
 
 -- what was written is the entry
 pub entry_with : (clients : List (ℕ × Client)) (k : ℕ) (owner : Client) → IsSome (lookup clients k) → entry_of (with clients k owner) k ≡ owner

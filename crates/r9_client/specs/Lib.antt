@@ -1,3 +1,4 @@
 pub mod Clients
 pub mod Counted
 pub mod Fonts
+pub mod Rows

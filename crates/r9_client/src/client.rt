@@ -159,18 +159,26 @@ pub fn put_font(clients: &mut Clients, client: u64, id: u32, font: Font) -> Resu
     Ok(())
 }
 
-/// Another character at an index of the font that an image id of a connection is. Its rectangle is within 2^32 of 0. Takes no
-/// memory.
-pub fn set_cell(clients: &mut Clients, client: u64, id: u32, index: u16, cell: Cell)
+/// Another character at an index of the font that an image id of a connection is. Its rectangle is within 2^32 of 0. After
+/// Memory all is as before.
+pub fn set_cell(
+    clients: &mut Clients,
+    client: u64,
+    id: u32,
+    index: u16,
+    cell: Cell,
+) -> Result<(), Memory>
     requires live { IsSome (lookup clients.old.entries client) }
     requires font { IsSome (lookup (entry_of clients.old.entries client).fonts id) }
     requires index { has_index (font_at (entry_of clients.old.entries client).fonts id) index ≡ true }
     requires near { IsRectNearBy (2 ^ 32) cell.r }
-    ensures { clients.new.entries ≡ with clients.old.entries client (record (entry_of clients.old.entries client) { fonts = with_character_of (entry_of clients.old.entries client).fonts id index cell }) }
+    ensures ok { OnOk result (clients.new.entries ≡ with clients.old.entries client (record (entry_of clients.old.entries client) { fonts = with_character_of (entry_of clients.old.entries client).fonts id index cell })) }
+    ensures kept { OnErr result (clients.new.entries ≡ clients.old.entries) }
 {
     if let Some(owner) = clients.get_mut(&client) {
-        set_character(&mut owner.fonts, id, index, cell);
+        set_character(&mut owner.fonts, id, index, cell)?;
     }
+    Ok(())
 }
 
 /// An image id of a connection counts no longer for the limit, and is no font any more.

@@ -1,12 +1,13 @@
 //! The fonts of a connection.
 
-ghost use Rattle.std.specs.Prelude.{◌≡◌, ◌^◌, Ok, true, IsSome};
+ghost use Rattle.std.specs.Prelude.{◌≡◌, ◌^◌, Ok, true, IsSome, OnOk, OnErr};
 ghost use Rattle.r9_geom.specs.Geometry.{IsRectNearBy};
 ghost use Rattle.model_text.specs.Map.{lookup};
 ghost use Rattle.model_fonts.specs.Font.{has_index, AreWithin, Font, with_cell};
 ghost use Rattle.r9_client.specs.Fonts.{font_at, with_character_of};
 
-use r9_fonts::{Cell, Font};
+use r9_fonts::{Cell, Font, FontFault};
+use r9_memory::Memory;
 use std::collections::BTreeMap;
 use std::marker::Model;
 
@@ -42,14 +43,16 @@ impl ClientFont {
     }
 
     // Another character at an index.
-    fn set(&mut self, index: u16, cell: Cell)
+    fn set(&mut self, index: u16, cell: Cell) -> Result<(), Memory>
         requires index { has_index self.old index ≡ true }
         requires near { IsRectNearBy (2 ^ 32) cell.r }
-        ensures { with_cell self.old index cell ≡ Ok self.new }
+        ensures set { OnOk result (with_cell self.old index cell ≡ Ok self.new) }
+        ensures kept { OnErr result (self.new ≡ self.old) }
     {
         match self.font.set(index, cell) {
-            Ok(()) => {}
-            Err(_) => unreachable!(),
+            Ok(()) => Ok(()),
+            Err(FontFault::Memory) => Err(Memory),
+            Err(FontFault::Refused(_)) => unreachable!(),
         }
     }
 }
@@ -57,15 +60,21 @@ impl ClientFont {
 /// The fonts, each under the image id that was made one.
 pub(crate) type Fonts = BTreeMap<u32, ClientFont>;
 
-/// Another character at an index of the font that an id is.
-pub(crate) fn set_character(fonts: &mut Fonts, id: u32, index: u16, cell: Cell)
+/// Another character at an index of the font that an id is. After Memory all is as before.
+pub(crate) fn set_character(
+    fonts: &mut Fonts,
+    id: u32,
+    index: u16,
+    cell: Cell,
+) -> Result<(), Memory>
     requires font { IsSome (lookup fonts.old.entries id) }
     requires index { has_index (font_at fonts.old.entries id) index ≡ true }
     requires near { IsRectNearBy (2 ^ 32) cell.r }
-    ensures { fonts.new.entries ≡ with_character_of fonts.old.entries id index cell }
+    ensures set { OnOk result (fonts.new.entries ≡ with_character_of fonts.old.entries id index cell) }
+    ensures kept { OnErr result (fonts.new.entries ≡ fonts.old.entries) }
 {
     let Some(font) = fonts.get_mut(&id) else {
         unreachable!()
     };
-    font.set(index, cell);
+    font.set(index, cell)
 }

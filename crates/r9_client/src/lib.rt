@@ -4,6 +4,7 @@
 
 mod client;
 mod fonts;
+mod size;
 mod sizes;
 
 pub use client::{
@@ -11,6 +12,3 @@ pub use client::{
     remove, replace_pending, set_cell, set_op,
 };
 pub use sizes::Sizes;
-
-#[cfg(test)]
-mod tests;

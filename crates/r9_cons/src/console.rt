@@ -1,6 +1,6 @@
 //! The keys and the text of one console.
 
-ghost use Rattle.std.specs.Prelude.{◌≡◌, ◌+◌, ◌≤◌, ◌<◌, ◌++◌, ◌∷◌, [], length, IfOk, OnOk, OnErr};
+ghost use Rattle.std.specs.Prelude.{◌≡◌, ◌+◌, ◌≤◌, ◌<◌, ◌++◌, ◌∷◌, ◌||◌, [], false, length, IsTrue, IsOk, IfOk, OnOk, OnErr};
 ghost use Rattle.model_console.specs.Console.{empty, held, has_room, is_key, keyed, cooked_key, raw_key, with_line_ended, without_last, with_raw, with_text, read, after_read, given, rest, text, remembered};
 
 use crate::line::Line;
@@ -80,6 +80,8 @@ impl Console {
     pub fn key(&mut self, bytes: &[u8]) -> Result<(), Memory>
         ensures ok { OnOk result (self.new ≡ remembered (keyed bytes.now self.old)) }
         ensures err { OnErr result (self.new ≡ self.old) }
+        // Taking away takes no memory.
+        ensures erases { self.old.raw ≡ false → IsTrue (is_key 8 bytes.now || is_key 21 bytes.now) → IsOk result }
     {
         if self.raw {
             self.raw_key(bytes)
@@ -119,6 +121,7 @@ impl Console {
     fn cooked_key(&mut self, key: &[u8]) -> Result<(), Memory>
         ensures ok { OnOk result (self.new ≡ remembered (cooked_key key.now self.old)) }
         ensures err { OnErr result (self.new ≡ self.old) }
+        ensures erases { IsTrue (is_key 8 key.now || is_key 21 key.now) → IsOk result }
     {
         if is_key(ERASE, key) {
             self.erase();
@@ -193,6 +196,9 @@ impl Console {
         ensures gives { IfOk result (λ given. given ≡ read count self.old) }
         ensures takes { OnOk result (self.new ≡ after_read count self.old) }
         ensures err { OnErr result (self.new ≡ self.old) }
+        // Giving nothing takes no memory.
+        ensures nothing { count ≡ 0 → IsOk result }
+        ensures waits { self.old.ended ≡ [] → IsOk result }
     {
         if count == 0 {
             return Ok(Some(Bytes::new(self.alloc)));
@@ -204,6 +210,7 @@ impl Console {
         ensures gives { IfOk result (λ bytes. bytes ≡ given count self.old.ended) }
         ensures takes { OnOk result (self.new ≡ record self.old { ended = rest count self.old.ended }) }
         ensures err { OnErr result (self.new ≡ self.old) }
+        ensures waits { self.old.ended ≡ [] → IsOk result }
     {
         let Some(line) = self.ended.front() else {
             return Ok(None);
@@ -233,6 +240,9 @@ impl Console {
     pub fn set_raw(&mut self, raw: bool) -> Result<(), Memory>
         ensures ok { OnOk result (self.new ≡ remembered (with_raw raw self.old)) }
         ensures err { OnErr result (self.new ≡ self.old) }
+        // Only a line that ends takes memory.
+        ensures edits { raw ≡ false → IsOk result }
+        ensures no_line { self.old.line ≡ [] → IsOk result }
     {
         if raw && !self.line.is_empty() {
             self.end_line(&[])?;

@@ -1,6 +1,6 @@
 -- What the images and the book keep together stays so in each change of the images.
 use Rattle.std.proofs.Common.{◌≡◌, ℕ, Bool, true, false, cond, List, [], ◌∷◌, Option, Some, None, Result, Ok, Err, OnOk, OnErr, refl, sym, ap, subst, ◌∙◌, arith, ◌⊎◌, inl, inr}
-use Rattle.std.specs.Prelude.{filter, find, IfSome, ◌^◌, ◌==◌, ◌&&◌, is_some, not, option_map, unwrap_or, if◌then◌else◌}
+use Rattle.std.specs.Prelude.{filter, find, IfSome, ◌^◌, ◌==◌, ◌&&◌, ◌||◌, is_some, not, option_map, unwrap_or, if◌then◌else◌}
 use Rattle.std.specs.Option.{option_map_or, option_or}
 use Rattle.std.specs.List.{list_any, fold}
 use Rattle.std.proofs.lemmas.Bool.{eqb-true}
@@ -16,13 +16,16 @@ use Rattle.model_forest.specs.World.{Image, World, image_at, no_image, parent_of
 use Rattle.model_forest.specs.Draw.{Drawing, after_draw, after_load}
 use Rattle.model_forest.specs.Steps.{after_set}
 use Rattle.model_forest.proofs.Releasing.{SameFrame, Stays}
+use Rattle.model_images.specs.declared.Thing.{Thing}
 use Rattle.model_images.specs.declared.Thing.TheVariants.{Image as Shown, Screen}
 use Rattle.model_images.specs.declared.ImageId.{ImageId}
 use Rattle.model_images.specs.declared.OnScreen.{OnScreen}
 use Rattle.model_images.specs.declared.Screen.{Screen as Filled}
 use Rattle.model_images.specs.Book.{Book, add_id, image_id, is_image_id_taken, put_image_id, screen_numbered, screen_of, with_window}
 use Rattle.model_images.proofs.Ties.{any-put, find-put}
-use Rattle.model_images.specs.Release.{Freed, IsFreed, IsInOrder, KeepsRest, has_gone, is_used}
+use Rattle.model_images.specs.Release.{Freed, IsFreed, IsInOrder, KeepsRest, has_gone, is_used, refers_to}
+use Rattle.model_images.proofs.Complete.{LeavesNone}
+use Rattle.model_images.proofs.Finds.{put-image, put-window}
 use Rattle.r9_draw.specs.Kept.{IsKept, IsPlaced, standing_on}
 use Rattle.r9_draw.specs.Gone.{CanRelease, images_without}
 use Rattle.r9_draw.proofs.Lookups.{first_true, second_true}
@@ -36,8 +39,12 @@ and_false false b h = refl
 same : (n : ℕ) → (n == n) ≡ true
 same n = grind (arith, nat_tests)
 
-eqb_comm : (i j : ℕ) → (i == j) ≡ (j == i)
+pub eqb_comm : (i j : ℕ) → (i == j) ≡ (j == i)
 eqb_comm i j = grind (arith, nat_tests)
+
+not-false : (b : Bool) → (b ≡ false → ⊥) → b ≡ true
+not-false true h = refl
+not-false false h = absurd (h refl)
 
 -- ---- images that stand alike
 
@@ -67,15 +74,22 @@ no-screen images book i k e =
     map_none (standing_on book) (screen_of book i) (sym (ap (λ (o : Option Image). (unwrap_or o no_image).standing) e) ∙ (k.placed i).stands)
 
 -- an image in the place of another
-pub kept-replaced : (images : World) (book : Book) (i : ℕ) (x : Image) → IsKept images book → IsPlaced book i x → ((i == 0) ≡ false → HasPoints x.r) → IsKept (with_image images i (Some x)) book
-kept-replaced images book i x k placed points = record {
+pub kept-replaced : (images : World) (book : Book) (i : ℕ) (x : Image) → IsKept images book → is_some (images i) ≡ true → IsPlaced book i x → ((i == 0) ≡ false → HasPoints x.r) → IsKept (with_image images i (Some x)) book
+kept-replaced images book i x k lives placed points = record {
   live = λ j h. live (j == i) j h;
   placed = λ j. all_placed (j == i) j refl;
   screens = k.screens;
   display = k.display;
   points = λ j h n. all_points (j == i) j refl h n;
+  used = λ j h. all_used (j == i) j refl h;
+  screens_used = k.screens_used;
+  finds = k.finds;
 }
   where
+    all_used : (b : Bool) (j : ℕ) → (j == i) ≡ b → is_some (if b then Some x else images j) ≡ true → is_used book (Shown j) ≡ true
+    all_used true j e h = let P : ℕ → Type 0 = λ n. is_used book (Shown n) ≡ true in subst P (sym (eqb-true j i e)) (k.used i lives)
+    all_used false j e h = k.used j h
+
     live : (b : Bool) (j : ℕ) → is_used book (Shown j) ≡ true → is_some (if b then Some x else images j) ≡ true
     live true j h = refl
     live false j h = k.live j h
@@ -92,18 +106,18 @@ pub kept-set : (images : World) (book : Book) (i : ℕ) (repl : Bool) (clipr : R
 unfolding after_set
 kept-set images book i repl clipr k live near =
     let p = k.placed i in
-    kept-replaced images book i _ k (record { stands = p.stands; ordered = p.ordered; near = p.near; clip = near }) (k.points i live)
+    kept-replaced images book i _ k live (record { stands = p.stands; ordered = p.ordered; near = p.near; clip = near }) (k.points i live)
 
 canvas_placed : (book : Book) (i : ℕ) (x : Image) (canvas : Point → ℕ) → IsPlaced book i x → IsPlaced book i (record x { canvas = canvas })
 canvas_placed book i x canvas p = record { stands = p.stands; ordered = p.ordered; near = p.near; clip = p.clip }
 
 pub kept-draw : (images : World) (book : Book) (d : Drawing) → IsKept images book → is_some (images d.dst) ≡ true → IsKept (after_draw images d) book
 unfolding after_draw
-kept-draw images book d k live = kept-replaced images book d.dst _ k (canvas_placed book d.dst _ _ (k.placed d.dst)) (k.points d.dst live)
+kept-draw images book d k live = kept-replaced images book d.dst _ k live (canvas_placed book d.dst _ _ (k.placed d.dst)) (k.points d.dst live)
 
 pub kept-load : (images : World) (book : Book) (i : ℕ) (r : Rect) (raws : Point → ℕ) → IsKept images book → is_some (images i) ≡ true → IsKept (after_load images i r raws) book
 unfolding after_load
-kept-load images book i r raws k live = kept-replaced images book i _ k (canvas_placed book i _ _ (k.placed i)) (k.points i live)
+kept-load images book i r raws k live = kept-replaced images book i _ k live (canvas_placed book i _ _ (k.placed i)) (k.points i live)
 
 -- ---- what comes
 
@@ -113,6 +127,10 @@ any-window i s (Some t) ws h = elim (either_true (list_any (λ w. w.screen == s)
   | inl old ↦ inr old
   | inr new ↦ inl (ap Some (eqb-true t s (elim (either_true (t == s) false new) [ inl a ↦ a | inr b ↦ absurd cc ])))
 ]
+
+any-window_stays : (p : OnScreen → Bool) (i : ℕ) (screen : Option ℕ) (ws : List OnScreen) → list_any p ws ≡ true → list_any p (with_window i screen ws) ≡ true
+any-window_stays p i None ws h = h
+any-window_stays p i (Some s) ws h = list_any-append p ws (record { image = i; screen = s } ∷ []) ∙ first_true (list_any p ws) _ h
 
 or_none : {A : Type 0} (o : Option A) → option_or o None ≡ o
 or_none None = refl
@@ -151,7 +169,7 @@ pub record Grows (images next : World) (book : Book) (i : ℕ) (screen : Option 
 pub kept-added : (images next : World) (book added : Book) (k id i : ℕ) (screen : Option ℕ) → IsKept images book → Grows images next book i screen → add_id book k id i screen ≡ Ok added
     → (k == 0) ≡ false → IfSome screen (λ s. is_some (screen_numbered book s) ≡ true) → IsKept next added
 unfolding add_id
-kept-added images next book added k id i screen kept g e own stands = by (is_image_id_taken book k id) e
+kept-added images next book added k id i screen kept g e own stands = by (is_image_id_taken book k id) refl e
   where
     still_live : (j : ℕ) (b : Bool) → (j == i) ≡ b → is_some (images j) ≡ true → is_some (next j) ≡ true
     still_live j true at h = ap (λ n. is_some (next n)) (eqb-true j i at) ∙ g.live
@@ -161,9 +179,17 @@ kept-added images next book added k id i screen kept g e own stands = by (is_ima
     all_points j true at h n = let P : ℕ → Type 0 = λ m. HasPoints (image_at next m).r in subst P (sym (eqb-true j i at)) g.points
     all_points j false at h n = subst HasPoints (sym (g.others j at).frame.r) (kept.points j (sym (g.others j at).live ∙ h) n)
 
-    by : (b : Bool) → (refuse_if b 6 >>= λ _. Ok (record book { image_ids = put_image_id (record { client = k; id = id; image = i; tie = None }) book.image_ids; windows = with_window i screen book.windows })) ≡ Ok added → IsKept next added
-    by true e = absurd cc
-    by false e =
+    entered : (j : ℕ) (b : Bool) → (j == i) ≡ b → is_some (next j) ≡ true
+        → (list_any (λ e. e.image == j) (put_image_id (record { client = k; id = id; image = i; tie = None }) book.image_ids) || list_any (refers_to j) book.screens) ≡ true
+    entered j true at h = first_true _ _ (any-put (λ e. e.image == j) (record { client = k; id = id; image = i; tie = None }) book.image_ids ∙ first_true (i == j) _ (eqb_comm i j ∙ at))
+    entered j false at h = elim (either_true (list_any (λ e. e.image == j) book.image_ids) _ (kept.used j (sym (g.others j at).live ∙ h))) [
+      | inl here ↦ first_true _ _ (any-put (λ e. e.image == j) (record { client = k; id = id; image = i; tie = None }) book.image_ids ∙ second_true (i == j) _ here)
+      | inr there ↦ second_true (list_any (λ e. e.image == j) (put_image_id (record { client = k; id = id; image = i; tie = None }) book.image_ids)) _ there
+    ]
+
+    by : (b : Bool) → is_image_id_taken book k id ≡ b → (refuse_if b 6 >>= λ _. Ok (record book { image_ids = put_image_id (record { client = k; id = id; image = i; tie = None }) book.image_ids; windows = with_window i screen book.windows })) ≡ Ok added → IsKept next added
+    by true free e = absurd cc
+    by false free e =
         let entry : ImageId = record { client = k; id = id; image = i; tie = None } in
         let with_entry : Book = record book { image_ids = put_image_id entry book.image_ids; windows = with_window i screen book.windows } in
         let same : with_entry ≡ added = cc in
@@ -187,6 +213,7 @@ kept-added images next book added k id i screen kept g e own stands = by (is_ima
           | true ↦ λ at. let P : ℕ → Type 0 = λ n. IsPlaced with_entry n (image_at next n) in subst P (sym (eqb-true j i at)) new_placed
           | false ↦ λ at. other_placed j at
         ] in
+        let finds = kept.finds in
         subst (IsKept next) same
         (record {
           live = λ j h. elim (either_true (list_any (λ e. e.image == j) (put_image_id entry book.image_ids)) _ h) [
@@ -206,6 +233,16 @@ kept-added images next book added k id i screen kept g e own stands = by (is_ima
           ];
           display = ap (λ (o : Option ImageId). option_map (λ e. e.image) o) (find-put (λ e. (e.client == 0) && (e.id == 0)) entry book.image_ids (and_false (k == 0) (id == 0) own)) ∙ kept.display;
           points = λ j h n. all_points j (j == i) refl h n;
+          used = λ j h. entered j (j == i) refl h;
+          screens_used = λ s h. elim (either_true (list_any (λ e. e.screen == s) book.screen_ids) _ (kept.screens_used s h)) [
+            | inl here ↦ first_true _ _ here
+            | inr there ↦ second_true (list_any (λ e. e.screen == s) book.screen_ids) _ (any-window_stays (λ w. w.screen == s) i screen book.windows there)
+          ];
+          finds = record {
+            image_ids = put-image book entry free finds.image_ids;
+            screen_ids = finds.screen_ids;
+            windows = put-window i screen book.windows (screen_none (find (λ w. w.image == i) book.windows) (no-screen images book i kept g.free)) finds.windows;
+          };
         })
 
 -- ---- what goes
@@ -280,8 +317,8 @@ none-at images n h = by (images n) h
     by (Some x) e = absurd cc
 
 pub kept-freed : (images : World) (book : Book) (freed : Freed) → IsKept images book → ((n p : ℕ) → is_some (images n) ≡ true → parent_of images n ≡ Some p → is_some (images p) ≡ true)
-    → IsFreed book freed → IsInOrder book [] freed.gone → KeepsRest book freed → image_id freed.book 0 0 ≡ image_id book 0 0 → IsKept (fold images_without images freed.gone) freed.book
-kept-freed images book freed k parents f order rest shown = record {
+    → IsFreed book freed → LeavesNone book freed → IsInOrder book [] freed.gone → KeepsRest book freed → image_id freed.book 0 0 ≡ image_id book 0 0 → IsKept (fold images_without images freed.gone) freed.book
+kept-freed images book freed k parents f none order rest shown = record {
   live = λ i h.
       let here = not-true (has_gone freed (Shown i)) (λ g. not_both _ h (f.gone_unused (Shown i) g)) in
       (stays i here).live ∙ k.live i (f.used (Shown i) h);
@@ -291,8 +328,20 @@ kept-freed images book freed k parents f order rest shown = record {
   points = λ i h n.
       let here = not-true (has_gone freed (Shown i)) (λ g. not_both (is_some (fold images_without images freed.gone i)) h (dead i g)) in
       subst HasPoints (sym (stays i here).frame.r) (k.points i (sym (stays i here).live ∙ h) n);
+  used = λ i h.
+      let here = not-true (has_gone freed (Shown i)) (λ g. not_both (is_some (fold images_without images freed.gone i)) h (dead i g)) in
+      still_used (Shown i) here (k.used i (sym (stays i here).live ∙ h));
+  screens_used = λ s h. screen_used s (has_gone freed (Screen s)) refl (ap is_some (sym (rest.screens s)) ∙ h);
+  finds = none.1;
 }
   where
+    still_used : (t : Thing) → has_gone freed t ≡ false → is_used book t ≡ true → is_used freed.book t ≡ true
+    still_used t here was = not-false (is_used freed.book t) (λ is. not_both (has_gone freed t) (none.0 t was is) here)
+
+    screen_used : (s : ℕ) (b : Bool) → has_gone freed (Screen s) ≡ b → is_some (if b then None else screen_numbered book s) ≡ true → is_used freed.book (Screen s) ≡ true
+    screen_used s true here h = absurd cc
+    screen_used s false here h = still_used (Screen s) here (k.screens_used s h)
+
     stays : (n : ℕ) → has_gone freed (Shown n) ≡ false → Stays images (fold images_without images freed.gone) n
     stays n h = fold-stays freed.gone [] book images n (going-begins images book freed.gone (can-release images book freed k f order) parents) h
 
@@ -317,6 +366,12 @@ kept-cleared images next book i repl clipr k live near e = kept-same _ next book
 
 pub kept-drawn : (images next : World) (book : Book) (d : Drawing) → IsKept images book → is_some (images d.dst) ≡ true → next ≡ after_draw images d → IsKept next book
 kept-drawn images next book d k live e = kept-same _ next book (kept-draw images book d k live) e
+
+-- a drawing that may want memory, on images that show what the ones before do
+pub kept-drew : {A E : Type 0} (o : Result A E) (images between next : World) (book : Book) (d : Drawing) → IsKept images book → is_some (images d.dst) ≡ true → between ≡ images
+    → OnOk o (next ≡ after_draw between d) → OnErr o (next ≡ between) → IsKept next book
+kept-drew (Ok x) images between next book d kept live same ok err = kept-drawn images next book d kept live (ok ∙ ap (λ (w : World). after_draw w d) same)
+kept-drew (Err e) images between next book d kept live same ok err = kept-same images next book kept (err ∙ same)
 
 pub kept-loaded : {A E : Type 0} (o : Result A E) (images next : World) (book : Book) (i : ℕ) (r : Rect) (raws : Point → ℕ) → IsKept images book → is_some (images i) ≡ true
     → OnOk o (next ≡ after_load images i r raws) → OnErr o (next ≡ images) → IsKept next book

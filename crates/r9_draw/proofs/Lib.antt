@@ -8,6 +8,7 @@ pub mod Screening
 pub mod Manager
 pub mod Worlds
 pub mod Releasing
+pub mod AllUsed
 pub mod Allocating
 pub mod Making
 pub mod Refusals

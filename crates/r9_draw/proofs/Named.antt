@@ -11,6 +11,7 @@ use Rattle.model_images.specs.declared.Thing.TheVariants.{Image as Shown}
 use Rattle.model_images.specs.Book.{Book, add_named, is_image_id_taken, put_image_id, tie, tie_of, untie}
 use Rattle.model_images.specs.Release.{is_used}
 use Rattle.model_images.specs.Ties.{HasTies}
+use Rattle.model_images.proofs.Finds.{put-image}
 use Rattle.model_images.proofs.Ties.{any-put, find-put, tie-rest, tie_of-shown, untie-rest}
 use Rattle.r9_draw.specs.Kept.{IsKept}
 use Rattle.r9_draw.proofs.Going.{either_true}
@@ -26,6 +27,9 @@ kept-ties images book ties next_tie k = record {
   screens = k.screens;
   display = k.display;
   points = k.points;
+  used = k.used;
+  screens_used = k.screens_used;
+  finds = record { image_ids = k.finds.image_ids; screen_ids = k.finds.screen_ids; windows = k.finds.windows };
 }
 
 pub kept-tied : {A E : Type 0} (o : Result A E) (images : World) (book next : Book) (k id : ℕ) (name : List ℕ) → IsKept images book → OnOk o (tie book k id name ≡ Ok next) → OnErr o (next ≡ book) → IsKept images next
@@ -45,9 +49,9 @@ spare-untied (Ok x) book next k id name spare e same = subst AreSpare (sym (unti
 spare-untied (Err x) book next k id name spare e same = subst AreSpare (sym same) spare
 
 -- the image of a name lives
-kept-entered : (images : World) (book : Book) (k id : ℕ) (t : Tie) → IsKept images book → is_used book (Shown t.image) ≡ true → (k == 0) ≡ false
+kept-entered : (images : World) (book : Book) (k id : ℕ) (t : Tie) → IsKept images book → is_used book (Shown t.image) ≡ true → (k == 0) ≡ false → is_image_id_taken book k id ≡ false
     → IsKept images (record book { image_ids = put_image_id (record { client = k; id = id; image = t.image; tie = Some t.number }) book.image_ids })
-kept-entered images book k id t kept used own =
+kept-entered images book k id t kept used own free =
     let entry : ImageId = record { client = k; id = id; image = t.image; tie = Some t.number } in
     record {
       live = λ j h. elim (either_true (list_any (λ e. e.image == j) (put_image_id entry book.image_ids)) _ h) [
@@ -61,6 +65,12 @@ kept-entered images book k id t kept used own =
       screens = kept.screens;
       display = ap (λ (o : Option ImageId). option_map (λ e. e.image) o) (find-put (λ e. (e.client == 0) && (e.id == 0)) entry book.image_ids (and_false (k == 0) (id == 0) own)) ∙ kept.display;
       points = kept.points;
+      used = λ j h. elim (either_true (list_any (λ e. e.image == j) book.image_ids) _ (kept.used j h)) [
+        | inl here ↦ first_true _ _ (any-put (λ e. e.image == j) entry book.image_ids ∙ second_true (t.image == j) _ here)
+        | inr there ↦ second_true (list_any (λ e. e.image == j) (put_image_id entry book.image_ids)) _ there
+      ];
+      screens_used = kept.screens_used;
+      finds = record { image_ids = put-image book entry free kept.finds.image_ids; screen_ids = kept.finds.screen_ids; windows = kept.finds.windows };
     }
 
 -- the book with an id for the image of a name
@@ -79,11 +89,19 @@ named-is book next k id name e = by (is_image_id_taken book k id) e
     by true e = absurd cc
     by false e = tied (tie_of book name) refl e
 
+named-free : (book next : Book) (k id : ℕ) (name : List ℕ) → add_named book k id name ≡ Ok next → is_image_id_taken book k id ≡ false
+unfolding add_named
+named-free book next k id name e = by (is_image_id_taken book k id) e
+  where
+    by : (b : Bool) → (refuse_if b 6 >>= λ _. value_or_refuse (tie_of book name) 17 >>= λ t. Ok (named_by book k id t)) ≡ Ok next → b ≡ false
+    by true e = absurd cc
+    by false e = refl
+
 pub kept-named : {A E : Type 0} (o : Result A E) (images : World) (book next : Book) (k id : ℕ) (name : List ℕ) → IsKept images book → HasTies book → (k == 0) ≡ false
     → OnOk o (add_named book k id name ≡ Ok next) → OnErr o (next ≡ book) → IsKept images next
 kept-named (Ok x) images book next k id name kept ties own e same =
     let is = named-is book next k id name e in
-    subst (IsKept images) is.2 (kept-entered images book k id is.0 kept (tie_of-shown book name is.0 ties is.1) own)
+    subst (IsKept images) is.2 (kept-entered images book k id is.0 kept (tie_of-shown book name is.0 ties is.1) own (named-free book next k id name e))
 kept-named (Err x) images book next k id name kept ties own e same = subst (IsKept images) (sym same) kept
 
 pub spare-named : {A E : Type 0} (o : Result A E) (book next : Book) (k id : ℕ) (name : List ℕ) → AreSpare book → OnOk o (add_named book k id name ≡ Ok next) → OnErr o (next ≡ book) → AreSpare next

@@ -71,6 +71,9 @@ kept-staying images next book kept stays = record {
   screens = kept.screens;
   display = kept.display;
   points = λ i h n. subst HasPoints (sym (stays i).frame.r) (kept.points i (sym (stays i).live ∙ h) n);
+  used = λ i h. kept.used i (sym (stays i).live ∙ h);
+  screens_used = kept.screens_used;
+  finds = kept.finds;
 }
 
 standing_lives : (images : Images) (i : ℕ) → IsSome (parent_of images i) → is_some (images i) ≡ true

@@ -1,10 +1,10 @@
 -- What tests of a rectangle say.
-use Rattle.std.proofs.Common.{◌≡◌, ℕ, ◌≤◌, Bool, true, false, ℤ, pos, neg_ℤ, ◌≤ℤ◌, ◌<ℤ◌, refl, arith, int_le, int_lt}
+use Rattle.std.proofs.Common.{◌≡◌, ℕ, ◌*◌, ◌≤◌, Bool, true, false, ℤ, pos, negsuc, neg_ℤ, ◌-ℤ◌, ◌≤ℤ◌, ◌<ℤ◌, refl, ap, ◌∙◌, arith, int_le, int_lt}
 use Rattle.std.specs.Prelude.{◌^◌, ◌||◌, ◌&&◌, not}
 use Rattle.std.proofs.lemmas.Int.{ints}
 use Rattle.r9_geom.specs.declared.Point.{Point}
 use Rattle.r9_geom.specs.declared.Rect.{Rect}
-use Rattle.r9_geom.specs.Geometry.{HasPoints, IsNearBy, IsOrdered, IsRectNearBy, holds, is_empty, is_inside}
+use Rattle.r9_geom.specs.Geometry.{HasPoints, IsNearBy, IsOrdered, IsRectNearBy, area_of, distance, height, holds, is_empty, is_inside, natural, width}
 use Rattle.model_draw.specs.Making.{is_near, is_near_rect, farthest}
 
 pub first_false : (a b : Bool) → (a || b) ≡ false → a ≡ false
@@ -104,3 +104,19 @@ point-wider n m p less h =
 
 pub wider : (n m : ℕ) (r : Rect) → n ≤ m → IsRectNearBy n r → IsRectNearBy m r
 wider n m r less h = record { min = point-wider n m r.min less h.min; max = point-wider n m r.max less h.max }
+
+-- ---- a rectangle without points
+
+none-natural : (n : ℤ) → n ≤ℤ pos 0 → natural n ≡ 0
+none-natural (pos n) h = omega (arith, ints)
+none-natural (negsuc n) h = refl
+
+no-distance : (a b : ℤ) → int_le b a ≡ true → distance a b ≡ 0
+no-distance a b h = let le : b ≤ℤ a = grind (arith, ints) in none-natural (b -ℤ a) (omega (arith, ints))
+
+pub empty-area : (r : Rect) → is_empty r ≡ true → area_of r ≡ 0
+empty-area r empty = by (int_le r.max.x r.min.x) refl empty
+  where
+    by : (across : Bool) → int_le r.max.x r.min.x ≡ across → (across || int_le r.max.y r.min.y) ≡ true → area_of r ≡ 0
+    by true at empty = ap (λ n. n * height r) (no-distance r.min.x r.max.x at) ∙ omega arith
+    by false at empty = ap (λ n. width r * n) (no-distance r.min.y r.max.y empty) ∙ omega arith

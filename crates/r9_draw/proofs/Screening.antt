@@ -13,6 +13,8 @@ use Rattle.model_forest.specs.World.{Image, World as Images, image_at, no_image,
 use Rattle.model_forest.specs.Steps.{after_origin, carried_rect, clamped, clamped_rect, shifted_image}
 use Rattle.model_forest.proofs.Releasing.{Stays, origin-at, origin-others}
 use Rattle.model_images.specs.Book.{Book, add_screen, image_of, is_screen_id_taken, new_screen, public, screen_numbered}
+use Rattle.model_images.specs.declared.Thing.TheVariants.{Image as Shown}
+use Rattle.model_images.specs.Release.{is_used}
 use Rattle.model_draw.specs.World.{World, at_number, look}
 use Rattle.model_draw.specs.Making.{farthest, is_near_rect, make_screen, share_screen}
 use Rattle.model_draw.specs.Moving.{stays_near}
@@ -143,8 +145,15 @@ kept-moved images book i min corner kept live parents near = record {
   screens = kept.screens;
   display = kept.display;
   points = λ j h n. points j (j == i) refl h n;
+  used = λ j h. used j (j == i) refl h;
+  screens_used = kept.screens_used;
+  finds = kept.finds;
 }
   where
+    used : (j : ℕ) (b : Bool) → (j == i) ≡ b → is_some (after_origin images i min corner j) ≡ true → is_used book (Shown j) ≡ true
+    used j true e h = let P : ℕ → Type 0 = λ n. is_used book (Shown n) ≡ true in subst P (sym (eqb-true j i e)) (kept.used i live)
+    used j false e h = kept.used j (sym (origin-others images i min corner j parents e).live ∙ h)
+
     stays : (j : ℕ) → (j == i) ≡ false → Stays images (after_origin images i min corner) j
     stays j e = origin-others images i min corner j parents e
 

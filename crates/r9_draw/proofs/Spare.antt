@@ -187,6 +187,15 @@ any-set p (y ∷ xs) (suc n) x h = elim (either_true (p y) _ h) [
   | inr there ↦ elim (any-set p xs n x there) [ inl new ↦ inl new | inr old ↦ inr (second_true (p y) _ old) ]
 ]
 
+-- what stands in the other slots
+set-old : (p : Option Filled → Bool) (xs : Slots) (n : ℕ) (x : Option Filled) → p (slice_index_or xs n None) ≡ false → list_any p xs ≡ true → list_any p (slice_set xs n x) ≡ true
+set-old p [] n x none h = h
+set-old p (y ∷ xs) zero x none h = elim (either_true (p y) _ h) [ inl here ↦ absurd (not_both (p y) here none) | inr there ↦ second_true (p x) _ there ]
+set-old p (y ∷ xs) (suc n) x none h = elim (either_true (p y) _ h) [
+  | inl here ↦ first_true (p y) _ here
+  | inr there ↦ second_true (p y) _ (set-old p xs n x none there)
+]
+
 end-other : (xs : Slots) (m : ℕ) (x : Option Filled) → (m == length xs) ≡ false → slice_index_or (xs ++ x ∷ []) m None ≡ slice_index_or xs m None
 end-other [] zero x h = absurd cc
 end-other [] (suc m) x h = refl
@@ -207,9 +216,10 @@ pub record HasNew (xs next : List (Option Filled)) (number : ℕ) (s : Filled) :
   pub at : slice_index_or next number None ≡ Some s
   pub size : length xs ≤ length next
   pub any : (p : Option Filled → Bool) → list_any p next ≡ true → (p (Some s) ≡ true) ⊎ (list_any p xs ≡ true)
+  pub old : (p : Option Filled → Bool) → p None ≡ false → list_any p xs ≡ true → list_any p next ≡ true
 
-pub has-new : (xs : List (Option Filled)) (number : ℕ) (s : Filled) → number ≤ length xs → HasNew xs (with_screen xs number s) number s
-has-new xs number s within = by (nat_lt number (length xs)) refl
+pub has-new : (xs : List (Option Filled)) (number : ℕ) (s : Filled) → IsFree xs number → HasNew xs (with_screen xs number s) number s
+has-new xs number s free = by (nat_lt number (length xs)) refl
   where
     by : (b : Bool) → nat_lt number (length xs) ≡ b → HasNew xs (if b then slice_set xs number (Some s) else xs ++ Some s ∷ []) number s
     by true e =
@@ -219,10 +229,13 @@ has-new xs number s within = by (nat_lt number (length xs)) refl
           at = set-at xs number (Some s) less;
           size = (let size = set-length xs number (Some s) in omega arith);
           any = λ p h. any-set p xs number (Some s) h;
+          old = λ p none h. set-old p xs number (Some s) (ap p free.empty ∙ none) h;
         }
     by false e =
+        let within = free.within in
         let end : number ≡ length xs = grind (arith, nat_tests) in
         record {
+          old = λ p none h. list_any-append p xs (Some s ∷ []) ∙ first_true (list_any p xs) _ h;
           others = λ m h. end-other xs m (Some s) (ap (λ n. m == n) (sym end) ∙ h);
           at = ap (λ n. slice_index_or (xs ++ Some s ∷ []) n None) end ∙ end-at xs (Some s);
           size = end-length xs (Some s);
@@ -243,7 +256,7 @@ pub spare-taken : (book : Book) (s : Filled) → AreSpare book → are_free (wit
 spare-taken book s spare =
     let next = next-free book spare in
     to-free _ _
-    (free-kept book.screens (with_screen book.screens (next_screen book) s) (next_screen book) s (take (length book.spare - 1) book.spare) (has-new book.screens (next_screen book) s next.0.within)
+    (free-kept book.screens (with_screen book.screens (next_screen book) s) (next_screen book) s (take (length book.spare - 1) book.spare) (has-new book.screens (next_screen book) s next.0)
     (take-free book.screens book.spare (length book.spare - 1) (free-of book.screens book.spare spare)) next.1)
 
 -- an id for an image changes no screen

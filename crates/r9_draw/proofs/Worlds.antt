@@ -14,6 +14,7 @@ use Rattle.model_draw.specs.Making.{forget_id}
 use Rattle.r9_draw.specs.Gone.{images_without, numbers_without}
 use Rattle.r9_draw.specs.Kept.{IsKept}
 use Rattle.r9_draw.specs.Plans.{after_free, after_free_screen}
+use Rattle.model_images.proofs.Complete.{LeavesNone}
 use Rattle.r9_draw.proofs.Kept.{kept-freed}
 
 pub fold-things : (gone : List Thing) (w : World)
@@ -49,7 +50,7 @@ unfolding after_free_screen
 screen-freed-world w k id f e =
     ap (λ (g : Outcome Freed). after_freed w (result_unwrap_or g (nothing_freed w.book))) e ∙ fold-things f.gone (with_book w f.book)
 
-pub kept-after : (images next : Images) (book : Book) (f : Freed) → IsKept images book → IsForest images → IsFreed book f → IsInOrder book [] f.gone → KeepsRest book f
+pub kept-after : (images next : Images) (book : Book) (f : Freed) → IsKept images book → IsForest images → IsFreed book f → LeavesNone book f → IsInOrder book [] f.gone → KeepsRest book f
     → image_id f.book 0 0 ≡ image_id book 0 0 → next ≡ fold images_without images f.gone → IsKept next f.book
-kept-after images next book f k forest is order rest shown e =
-    let P : Images → Type 0 = λ w. IsKept w f.book in subst P (sym e) (kept-freed images book f k forest.parents is order rest shown)
+kept-after images next book f k forest is none order rest shown e =
+    let P : Images → Type 0 = λ w. IsKept w f.book in subst P (sym e) (kept-freed images book f k forest.parents is none order rest shown)

@@ -3,9 +3,9 @@ use Rattle.std.specs.Prelude.{◌≡◌, ◌==◌, ◌^◌, ℕ, true, false, So
 use Rattle.r9_geom.specs.Geometry.{HasPoints, IsOrdered, IsRectNearBy}
 use Rattle.model_forest.specs.declared.Standing.{Standing}
 use Rattle.model_forest.specs.World.{Image, World, image_at}
-use Rattle.model_images.specs.declared.Thing.TheVariants.{Image as Shown}
-use Rattle.model_images.specs.Book.{Book, fill_of, image_id, image_of, screen_of}
-use Rattle.model_images.specs.Release.{is_used, HasScreens}
+use Rattle.model_images.specs.declared.Thing.TheVariants.{Image as Shown, Screen}
+use Rattle.model_images.specs.Book.{Book, fill_of, image_id, image_of, screen_numbered, screen_of}
+use Rattle.model_images.specs.Release.{is_used, FindsAll, HasScreens}
 
 -- where a window stands that is on a screen
 abbrev pub standing_on : Book → ℕ → Standing
@@ -24,6 +24,10 @@ pub record IsKept (images : World) (book : Book) : Type 0 where
   pub placed : (i : ℕ) → IsPlaced book i (image_at images i)
   -- a screen that is used is there
   pub screens : HasScreens book
+  -- an image that lives is used, and a screen that is there
+  pub used : (i : ℕ) → is_some (images i) ≡ true → is_used book (Shown i) ≡ true
+  pub screens_used : (s : ℕ) → is_some (screen_numbered book s) ≡ true → is_used book (Screen s) ≡ true
+  pub finds : FindsAll book
   -- the display is image 0, the only one that may have no points
   pub display : option_map (λ e. e.image) (image_id book 0 0) ≡ Some 0
   pub points : (i : ℕ) → is_some (images i) ≡ true → (i == 0) ≡ false → HasPoints (image_at images i).r

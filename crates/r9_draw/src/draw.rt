@@ -5,6 +5,7 @@ ghost use Rattle.r9_geom.specs.Geometry.{area_of, IsOrdered};
 ghost use Rattle.r9_layers.specs.Forest.{numbers, room, world};
 ghost use Rattle.std.specs.List.{fold};
 ghost use Rattle.model_text.specs.Map.{lookup};
+ghost use Rattle.model_draw.specs.Sound.{IsAllUsed};
 ghost use Rattle.model_draw.specs.World.{started, after_connect, after_leave};
 ghost use Rattle.model_images.specs.Book.{add_id, empty_book, Book as Ids};
 ghost use Rattle.model_images.specs.Ties.{HasTies};
@@ -102,6 +103,12 @@ impl Draw {
             clients: BTreeMap::new(alloc),
         })
     }
+
+    /// What each device keeps: the images and the screens that are there are those that are used, so that nothing is left
+    /// behind. Nothing is done.
+    pub fn keeps(&self)
+        ensures { IsAllUsed (world_of self.now) }
+    {}
 
     /// Whether the connection lives.
     pub fn is_live(&self, client: u64) -> bool

@@ -1,10 +1,11 @@
 //! The files `data` and `ctl` of a connection.
 
-ghost use Rattle.std.specs.Prelude.{◌≡◌, ◌==◌, ◌^◌, ◌++◌, true, false, length, is_some, MatchOption, Ok, Err, IfOk, IfErr, OnOk, OnErr, IsSome};
+ghost use Rattle.std.specs.Prelude.{◌≡◌, ◌==◌, ◌≤◌, ◌^◌, ◌++◌, true, false, length, is_some, MatchOption, Ok, Err, IfOk, IfErr, OnOk, OnErr, IsSome};
 ghost use Rattle.std.specs.Int.{w32, from_le_bytes};
 ghost use Rattle.r9_geom.specs.Geometry.{IsRectNearBy};
 ghost use Rattle.r9_layers.specs.Told.{info_of};
 ghost use Rattle.model_text.specs.Map.{lookup};
+ghost use Rattle.model_imgfile.specs.ImageFile.{file_part};
 ghost use Rattle.model_draw.specs.World.{at_number};
 ghost use Rattle.r9_draw.specs.Described.{fields_of};
 ghost use Rattle.model_draw.specs.Files.{read_data, read_ctl, write_ctl, screen_file};
@@ -14,7 +15,7 @@ ghost use Rattle.r9_draw.specs.World.{world_of};
 use crate::draw::Draw;
 use crate::fault::DrawFault;
 use r9_client::{describe, described_by, pending_len, replace_pending};
-use r9_imgfile::{header, push_rect};
+use r9_imgfile::{header, part, push_rect, touched_rows};
 use r9_layers::{ImageNo, Info};
 use r9_memory::Memory;
 use r9_text::{Bytes, push_number, push_word};
@@ -126,5 +127,18 @@ impl Draw {
         let rows = self.forest.unload(display, info.r)?;
         file.push_all(rows.as_slice())?;
         Ok(file)
+    }
+
+    /// The bytes of that file from an offset on, at most `count`. No more rows are put together than hold one of them.
+    pub fn screen_part(&self, offset: u64, count: u32) -> Result<Bytes, Memory>
+        ensures part { IfOk result (λ bytes. bytes ≡ file_part (screen_file (world_of self.now)) offset count) }
+        ensures short { IfOk result (λ bytes. length bytes ≤ count) }
+    {
+        let display = ImageNo(0);
+        let info = self.info(display);
+        let rows = self
+            .forest
+            .unload(display, touched_rows(&info, offset, count))?;
+        part(self.alloc, &info, rows.as_slice(), offset, count)
     }
 }

@@ -1,7 +1,7 @@
 //! Fonts: images that hold characters (draw(3)).
 
-ghost use Rattle.std.specs.Prelude.{◌≡◌, ◌^◌, Ok, Err, IfOk, IfErr, OnOk, OnErr, IsSome, is_some};
-ghost use Rattle.r9_geom.specs.Geometry.{IsNearBy, IsRectNearBy};
+ghost use Rattle.std.specs.Prelude.{◌≡◌, ◌^◌, Ok, Err, IfOk, IfErr, IfSome, OnOk, OnErr, IsSome, is_some};
+ghost use Rattle.r9_geom.specs.Geometry.{IsNearBy, IsRectNearBy, area_of, meet};
 ghost use Rattle.model_text.specs.Map.{lookup};
 ghost use Rattle.model_fonts.specs.Font.{new_font};
 ghost use Rattle.model_draw.specs.Writing.{is_turned, load_cell, make_font, with_font};
@@ -36,6 +36,17 @@ fn is_turned(r: &Rect) -> bool
     ensures { result ≡ is_turned r.now }
 {
     r.max.x < r.min.x || r.max.y < r.min.y
+}
+
+// How many points both rectangles have, where that is below 2^64.
+fn points_of_both(r: &Rect, other: &Rect) -> Option<u64>
+    ensures { IfSome result (λ points. points ≡ area_of (meet r.now other.now)) }
+{
+    let both = r.meet(other);
+    if both.is_empty() {
+        return Some(0);
+    }
+    both.width().checked_mul(both.height())
 }
 
 impl Draw {
@@ -104,11 +115,12 @@ impl Draw {
         ensures made { OnOk result (world_of self.new ≡ with_font (world_of self.old) client id (new_font n ascent)) }
         ensures kept { OnErr result (world_of self.new ≡ world_of self.old) }
     {
-        let font = Font::new(self.alloc, n, ascent)?;
+        let font = Font::new(self.alloc, n, ascent);
         put_font(&mut self.clients, client, id, font)
     }
 
-    // `l`: the character is drawn on the font's image, and its place in it is kept.
+    // `l`: the character is drawn on the font's image, and its place in it is kept. Room for the drawing is made first, so
+    // that nothing is half done.
     #[tactic(auto, unfolding(crate::specs::Fonts::after_load_cell))]
     pub(crate) fn load_cell(&mut self, client: u64, loading: &Loading) -> Result<(), Memory>
         requires live { IsSome (lookup (world_of self.old).clients client) }
@@ -116,16 +128,24 @@ impl Draw {
         ensures loaded { OnOk result (world_of self.new ≡ after_load_cell client (world_of self.old) loading.now) }
         ensures kept { OnErr result (world_of self.new ≡ world_of self.old) }
     {
-        let Loading { r, sp, .. } = *loading;
+        let Loading { cache, r, sp, .. } = *loading;
         self.forest.keeps();
-        self.forest
-            .draw_unmasked(loading.cache, r, r, loading.src, sp, Op::S)?;
+        let Some(points) = points_of_both(&r, &self.forest.info(cache).r) else {
+            return Err(Memory);
+        };
+        self.forest.room(points)?;
         let cell = Cell {
             r,
             left: loading.left,
             width: loading.width,
         };
-        set_cell(&mut self.clients, client, loading.id, loading.index, cell);
-        Ok(())
+        set_cell(&mut self.clients, client, loading.id, loading.index, cell)?;
+        match self
+            .forest
+            .draw_unmasked(cache, r, r, loading.src, sp, Op::S)
+        {
+            Ok(()) => Ok(()),
+            Err(_) => unreachable!(),
+        }
     }
 }

@@ -142,6 +142,8 @@ impl Draw {
         ensures spare { IfOk result (λ p. takes_no_memory client (world_of self.now) (message_of message.now) ≡ is_spare (world_of self.now) p) }
         ensures refused { IfErr result (λ n. act client (world_of self.now) (message_of message.now) rest.now ≡ Err n) }
     {
+        // One arm for each letter: it names the fields and calls the function that does the work. In groups of letters the
+        // clauses above would be stated once for each group.
         match message {
             Dmsg::LowB {
                 id,

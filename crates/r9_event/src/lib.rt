@@ -1,11 +1,11 @@
-//! What happens to the server and what it answers, as plain values: events, entries of a history, replies.
+//! What happens to the server and what it answers, as plain values: events, entries of a history, replies, what is told to
+//! windows and what is ordered of the draw device.
 #![tactic(auto)]
 
 mod event;
 mod lists;
+mod rio;
 
 pub use event::{Did, Entry, Event, Opening, Reply};
-pub use lists::{Entries, Replies};
-
-#[cfg(test)]
-mod tests;
+pub use lists::{Entries, Notes, Orders, Replies};
+pub use rio::{Note, Order};

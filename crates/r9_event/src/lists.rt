@@ -1,8 +1,9 @@
-//! Lists of events and of replies.
+//! Lists of events, of replies, of notes and of orders.
 
 ghost use Rattle.std.specs.Prelude.{◌≡◌, ◌++◌, [], ◌∷◌, OnOk, OnErr, IfSome, IfNone};
 
 use crate::event::{Event, Reply};
+use crate::rio::{Note, Order};
 use r9_memory::Memory;
 use std::alloc::Global;
 use std::collections::VecDeque;
@@ -87,6 +88,90 @@ impl Replies {
 
     /// The replies in order.
     pub fn as_slice(&self) -> &[Reply]
+        ensures { result.now ≡ self.now }
+    {
+        self.items.as_slice()
+    }
+}
+
+/// Notes in the order in which they arose, each with the serial of its window.
+#[derive(Debug, Drop)]
+pub struct Notes {
+    items: Vec<(u32, Note)>,
+}
+
+impl Model for Notes {
+    ghost use Rattle.std.specs.Prelude.{List, ℕ};
+    ghost use Rattle.r9_event.specs.declared.rio.Note.{Note};
+
+    ghost Value = { List (ℕ × Note) };
+
+    ghost view = { λ n. n.items.items };
+}
+
+impl Notes {
+    /// No notes.
+    pub fn new(alloc: Global) -> Self
+        ensures { result ≡ [] }
+    {
+        Notes {
+            items: Vec::new(alloc),
+        }
+    }
+
+    /// Adds a note for a window at the end.
+    pub fn push(&mut self, window: u32, note: Note) -> Result<(), Memory>
+        ensures ok { OnOk result (self.new ≡ self.old ++ (window, note) ∷ []) }
+        ensures err { OnErr result (self.new ≡ self.old) }
+    {
+        self.items.push((window, note))?;
+        Ok(())
+    }
+
+    /// The notes in order.
+    pub fn as_slice(&self) -> &[(u32, Note)]
+        ensures { result.now ≡ self.now }
+    {
+        self.items.as_slice()
+    }
+}
+
+/// Orders in the order in which they are carried out.
+#[derive(Debug, Drop)]
+pub struct Orders {
+    items: Vec<Order>,
+}
+
+impl Model for Orders {
+    ghost use Rattle.std.specs.Prelude.{List};
+    ghost use Rattle.r9_event.specs.declared.rio.Order.{Order};
+
+    ghost Value = { List Order };
+
+    ghost view = { λ o. o.items.items };
+}
+
+impl Orders {
+    /// No orders.
+    pub fn new(alloc: Global) -> Self
+        ensures { result ≡ [] }
+    {
+        Orders {
+            items: Vec::new(alloc),
+        }
+    }
+
+    /// Adds an order at the end.
+    pub fn push(&mut self, order: Order) -> Result<(), Memory>
+        ensures ok { OnOk result (self.new ≡ self.old ++ order ∷ []) }
+        ensures err { OnErr result (self.new ≡ self.old) }
+    {
+        self.items.push(order)?;
+        Ok(())
+    }
+
+    /// The orders in order.
+    pub fn as_slice(&self) -> &[Order]
         ensures { result.now ≡ self.now }
     {
         self.items.as_slice()

@@ -4,6 +4,3 @@
 mod table;
 
 pub use table::{FidFault, FidTable, LIMIT, NO_FID, Openable};
-
-#[cfg(test)]
-mod tests;

@@ -6,7 +6,7 @@ use Rattle.r9_files.specs.declared.fault.Fault.{Fault}
 use Rattle.r9_files.specs.declared.fault.Fault.TheVariants as fault
 
 -- what is read is what is defined, with what the fid keeps from then on
-abbrev pub IsRead : (old : Fid) (found : Result (List ℕ) Fault) (new : Fid) → Outcome (Fid × List ℕ) → Type 0
-IsRead old (Ok bytes) new defined = defined ≡ Ok (new, bytes)
-IsRead old (Err (fault.Refused n)) new defined = (defined ≡ Err n) × (new ≡ old)
-IsRead old (Err fault.Memory) new defined = Unit {0}
+abbrev pub IsRead : (found : Result (List ℕ) Fault) (new : Fid) → Outcome (Fid × List ℕ) → Type 0
+IsRead (Ok bytes) new defined = defined ≡ Ok (new, bytes)
+IsRead (Err (fault.Refused n)) new defined = defined ≡ Err n
+IsRead (Err fault.Memory) new defined = Unit {0}

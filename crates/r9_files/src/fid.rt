@@ -1,6 +1,6 @@
 //! A fid: a file that a client names, and how it is open.
 
-ghost use Rattle.std.specs.Prelude.{◌≡◌, ◌≤◌, IsTrue, IfOk, None, Some, length};
+ghost use Rattle.std.specs.Prelude.{◌≡◌, ◌≤◌, IsTrue, IfOk, OnErr, None, Some, length};
 ghost use Rattle.model_tree.specs.Node.{is_directory};
 ghost use Rattle.model_tree.specs.Listing.{stats};
 ghost use Rattle.model_world.specs.Session.{fid_at};
@@ -124,8 +124,11 @@ impl Fid {
     fn read_anew(&mut self, alloc: Global, view: &TreeView, count: u32) -> Result<Bytes, Fault>
         requires view { IsView view.now }
         requires directory { IsTrue (is_directory self.old.node) }
-        ensures read { IsRead self.old result self.new (read_from (record { left = stats (view_of view.now) self.old.node; next = 0 }) self.old count) }
+        ensures read { IsRead result self.new (read_from (record { left = stats (view_of view.now) self.old.node; next = 0 }) self.old count) }
+        ensures kept { OnErr result (self.new ≡ self.old) }
         ensures short { IfOk result (λ bytes. length bytes ≤ count) }
+        ensures file { self.new.node ≡ self.old.node }
+        ensures mode { self.new.mode ≡ self.old.mode }
     {
         let mut kept = listed(alloc, &self.node, view)?;
         let bytes = kept.give(alloc, count)?;
@@ -135,8 +138,11 @@ impl Fid {
 
     /// Reads on where the last read ended.
     fn read_on(&mut self, alloc: Global, offset: u64, count: u32) -> Result<Bytes, Fault>
-        ensures read { IsRead self.old result self.new (read_further self.old offset count) }
+        ensures read { IsRead result self.new (read_further self.old offset count) }
+        ensures kept { OnErr result (self.new ≡ self.old) }
         ensures short { IfOk result (λ bytes. length bytes ≤ count) }
+        ensures file { self.new.node ≡ self.old.node }
+        ensures mode { self.new.mode ≡ self.old.mode }
     {
         match &mut self.kept {
             Some(kept) if kept.next() == offset => kept.give(alloc, count),
@@ -144,7 +150,8 @@ impl Fid {
         }
     }
 
-    /// Reads from the listing of the directory that it stands for: as many whole stats as fit into so many bytes.
+    /// Reads from the listing of the directory that it stands for: as many whole stats as fit into so many bytes. After an `Err`
+    /// it is as it was.
     #[tactic(auto, unfolding(model_world::specs::Reading::directory_read))]
     pub fn read(
         &mut self,
@@ -155,8 +162,11 @@ impl Fid {
     ) -> Result<Bytes, Fault>
         requires view { IsView view.now }
         requires directory { IsTrue (is_directory self.old.node) }
-        ensures read { IsRead self.old result self.new (directory_read (stats (view_of view.now) self.old.node) self.old offset count) }
+        ensures read { IsRead result self.new (directory_read (stats (view_of view.now) self.old.node) self.old offset count) }
+        ensures kept { OnErr result (self.new ≡ self.old) }
         ensures short { IfOk result (λ bytes. length bytes ≤ count) }
+        ensures file { self.new.node ≡ self.old.node }
+        ensures mode { self.new.mode ≡ self.old.mode }
     {
         if offset == 0 {
             self.read_anew(alloc, view, count)

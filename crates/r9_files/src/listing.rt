@@ -1,6 +1,6 @@
 //! What is left of a directory's listing, which goes out by whole stats.
 
-ghost use Rattle.std.specs.Prelude.{◌≡◌, ◌≤◌, ◌++◌, ℕ, List, length, Some, Ok, Err, IfOk, IfSome};
+ghost use Rattle.std.specs.Prelude.{◌≡◌, ◌≤◌, ◌++◌, ℕ, List, length, Some, Ok, Err, IfOk, IfSome, OnErr};
 ghost use Rattle.std.specs.List.{All, concat};
 ghost use Rattle.model_tree.specs.Listing.{IsSized, fitting};
 ghost use Rattle.model_world.specs.Reading.{given};
@@ -101,11 +101,11 @@ impl Kept {
         self.next
     }
 
-    /// As many whole stats as fit into so many bytes: 46 where some are left and none fits. Nothing is said of it where
-    /// memory ran out.
+    /// As many whole stats as fit into so many bytes: 46 where some are left and none fits. After an `Err` it is as it was.
     pub fn give(&mut self, alloc: Global, count: u32) -> Result<Bytes, Fault>
         ensures given { IfOk result (λ bytes. given self.old count ≡ Ok (self.new, bytes)) }
-        ensures refused { (n : ℕ) → result ≡ Err (Fault.Refused n) → (given self.old count ≡ Err n) × (self.new ≡ self.old) }
+        ensures refused { (n : ℕ) → result ≡ Err (Fault.Refused n) → given self.old count ≡ Err n }
+        ensures kept { OnErr result (self.new ≡ self.old) }
         ensures short { IfOk result (λ bytes. length bytes ≤ count) }
     {
         let left = &self.stats[self.given..];

@@ -1,6 +1,6 @@
 -- One character more of a string.
-use Rattle.std.proofs.Common.{◌≡◌, ℕ, suc, ◌+◌, ◌*◌, ◌^◌, ◌<◌, ◌≤◌, ℤ, pos, neg_ℤ, ◌+ℤ◌, ◌≤ℤ◌, List, [], ◌∷◌, ◌++◌, length, get_or, drop, map, refl, sym, ap, ◌∙◌, append_assoc, append-nil, arith}
-use Rattle.std.specs.Prelude.{nat_lt, Bool, true, false, Ok, Err}
+use Rattle.std.proofs.Common.{◌≡◌, ℕ, suc, ◌+◌, ◌*◌, ◌^◌, ◌<◌, ◌≤◌, ℤ, pos, neg_ℤ, ◌+ℤ◌, ◌≤ℤ◌, List, [], ◌∷◌, ◌++◌, length, get_or, drop, map, refl, sym, ap, subst, ◌∙◌, append_assoc, append-nil, arith}
+use Rattle.std.specs.Prelude.{Bool, true, false, Ok, Err}
 use Rattle.std.specs.List.{sum_by, list_all}
 use borrow.Author.Tests.{ltb-true}
 use Rattle.std.proofs.Math.Seq.{drop-cons}
@@ -11,7 +11,7 @@ use Rattle.r9_geom.specs.declared.Point.{Point}
 use Rattle.model_fonts.specs.declared.Cell.{Cell}
 use Rattle.model_fonts.specs.declared.Piece.{Piece}
 use Rattle.r9_geom.specs.Geometry.{IsNearBy, IsRectNearBy}
-use Rattle.model_fonts.specs.Font.{Font, Layout, advanced, cell, layout, piece, pieces}
+use Rattle.model_fonts.specs.Font.{AreWithin, Font, Layout, advanced, cell, empty_cell, has_index, layout, piece, pieces}
 use Rattle.r9_fonts.specs.Near.{IsPieceNearBy}
 
 -- the characters of the indices from one on
@@ -99,37 +99,36 @@ pub arrived : (cells : List Cell) (indices : List ℕ) (i : ℕ) (pen end : Poin
 arrived cells indices i pen end h e =
     same_point _ _ (no_further pen.x _ (ap (λ (ys : List ℕ). sum_by (λ (c : Cell). c.width) (map (cell cells) ys)) (drop_all i indices h))) refl ∙ e
 
-pub next_laid : (ascent : ℕ) (cells : List Cell) (indices : List ℕ) (i : ℕ) (pen source : Point) (so_far whole : List Piece) (k : ℕ) (grown : List Piece) (one : Piece) (pen' source' : Point)
-    → i < length indices → k ≡ get_or indices i 0 → grown ≡ so_far ++ one ∷ [] → one ≡ piece ascent pen source (cell cells k)
-    → pen' ≡ advanced pen (cell cells k).width → source' ≡ advanced source (cell cells k).width
+pub next_laid : (ascent : ℕ) (cells : List Cell) (indices : List ℕ) (i : ℕ) (pen source : Point) (so_far whole : List Piece) (c : Cell) (grown : List Piece) (one : Piece) (pen' source' : Point)
+    → i < length indices → c ≡ cell cells (get_or indices i 0) → grown ≡ so_far ++ one ∷ [] → one ≡ piece ascent pen source c
+    → pen' ≡ advanced pen c.width → source' ≡ advanced source c.width
     → so_far ++ pieces ascent pen source (from cells indices i) ≡ whole → grown ++ pieces ascent pen' source' (from cells indices (i + 1)) ≡ whole
-next_laid ascent cells indices i pen source so_far whole k grown one pen' source' h at grows is pen_is source_is e =
+next_laid ascent cells indices i pen source so_far whole c grown one pen' source' h at grows is pen_is source_is e =
     rw (grows, is, pen_is, source_is, at) (one_more ascent cells indices i pen source so_far whole h e)
 
-pub next_end : (cells : List Cell) (indices : List ℕ) (i : ℕ) (pen end : Point) (k : ℕ) (pen' : Point) → i < length indices → k ≡ get_or indices i 0 → pen' ≡ advanced pen (cell cells k).width
+pub next_end : (cells : List Cell) (indices : List ℕ) (i : ℕ) (pen end : Point) (c : Cell) (pen' : Point) → i < length indices → c ≡ cell cells (get_or indices i 0) → pen' ≡ advanced pen c.width
     → advanced pen (sum_by (λ (c : Cell). c.width) (from cells indices i)) ≡ end → advanced pen' (sum_by (λ (c : Cell). c.width) (from cells indices (i + 1))) ≡ end
-next_end cells indices i pen end k pen' h at pen_is e = rw (pen_is, at) (moved_on cells indices i pen end h e)
+next_end cells indices i pen end c pen' h at pen_is e = rw (pen_is, at) (moved_on cells indices i pen end h e)
 
-pub is_in_cells : (n : ℕ) (indices : List ℕ) (i k : ℕ) → i < length indices → k ≡ get_or indices i 0 → list_all (λ j. nat_lt j n) indices ≡ true → k < n
-is_in_cells n indices i k h at all =
-    let told : nat_lt (get_or indices i 0) n ≡ true = AllPass-from_list_all (λ j. nat_lt j n) indices all i 0 h in
-    omega (arith, at, ltb-true)
+-- one of a string's characters is one of the font's
+pub has_one : (font : Font) (indices : List ℕ) (i k : ℕ) → i < length indices → k ≡ get_or indices i 0 → list_all (has_index font) indices ≡ true → has_index font k ≡ true
+has_one font indices i k h at all = ap (has_index font) at ∙ AllPass-from_list_all (has_index font) indices all i 0 h
+
+-- and near, where they are
+pub near_one : (n : ℕ) (font : Font) (index : ℕ) (c : Cell) → has_index font index ≡ true → c ≡ cell font.cells index → AreWithin n font.cells → IsRectNearBy n c.r
+near_one n font index c has is near =
+    let lt : index < length font.cells = omega (arith, ltb-true) in
+    subst (λ (x : Cell). IsRectNearBy n x.r) (sym is) (near index empty_cell lt)
 
 pub same_layout : (a b : Layout) → a.pieces ≡ b.pieces → a.end ≡ b.end → a ≡ b
 same_layout a b pieces end = λ i. record { pieces = pieces i; end = end i }
 
-pub refused_by : (font : Font) (cells : List Cell) (b : Bool) (p sp : Point) (indices : List ℕ) → b ≡ list_all (λ i. nat_lt i (length cells)) indices
-    → cells ≡ font.cells → b ≡ false → layout font p sp indices ≡ Err 15
+pub refused_by : (font : Font) (b : Bool) (p sp : Point) (indices : List ℕ) → b ≡ list_all (has_index font) indices → b ≡ false → layout font p sp indices ≡ Err 15
 unfolding layout
-refused_by font cells b p sp indices told same lacks =
-    let e : list_all (λ i. nat_lt i (length font.cells)) indices ≡ false = ap (λ (cs : List Cell). list_all (λ i. nat_lt i (length cs)) indices) (sym same) ∙ sym told ∙ lacks in
-    rw e refl
+refused_by font b p sp indices told lacks = let e : list_all (has_index font) indices ≡ false = sym told ∙ lacks in rw e refl
 
-pub laid_by : (font : Font) (cells others : List Cell) (ascent : ℕ) (b : Bool) (p sp : Point) (indices : List ℕ) (l : Layout)
-    → b ≡ list_all (λ i. nat_lt i (length cells)) indices → cells ≡ font.cells → b ≡ true → others ≡ font.cells → ascent ≡ font.ascent
-    → l ≡ record { pieces = pieces ascent p sp (map (cell others) indices); end = advanced p (sum_by (λ (c : Cell). c.width) (map (cell others) indices)) }
+pub laid_by : (font : Font) (b : Bool) (p sp : Point) (indices : List ℕ) (l : Layout) → b ≡ list_all (has_index font) indices → b ≡ true
+    → l ≡ record { pieces = pieces font.ascent p sp (map (cell font.cells) indices); end = advanced p (sum_by (λ (c : Cell). c.width) (map (cell font.cells) indices)) }
     → layout font p sp indices ≡ Ok l
 unfolding layout
-laid_by font cells others ascent b p sp indices l told same has_all same_too high is =
-    let e : list_all (λ i. nat_lt i (length font.cells)) indices ≡ true = ap (λ (cs : List Cell). list_all (λ i. nat_lt i (length cs)) indices) (sym same) ∙ sym told ∙ has_all in
-    rw (e, is, same_too, high) refl
+laid_by font b p sp indices l told has_all is = let e : list_all (has_index font) indices ≡ true = sym told ∙ has_all in rw (e, is) refl

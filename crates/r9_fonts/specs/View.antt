@@ -12,3 +12,8 @@ layout_of l = record { pieces = l.pieces; end = l.end }
 abbrev pub IfRefused : FontFault → (ℕ → Type 0) → Type 0
 IfRefused (fault.Refused n) P = P n
 IfRefused fault.Memory P = Unit {0}
+
+-- a fact where there was no memory
+abbrev pub IfMemory : FontFault → Type 0 → Type 0
+IfMemory (fault.Refused n) P = Unit {0}
+IfMemory fault.Memory P = P

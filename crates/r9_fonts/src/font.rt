@@ -1,6 +1,6 @@
 //! Fonts.
 
-ghost use Rattle.std.specs.Prelude.{◌≡◌, ◌+◌, ◌*◌, ◌≤◌, ◌^◌, true, nat_lt, ℕ, length, map, Ok, Err, All, IfOk, IfErr, OnOk, OnErr};
+ghost use Rattle.std.specs.Prelude.{◌≡◌, ◌+◌, ◌*◌, ◌≤◌, ◌^◌, true, ℕ, length, map, Ok, Err, All, IfOk, IfErr, OnOk, OnErr};
 ghost use Rattle.std.specs.List.{list_all, sum_by};
 ghost use Rattle.r9_geom.specs.Geometry.{IsNearBy, IsRectNearBy};
 ghost use Rattle.model_fonts.specs.Font.{Font, AreWithin, advanced, cell, has_index, layout, new_font, piece, pieces, with_cell};
@@ -13,9 +13,10 @@ use model_fonts::{Cell, Piece};
 use r9_geom::{Point, Rect};
 use r9_memory::Memory;
 use std::alloc::Global;
+use std::collections::BTreeMap;
 use std::marker::Model;
 
-/// Why a string was not laid out.
+/// Why a string was not laid out, or a character not set.
 #[derive(Clone, Copy, Debug, PartialEq, Eq)]
 pub enum FontFault {
     /// The number of the refusal, as draw(3) words it: 15, a character index out of range.
@@ -25,20 +26,29 @@ pub enum FontFault {
 }
 
 /// The characters of a font, and how far above the writing line its image begins, in pixels. The rectangles of the
-/// characters are within 2^33 of 0.
+/// characters are within 2^33 of 0. Those that were never set take no memory.
 #[derive(Debug, Drop)]
 pub struct Font {
     alloc: Global,
     ascent: u8,
-    cells: Vec<Cell>,
+    // How many characters there are.
+    count: u32,
+    // Those that were set, by index.
+    set: BTreeMap<u16, Cell>,
 }
 
 impl Model for Font {
+    ghost use Rattle.std.specs.Prelude.{◌^◌};
+    ghost use Rattle.std.specs.Ordering.{nat_cmp};
+    ghost use Rattle.std.specs.BTreeMap.{get};
+    ghost use Rattle.model_fonts.specs.Font.{Font, AreWithin};
+    ghost use Rattle.r9_fonts.specs.Kept.{cells_of};
+
     ghost Value = { Font };
 
-    ghost view = { λ f. record { ascent = f.ascent; cells = f.cells.items } };
+    ghost view = { λ f. record { ascent = f.ascent; cells = cells_of f.count (get nat_cmp f.set) } };
 
-    ghost invariant = { λ f. AreWithin (2 ^ 33) f.cells.items };
+    ghost invariant = { λ f. AreWithin (2 ^ 33) (cells_of f.count (get nat_cmp f.set)) };
 }
 
 // The character, right of the pen at p and above the writing line.
@@ -75,37 +85,28 @@ fn advanced(p: Point, width: u8) -> Point
     }
 }
 
-fn has_all(cells: &[Cell], indices: &[u16]) -> bool
-    ensures { result ≡ list_all (λ i. nat_lt i (length cells.now)) indices.now }
+fn has_all(font: &Font, indices: &[u16]) -> bool
+    ensures { result ≡ list_all (has_index font.now) indices.now }
 {
-    indices
-        .iter()
-        .all(|index| usize::from(*index) < cells.len())
+    indices.iter().all(|index| font.has(*index))
 }
 
-fn laid_out(
-    alloc: Global,
-    cells: &[Cell],
-    ascent: u8,
-    p: Point,
-    sp: Point,
-    indices: &[u16],
-) -> Result<Layout, Memory>
-    requires cells { AreWithin (2 ^ 33) cells.now }
+fn laid_out(font: &Font, p: Point, sp: Point, indices: &[u16]) -> Result<Layout, Memory>
     requires p { IsNearBy (2 ^ 33) p }
     requires sp { IsNearBy (2 ^ 33) sp }
     requires few { length indices.now ≤ 65535 }
-    requires within { list_all (λ i. nat_lt i (length cells.now)) indices.now ≡ true }
-    ensures value { IfOk result (λ l. layout_of l ≡ record { pieces = pieces ascent p sp (map (cell cells.now) indices.now); end = advanced p (sum_by (λ (c : Cell). c.width) (map (cell cells.now) indices.now)) }) }
-    ensures near { (n m : ℕ) → 3 * n + 2 ^ 25 ≤ m → IsNearBy n p → IsNearBy n sp → AreWithin n cells.now → IfOk result (λ l. All (IsPieceNearBy m) l.pieces) }
+    requires within { list_all (has_index font.now) indices.now ≡ true }
+    ensures value { IfOk result (λ l. layout_of l ≡ record { pieces = pieces font.now.ascent p sp (map (cell font.now.cells) indices.now); end = advanced p (sum_by (λ (c : Cell). c.width) (map (cell font.now.cells) indices.now)) }) }
+    ensures near { (n m : ℕ) → 3 * n + 2 ^ 25 ≤ m → IsNearBy n p → IsNearBy n sp → AreWithin n font.now.cells → IfOk result (λ l. All (IsPieceNearBy m) l.pieces) }
     ensures end { (n m : ℕ) → n + 2 ^ 24 ≤ m → IsNearBy n p → IfOk result (λ l. IsNearBy m l.end) }
     ensures line { IfOk result (λ l. l.end.y ≡ p.y) }
 {
-    let mut pieces = Vec::with_capacity(alloc, indices.len())?;
+    let ascent = font.ascent();
+    let mut pieces = Vec::with_capacity(font.alloc, indices.len())?;
     let mut pen = p;
     let mut source = sp;
     for index in indices {
-        let cell = cells[usize::from(*index)];
+        let cell = font.cell(*index);
         pieces.push(piece(ascent, pen, source, cell))?;
         pen = advanced(pen, cell.width);
         source = advanced(source, cell.width);
@@ -117,7 +118,7 @@ fn laid_out(
 }
 
 impl Font {
-    ghost use Rattle.r9_fonts.specs.View.{IfRefused};
+    ghost use Rattle.r9_fonts.specs.View.{IfMemory, IfRefused};
 
     const EMPTY: Cell = Cell {
         r: Rect {
@@ -128,16 +129,16 @@ impl Font {
         width: 0,
     };
 
-    /// A font of n characters without points and without width.
-    pub fn new(alloc: Global, n: u32, ascent: u8) -> Result<Font, Memory>
-        ensures { IfOk result (λ f. f ≡ new_font n ascent) }
+    /// A font of n characters without points and without width. Takes no memory.
+    pub fn new(alloc: Global, n: u32, ascent: u8) -> Self
+        ensures { result ≡ new_font n ascent }
     {
-        let cells = vec![in alloc; Self::EMPTY; n as usize]?;
-        Ok(Font {
+        Font {
             alloc,
             ascent,
-            cells,
-        })
+            count: n,
+            set: BTreeMap::new(alloc),
+        }
     }
 
     /// How far above the writing line the font's image begins, and its characters, in pixels.
@@ -151,24 +152,37 @@ impl Font {
     pub fn has(&self, index: u16) -> bool
         ensures { result ≡ has_index self.now index }
     {
-        usize::from(index) < self.cells.len()
+        u32::from(index) < self.count
     }
 
-    #[tactic(auto, unfolding(model_fonts::specs::Font::with_cell))]
+    // The character at an index that the font has.
+    fn cell(&self, index: u16) -> Cell
+        requires { has_index self.now index ≡ true }
+        ensures value { result ≡ cell self.now.cells index }
+        ensures near { IsRectNearBy (2 ^ 33) result.r }
+    {
+        match self.set.get(&index) {
+            Some(cell) => *cell,
+            None => Self::EMPTY,
+        }
+    }
+
     /// Sets the character at an index. Refused by 15 exactly where the font has no such index. Its rectangle is within 2^33 of
-    /// 0. Takes no memory.
-    pub fn set(&mut self, index: u16, cell: Cell) -> Result<(), u8>
+    /// 0. Where it is refused or there is no memory, the font is as before.
+    pub fn set(&mut self, index: u16, cell: Cell) -> Result<(), FontFault>
         requires { IsRectNearBy (2 ^ 33) cell.r }
         ensures ok { OnOk result (with_cell self.old index cell ≡ Ok self.new) }
-        ensures refused { IfErr result (λ n. with_cell self.old index cell ≡ Err n) }
+        ensures refused { IfErr result (λ f. IfRefused f (λ n. with_cell self.old index cell ≡ Err n)) }
+        ensures memory { IfErr result (λ f. IfMemory f (has_index self.old index ≡ true)) }
         ensures kept { OnErr result (self.new ≡ self.old) }
     {
-        let index = usize::from(index);
-        if index >= self.cells.len() {
-            return Err(15);
+        if !self.has(index) {
+            return Err(FontFault::Refused(15));
         }
-        self.cells[index] = cell;
-        Ok(())
+        match self.set.insert(index, cell) {
+            Ok(_) => Ok(()),
+            Err(_) => Err(FontFault::Memory),
+        }
     }
 
     /// The pieces of a string, in its order: for each character where it is drawn, with the pen at p on the writing line at
@@ -185,10 +199,10 @@ impl Font {
         ensures line { IfOk result (λ l. l.end.y ≡ p.y) }
         ensures refused { IfErr result (λ f. IfRefused f (λ n. layout self.now p sp indices.now ≡ Err n)) }
     {
-        if !has_all(&self.cells, indices) {
+        if !has_all(self, indices) {
             return Err(FontFault::Refused(15));
         }
-        match laid_out(self.alloc, &self.cells, self.ascent, p, sp, indices) {
+        match laid_out(self, p, sp, indices) {
             Ok(layout) => Ok(layout),
             Err(Memory) => Err(FontFault::Memory),
         }

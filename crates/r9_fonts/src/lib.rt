@@ -7,6 +7,3 @@ mod layout;
 pub use font::{Font, FontFault};
 pub use layout::{Layout, Pieces};
 pub use model_fonts::{Cell, Piece};
-
-#[cfg(test)]
-mod tests;

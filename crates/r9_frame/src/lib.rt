@@ -6,6 +6,3 @@ mod next;
 
 pub use framer::Framer;
 pub use next::Next;
-
-#[cfg(test)]
-mod tests;

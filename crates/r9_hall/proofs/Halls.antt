@@ -7,8 +7,8 @@ use Rattle.r9_event.specs.declared.event.Event.TheVariants.{Stop}
 use Rattle.r9_event.specs.declared.event.Entry.{Entry}
 use Rattle.r9_event.specs.declared.event.Opening.{Opening}
 use Rattle.r9_event.specs.declared.event.Reply.{Reply}
-use Rattle.model_event.specs.Legal.{Roll, no_sessions, roll_after, roll_of}
-use Rattle.model_event.proofs.Rolls.{roll_from-push}
+use Rattle.model_event.specs.Legal.{Allowed, IsLegal, Roll, no_sessions, roll_after, roll_of}
+use Rattle.model_event.proofs.Rolls.{AllowedFrom-push, roll_from-push}
 use Rattle.model_event.specs.Journal.{Journal, events_of, AreNumbered}
 use Rattle.model_world.specs.World.{World, opened}
 use Rattle.model_world.specs.Replay.{step, world_at, waiting_from, waiting_after}
@@ -68,6 +68,10 @@ replies_after opening events event replies s after stands is =
 pub roll_entered : (events more : List Event) (event : Event) (roll next : Roll) → roll ≡ roll_of events → next ≡ roll_after roll event → more ≡ events ++ event ∷ [] → next ≡ roll_of more
 roll_entered events more event roll next rolled entered pushed =
     entered ∙ ap (λ (r : Roll). roll_after r event) rolled ∙ sym (roll_from-push no_sessions events event) ∙ ap (λ (es : List Event). roll_of es) (sym pushed)
+
+-- a journal that is legal stays so
+pub legal_more : (events more : List Event) (event : Event) → IsLegal events → Allowed (roll_of events) event → more ≡ events ++ event ∷ [] → IsLegal more
+legal_more events more event legal allowed pushed = subst (λ (es : List Event). IsLegal es) (sym pushed) (AllowedFrom-push no_sessions events event legal allowed)
 
 -- a Stop changes nothing
 pub stop_after : (opening : Opening) (s : State) → IsAfter opening s Stop [] s

@@ -3,7 +3,7 @@ use Rattle.std.specs.Prelude.{◌≡◌, ◌<◌, ◌++◌, ◌∷◌, ℕ, Bool
 use Rattle.std.specs.Vec.{vec_len, vec_capacity}
 use Rattle.r9_event.specs.declared.event.Event.{Event}
 use Rattle.r9_event.specs.declared.event.Event.TheVariants.{Stop}
-use Rattle.model_event.specs.Legal.{Allowed, roll_of}
+use Rattle.model_event.specs.Legal.{Allowed, IsLegal, roll_of}
 use Rattle.model_event.specs.Journal.{Journal, events_of, AreNumbered}
 use Rattle.model_world.specs.Replay.{outbox, world_at}
 use Rattle.r9_hall.specs.declared.hall.Hall.TheInside as hall
@@ -34,10 +34,11 @@ pub record Stands (journal : Journal) (s : State) : Type 0 where
   pub linked : AreLinked s.device s.sessions
   pub known : AreKnown (roll_of journal.events).begun s.sessions
 
--- The entries are numbered, and the roll is theirs. There is room for a Stop until it comes. A hall that is not broken
+-- The entries are numbered, and the roll is theirs. Each was allowed where it stands. There is room for a Stop until it comes. A hall that is not broken
 -- has the state in which its journal ends.
 pub record IsHall (h : hall.Inside) : Type 0 where
   pub numbered : AreNumbered 1 h.entries.items
   pub rolled : h.roll ≡ roll_of (events_of h.entries.items)
+  pub legal : IsLegal (events_of h.entries.items)
   pub spare : IsFalse h.roll.stopped → vec_len h.entries < vec_capacity h.entries
   pub stands : h.broken ≡ false → Stands (record { opening = h.opening; events = events_of h.entries.items }) (state_of h.state)

@@ -4,7 +4,7 @@ ghost use Rattle.std.specs.Prelude.{◌≡◌, ◌<◌, ◌≤◌, ◌+◌, ◌^
 ghost use Rattle.std.specs.Vec.{vec_len, vec_capacity};
 ghost use Rattle.r9_event.specs.declared.event.Event.{Event};
 ghost use Rattle.model_draw.specs.Files.{screen_file};
-ghost use Rattle.model_event.specs.Legal.{roll_after};
+ghost use Rattle.model_event.specs.Legal.{roll_after, IsLegal};
 ghost use Rattle.model_event.specs.Journal.{events_of, AreNumbered};
 ghost use Rattle.model_world.specs.Cut.{IsCutEvent};
 ghost use Rattle.model_world.specs.Replay.{marked, step, world_at, outbox};
@@ -93,9 +93,10 @@ impl Hall {
         })
     }
 
-    /// The entries so far, numbered from 1.
+    /// The entries so far, numbered from 1. They are a legal history, also those of a broken hall.
     pub fn journal(&self) -> &[Entry]
         ensures events { events_of result.now ≡ self.now.journal.events }
+        ensures legal { IsLegal self.now.journal.events }
         ensures numbered { AreNumbered 1 result.now }
     {
         &self.entries
@@ -123,12 +124,13 @@ impl Hall {
     }
 
     /// Makes an event: adds its entry to the journal, and answers what it gave. A data write in which memory ran out has in the
-    /// journal the mark that the answer tells. For want of memory elsewhere the journal stays as it was, and the hall is as before
+    /// journal the mark that the answer tells, with which it may come next as well. For want of memory elsewhere the journal stays as it was, and the hall is as before
     /// or broken. A Stop takes no memory.
     pub fn event(&mut self, event: Event) -> Result<Did, Memory>
         requires can { AllowedNext self.old event }
         requires room { length self.old.journal.events < 2 ^ 61 }
         ensures entered { IfOk result (λ did. self.new ≡ entered self.old (marked event did.short)) }
+        ensures allowed { IfOk result (λ did. AllowedNext self.old (marked event did.short)) }
         ensures replies { IfOk result (λ did. self.old.broken ≡ false → did.replies ≡ (step (world_at self.old.journal) (marked event did.short)).replies) }
         // A mark is told only of a write of an open `data` file, where its own mark took effect or the message may want memory.
         ensures short { IfOk result (λ did. self.old.broken ≡ false → IfSome did.short (λ k. IsCutEvent (world_at self.old.journal) event k)) }

@@ -1,3 +1,2 @@
-mod Places
-mod Rooms
-mod Steps
+pub mod Rooms
+pub mod Taken

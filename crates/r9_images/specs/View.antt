@@ -1,5 +1,5 @@
 -- What callers see of a book, and what a refusal says.
-use Rattle.std.specs.Prelude.{ℕ, min, nat_le, if◌then◌else◌}
+use Rattle.std.specs.Prelude.{ℕ}
 use Rattle.model_images.specs.Book.{Book}
 use Rattle.r9_images.specs.declared.fault.BookFault.{BookFault}
 use Rattle.r9_images.specs.declared.fault.BookFault.TheVariants as fault
@@ -8,14 +8,6 @@ use Rattle.r9_images.specs.declared.fault.BookFault.TheVariants as fault
 pub record Roomy : Type 0 where
   pub book : Book
   pub room : ℕ
-
--- the room where each of its lists has so much, the text of one more name has room for so many bytes, and so many ties were
--- never numbered
-unfoldable pub room_of : (image_ids screen_ids ties screens windows name numbers : ℕ) → ℕ
-room_of image_ids screen_ids ties screens windows name numbers =
-    if nat_le 255 name
-    then min image_ids (min screen_ids (min ties (min screens (min windows numbers))))
-    else 0
 
 -- a fact about the number of a refusal, where it is one
 abbrev pub IfRefused : BookFault → (ℕ → Type 0) → Type 0

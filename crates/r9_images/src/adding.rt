@@ -1,42 +1,15 @@
 //! Adding ids and screens.
 
-ghost use Rattle.std.specs.Prelude.{◌≡◌, ◌<◌, Ok, Err, IfOk, IfErr, IfSome, IsOk, IsSome, OnOk, OnErr, length, vec_len, vec_capacity};
+ghost use Rattle.std.specs.Prelude.{◌≡◌, ◌==◌, ◌&&◌, ◌<◌, Ok, Err, None, false, find, IfOk, IfErr, OnOk, OnErr};
+ghost use Rattle.std.specs.List.{list_any};
 ghost use Rattle.model_images.specs.Book as model;
+ghost use Rattle.model_images.specs.Release.{is_image_id, is_screen_id};
 ghost use Rattle.r9_images.specs.View.{IfRefused, IsRefusal};
 
 use crate::book::Book;
 use crate::fault::BookFault;
-use crate::lists::{any_public, find_screen, put_image, put_screen};
-use model_images::{ImageId, OnScreen, Screen, ScreenId};
+use model_images::{ImageId, Screen, ScreenId};
 use r9_memory::Memory;
-
-fn with_window(windows: &mut Vec<OnScreen>, image: u32, screen: Option<u32>) -> Result<(), Memory>
-    ensures ok { OnOk result (windows.new.items ≡ model.with_window image screen windows.old.items) }
-    ensures err { OnErr result (windows.new.items ≡ windows.old.items) }
-    ensures room { vec_len windows.old < vec_capacity windows.old → IsOk result }
-{
-    if let Some(screen) = screen {
-        windows.push(OnScreen { image, screen })?;
-    }
-    Ok(())
-}
-
-fn with_screen(screens: &mut Vec<Option<Screen>>, number: u32, s: Screen) -> Result<(), Memory>
-    ensures ok { OnOk result (screens.new.items ≡ model.with_screen screens.old.items number s) }
-    ensures err { OnErr result (screens.new.items ≡ screens.old.items) }
-    ensures room { vec_len screens.old < vec_capacity screens.old → IsOk result }
-{
-    let at = number as usize;
-    if at < screens.len() {
-        screens[at] = Some(s);
-        return Ok(());
-    }
-    screens.push(Some(s))?;
-    Ok(())
-}
-
-/// How long a name may be that `tie` takes without more memory.
-pub const MOST_NAME: usize = 255;
 
 impl Book {
     /// Makes room, so that the next call that adds an id, a screen or a name does not answer Memory: a name may have 255 bytes
@@ -45,41 +18,41 @@ impl Book {
         ensures room { OnOk result (0 < self.new.room) }
         ensures kept { self.new.book ≡ self.old.book }
     {
-        if self.next_tie == u64::MAX || self.screens.len() >= u32::MAX as usize {
-            return Err(Memory);
-        }
-        self.image_ids.reserve(1)?;
-        self.screen_ids.reserve(1)?;
-        self.ties.reserve(1)?;
-        self.screens.reserve(1)?;
-        self.windows.reserve(1)?;
-        self.next_name.reserve(MOST_NAME)?;
+        self.uses.reserve()?;
+        self.ties.reserve()?;
         Ok(())
     }
 
-    pub(crate) fn is_image_taken(&self, client: u64, id: u32) -> bool
+    fn has_image_id(&self, client: u64, id: u32) -> bool
         ensures { result ≡ model.is_image_id_taken self.now.book client id }
     {
         id == 0 && client != 0 || self.image_id(client, id).is_some()
     }
 
-    fn is_screen_taken(&self, client: u64, id: u32, public: bool) -> bool
-        ensures { result ≡ model.is_screen_id_taken self.now.book client id public }
+    pub(crate) fn is_image_taken(&self, client: u64, id: u32) -> bool
+        ensures taken { result ≡ model.is_image_id_taken self.now.book client id }
+        ensures fresh { result ≡ false → find (is_image_id client id) self.now.book.image_ids ≡ None }
     {
-        find_screen(&self.screen_ids, client, id).is_some()
-            || public && any_public(&self.screen_ids, id)
+        self.has_image_id(client, id)
     }
 
-    // The number of the next screen, or None where the numbers are used up.
-    fn next_screen(&self) -> Option<u32>
-        ensures number { IfSome result (λ n. n ≡ model.next_screen self.now.book) }
-        ensures room { length self.now.book.screens < 4294967295 → IsSome result }
+    fn has_public(&self, id: u32) -> bool
+        ensures { result ≡ list_any (λ e. e.public && (e.id == id)) self.now.book.screen_ids }
     {
-        match self.spare.last() {
-            Some(number) => Some(*number),
-            None if self.screens.len() < u32::MAX as usize => Some(self.screens.len() as u32),
-            None => None,
-        }
+        self.uses.public(id).is_some()
+    }
+
+    fn has_screen_id(&self, client: u64, id: u32, public: bool) -> bool
+        ensures { result ≡ model.is_screen_id_taken self.now.book client id public }
+    {
+        self.uses.screen_id(client, id).is_some() || public && self.has_public(id)
+    }
+
+    fn is_screen_taken(&self, client: u64, id: u32, public: bool) -> bool
+        ensures taken { result ≡ model.is_screen_id_taken self.now.book client id public }
+        ensures fresh { result ≡ false → find (is_screen_id client id) self.now.book.screen_ids ≡ None }
+    {
+        self.has_screen_id(client, id, public)
     }
 
     /// An id for a new image to which nothing refers yet, as a window where it has a screen, which lives. Refused by 6 exactly
@@ -100,17 +73,16 @@ impl Book {
         if self.is_image_taken(client, id) {
             return Err(BookFault::Refused(6));
         }
-        self.image_ids.reserve(1)?;
-        with_window(&mut self.windows, image, screen)?;
+        self.uses.reserve()?;
         let tie = None;
-        put_image(
-            &mut self.image_ids,
+        self.uses.add_image_id(
             ImageId {
                 client,
                 id,
                 image,
                 tie,
             },
+            screen,
         );
         Ok(())
     }
@@ -133,16 +105,13 @@ impl Book {
         if self.is_screen_taken(client, id, public) {
             return Err(BookFault::Refused(7));
         }
-        self.screen_ids.reserve(1)?;
-        put_screen(
-            &mut self.screen_ids,
-            ScreenId {
-                client,
-                id,
-                screen,
-                public,
-            },
-        );
+        self.uses.reserve()?;
+        self.uses.add_screen_id(ScreenId {
+            client,
+            id,
+            screen,
+            public,
+        });
         Ok(())
     }
 
@@ -166,20 +135,18 @@ impl Book {
         if self.is_screen_taken(client, id, public) {
             return Err(BookFault::Refused(7));
         }
-        let Some(screen) = self.next_screen() else {
+        self.uses.reserve()?;
+        let Some(screen) = self.uses.next_screen() else {
             return Err(BookFault::Memory);
         };
-        self.screen_ids.reserve(1)?;
-        with_screen(&mut self.screens, screen, Screen { image, fill })?;
-        let _ = self.spare.pop();
-        put_screen(
-            &mut self.screen_ids,
+        self.uses.add_screen(
             ScreenId {
                 client,
                 id,
                 screen,
                 public,
             },
+            Screen { image, fill },
         );
         Ok(screen)
     }

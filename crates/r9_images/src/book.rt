@@ -1,13 +1,15 @@
 //! A book, and looking up in it.
 
-ghost use Rattle.std.specs.Prelude.{◌≡◌, ◌<◌, ◌≤◌, ◌^◌, Ok, Err, Some, None, IfOk, IfErr, OnOk, OnErr, IfSome, IsSome};
+ghost use Rattle.std.specs.Prelude.{◌≡◌, ◌<◌, ◌≤◌, ◌^◌, Ok, Err, Some, None, find, IfOk, IfErr, OnOk, OnErr, IfSome, IsSome};
 ghost use Rattle.std.specs.Option.{option_map};
 ghost use Rattle.model_images.specs.Book as model;
+ghost use Rattle.model_images.specs.Release.{is_image_id};
 ghost use Rattle.r9_images.specs.View.{IfRefused};
 
 use crate::fault::BookFault;
-use crate::lists::{any_on, find_image, find_public, find_screen, find_tie, find_window, has_tie};
-use model_images::{ImageId, OnScreen, Screen, ScreenId, Tie};
+use model_images::{ImageId, Screen, Tie};
+use r9_ties::Ties;
+use r9_uses::Uses;
 use std::alloc::Global;
 use std::marker::Model;
 
@@ -15,44 +17,21 @@ use std::marker::Model;
 /// window manager's; image id 0 of each connection is that of the manager, the display.
 #[derive(Drop)]
 pub struct Book {
-    pub(crate) alloc: Global,
-    pub(crate) image_ids: Vec<ImageId>,
-    pub(crate) screen_ids: Vec<ScreenId>,
-    pub(crate) ties: Vec<Tie>,
-    // The screen of each number that was given out, and the numbers of those that have gone.
-    pub(crate) screens: Vec<Option<Screen>>,
-    pub(crate) spare: Vec<u32>,
-    pub(crate) windows: Vec<OnScreen>,
-    pub(crate) next_tie: u64,
-    // What the text of the next name is put into.
-    pub(crate) next_name: Vec<u8>,
+    pub(crate) uses: Uses,
+    pub(crate) ties: Ties,
 }
 
 impl Model for Book {
-    ghost use Rattle.std.specs.Prelude.{◌-◌, min, vec_len, vec_capacity};
-    ghost use Rattle.r9_images.specs.View.{Roomy, room_of};
+    ghost use Rattle.std.specs.Prelude.{◌≡◌, [], min};
+    ghost use Rattle.r9_uses.specs.Freed.{freed_of};
+    ghost use Rattle.r9_uses.specs.Room.{room};
+    ghost use Rattle.r9_images.specs.View.{Roomy};
 
     ghost Value = { Roomy };
 
-    ghost view = { λ b. record {
-      book = record {
-        image_ids = b.image_ids.items;
-        screen_ids = b.screen_ids.items;
-        ties = b.ties.items;
-        screens = b.screens.items;
-        spare = b.spare.items;
-        windows = b.windows.items;
-        next_tie = b.next_tie;
-      };
-      room = room_of
-          (vec_capacity b.image_ids - vec_len b.image_ids)
-          (vec_capacity b.screen_ids - vec_len b.screen_ids)
-          (vec_capacity b.ties - vec_len b.ties)
-          (min (vec_capacity b.screens) 4294967295 - vec_len b.screens)
-          (vec_capacity b.windows - vec_len b.windows)
-          (vec_capacity b.next_name)
-          (18446744073709551615 - b.next_tie);
-    } };
+    ghost view = { λ b. record { book = (freed_of b.uses b.ties.ties b.ties.next).book; room = min (room b.uses) b.ties.room } };
+
+    ghost invariant = { λ b. b.uses.gone.items ≡ [] };
 }
 
 impl Book {
@@ -61,36 +40,30 @@ impl Book {
         ensures { result.book ≡ model.empty_book }
     {
         Book {
-            alloc,
-            image_ids: Vec::new(alloc),
-            screen_ids: Vec::new(alloc),
-            ties: Vec::new(alloc),
-            screens: Vec::new(alloc),
-            spare: Vec::new(alloc),
-            windows: Vec::new(alloc),
-            next_tie: 0,
-            next_name: Vec::new(alloc),
+            uses: Uses::new(alloc),
+            ties: Ties::new(alloc),
         }
     }
 
     pub(crate) fn image_id(&self, client: u64, id: u32) -> Option<ImageId>
-        ensures { result ≡ model.image_id self.now.book client id }
+        ensures found { result ≡ model.image_id self.now.book client id }
+        ensures there { IfSome result (λ e. find (is_image_id e.client e.id) self.now.book.image_ids ≡ Some e) }
     {
         let owner = if id == 0 { 0 } else { client };
-        find_image(&self.image_ids, owner, id)
+        self.uses.image_id(owner, id)
     }
 
     pub(crate) fn tie_of<'a>(&'a self, name: &[u8]) -> Option<&'a Tie>
         ensures { option_map (λ t. t.now) result ≡ model.tie_of self.now.book name.now }
     {
-        find_tie(&self.ties, name)
+        self.ties.find(name)
     }
 
     fn is_stale(&self, e: ImageId) -> bool
         ensures { result ≡ model.is_stale self.now.book e }
     {
         match e.tie {
-            Some(number) => !has_tie(&self.ties, number),
+            Some(number) => !self.ties.has(number),
             None => false,
         }
     }
@@ -115,7 +88,7 @@ impl Book {
     pub fn screen(&self, client: u64, id: u32) -> Result<u32, u8>
         ensures { result ≡ model.screen self.now.book client id }
     {
-        match find_screen(&self.screen_ids, client, id) {
+        match self.uses.screen_id(client, id) {
             Some(e) => Ok(e.screen),
             None => Err(5),
         }
@@ -126,7 +99,7 @@ impl Book {
     pub fn public(&self, id: u32) -> Result<u32, u8>
         ensures { result ≡ model.public self.now.book id }
     {
-        match find_public(&self.screen_ids, id) {
+        match self.uses.public(id) {
             Some(e) => Ok(e.screen),
             None => Err(5),
         }
@@ -147,28 +120,20 @@ impl Book {
     pub fn has_screen(&self, image: u32) -> bool
         ensures { result ≡ model.has_screen self.now.book image }
     {
-        any_on(&self.screens, image)
+        self.uses.has_screen(image)
     }
 
     /// The screen on which the image stands: None exactly where it is no window.
     pub fn screen_of(&self, image: u32) -> Option<u32>
         ensures { result ≡ model.screen_of self.now.book image }
     {
-        match find_window(&self.windows, image) {
-            Some(w) => Some(w.screen),
-            None => None,
-        }
+        self.uses.screen_of(image)
     }
 
     fn screen_numbered(&self, screen: u32) -> Option<Screen>
         ensures { result ≡ model.screen_numbered self.now.book screen }
     {
-        let at = screen as usize;
-        if at < self.screens.len() {
-            self.screens[at]
-        } else {
-            None
-        }
+        self.uses.screen_numbered(screen)
     }
 
     /// The image of a screen that lives.

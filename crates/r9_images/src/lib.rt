@@ -7,11 +7,8 @@ mod book;
 mod fault;
 mod freed;
 mod freeing;
-mod lists;
 mod naming;
-mod release;
 
-pub use adding::MOST_NAME;
 pub use book::Book;
 pub use fault::BookFault;
 pub use freed::Freed;

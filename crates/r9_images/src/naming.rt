@@ -1,17 +1,14 @@
 //! The names of images.
 
-ghost use Rattle.std.specs.Prelude.{◌≡◌, ◌==◌, ◌<◌, ◌≤◌, Ok, Err, IfOk, IfErr, IsOk, OnOk, OnErr, true, not, ◌||◌, is_ok, is_some, filter, length, vec_capacity};
+ghost use Rattle.std.specs.Prelude.{◌≡◌, ◌==◌, ◌<◌, ◌≤◌, Ok, Err, None, IfOk, IfErr, IsOk, OnOk, OnErr, true, find, not, ◌||◌, is_ok, is_some, filter, length, vec_capacity};
 ghost use Rattle.model_images.specs.Book as model;
+ghost use Rattle.model_images.specs.Release.{is_image_id};
 ghost use Rattle.r9_images.specs.Names.{with_image_id, with_tie, without_tie};
 ghost use Rattle.r9_images.specs.View.{IfRefused, IsRefusal};
 
 use crate::book::Book;
 use crate::fault::BookFault;
-use crate::lists::put_image;
-use model_images::{ImageId, Tie};
-use r9_memory::Memory;
-use r9_text::Bytes;
-use std::alloc::Global;
+use model_images::ImageId;
 
 fn is_kept_name(client: u64, name: &[u8]) -> bool
     ensures { result ≡ model.is_kept_name client name.now }
@@ -25,23 +22,6 @@ fn is_other_name(client: u64, name: &[u8], tied: u32, image: u32) -> bool
     is_kept_name(client, name) || tied != image
 }
 
-// The text of a name, in what was kept for it, which is another then.
-fn take_name(alloc: Global, next_name: &mut Vec<u8>, name: &[u8]) -> Result<Bytes, Memory>
-    ensures text { IfOk result (λ bytes. bytes ≡ name.now) }
-    ensures room { length name.now ≤ vec_capacity next_name.old → IsOk result }
-{
-    let mut text = std::mem::replace(next_name, Vec::new(alloc));
-    text.clear();
-    text.extend_from_slice(name)?;
-    Ok(Bytes::from(text))
-}
-
-fn end_tie(ties: &mut Vec<Tie>, number: u64)
-    ensures { ties.new.items ≡ filter (λ e. not (e.number == number)) ties.old.items }
-{
-    ties.retain(|t| t.number != number);
-}
-
 impl Book {
     fn is_name_taken(&self, client: u64, name: &[u8]) -> bool
         ensures { result ≡ (is_some (model.tie_of self.now.book name.now) || model.is_kept_name client name.now) }
@@ -53,6 +33,7 @@ impl Book {
     #[tactic(auto, unfolding(model_images::specs::Book::tie))]
     fn image_to_tie(&self, client: u64, id: u32, name: &[u8]) -> Result<u32, u8>
         ensures ok { IfOk result (λ i. model.tie self.now.book client id name.now ≡ Ok (with_tie self.now.book client id i name.now)) }
+        ensures untied { OnOk result (model.tie_of self.now.book name.now ≡ None) }
         ensures refused { IfErr result (λ n. model.tie self.now.book client id name.now ≡ Err n) }
     {
         let image = self.image(client, id)?;
@@ -82,6 +63,7 @@ impl Book {
     #[tactic(auto, unfolding(model_images::specs::Book::add_named))]
     fn id_to_add(&self, client: u64, id: u32, name: &[u8]) -> Result<ImageId, u8>
         ensures ok { IfOk result (λ e. model.add_named self.now.book client id name.now ≡ Ok (with_image_id self.now.book e)) }
+        ensures fresh { IfOk result (λ e. find (is_image_id e.client e.id) self.now.book.image_ids ≡ None) }
         ensures refused { IfErr result (λ n. model.add_named self.now.book client id name.now ≡ Err n) }
     {
         if self.is_image_taken(client, id) {
@@ -134,20 +116,7 @@ impl Book {
         ensures room { 0 < self.old.room → length name.now ≤ 255 → IfErr result IsRefusal }
     {
         let image = self.image_to_tie(client, id, name)?;
-        let number = self.next_tie;
-        if number == u64::MAX {
-            return Err(BookFault::Memory);
-        }
-        self.ties.reserve(1)?;
-        let name = take_name(self.alloc, &mut self.next_name, name)?;
-        self.ties.push_reserved(Tie {
-            name,
-            number,
-            image,
-            client,
-            id,
-        });
-        self.next_tie = number + 1;
+        self.ties.push(client, id, image, name)?;
         Ok(())
     }
 
@@ -160,7 +129,7 @@ impl Book {
         ensures memory { IfErr result IsRefusal }
     {
         let number = self.tie_to_end(client, id, name)?;
-        end_tie(&mut self.ties, number);
+        self.ties.end(number);
         Ok(())
     }
 
@@ -173,8 +142,8 @@ impl Book {
         ensures room { 0 < self.old.room → IfErr result IsRefusal }
     {
         let e = self.id_to_add(client, id, name)?;
-        self.image_ids.reserve(1)?;
-        put_image(&mut self.image_ids, e);
+        self.uses.reserve()?;
+        self.uses.add_image_id(e, None);
         Ok(())
     }
 }

@@ -69,35 +69,3 @@ pub fn comp_row(op: Op, d: &mut [u32], s: &[u32], m: &[u8])
         d[i] = comp_word(op, d[i], s[i], m[i]);
     }
 }
-
-#[cfg(test)]
-mod tests {
-    use super::*;
-    use std::test::Fail;
-
-    const MOST: usize = 70;
-
-    fn scrambled(i: usize) -> u32 {
-        (i % 256 * 0x9E3779B1 % 0x1_0000_0000) as u32
-    }
-
-    #[test]
-    fn rows_of_any_length_are_composed_place_by_place(rt: HostRuntime) -> Result<(), Fail> {
-        for number in 0..12 {
-            let op = Op::of_byte(number).ok_or("no such operator")?;
-            for len in 0..=MOST {
-                let old: [u32; MOST] = std::array::from_fn(scrambled);
-                let s: [u32; MOST] = std::array::from_fn(|i| scrambled(i + MOST));
-                let m: [u8; MOST] = std::array::from_fn(|i| scrambled(i).to_le_bytes()[2]);
-                let mut d = old;
-                comp_row(op, &mut d[..len], &s[..len], &m[..len]);
-                for i in 0..len {
-                    let wanted = comp(op, Colour::of_word(s[i]), m[i], Colour::of_word(old[i]));
-                    assert_eq!(rt; Colour::of_word(d[i]), wanted);
-                }
-                assert_eq!(rt; d[len..], old[len..]);
-            }
-        }
-        Ok(())
-    }
-}

@@ -6,8 +6,6 @@ mod chronicle;
 mod pass;
 mod rule;
 mod shared;
-#[cfg(test)]
-mod tests;
 mod view;
 
 pub use chronicle::{Acted, Chronicle};

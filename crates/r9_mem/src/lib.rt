@@ -2,12 +2,8 @@
 #![tactic(auto)]
 
 mod layout;
-#[cfg(test)]
-mod pixman;
 mod repeated;
 mod rows;
-#[cfg(test)]
-mod tests;
 
 pub use repeated::{fill, solid};
 pub use rows::compose;

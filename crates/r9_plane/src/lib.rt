@@ -5,8 +5,6 @@ mod packed;
 mod plane;
 mod rows;
 mod runs;
-#[cfg(test)]
-mod tests;
 
 pub use plane::Plane;
 pub use rows::row_bytes;

@@ -118,6 +118,3 @@ fn narrow(parts: &mut Vec<Rect>, r: &Rect)
         *part = part.meet(r);
     }
 }
-
-#[cfg(test)]
-mod tests;

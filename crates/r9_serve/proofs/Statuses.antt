@@ -1,12 +1,14 @@
 -- What follows from a status.
-use Rattle.std.proofs.Common.{◌≡◌, inl, inr, ℕ, List, Option, Some, refl, sym, subst, arith}
+use Rattle.std.proofs.Common.{◌≡◌, inl, inr, ℕ, List, Option, Some, refl, sym, subst, arith, Bor}
 use Rattle.std.specs.Prelude.{IfSome}
 use Rattle.r9_event.specs.declared.event.Event.{Event}
 use Rattle.model_record.specs.Record.{IsRecord, IsBadAt}
 use Rattle.r9_serve.specs.declared.status.Status.{Status}
 use Rattle.r9_serve.specs.declared.status.Status.TheVariants as status
-use Rattle.r9_serve.specs.declared.words.Job.{Job}
-use Rattle.r9_serve.specs.Run.{HadRecord, WasBadAt, WrotePart, IsOutAfter, IsDone, IsRefused}
+use Rattle.r9_opts.specs.declared.job.Job.{Job}
+use Rattle.r9_opts.specs.declared.job.Job.TheVariants.{Replay, Serve, Alone, Gen}
+use Rattle.r9_serve.specs.Run.{Ask, AskForReplay, HadRecord, IsOutput, LeftInput, WasBadAt, WrotePart, IsInputAfter, IsOutAfter, IsDone, IsRefused}
+use Rattle.r9_serve.proofs.Asking.{not_both}
 
 not_bad : (text : List ℕ) (events : List Event) (place : ℕ) → IsRecord text events → IsBadAt text place → ⊥
 not_bad text events place is (inl bad) = absurd (omega (arith, is.short, bad.0))
@@ -28,15 +30,32 @@ had_none left text events told none had =
     let same : text ≡ had.text = subst (λ (l : Option (List ℕ)). IfSome l (λ bytes. bytes ≡ had.text)) told had.told in
     none events (subst (λ (t : List ℕ). IsRecord t events) (sym same) had.is_record)
 
--- what is no record is refused
-pub refused_by : (asked : Job → Type 0) (found : Status) (left before after : Option (List ℕ)) (text : List ℕ) → left ≡ Some text → ((events : List Event) → IsRecord text events → ⊥)
-    → (found ≡ status.Usage → ⊥) → IsOutAfter asked found left before after → (found ≡ status.ReadFault → ⊥) → IsRefused found
-refused_by asked status.Done left before after text told none usage out read = absurd (had_none left text _ told none out.are_lines.had)
-refused_by asked status.Usage left before after text told none usage out read = absurd (usage refl)
-refused_by asked (status.BadRecord place) left before after text told none usage out read = inl (place, refl)
-refused_by asked status.ReadFault left before after text told none usage out read = absurd (read refl)
-refused_by asked status.WriteFault left before after text told none usage out read = absurd (had_none left text _ told none out.are_lines.had)
-refused_by asked status.Memory left before after text told none usage out read = inr refl
+-- what is no record is refused: no replay gave an output, and no other job was asked for
+had_no_output : (words : List (Bor (List ℕ))) (job : Job) (left : Option (List ℕ)) (text lines : List ℕ) → left ≡ Some text → ((events : List Event) → IsRecord text events → ⊥)
+    → AskForReplay words → Ask words job → IsOutput job left lines → ⊥
+had_no_output words (Replay opening screen) left text lines told none replays ask out = had_none left text _ told none out.had
+had_no_output words (Gen number) left text lines told none replays ask out = not_both words number replays ask
+had_no_output words (Serve opening listen workers conns) left text lines told none replays ask out = out
+had_no_output words (Alone opening session) left text lines told none replays ask out = out
+
+pub refused_by : (words : List (Bor (List ℕ))) (found : Status) (left before after : Option (List ℕ)) (text : List ℕ) → left ≡ Some text → ((events : List Event) → IsRecord text events → ⊥)
+    → AskForReplay words → (found ≡ status.Usage → ⊥) → IsOutAfter (Ask words) found left before after → (found ≡ status.ReadFault → ⊥) → IsRefused found
+refused_by words status.Done left before after text told none replays usage out read = absurd (had_no_output words out.job left text out.lines told none replays out.is_asked out.are_lines)
+refused_by words status.Usage left before after text told none replays usage out read = absurd (usage refl)
+refused_by words (status.BadRecord place) left before after text told none replays usage out read = inl (place, refl)
+refused_by words status.ReadFault left before after text told none replays usage out read = absurd (read refl)
+refused_by words status.WriteFault left before after text told none replays usage out read = absurd (had_no_output words out.job left text out.lines told none replays out.is_asked out.are_lines)
+refused_by words status.Memory left before after text told none replays usage out read = inr refl
+
+-- a record is made
+pub made_by : (words : List (Bor (List ℕ))) (number : ℕ) (found : Status) → Ask words (Gen number) → (found ≡ status.Usage → ⊥) → ((place : ℕ) → found ≡ status.BadRecord place → AskForReplay words)
+    → (found ≡ status.ReadFault → AskForReplay words) → (found ≡ status.WriteFault → ⊥) → IsDone found
+made_by words number status.Done ask usage bad read write = inl refl
+made_by words number status.Usage ask usage bad read write = absurd (usage refl)
+made_by words number (status.BadRecord place) ask usage bad read write = not_both words number (bad place refl) ask
+made_by words number status.ReadFault ask usage bad read write = not_both words number (read refl) ask
+made_by words number status.WriteFault ask usage bad read write = absurd (write refl)
+made_by words number status.Memory ask usage bad read write = inr refl
 
 wrote_under : (asked : Job → Type 0) (job : Job) (left before after : Option (List ℕ)) → asked job → WrotePart (λ j. j ≡ job) left before after → WrotePart asked left before after
 wrote_under asked job left before after is wrote = record {
@@ -62,3 +81,15 @@ out_under asked job status.ReadFault left before after is out = out
 out_under asked job status.WriteFault left before after is wrote = wrote_under asked job left before after is wrote
 out_under asked job status.Memory left before after is (inl same) = inl same
 out_under asked job status.Memory left before after is (inr wrote) = inr (wrote_under asked job left before after is wrote)
+
+-- what is left of the input is what a job leaves that was asked for
+left_under : (asked : Job → Type 0) (job : Job) (before after : Option (List ℕ)) → asked job → LeftInput (λ j. j ≡ job) before after → LeftInput asked before after
+left_under asked job before after is (other, same, left) = (other, subst (λ (j : Job). asked j) (sym same) is, left)
+
+pub input_under : (asked : Job → Type 0) (job : Job) (found : Status) (before after : Option (List ℕ)) → asked job → IsInputAfter (λ j. j ≡ job) found before after → IsInputAfter asked found before after
+input_under asked job status.Done before after is left = left_under asked job before after is left
+input_under asked job status.Usage before after is left = left
+input_under asked job (status.BadRecord place) before after is left = left
+input_under asked job status.ReadFault before after is left = left
+input_under asked job status.WriteFault before after is left = left_under asked job before after is left
+input_under asked job status.Memory before after is left = left

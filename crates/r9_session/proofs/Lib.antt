@@ -3,3 +3,5 @@ mod Clients
 mod Walks
 mod Readings
 mod Begun
+mod Keeping
+mod Bound

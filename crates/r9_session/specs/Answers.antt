@@ -1,5 +1,6 @@
 -- What a session's answer to a message promises.
-use Rattle.std.specs.Prelude.{◌≡◌, ◌⊎◌, ◌==◌, ◌&&◌, not, ℕ, Bool, true, false, Option, Some, Result, Ok, Err, None}
+use Rattle.std.specs.Prelude.{◌≡◌, ◌⊎◌, ◌==◌, ◌&&◌, not, ℕ, Bool, true, false, Option, Some, Result, Ok, Err, None, option_map}
+use Rattle.model_text.specs.Map.{lookup}
 use Rattle.model_text.specs.Outcome.{Outcome}
 use Rattle.model_wire.specs.Message.{T, Twrite, no_tag, tag_of_t}
 use Rattle.model_wire.specs.Spelling.{FitsR}
@@ -60,3 +61,7 @@ IsBegun session m (Err fault.Memory) = ⊥
 abbrev pub is_write : T → Bool
 is_write (Twrite tag fid offset bytes) = true
 is_write _ = false
+
+-- the fid is bound to a file and is not open
+abbrev pub IsClosed : Session → (fid : ℕ) → Type 0
+IsClosed session fid = option_map (λ found. found.mode) (lookup session.fids fid) ≡ Some None

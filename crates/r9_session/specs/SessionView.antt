@@ -1,8 +1,11 @@
 -- Sessions of the code as those of the definitions.
+use Rattle.std.specs.Prelude.{◌≡◌, ℕ, true, List}
+use Rattle.std.specs.List.{list_any}
 use Rattle.r9_session.specs.declared.session.Session.TheInside as session
 use Rattle.r9_tree.specs.View.{most_connections}
 use Rattle.model_world.specs.Session as model
-use Rattle.model_world.specs.Links.{AreWithin}
+use Rattle.model_world.specs.Fids.{keeps}
+use Rattle.model_world.specs.Links.{AreWithin, is_among}
 
 abbrev pub session_of : session.Inside → model.Session
 session_of s = record {
@@ -13,6 +16,11 @@ session_of s = record {
   made = s.made;
 }
 
--- files name their connections by numbers that fit
-abbrev pub IsSession : session.Inside → Type 0
-IsSession s = AreWithin most_connections s.connections
+-- some fid keeps each of these connections alive
+abbrev pub AreKept : List (ℕ × model.Fid) → List ℕ → Type 0
+AreKept fids connections = (n : ℕ) → is_among connections n ≡ true → list_any (λ entry. keeps n entry.1) fids ≡ true
+
+-- files name their connections by numbers that fit, and a connection lives no longer than some fid keeps it alive
+pub record IsSession (s : session.Inside) : Type 0 where
+  pub within : AreWithin most_connections s.connections
+  pub kept : AreKept s.fids s.connections

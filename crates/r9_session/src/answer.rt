@@ -1,13 +1,14 @@
 //! What a session answers to a message (intro(5), version(5), flush(5)).
 
-ghost use Rattle.std.specs.Prelude.{◌≡◌, ◌<◌, ◌≤◌, ◌^◌, ◌==◌, ℕ, Option, None, length, false, IfOk, IfSome};
+ghost use Rattle.std.specs.Prelude.{◌≡◌, ◌<◌, ◌≤◌, ◌^◌, ◌==◌, ℕ, Option, None, length, false, IsSome, IfOk, IfSome};
 ghost use Rattle.std.specs.List.{before_first};
 ghost use Rattle.model_wire.specs.Message.{tag_of_t, Rversion};
 ghost use Rattle.model_wire.specs.Spelling.{FitsR, FitsT};
 ghost use Rattle.model_wire.specs.Reading.{message_of};
 ghost use Rattle.model_world.specs.Answer.{answer, answer_to, answer_read, asks_for_9p, is_version, read_or_not, version_answer};
-ghost use Rattle.model_world.specs.Refusal.{refusal};
-ghost use Rattle.model_world.specs.Cut.{IsCut, IsCutMessage};
+ghost use Rattle.model_draw.specs.Act.{no_memory};
+ghost use Rattle.model_world.specs.Refusal.{refusal, Refuses};
+ghost use Rattle.model_world.specs.Cut.{IsCut, IsCutMessage, IsCutSpelled};
 ghost use Rattle.model_world.specs.Links.{IsLinked};
 ghost use Rattle.model_world.specs.World.{device_for};
 ghost use Rattle.r9_draw.specs.World.{world_of};
@@ -215,6 +216,7 @@ impl Session {
         requires linked { IsLinked number self.old.made self.old.connections (world_of device.old) }
         ensures answer { IsReply mark self.old (world_of device.old) result self.new (world_of device.new) (λ k. answer_read (device_for number) self.old (world_of device.old) k (t_of m.now)) }
         ensures cause { IfOk result (λ a. IfSome a.short (λ k. IsCut number self.old (world_of device.old) mark k (t_of m.now))) }
+        ensures refused { IfOk result (λ a. IsSome a.short → Refuses no_memory (r_of a.reply)) }
     {
         self.check_begun(m)?;
         if let Tmsg::Write {
@@ -242,7 +244,8 @@ impl Session {
         requires long { 7 ≤ length bytes.now }
         requires linked { IsLinked number self.old.made self.old.connections (world_of device.old) }
         ensures answer { IsReply mark self.old (world_of device.old) result self.new (world_of device.new) (λ k. read_or_not (device_for number) self.old (world_of device.old) k (message_of bytes.now)) }
-        ensures cause { IfOk result (λ a. IfSome a.short (λ k. IsCutMessage number self.old (world_of device.old) bytes.now mark k)) }
+        ensures cause { IfOk result (λ a. IfSome a.short (λ k. IsCutSpelled number self.old (world_of device.old) bytes.now mark k)) }
+        ensures refused { IfOk result (λ a. IsSome a.short → Refuses no_memory (r_of a.reply)) }
     {
         match read_t(alloc, bytes) {
             Ok(m) => self.answer_read(alloc, device, number, &m, mark),
@@ -252,8 +255,8 @@ impl Session {
     }
 
     /// Answers the bytes of a message of the session that has the number that is given. A mark tells that memory ran out in a
-    /// data write after so many draw messages; the answer tells the mark with which the message stands in the history. Nothing
-    /// is said of the session and the device where memory ran out.
+    /// data write after so many draw messages; the answer tells the mark with which the message stands in the history, and then
+    /// is the refusal of want of memory. After an `Err` nothing is said of the session and the device: they are not to be used again.
     #[tactic(auto, unfolding(model_world::specs::Answer::answer))]
     pub fn answer(
         &mut self,
@@ -267,7 +270,7 @@ impl Session {
         requires linked { IsLinked number self.old.made self.old.connections (world_of device.old) }
         ensures answer { IfOk result (λ a. answer (device_for number) self.old (world_of device.old) bytes.now (mark_after mark a.short) ≡ record { session = self.new; rest = world_of device.new; reply = r_of a.reply }) }
         ensures fits { IfOk result (λ a. FitsR (r_of a.reply)) }
-        ensures cause { IfOk result (λ a. IfSome a.short (λ k. IsCutMessage number self.old (world_of device.old) bytes.now mark k)) }
+        ensures short { IfOk result (λ a. IfSome a.short (λ k. IsCutMessage number self.old (world_of device.old) bytes.now mark k)) }
     {
         let tag = u16::from_le_bytes([bytes[5], bytes[6]]);
         if bytes.len() > self.msize as usize {

@@ -1,16 +1,15 @@
 //! Attaching, walking and telling of files (attach(5), walk(5), stat(5)).
 
-ghost use Rattle.std.specs.Prelude.{◌≡◌, ◌≢◌, ◌≤◌, ◌++◌, ℕ, false, List, length, map, Some, IsSome, IfOk, OnOk, IsErrOf};
+ghost use Rattle.std.specs.Prelude.{◌≡◌, ◌≢◌, ◌≤◌, ◌++◌, ℕ, false, List, length, map, Some, IfOk, OnOk, IsErrOf};
 ghost use Rattle.model_tree.specs.Node.{qid};
 ghost use Rattle.model_tree.specs.Node as model;
 ghost use Rattle.model_tree.specs.Tree.{root_of};
-ghost use Rattle.model_text.specs.Map.{lookup};
 ghost use Rattle.model_world.specs.Session.{fid_at};
 ghost use Rattle.model_world.specs.Fids.{with_fid, and_fid, is_bound, is_full};
 ghost use Rattle.model_world.specs.Walking.{attach_answer, walk_answer, walk_ended, walked, last};
 ghost use Rattle.model_world.specs.Answer.{stat_answer, denied};
 ghost use Rattle.r9_tree.specs.View.{node_of, view_of, IsNode, IsView};
-ghost use Rattle.r9_session.specs.Answers.{IsAnswer, IsFree};
+ghost use Rattle.r9_session.specs.Answers.{IsAnswer, IsClosed, IsFree};
 
 use crate::session::Session;
 use r9_fids::{FidFault, LIMIT};
@@ -114,7 +113,7 @@ impl Session {
 
     /// Lets a fid that is bound stand for another file.
     fn rebind(&mut self, fid: u32, node: Node)
-        requires bound { IsSome (lookup self.old.fids fid) }
+        requires closed { IsClosed self.old fid }
         requires node { IsNode node }
         ensures { self.new ≡ with_fid self.old fid (fid_at (node_of node)) }
     {
@@ -132,7 +131,7 @@ impl Session {
         walked: Walked,
         qids: Qids,
     ) -> Result<Rmsg, Fault>
-        requires fid { IsSome (lookup self.old.fids fid) }
+        requires fid { IsClosed self.old fid }
         requires free { newfid ≢ fid → (is_bound self.old newfid ≡ false) × (is_full self.old ≡ false) }
         requires node { IsNode walked.node }
         requires few { length qids ≤ 16 }

@@ -13,7 +13,7 @@ ghost use Rattle.model_world.specs.World.{device_for};
 ghost use Rattle.r9_draw.specs.World.{world_of};
 ghost use Rattle.r9_tree.specs.View.{node_of, IsNode};
 ghost use Rattle.r9_wire.specs.View.{r_of};
-ghost use Rattle.r9_session.specs.Answers.{IsReach};
+ghost use Rattle.r9_session.specs.Answers.{IsClosed, IsReach};
 
 use crate::session::{Session, client};
 use r9_draw::Draw;
@@ -89,7 +89,8 @@ impl Session {
 
     /// Opens a fid as another file.
     fn open_as(&mut self, fid: u32, node: Node, mode: u8)
-        requires { IsNode node }
+        requires closed { IsClosed self.old fid }
+        requires node { IsNode node }
         ensures { (found : Fid) → lookup self.old.fids fid ≡ Some found → self.new ≡ with_fid self.old fid (record found { node = node_of node; mode = Some mode }) }
     {
         if let Some(found) = self.fids.get_mut(fid) {
@@ -110,16 +111,17 @@ impl Session {
     ) -> Result<Rmsg, Memory>
         requires linked { IsLinked number self.old.made self.old.connections (world_of device.old) }
         requires room { self.old.made < most_made }
+        requires closed { IsClosed self.old fid }
         ensures opened { IfOk result (λ reply. (found : Fid) → lookup self.old.fids fid ≡ Some found → node_of node.now ≡ found.node →
             opened_new (device_for number) self.old (world_of device.old) tag fid mode found ≡ record { session = self.new; rest = world_of device.new; reply = r_of reply }) }
         ensures fits { IfOk result (λ reply. FitsR (r_of reply)) }
     {
         let connection = self.made + 1;
         device.connect(client(number, connection))?;
-        self.connections.push(connection)?;
-        self.made = connection;
         let ctl = ctl_of(node, connection);
         self.open_as(fid, ctl, mode);
+        self.connections.push(connection)?;
+        self.made = connection;
         Ok(Rmsg::Open {
             tag,
             qid: qid(&ctl),

@@ -9,8 +9,7 @@ ghost use Rattle.model_world.specs.Fids as fids;
 ghost use Rattle.model_world.specs.Links.{IsLinked};
 ghost use Rattle.model_world.specs.Reading.{ctl_read, directory_read, file_read, read_answer};
 ghost use Rattle.model_world.specs.World.{client, device_for};
-ghost use Rattle.model_draw.specs.Files.{read_data, screen_file};
-ghost use Rattle.model_imgfile.specs.ImageFile.{file_part};
+ghost use Rattle.model_draw.specs.Files.{read_data};
 ghost use Rattle.r9_draw.specs.World.{world_of};
 ghost use Rattle.r9_tree.specs.View.{node_of, view_of, IsNode, IsView};
 ghost use Rattle.r9_session.specs.Answers.{IsReach};
@@ -39,16 +38,6 @@ fn reads(mode: u8) -> bool
     ensures { result ≡ reads mode }
 {
     mode % 16 == 0 || mode % 16 == 2
-}
-
-/// The bytes of the screen's file from an offset on, at most so many (image(6)). The whole file is made for it.
-fn screen_part(alloc: Global, device: &Draw, offset: u64, count: u32) -> Result<Bytes, Memory>
-    ensures read { IfOk result (λ bytes. bytes ≡ file_part (screen_file (world_of device.now)) offset count) }
-    ensures short { IfOk result (λ bytes. length bytes ≤ count) }
-{
-    let file = device.screen()?;
-    let rest = &file.as_slice()[file.len().min(offset as usize)..];
-    Bytes::from_slice(alloc, &rest[..rest.len().min(count as usize)])
 }
 
 impl Session {
@@ -141,8 +130,8 @@ impl Session {
         }
     }
 
-    /// Reads a file that is no directory. Of the screen each read makes the file anew. A read of `refresh` would wait, and no read
-    /// may wait yet.
+    /// Reads a file that is no directory. Of the screen each read makes the rows anew that it gives something of. A read of `refresh`
+    /// would wait, and no read may wait yet.
     fn read_file(
         &self,
         alloc: Global,
@@ -165,7 +154,7 @@ impl Session {
             return self.read_data(device, number, node, count);
         }
         if is_kind(node, Kind::Screen) {
-            return Ok(screen_part(alloc, device, offset, count)?);
+            return Ok(device.screen_part(offset, count)?);
         }
         Err(Fault::Refused(TOO_MANY_BLOCKED_READS))
     }

@@ -1,8 +1,9 @@
 //! Writing what is open (write(5)).
 
-ghost use Rattle.std.specs.Prelude.{◌≡◌, ◌<◌, ◌^◌, ◌⊎◌, ℕ, Option, length, None, Some, Ok, true, IsSome, IfOk, IfSome};
+ghost use Rattle.std.specs.Prelude.{◌≡◌, ◌<◌, ◌^◌, ◌⊎◌, ◌↔◌, ℕ, Option, length, None, Some, Ok, true, IsSome, IfOk, IfSome};
 ghost use Rattle.model_text.specs.Map.{lookup};
 ghost use Rattle.model_draw.specs.Files.{write_ctl};
+ghost use Rattle.model_draw.specs.Act.{no_memory};
 ghost use Rattle.model_draw.specs.Memory.{MayRunOut};
 ghost use Rattle.model_tree.specs.Node.{writes};
 ghost use Rattle.model_tree.specs.Tree.{check_live, is_of_connection};
@@ -10,10 +11,12 @@ ghost use Rattle.model_world.specs.Cut.{IsCutWrite};
 ghost use Rattle.model_world.specs.Fids as fids;
 ghost use Rattle.model_world.specs.Links.{IsLinked};
 ghost use Rattle.model_world.specs.Reading.{file_written, write_answer};
+ghost use Rattle.model_world.specs.Refusal.{Refuses};
 ghost use Rattle.model_world.specs.World.{client, device_for, written_data};
 ghost use Rattle.r9_draw.specs.World.{world_of};
 ghost use Rattle.r9_tree.specs.View.{node_of, IsNode};
 ghost use Rattle.r9_session.specs.Answers.{mark_after};
+ghost use Rattle.r9_wire.specs.View.{r_of};
 ghost use Rattle.r9_session.specs.Writes.{IsWritten, chosen, left_with};
 
 use crate::session::Session;
@@ -59,6 +62,7 @@ fn write_data(
     requires few { length bytes.now < 2 ^ 32 }
     ensures written { IfOk result (λ w. written_data client (world_of device.old) bytes.now (mark_after mark w.short) ≡ left_with (world_of device.new) w.refusal) }
     ensures cause { IfOk result (λ w. IfSome w.short (λ k. (mark ≡ Some k) ⊎ MayRunOut client (world_of device.old) bytes.now k)) }
+    ensures refused { IfOk result (λ w. IsSome w.short ↔ (w.refusal ≡ Some no_memory)) }
 {
     let wrote = device.write(client, bytes, mark)?;
     if wrote.short {
@@ -77,7 +81,7 @@ fn write_data(
 fn write_ctl(device: &mut Draw, client: u64, bytes: &[u8]) -> Result<Written, Fault>
     requires { IsSome (lookup (world_of device.old).clients client) }
     ensures written { (mark : Option ℕ) → IsWritten mark (world_of device.old) result (world_of device.new) (λ m. chosen (write_ctl client (world_of device.old) bytes.now)) }
-    ensures whole { IfOk result (λ w. w.short ≡ None) }
+    ensures whole { IfOk result (λ w. (w.short ≡ None) × (w.refusal ≡ None)) }
 {
     match device.write_ctl(client, bytes) {
         Ok(()) => Ok(Written {
@@ -110,6 +114,7 @@ impl Session {
         ensures written { IsWritten mark (world_of device.old) result (world_of device.new) (λ m. file_written (device_for number) (world_of device.old) (node_of node.now) bytes.now m) }
         ensures cause { IfOk result (λ w. IfSome w.short (λ k. (is_kind Kind.Data (node_of node.now).kind ≡ true)
             × ((mark ≡ Some k) ⊎ MayRunOut (client number (node_of node.now).connection) (world_of device.old) bytes.now k))) }
+        ensures refused { IfOk result (λ w. IsSome w.short ↔ (w.refusal ≡ Some no_memory)) }
     {
         if is_kind(node, Kind::Ctl) {
             let client = self.client_of(device, number, node);
@@ -139,6 +144,7 @@ impl Session {
         requires few { length bytes.now < 2 ^ 32 }
         ensures answer { IsReply mark self.now (world_of device.old) result self.now (world_of device.new) (λ m. write_answer (device_for number) self.now (world_of device.old) tag fid bytes.now m) }
         ensures cause { IfOk result (λ a. IfSome a.short (λ k. IsCutWrite number self.now (world_of device.old) fid bytes.now mark k)) }
+        ensures refused { IfOk result (λ a. IsSome a.short → Refuses no_memory (r_of a.reply)) }
     {
         let Some(found) = self.fids.get(fid) else {
             return Err(Fault::Refused(UNKNOWN_FID));

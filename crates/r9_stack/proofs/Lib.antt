@@ -3,6 +3,7 @@ pub mod Carrying
 mod Changed
 mod Fillings
 pub mod Grids
+mod Groups
 mod Ordered
 pub mod Parts
 mod Pictures

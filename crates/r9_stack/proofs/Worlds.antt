@@ -1,6 +1,6 @@
 -- Worlds of kept images, through changes of one slot.
 use Rattle.std.proofs.Common.{◌≡◌, ◌∙◌, ℕ, ◌<◌, ◌^◌, ◌&&◌, Bool, true, false, List, [], ◌∷◌, ◌++◌, Option, Some, None, length, reverse, set, refl, sym, ap, subst, arith}
-use Rattle.std.specs.Prelude.{if◌then◌else◌, is_some}
+use Rattle.std.specs.Prelude.{if◌then◌else◌}
 use Rattle.std.proofs.lemmas.Bool.{false≢true}
 use Rattle.std.proofs.lemmas.List.{reverse-append, reverse-reverse}
 use Rattle.r9_geom.specs.declared.Point.{Point}
@@ -13,23 +13,15 @@ use Rattle.model_forest.specs.Numbers.{next_number, next_of}
 use Rattle.model_forest.specs.Stack.{seen}
 use Rattle.model_forest.specs.Steps.{after_image, new_image}
 use Rattle.model_forest.specs.View.{is_bare}
-use Rattle.model_forest.specs.World.{Image, with_image, IsForest, IsLive}
-use Rattle.model_forest.proofs.Steps.{IsForest-after_image}
+use Rattle.model_forest.specs.World.{Image, with_image, IsForest}
+use Rattle.model_forest.proofs.Steps.{IsForest-after_image, IsForest-nothing}
 use Rattle.r9_stack.specs.declared.kept.Kept.{Kept}
 use Rattle.r9_stack.specs.Images.{image_of, numbers_of, pixels_of, slot_at, world_of, IsTable}
 use Rattle.r9_stack.proofs.Tables.{image_is, last_free, slot_none, slot_past, world_of-push, world_of-set}
 
 -- the table without an image
 pub IsForest-none : IsForest (world_of [])
-IsForest-none = record {
-  images = λ i live. absurd (none i live);
-  windows = λ i live. absurd (none i live);
-  parents = λ i p live. absurd (none i live);
-  listed = λ i p live. absurd (none i live);
-}
-  where
-    none : (i : ℕ) → IsLive (world_of []) i → ⊥
-    none i live = false≢true (sym (ap is_some (slot_past [] i (omega arith))) ∙ live)
+IsForest-none = IsForest-nothing (world_of []) (λ n. slot_past [] n (omega arith))
 
 -- no image has the next number
 pub next_free : (slots : List (Option Kept)) (spare : List ℕ) → IsTable slots spare → world_of slots (next_number (numbers_of slots spare)) ≡ None

@@ -1,6 +1,7 @@
 //! Lists of windows, topmost first, and how they change.
 
 ghost use Rattle.std.specs.Prelude.{◌≡◌, ◌+◌, ◌<◌, ◌≤◌, ◌∷◌, [], length, map, vec_len, vec_capacity, IfOk};
+ghost use Rattle.std.specs.List.Sorted.{IsNonDecreasing};
 ghost use Rattle.model_forest.specs.Stack as stack;
 ghost use Rattle.model_forest.specs.Steps as steps;
 
@@ -10,29 +11,61 @@ use r9_info::ImageNo;
 use r9_memory::Memory;
 use std::alloc::Global;
 
-// Whether a window is one of these images.
-fn is_in(group: &[ImageNo], w: &Window) -> bool
-    ensures { result ≡ stack.is_in (map (λ i. i.0) group.now) w.now }
-{
-    group.iter().map(|i| i.0).any(|i| i == w.image)
+// The numbers of a group of images, among which a window is found by halves.
+#[derive(Drop)]
+struct Group {
+    // In ascending order.
+    numbers: Vec<u32>,
+    ghost ascending: { IsNonDecreasing numbers.items },
+}
+
+impl Group {
+    fn new(alloc: Global, images: &[ImageNo]) -> Result<Group, Memory>
+        ensures { IfOk result (λ group. stack.is_in group.numbers.items ≡ stack.is_in (map (λ i. i.0) images.now)) }
+    {
+        let mut numbers: Vec<u32> = images.iter().map(|i| i.0).collect(alloc)?;
+        numbers.sort_unstable();
+        Ok(Group { numbers })
+    }
+
+    // Whether a window is one of these images.
+    fn has(&self, w: &Window) -> bool
+        ensures { result ≡ stack.is_in self.now.numbers.items w.now }
+    {
+        self.numbers.binary_search(&w.image).is_ok()
+    }
+
+    fn raised(&self, alloc: Global, windows: &[Window]) -> Result<Vec<Window>, Memory>
+        ensures { IfOk result (λ list. list.items ≡ stack.raised self.now.numbers.items windows.now) }
+    {
+        let first = windows.iter().filter(|w| self.has(w)).copied();
+        let others = windows.iter().filter(|w| !self.has(w)).copied();
+        Ok(first.chain(others).collect(alloc)?)
+    }
+
+    fn lowered(&self, alloc: Global, windows: &[Window]) -> Result<Vec<Window>, Memory>
+        ensures { IfOk result (λ list. list.items ≡ stack.lowered self.now.numbers.items windows.now) }
+    {
+        let others = windows.iter().filter(|w| !self.has(w)).copied();
+        let last = windows.iter().filter(|w| self.has(w)).copied();
+        Ok(others.chain(last).collect(alloc)?)
+    }
 }
 
 /// The list with a group of images on top, in their order in it.
-pub fn raised(alloc: Global, windows: &[Window], group: &[ImageNo]) -> Result<Vec<Window>, Memory>
-    ensures { IfOk result (λ list. list.items ≡ stack.raised (map (λ i. i.0) group.now) windows.now) }
+pub fn raised(alloc: Global, windows: &[Window], images: &[ImageNo]) -> Result<Vec<Window>, Memory>
+    ensures { IfOk result (λ list. list.items ≡ stack.raised (map (λ i. i.0) images.now) windows.now) }
 {
-    let first = windows.iter().filter(|w| is_in(group, w)).copied();
-    let others = windows.iter().filter(|w| !is_in(group, w)).copied();
-    Ok(first.chain(others).collect(alloc)?)
+    let group = Group::new(alloc, images)?;
+    group.raised(alloc, windows)
 }
 
 /// The list with a group of images at the bottom, in their order in it.
-pub fn lowered(alloc: Global, windows: &[Window], group: &[ImageNo]) -> Result<Vec<Window>, Memory>
-    ensures { IfOk result (λ list. list.items ≡ stack.lowered (map (λ i. i.0) group.now) windows.now) }
+pub fn lowered(alloc: Global, windows: &[Window], images: &[ImageNo]) -> Result<Vec<Window>, Memory>
+    ensures { IfOk result (λ list. list.items ≡ stack.lowered (map (λ i. i.0) images.now) windows.now) }
 {
-    let group_last = windows.iter().filter(|w| is_in(group, w)).copied();
-    let others = windows.iter().filter(|w| !is_in(group, w)).copied();
-    Ok(others.chain(group_last).collect(alloc)?)
+    let group = Group::new(alloc, images)?;
+    group.lowered(alloc, windows)
 }
 
 /// Takes an image out of the list.

@@ -159,6 +159,3 @@ fn place_of(p: Point) -> usize
 {
     (32 * distance(0, p.y) + distance(0, p.x)) as usize
 }
-
-#[cfg(test)]
-mod tests;

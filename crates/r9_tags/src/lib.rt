@@ -4,6 +4,3 @@
 mod waiting;
 
 pub use waiting::{LIMIT, ParkFault, Waiting};
-
-#[cfg(test)]
-mod tests;

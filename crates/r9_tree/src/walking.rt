@@ -173,51 +173,57 @@ pub(crate) fn window_at(node: &Node, serial: u32) -> Node
     }
 }
 
+const IN_DEVICE: [Kind; 7] = [
+    Kind::Draw,
+    Kind::Kbdin,
+    Kind::Mousein,
+    Kind::Screen,
+    Kind::Snarf,
+    Kind::DeviceWctl,
+    Kind::Wsys,
+];
+
+const IN_WINDOW: [Kind; 13] = [
+    Kind::Cons,
+    Kind::Consctl,
+    Kind::Draw,
+    Kind::Label,
+    Kind::Mouse,
+    Kind::Screen,
+    Kind::Snarf,
+    Kind::Text,
+    Kind::Wctl,
+    Kind::Winid,
+    Kind::Winname,
+    Kind::Picture,
+    Kind::Wsys,
+];
+
+const IN_LISTED: [Kind; 11] = [
+    Kind::Cons,
+    Kind::Consctl,
+    Kind::Label,
+    Kind::Mouse,
+    Kind::Screen,
+    Kind::Snarf,
+    Kind::Text,
+    Kind::Wctl,
+    Kind::Winid,
+    Kind::Winname,
+    Kind::Picture,
+];
+
 /// The kinds of the files that a directory always has.
 #[tactic(auto, unfolding(model_tree::specs::Tree::kinds_in))]
 pub(crate) fn kinds_in(kind: Kind) -> &'static [Kind]
     ensures { result.now ≡ kinds_in kind }
 {
     match kind {
-        Kind::Device => &[
-            Kind::Draw,
-            Kind::Kbdin,
-            Kind::Mousein,
-            Kind::Screen,
-            Kind::Snarf,
-            Kind::DeviceWctl,
-            Kind::Wsys,
-        ],
+        Kind::Device => &IN_DEVICE,
         Kind::Draw => &[Kind::New],
         Kind::Connection => &[Kind::Ctl, Kind::Data, Kind::Refresh],
-        Kind::Window => &[
-            Kind::Cons,
-            Kind::Consctl,
-            Kind::Draw,
-            Kind::Label,
-            Kind::Mouse,
-            Kind::Screen,
-            Kind::Snarf,
-            Kind::Text,
-            Kind::Wctl,
-            Kind::Winid,
-            Kind::Winname,
-            Kind::Picture,
-            Kind::Wsys,
-        ],
-        Kind::Listed => &[
-            Kind::Cons,
-            Kind::Consctl,
-            Kind::Label,
-            Kind::Mouse,
-            Kind::Screen,
-            Kind::Snarf,
-            Kind::Text,
-            Kind::Wctl,
-            Kind::Winid,
-            Kind::Winname,
-            Kind::Picture,
-        ],
+        Kind::Window => &IN_WINDOW,
+        Kind::Listed => &IN_LISTED,
         Kind::New
         | Kind::Ctl
         | Kind::Data

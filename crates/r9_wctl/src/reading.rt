@@ -1,6 +1,6 @@
 //! Reading a command.
 
-ghost use Rattle.std.specs.Prelude.{◌≡◌, ◌≤◌, length, map, ◌+◌, IfOk, IfErr, IfSome, Some, None, ◌∷◌};
+ghost use Rattle.std.specs.Prelude.{◌≡◌, ◌≤◌, ◌<◌, length, map, ◌+◌, IfOk, IfErr, IfSome, Some, None, ◌∷◌};
 ghost use Rattle.std.specs.Option.{option_map};
 ghost use Rattle.std.specs.List.{list_any};
 ghost use Rattle.model_wctl.specs.Words.{words_of, line_of, without_last_newline, is_newline};
@@ -126,6 +126,7 @@ fn command_in(alloc: Global, with_id: bool, words: &[&[u8]]) -> Result<Option<Co
 pub fn read_wctl(alloc: Global, text: &[u8], with_id: bool) -> Result<Command, WctlFault>
     ensures command { IfOk result (λ c. command_of with_id text.now ≡ Some (command_of_code c)) }
     ensures bad { IfErr result (λ fault. IfBad fault (command_of with_id text.now ≡ None)) }
+    ensures long { 1024 < length text.now → result ≡ Err WctlFault.Bad }
 {
     if text.len() > LONGEST {
         return Err(WctlFault::Bad);

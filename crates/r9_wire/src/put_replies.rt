@@ -22,6 +22,16 @@ pub struct Body {
     pub bytes: Bytes,
 }
 
+impl Body {
+    pub(crate) fn new(kind: u8, tag: u16, bytes: Bytes) -> Self
+        ensures kind { result.kind ≡ kind }
+        ensures tag { result.tag ≡ tag }
+        ensures bytes { result.bytes ≡ bytes }
+    {
+        Body { kind, tag, bytes }
+    }
+}
+
 /// msize[4] version[s]
 fn version_body(alloc: Global, msize: u32, version: &[u8]) -> Result<Bytes, Memory>
     requires { length version.now < 2 ^ 16 }
@@ -121,85 +131,23 @@ pub fn reply_body(alloc: Global, m: &Rmsg) -> Result<Body, Memory>
             tag,
             msize,
             version,
-        } => {
-            let bytes = version_body(alloc, *msize, version.as_slice())?;
-            Ok(Body {
-                kind: 101,
-                tag: *tag,
-                bytes,
-            })
-        }
-        Rmsg::Attach { tag, qid } => {
-            let bytes = qid_body(alloc, *qid)?;
-            Ok(Body {
-                kind: 105,
-                tag: *tag,
-                bytes,
-            })
-        }
-        Rmsg::Error { tag, ename } => {
-            let bytes = sized_body(alloc, ename.as_slice())?;
-            Ok(Body {
-                kind: 107,
-                tag: *tag,
-                bytes,
-            })
-        }
-        Rmsg::Flush { tag } => {
-            let bytes = Bytes::new(alloc);
-            Ok(Body {
-                kind: 109,
-                tag: *tag,
-                bytes,
-            })
-        }
-        Rmsg::Walk { tag, qids } => {
-            let bytes = qids_body(alloc, qids)?;
-            Ok(Body {
-                kind: 111,
-                tag: *tag,
-                bytes,
-            })
-        }
-        Rmsg::Open { tag, qid, iounit } => {
-            let bytes = open_body(alloc, *qid, *iounit)?;
-            Ok(Body {
-                kind: 113,
-                tag: *tag,
-                bytes,
-            })
-        }
-        Rmsg::Read { tag, bytes } => {
-            let bytes = read_body(alloc, bytes.as_slice())?;
-            Ok(Body {
-                kind: 117,
-                tag: *tag,
-                bytes,
-            })
-        }
-        Rmsg::Write { tag, count } => {
-            let bytes = count_body(alloc, *count)?;
-            Ok(Body {
-                kind: 119,
-                tag: *tag,
-                bytes,
-            })
-        }
-        Rmsg::Clunk { tag } => {
-            let bytes = Bytes::new(alloc);
-            Ok(Body {
-                kind: 121,
-                tag: *tag,
-                bytes,
-            })
-        }
-        Rmsg::Stat { tag, stat } => {
-            let bytes = stat_reply_body(alloc, stat)?;
-            Ok(Body {
-                kind: 125,
-                tag: *tag,
-                bytes,
-            })
-        }
+        } => Ok(Body::new(101, *tag, version_body(alloc, *msize, version.as_slice())?)),
+        Rmsg::Attach { tag, qid } => Ok(Body::new(105, *tag, qid_body(alloc, *qid)?)),
+        Rmsg::Error { tag, ename } => Ok(Body::new(
+            107,
+            *tag,
+            sized_body(alloc, ename.as_slice())?,
+        )),
+        Rmsg::Flush { tag } => Ok(Body::new(109, *tag, Bytes::new(alloc))),
+        Rmsg::Walk { tag, qids } => Ok(Body::new(111, *tag, qids_body(alloc, qids)?)),
+        Rmsg::Open { tag, qid, iounit } => Ok(Body::new(
+            113,
+            *tag,
+            open_body(alloc, *qid, *iounit)?,
+        )),
+        Rmsg::Read { tag, bytes } => Ok(Body::new(117, *tag, read_body(alloc, bytes.as_slice())?)),
+        Rmsg::Write { tag, count } => Ok(Body::new(119, *tag, count_body(alloc, *count)?)),
+        Rmsg::Clunk { tag } => Ok(Body::new(121, *tag, Bytes::new(alloc))),
+        Rmsg::Stat { tag, stat } => Ok(Body::new(125, *tag, stat_reply_body(alloc, stat)?)),
     }
 }

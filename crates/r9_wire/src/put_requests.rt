@@ -164,146 +164,76 @@ pub fn request_body(alloc: Global, m: &Tmsg) -> Result<Body, Memory>
     ensures spelled { IfOk result (λ b. spelling_of_t (t_of m.now) ≡ message b.kind b.tag b.bytes) }
     ensures short { IfOk result (λ b. 7 + length b.bytes < 2 ^ 32) }
 {
+    // A table with one row for each kind, which is long by the names of the fields alone.
     match m {
         Tmsg::Version {
             tag,
             msize,
             version,
-        } => {
-            let bytes = version_body(alloc, *msize, version.as_slice())?;
-            Ok(Body {
-                kind: 100,
-                tag: *tag,
-                bytes,
-            })
-        }
+        } => Ok(Body::new(100, *tag, version_body(alloc, *msize, version.as_slice())?)),
         Tmsg::Auth {
             tag,
             afid,
             uname,
             aname,
-        } => {
-            let bytes = auth_body(alloc, *afid, uname.as_slice(), aname.as_slice())?;
-            Ok(Body {
-                kind: 102,
-                tag: *tag,
-                bytes,
-            })
-        }
+        } => Ok(Body::new(
+            102,
+            *tag,
+            auth_body(alloc, *afid, uname.as_slice(), aname.as_slice())?,
+        )),
         Tmsg::Attach {
             tag,
             fid,
             afid,
             uname,
             aname,
-        } => {
-            let bytes = attach_body(alloc, *fid, *afid, uname.as_slice(), aname.as_slice())?;
-            Ok(Body {
-                kind: 104,
-                tag: *tag,
-                bytes,
-            })
-        }
-        Tmsg::Flush { tag, oldtag } => {
-            let bytes = flush_body(alloc, *oldtag)?;
-            Ok(Body {
-                kind: 108,
-                tag: *tag,
-                bytes,
-            })
-        }
+        } => Ok(Body::new(
+            104,
+            *tag,
+            attach_body(alloc, *fid, *afid, uname.as_slice(), aname.as_slice())?,
+        )),
+        Tmsg::Flush { tag, oldtag } => Ok(Body::new(108, *tag, flush_body(alloc, *oldtag)?)),
         Tmsg::Walk {
             tag,
             fid,
             newfid,
             names,
-        } => {
-            let bytes = walk_body(alloc, *fid, *newfid, names)?;
-            Ok(Body {
-                kind: 110,
-                tag: *tag,
-                bytes,
-            })
-        }
-        Tmsg::Open { tag, fid, mode } => {
-            let bytes = open_body(alloc, *fid, *mode)?;
-            Ok(Body {
-                kind: 112,
-                tag: *tag,
-                bytes,
-            })
-        }
+        } => Ok(Body::new(110, *tag, walk_body(alloc, *fid, *newfid, names)?)),
+        Tmsg::Open { tag, fid, mode } => Ok(Body::new(112, *tag, open_body(alloc, *fid, *mode)?)),
         Tmsg::Create {
             tag,
             fid,
             name,
             perm,
             mode,
-        } => {
-            let bytes = create_body(alloc, *fid, name.as_slice(), *perm, *mode)?;
-            Ok(Body {
-                kind: 114,
-                tag: *tag,
-                bytes,
-            })
-        }
+        } => Ok(Body::new(
+            114,
+            *tag,
+            create_body(alloc, *fid, name.as_slice(), *perm, *mode)?,
+        )),
         Tmsg::Read {
             tag,
             fid,
             offset,
             count,
-        } => {
-            let bytes = read_body(alloc, *fid, *offset, *count)?;
-            Ok(Body {
-                kind: 116,
-                tag: *tag,
-                bytes,
-            })
-        }
+        } => Ok(Body::new(116, *tag, read_body(alloc, *fid, *offset, *count)?)),
         Tmsg::Write {
             tag,
             fid,
             offset,
             bytes,
-        } => {
-            let bytes = write_body(alloc, *fid, *offset, bytes.as_slice())?;
-            Ok(Body {
-                kind: 118,
-                tag: *tag,
-                bytes,
-            })
-        }
-        Tmsg::Clunk { tag, fid } => {
-            let bytes = fid_body(alloc, *fid)?;
-            Ok(Body {
-                kind: 120,
-                tag: *tag,
-                bytes,
-            })
-        }
-        Tmsg::Remove { tag, fid } => {
-            let bytes = fid_body(alloc, *fid)?;
-            Ok(Body {
-                kind: 122,
-                tag: *tag,
-                bytes,
-            })
-        }
-        Tmsg::Stat { tag, fid } => {
-            let bytes = fid_body(alloc, *fid)?;
-            Ok(Body {
-                kind: 124,
-                tag: *tag,
-                bytes,
-            })
-        }
-        Tmsg::Wstat { tag, fid, stat } => {
-            let bytes = wstat_body(alloc, *fid, stat.as_slice())?;
-            Ok(Body {
-                kind: 126,
-                tag: *tag,
-                bytes,
-            })
-        }
+        } => Ok(Body::new(
+            118,
+            *tag,
+            write_body(alloc, *fid, *offset, bytes.as_slice())?,
+        )),
+        Tmsg::Clunk { tag, fid } => Ok(Body::new(120, *tag, fid_body(alloc, *fid)?)),
+        Tmsg::Remove { tag, fid } => Ok(Body::new(122, *tag, fid_body(alloc, *fid)?)),
+        Tmsg::Stat { tag, fid } => Ok(Body::new(124, *tag, fid_body(alloc, *fid)?)),
+        Tmsg::Wstat { tag, fid, stat } => Ok(Body::new(
+            126,
+            *tag,
+            wstat_body(alloc, *fid, stat.as_slice())?,
+        )),
     }
 }

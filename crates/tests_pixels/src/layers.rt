@@ -76,6 +76,21 @@ fn raise(forest: &mut Forest, i: ImageNo) -> Result<(), Fail>
     Ok(())
 }
 
+// Lowers one window.
+fn lower(forest: &mut Forest, i: ImageNo) -> Result<(), Fail>
+    requires live { IsLive (world forest.old) i.0 }
+    ensures kept { (j : ℕ) → IsLive (world forest.old) j → IsLive (world forest.new) j }
+{
+    forest.keeps();
+    if forest.info(i).parent.is_none() {
+        return Err("no window")?;
+    }
+    let Ok(()) = forest.lower(&[i]) else {
+        return Err("memory")?;
+    };
+    Ok(())
+}
+
 // Moves a window on its parent.
 fn move_to(forest: &mut Forest, i: ImageNo, min: Point, corner: Point) -> Result<(), Fail>
     requires live { IsLive (world forest.old) i.0 }
@@ -315,7 +330,7 @@ fn a_number_comes_back(rt: HostRuntime) -> Result<(), Fail> {
 }
 
 #[test]
-fn a_window_is_raised_and_moved(rt: HostRuntime) -> Result<(), Fail> {
+fn a_window_is_raised_moved_and_lowered(rt: HostRuntime) -> Result<(), Fail> {
     let mut forest = Forest::new(rt.alloc());
     let stage = staged(&mut forest)?;
     let (screen, all) = (stage.screen, rect(0, 0, 6, 1));
@@ -328,6 +343,9 @@ fn a_window_is_raised_and_moved(rt: HostRuntime) -> Result<(), Fail> {
     move_to(&mut forest, stage.below, ORIGIN, Point { x: 4, y: 0 })?;
     let shown = rows(&forest, screen, all)?;
     assert_eq!(rt; shown.as_slice(), [1, 9, 3, 3, 2, 2].as_slice());
+    lower(&mut forest, stage.below)?;
+    let shown = rows(&forest, screen, all)?;
+    assert_eq!(rt; shown.as_slice(), [1, 9, 3, 3, 3, 2].as_slice());
     Ok(())
 }
 

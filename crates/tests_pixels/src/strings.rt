@@ -57,7 +57,7 @@ fn draw(forest: &mut Forest, font: &Font, lettering: &Lettering) -> Result<(), F
 // Draws two characters on a square, perhaps on paper of 100, with the pen at (10, 20), and compares the rows at the edges
 // of what they cover. `bare` is what shows between them. The ink of 200 has just the points that they need.
 fn draws(alloc: Global, on_paper: bool, bare: u8) -> Result<bool, Fail> {
-    let mut font = Font::new(alloc, 1, 6)?;
+    let mut font = Font::new(alloc, 1, 6);
     let Ok(()) = font.set(0, LETTER) else {
         return Err("character")?;
     };

@@ -1,9 +1,11 @@
-//! Tests of the mouse file, the console and the window commands, through their public calls.
+//! Tests of the mouse file, the console the window commands and the window manager, through their public calls.
 #![tactic(auto)]
 
 #[cfg(test)]
 mod commands;
 #[cfg(test)]
 mod console;
+#[cfg(test)]
+mod manager;
 #[cfg(test)]
 mod mouse;

@@ -1,3 +1,4 @@
+use Rattle.model_images.proofs.Complete.{free_id-complete}
 use Rattle.model_images.proofs.Freed.{free_id-frees, free_id-others}
 use Rattle.model_images.proofs.Order.{free_id-order, free_id-rest}
 use Rattle.model_images.proofs.free_id_frees.Goals as goal
@@ -13,3 +14,9 @@ returns-clause-order c = free_id-order
 
 pub returns-clause-rest : goal.returns-clause-rest
 returns-clause-rest c = free_id-rest
+
+pub returns-clause-complete : goal.returns-clause-complete
+returns-clause-complete c = λ book client id freed finds e. (free_id-complete book client id freed finds e).0
+
+pub returns-clause-finds : goal.returns-clause-finds
+returns-clause-finds c = λ book client id freed finds e. (free_id-complete book client id freed finds e).1

@@ -1,3 +1,4 @@
+use Rattle.model_images.proofs.Complete.{leave-complete}
 use Rattle.model_images.proofs.Freed.{leave-frees, leave-others}
 use Rattle.model_images.proofs.Order.{leave-order, leave-rest}
 use Rattle.model_images.proofs.leave_frees.Goals as goal
@@ -13,3 +14,9 @@ returns-clause-order c = leave-order
 
 pub returns-clause-rest : goal.returns-clause-rest
 returns-clause-rest c = leave-rest
+
+pub returns-clause-complete : goal.returns-clause-complete
+returns-clause-complete c = λ book client finds. (leave-complete book client finds).0
+
+pub returns-clause-finds : goal.returns-clause-finds
+returns-clause-finds c = λ book client finds. (leave-complete book client finds).1

@@ -1,19 +1,16 @@
-use Rattle.std.proofs.Common.{sym}
-use Rattle.model_imgfile.specs.ImageFile.{file_header}
-use Rattle.r9_imgfile.proofs.PartLemmas.{part-append}
+use Rattle.r9_imgfile.proofs.Bands.{part_is}
 use Rattle.r9_imgfile.proofs.part.Goals as goal
 
 pub returns : goal.returns
-returns c =
+returns c pixel is =
     rw (
       c.in_ok-push_all.ensures.ok,
-      c.slice_of.ensures,
-      c.len-2.ensures,
-      c.saturating_sub-behind.ensures,
+      c.slice_of-2.ensures,
       c.len.ensures,
+      c.before_in_row-before.ensures,
       c.in_ok-out.ensures,
-      c.slice_of-front.ensures,
+      c.slice_of.ensures,
       c.as_slice.ensures,
       c.in_ok-head.ensures,
     )
-    (sym (part-append c.args.offset c.args.count (file_header c.args.info.now.chan c.args.info.now.r) c.args.rows.now))
+    (part_is c.args.info.now.chan c.args.info.now.r c.args.rows.now c.args.offset c.args.count pixel c.requires.near is)

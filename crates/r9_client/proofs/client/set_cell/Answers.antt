@@ -1,9 +1,12 @@
-use Rattle.std.proofs.Common.{◌≡◌, true, rules, Some, IsSome, sym, subst, ◌∙◌}
-use Rattle.model_text.specs.Map.{lookup}
+use Rattle.std.proofs.Common.{◌≡◌, true, rules, Some, IsSome, sym, ap, subst, ◌∙◌}
+use Rattle.r9_chan.specs.Op.{number}
+use Rattle.model_text.specs.Map.{lookup, with}
+use Rattle.model_map.proofs.Keys.{with-written}
+use Rattle.model_map.proofs.Maps.{with-same}
 use Rattle.model_fonts.specs.Font.{has_index}
 use Rattle.model_draw.specs.World.{Client}
 use Rattle.r9_client.specs.Fonts.{font_at}
-use Rattle.r9_client.proofs.Owners.{owner_is}
+use Rattle.r9_client.proofs.Owners.{on_err, owner_is}
 use Rattle.r9_client.proofs.client.set_cell.Goals as goal
 
 pub set_character-requires-clause-font : goal.set_character-requires-clause-font
@@ -17,3 +20,13 @@ set_character-requires-clause-index c =
     let found : lookup c.args.clients.now.entries c.args.client ≡ Some c.in-Some.owner.now = search rules in
     let is = c.owner.view_is ∙ sym (owner_is c.args.clients.now.entries c.args.client c.in-Some.owner.now found) in
     subst (λ (o : Client). has_index (font_at o.fonts c.args.id) c.args.index ≡ true) (sym is) c.requires.index
+
+pub returns-in_err-set_character-clause-kept : goal.returns-in_err-set_character-clause-kept
+returns-in_err-set_character-clause-kept c =
+    let clients = c.args.clients.now.entries in
+    let inside = c.owner.inside in
+    let found : lookup clients c.args.client ≡ Some c.in-Some.owner.now = search rules in
+    let left : Client = record { op = number inside.op; described = inside.described; pending = inside.pending; sizes = inside.sizes.entries; fonts = c.set_character.new.fonts.entries } in
+    let kept : left ≡ c.in-Some.owner.now = (λ i. record left { fonts = c.in_err-set_character.ensures.kept i }) ∙ c.owner.view_is in
+    on_err c.from_residual.result
+    (with-written clients _ c.args.client left (c.get_mut.follows.holds left).0 ∙ ap (λ (o : Client). with clients c.args.client o) kept ∙ with-same clients c.args.client c.in-Some.owner.now found)

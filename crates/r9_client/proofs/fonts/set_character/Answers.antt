@@ -1,10 +1,12 @@
-use Rattle.std.proofs.Common.{◌≡◌, rules, Some, true, subst}
+use Rattle.std.proofs.Common.{◌≡◌, rules, Some, true, ap, subst, ◌∙◌}
 use Rattle.std.specs.Map.{keys_of}
 use Rattle.model_text.specs.Map.{lookup, with}
 use Rattle.model_map.proofs.Keys.{with-written}
+use Rattle.model_map.proofs.Maps.{with-same}
 use Rattle.model_map.proofs.Ascending.{ascend-from_sorted}
 use Rattle.model_fonts.specs.Font.{Font, has_index}
 use Rattle.r9_client.proofs.Characters.{font_is, character_written}
+use Rattle.r9_client.proofs.Owners.{on_err_too, on_ok_too}
 use Rattle.r9_client.proofs.fonts.set_character.Goals as goal
 
 pub set-requires-clause-index : goal.set-requires-clause-index
@@ -12,9 +14,20 @@ set-requires-clause-index c =
     let found : lookup c.args.fonts.now.entries c.args.id ≡ Some c.in-Some.font.now = search rules in
     subst (λ (f : Font). has_index f c.args.index ≡ true) (font_is c.args.fonts.now.entries c.args.id c.in-Some.font.now found) c.requires.index
 
-pub returns : goal.returns
-returns c =
+pub returns-clause-set : goal.returns-clause-set
+returns-clause-set c =
     let fonts = c.args.fonts.now.entries in
     let found : lookup fonts c.args.id ≡ Some c.in-Some.font.now = search rules in
     let written : (c.get_mut.follows.lender c.set.new.self).entries ≡ with fonts c.args.id c.set.new.self = with-written fonts _ c.args.id c.set.new.self (c.get_mut.follows.holds c.set.new.self).0 in
-    character_written fonts _ c.args.id c.args.index c.args.cell c.in-Some.font.now c.set.new.self (ascend-from_sorted (keys_of fonts) c.get_mut.ensures.ordered) found c.set.ensures written
+    on_ok_too c.set.result
+    (λ set. character_written fonts _ c.args.id c.args.index c.args.cell c.in-Some.font.now c.set.new.self (ascend-from_sorted (keys_of fonts) c.get_mut.ensures.ordered) found set written)
+    c.set.ensures.set
+
+pub returns-clause-kept : goal.returns-clause-kept
+returns-clause-kept c =
+    let fonts = c.args.fonts.now.entries in
+    let found : lookup fonts c.args.id ≡ Some c.in-Some.font.now = search rules in
+    let written : (c.get_mut.follows.lender c.set.new.self).entries ≡ with fonts c.args.id c.set.new.self = with-written fonts _ c.args.id c.set.new.self (c.get_mut.follows.holds c.set.new.self).0 in
+    on_err_too c.set.result
+    (λ kept. written ∙ ap (λ (f : Font). with fonts c.args.id f) kept ∙ with-same fonts c.args.id c.in-Some.font.now found)
+    c.set.ensures.kept

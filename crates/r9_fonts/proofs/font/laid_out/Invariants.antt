@@ -13,7 +13,7 @@ invariant-loop-index l = record {
   pen : (n : ℕ) → IsNearBy n l.fn.p → IsNearBy (n + 255 * l.index-index) l.pen;
   source : (n : ℕ) → IsNearBy n l.fn.sp → IsNearBy (n + 255 * l.index-index) l.source;
   line : l.pen.y ≡ l.fn.p.y;
-  near : (n m : ℕ) → 3 * n + 2 ^ 25 ≤ m → IsNearBy n l.fn.p → IsNearBy n l.fn.sp → AreWithin n l.cells → All (IsPieceNearBy m) l.pieces.items;
-  laid : l.pieces.items ++ pieces l.ascent l.pen l.source (from l.cells l.indices l.index-index) ≡ pieces l.ascent l.fn.p l.fn.sp (map (cell l.cells) l.indices);
-  end : advanced l.pen (sum_by (λ (c : Cell). c.width) (from l.cells l.indices l.index-index)) ≡ advanced l.fn.p (sum_by (λ (c : Cell). c.width) (map (cell l.cells) l.indices));
+  near : (n m : ℕ) → 3 * n + 2 ^ 25 ≤ m → IsNearBy n l.fn.p → IsNearBy n l.fn.sp → AreWithin n l.font.cells → All (IsPieceNearBy m) l.pieces.items;
+  laid : l.pieces.items ++ pieces l.font.ascent l.pen l.source (from l.font.cells l.indices l.index-index) ≡ pieces l.font.ascent l.fn.p l.fn.sp (map (cell l.font.cells) l.indices);
+  end : advanced l.pen (sum_by (λ (c : Cell). c.width) (from l.font.cells l.indices l.index-index)) ≡ advanced l.fn.p (sum_by (λ (c : Cell). c.width) (map (cell l.font.cells) l.indices));
 }

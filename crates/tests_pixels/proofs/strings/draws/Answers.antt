@@ -32,5 +32,5 @@ draw-requires-clause-ready c =
 
 pub draw-requires-clause-near : goal.draw-requires-clause-near
 draw-requires-clause-near c =
-    let empty = subst (λ (f : Font). AreWithin (2 ^ 32) f.cells) (sym c.in_ok-font.ensures) (within-new (2 ^ 32) 1 6) in
+    let empty = subst (λ (f : Font). AreWithin (2 ^ 32) f.cells) (sym c.new-font.ensures) (within-new (2 ^ 32) 1 6) in
     within-with (2 ^ 32) _ _ 0 _ (search rules) empty c.in-Ok.ensures.ok

@@ -30,7 +30,10 @@ invariant_of-self-2-clause-kept c =
     let before = c.args.self.now in
     let freed : Freed = record { book = c.free_screen.new.self.book; gone = c.in-Ok.gone } in
     kept-after (world before.forest) (world c.release.new.forest) before.book.book freed before.kept c.keeps.ensures
-    (c.free_screen_frees.ensures.freed before.book.book c.args.client c.args.id freed before.kept.screens c.in-Ok.ensures.freed)
+    (c.free_screen_frees.ensures.freed before.book.book c.args.client c.args.id freed before.kept.screens c.in-Ok.ensures.freed) (
+      c.free_screen_frees.ensures.complete before.book.book c.args.client c.args.id freed before.kept.finds c.in-Ok.ensures.freed,
+      c.free_screen_frees.ensures.finds before.book.book c.args.client c.args.id freed before.kept.finds c.in-Ok.ensures.freed,
+    )
     (c.free_screen_frees.ensures.order before.book.book c.args.client c.args.id freed c.in-Ok.ensures.freed)
     (c.free_screen_frees.ensures.rest before.book.book c.args.client c.args.id freed c.in-Ok.ensures.freed)
     (c.free_screen_frees.ensures.others before.book.book c.args.client c.args.id freed c.in-Ok.ensures.freed 0 0 (not_owner c.args.client (not_manager before.clients.entries c.args.client c.requires.live before.manager)))

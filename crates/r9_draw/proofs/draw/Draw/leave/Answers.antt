@@ -11,6 +11,7 @@ use Rattle.r9_draw.specs.Gone.{CanRelease, images_without, numbers_without}
 use Rattle.r9_draw.proofs.Kept.{can-release}
 use Rattle.r9_draw.proofs.Worlds.{kept-after, left-world}
 use Rattle.r9_draw.proofs.Manager.{manager-without, not_manager, not_owner}
+use Rattle.model_images.proofs.Complete.{LeavesNone}
 use Rattle.model_images.proofs.Spare.{GivesBack, leave-gives}
 use Rattle.r9_draw.proofs.Spare.{spare-freed}
 use Rattle.model_images.specs.Ties.{HasTies}
@@ -33,6 +34,8 @@ invariant_of-self-2-clause-kept c =
     let shown : image_id freed.book 0 0 ≡ image_id before.book.book 0 0 =
     ap (λ (f : Freed). image_id f.book 0 0) (sym c.in_ok-gone.ensures.left) ∙ c.leave_frees.ensures.others before.book.book c.args.client 0 0 (not_owner c.args.client (not_manager before.clients.entries c.args.client c.requires before.manager)) in
     kept-after (world before.forest) (world c.release.new.forest) before.book.book freed before.kept c.keeps.ensures is
+    (subst (LeavesNone before.book.book) c.in_ok-gone.ensures.left
+    (c.leave_frees.ensures.complete before.book.book c.args.client before.kept.finds, c.leave_frees.ensures.finds before.book.book c.args.client before.kept.finds))
     (subst (λ (f : Freed). IsInOrder before.book.book [] f.gone) c.in_ok-gone.ensures.left (c.leave_frees.ensures.order before.book.book c.args.client))
     (subst (KeepsRest before.book.book) c.in_ok-gone.ensures.left (c.leave_frees.ensures.rest before.book.book c.args.client)) shown
     (c.release.ensures.world ∙ ap (λ (gone : List Thing). fold images_without (world before.forest) gone) c.as_slice.ensures)

@@ -2,7 +2,7 @@ use Rattle.std.proofs.Common.{ℕ, List, ◌^◌, ap, ◌∙◌, arith}
 use Rattle.model_text.specs.Map.{lookup}
 use Rattle.model_draw.specs.World.{Client}
 use Rattle.r9_layers.specs.Forest.{world}
-use Rattle.r9_draw.proofs.Kept.{kept-drawn}
+use Rattle.r9_draw.proofs.Kept.{kept-drew}
 use Rattle.r9_draw.proofs.Manager.{manager-with}
 use Rattle.r9_draw.proofs.Rects.{point-wider, wider}
 use Rattle.r9_draw.proofs.draw.Draw.load_cell.Goals as goal
@@ -16,9 +16,9 @@ draw_unmasked-requires-clause-source_near c = point-wider (2 ^ 32) (2 ^ 34) c.ar
 pub invariant_of-self-2-clause-kept : goal.invariant_of-self-2-clause-kept
 invariant_of-self-2-clause-kept c =
     let before = c.args.self.now in
-    kept-drawn (world before.forest) (world c.draw_unmasked.new.self) before.book.book _ before.kept c.requires.ready.cache c.in_ok-draw_unmasked.ensures.ok
+    kept-drew c.draw_unmasked.result (world before.forest) (world c.room.new.self) (world c.draw_unmasked.new.self) before.book.book _ before.kept c.requires.ready.cache c.in_ok-room.ensures.same.world c.draw_unmasked.ensures.ok c.draw_unmasked.ensures.err
 
 pub invariant_of-self-2-clause-manager : goal.invariant_of-self-2-clause-manager
 invariant_of-self-2-clause-manager c =
     let before = c.args.self.now in
-    ap (λ (es : List (ℕ × Client)). lookup es 0) c.set_cell.ensures ∙ manager-with before.clients.entries c.args.client _ c.requires.live before.manager
+    ap (λ (es : List (ℕ × Client)). lookup es 0) c.in_ok-set_cell.ensures.ok ∙ manager-with before.clients.entries c.args.client _ c.requires.live before.manager

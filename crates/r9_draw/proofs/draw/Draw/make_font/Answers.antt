@@ -6,7 +6,7 @@ use Rattle.r9_draw.proofs.draw.Draw.make_font.Goals as goal
 
 pub put_font-requires-clause-near : goal.put_font-requires-clause-near
 put_font-requires-clause-near c =
-    subst (λ (font : Font). AreWithin (2 ^ 32) font.cells) (sym c.in_ok-font.ensures) (within-new (2 ^ 32) c.args.n c.args.ascent)
+    subst (λ (font : Font). AreWithin (2 ^ 32) font.cells) (sym c.new-font.ensures) (within-new (2 ^ 32) c.args.n c.args.ascent)
 
 pub invariant_of-self-clause-manager : goal.invariant_of-self-clause-manager
 invariant_of-self-clause-manager c =

@@ -1,4 +1,4 @@
-use Rattle.std.proofs.Common.{◌≡◌, false, ℕ, drop, refl, sym, ap, ◌∙◌, arith, length-take, Err}
+use Rattle.std.proofs.Common.{◌≡◌, false, ℕ, drop, sym, ap, ◌∙◌, arith, length-take, Err}
 use Rattle.model_world.specs.Session.{Kept}
 use Rattle.model_world.specs.Reading.{given}
 use Rattle.r9_files.proofs.Listings.{behind, fitting-le, is_given, is_stuck, given-le, left_then, given_within, given_stuck, not_stuck, some_fit, given_more}
@@ -9,7 +9,7 @@ pub returns-then-not-is_empty-clause-refused : goal.returns-then-not-is_empty-cl
 returns-then-not-is_empty-clause-refused c =
     let items = c.self.inside.stats.items in
     let stuck = given_stuck items c.deref.result.now c.self.inside.given c.self.inside.next c.args.count c.fitting-fit.result _ c.deref.ensures.value c.fitting-fit.ensures c.is_empty.ensures c.if-fit-eq0.true c.if-not-is_empty.true in
-    λ n e. (ap (λ (kept : Kept). given kept c.args.count) (sym c.self.view_is) ∙ stuck ∙ ap (λ (m : ℕ). Err m) (let same : 46 ≡ n = cc e in same), refl)
+    λ n e. ap (λ (kept : Kept). given kept c.args.count) (sym c.self.view_is) ∙ stuck ∙ ap (λ (m : ℕ). Err m) (let same : 46 ≡ n = cc e in same)
 
 pub slice_bounds-joined-end : goal.slice_bounds-joined-end
 slice_bounds-joined-end c =

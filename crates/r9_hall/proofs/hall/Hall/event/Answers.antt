@@ -2,15 +2,16 @@ use Rattle.std.proofs.Common.{◌≡◌, ℕ, Bool, true, false, List, [], ◌�
 use Rattle.r9_event.specs.declared.event.Event.{Event}
 use Rattle.r9_event.specs.declared.event.Entry.{Entry}
 use Rattle.model_event.specs.Journal.{events_of}
-use Rattle.model_event.specs.Legal.{AllowedTo, roll_after, roll_of}
+use Rattle.model_event.specs.Legal.{Allowed, roll_after, roll_of}
 use Rattle.model_world.specs.Cut.{IsCutEvent}
 use Rattle.model_world.specs.Links.{IsNext}
 use Rattle.model_world.specs.Replay.{marked, step, world_at}
 use Rattle.model_world.specs.World.{World}
+use Rattle.model_world.proofs.Marks.{marked_allowed}
 use Rattle.model_world.proofs.Steps.{next_allowed}
-use Rattle.r9_hall.specs.HallView.{HallValue, entered}
-use Rattle.r9_hall.specs.StateView.{State, state_of, IsAfter}
-use Rattle.r9_hall.proofs.Halls.{roll_entered, stop_after, stop_next, stopped_after, not_going, not_broken, value_entered, standing, stands_more, replies_after}
+use Rattle.r9_hall.specs.HallView.{AllowedNext, HallValue, entered}
+use Rattle.r9_hall.specs.StateView.{State, state_of, state_world, IsAfter}
+use Rattle.r9_hall.proofs.Halls.{legal_more, roll_entered, stop_after, stop_next, stopped_after, not_going, not_broken, value_entered, standing, stands_more, replies_after}
 use Rattle.r9_hall.proofs.hall.Hall.event.Goals as goal
 
 pub carry_out-requires-clause-linked : goal.carry_out-requires-clause-linked
@@ -22,9 +23,11 @@ invariant_of-self-in-Stop c =
     let after = c.in_ok-enter.ensures in
     let opening = c.self.inside.opening in
     let state = state_of c.self.inside.state in
+    let allowed : Allowed (roll_of (events_of c.self.inside.entries.items)) c.args.event = subst (λ (h : HallValue). Allowed (roll_of h.journal.events) c.args.event) (sym c.self.view_is) c.requires.can.0 in
     record {
       numbered = after.numbered;
       rolled = roll_entered _ _ _ _ _ before.rolled after.roll after.events;
+      legal = legal_more _ _ _ before.legal allowed after.events;
       spare = λ going. absurd (not_going _ (stopped_after _ _ _ c.in-Stop.is after.roll) going);
       stands = λ whole. stands_more _ _ _ _ [] _ _ (before.stands whole) (stop_next _ _ c.in-Stop.is)
           (subst (λ (e : Event). IsAfter opening state e [] state) (sym c.in-Stop.is) (stop_after opening state)) after.events;
@@ -41,12 +44,15 @@ invariant_of-self-2 c =
     let rolled = after.roll ∙ ap (λ (e : Event). roll_after c.self.inside.roll e) made in
     let whole : c.self.inside.broken ≡ false =
     not_broken c.self.inside.broken c.args.event (λ broken. c.requires.can.1 (ap (λ (h : HallValue). h.broken) (sym c.self.view_is) ∙ broken)) c.in_default.not-Stop in
-    let allowed : AllowedTo (roll_of (events_of c.self.inside.entries.items)) c.args.event = subst (λ (h : HallValue). AllowedTo (roll_of h.journal.events) c.args.event) (sym c.self.view_is) c.requires.can.0.1 in
+    let roll = roll_of (events_of c.self.inside.entries.items) in
+    let allowed : Allowed roll c.args.event = subst (λ (h : HallValue). Allowed (roll_of h.journal.events) c.args.event) (sym c.self.view_is) c.requires.can.0 in
+    let world = state_world c.self.inside.opening (state_of c.self.inside.state) in
     record {
       numbered = after.numbered;
       rolled = roll_entered _ _ _ _ _ before.rolled rolled events;
+      legal = legal_more _ _ _ before.legal (marked_allowed world roll c.args.event c.in_ok-did.did.short allowed (c.in_ok-did.ensures.short c.self.inside.opening)) events;
       spare = λ going. omega (arith, c.in_ok-reserve.ensures.ok, c.in_ok-reserve.ensures.len, after.len, after.capacity);
-      stands = λ same. stands_more _ _ _ _ _ _ _ (before.stands whole) (next_allowed (roll_of (events_of c.self.inside.entries.items)) c.args.event c.in_ok-did.did.short allowed) (c.in_ok-did.ensures.after c.self.inside.opening) events;
+      stands = λ same. stands_more _ _ _ _ _ _ _ (before.stands whole) (next_allowed roll c.args.event c.in_ok-did.did.short allowed.1) (c.in_ok-did.ensures.after c.self.inside.opening) events;
     }
 
 pub returns : goal.returns
@@ -65,6 +71,11 @@ returns c =
       entered = value_entered opening events _ event c.self.inside.broken false whole pushed ∙ ap (λ (h : HallValue). entered h event) c.self.view_is;
       replies = λ _. replies_after opening events event _ _ _ stands (c.in_ok-did.ensures.after opening)
           ∙ ap (λ (h : HallValue). (step (world_at h.journal) event).replies) c.self.view_is;
+      allowed = subst (λ (h : HallValue). AllowedNext h event) c.self.view_is (
+        marked_allowed (state_world opening (state_of c.self.inside.state)) (roll_of events) c.args.event c.in_ok-did.did.short
+            (subst (λ (h : HallValue). Allowed (roll_of h.journal.events) c.args.event) (sym c.self.view_is) c.requires.can.0) (c.in_ok-did.ensures.short opening),
+        λ broken. let both : true ≡ false = sym broken ∙ whole in absurd cc,
+      );
       short = λ _. subst (λ (h : HallValue). IfSome c.in_ok-did.did.short (λ k. IsCutEvent (world_at h.journal) c.args.event k)) c.self.view_is
           (subst (λ (w : World). IfSome c.in_ok-did.did.short (λ k. IsCutEvent w c.args.event k)) (standing opening events _ stands) (c.in_ok-did.ensures.short opening));
       stop = λ is. absurd (c.in_default.not-Stop is);

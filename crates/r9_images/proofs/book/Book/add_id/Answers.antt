@@ -1,11 +1,16 @@
-use Rattle.std.proofs.Common.{◌≡◌, false, true, arith}
+use Rattle.std.proofs.Common.{List, ap, ◌∙◌, arith}
+use Rattle.std.specs.Prelude.{find}
+use Rattle.model_images.specs.declared.ImageId.{ImageId}
+use Rattle.model_images.specs.Release.{is_image_id}
+use Rattle.r9_images.specs.View.{Roomy}
 use Rattle.r9_images.proofs.Rooms.{room_in}
 use Rattle.r9_images.proofs.book.Book.add_id.Goals as goal
 
 pub returns-in_err-reserve-clause-room : goal.returns-in_err-reserve-clause-room
 returns-in_err-reserve-clause-room c =
-    λ h. let r = room_in c.self.inside _ c.self.view_is h in absurd (omega (arith, c.in_err-reserve.ensures.full))
+    λ h. let r = room_in c.self.inside _ c.self.view_is h in absurd (omega (arith, r.uses, c.in_err-reserve.ensures.full))
 
-pub returns-in_err-with_window-clause-room : goal.returns-in_err-with_window-clause-room
-returns-in_err-with_window-clause-room c =
-    λ h. let r = room_in c.self.inside _ c.self.view_is h in let bad : false ≡ true = c.in_err-with_window.ensures.room (omega arith) in absurd (cc)
+pub add_image_id-requires-clause-fresh : goal.add_image_id-requires-clause-fresh
+add_image_id-requires-clause-fresh c =
+    ap (λ (es : List ImageId). find (is_image_id c.args.client c.args.id) es) (c.reserve.ensures.image_ids ∙ ap (λ (x : Roomy). x.book.image_ids) c.self.view_is)
+    ∙ c.is_image_taken.ensures.fresh c.if-is_image_taken.false

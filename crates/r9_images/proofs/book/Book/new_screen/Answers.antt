@@ -1,16 +1,24 @@
-use Rattle.std.proofs.Common.{◌≡◌, ◌<◌, false, true, length, ap, arith}
+use Rattle.std.proofs.Common.{◌≡◌, ◌<◌, false, true, List, length, ap, ◌∙◌, arith}
+use Rattle.std.specs.Prelude.{find}
+use Rattle.model_images.specs.declared.ScreenId.{ScreenId}
+use Rattle.model_images.specs.Release.{is_screen_id}
 use Rattle.r9_images.specs.View.{Roomy}
 use Rattle.r9_images.proofs.Rooms.{room_in}
+use Rattle.r9_uses.proofs.Parts.{parts}
 use Rattle.r9_images.proofs.book.Book.new_screen.Goals as goal
-
-pub returns-in_default-clause-room : goal.returns-in_default-clause-room
-returns-in_default-clause-room c =
-    λ h. let r = room_in c.self.inside _ c.self.view_is h in absurd (let few : length c.args.self.now.book.screens < 4294967295 = omega (arith, c.self.inside.screens.ok.0, ap (λ (x : Roomy). length x.book.screens) c.self.view_is) in let bad : false ≡ true = c.in_default.ensures.room few in cc)
 
 pub returns-in_err-reserve-clause-room : goal.returns-in_err-reserve-clause-room
 returns-in_err-reserve-clause-room c =
-    λ h. let r = room_in c.self.inside _ c.self.view_is h in absurd (omega (arith, c.in_err-reserve.ensures.full))
+    λ h. let r = room_in c.self.inside _ c.self.view_is h in absurd (omega (arith, r.uses, c.in_err-reserve.ensures.full))
 
-pub returns-in_err-with_screen-clause-room : goal.returns-in_err-with_screen-clause-room
-returns-in_err-with_screen-clause-room c =
-    λ h. let r = room_in c.self.inside _ c.self.view_is h in let bad : false ≡ true = c.in_err-with_screen.ensures.room (omega arith) in absurd (cc)
+pub add_screen-requires-clause-fresh : goal.add_screen-requires-clause-fresh
+add_screen-requires-clause-fresh c =
+    ap (λ (es : List ScreenId). find (is_screen_id c.args.client c.args.id) es) (c.reserve.ensures.screen_ids ∙ ap (λ (x : Roomy). x.book.screen_ids) c.self.view_is)
+    ∙ c.is_screen_taken.ensures.fresh c.if-is_screen_taken.false
+
+pub returns-in_default-clause-room : goal.returns-in_default-clause-room
+returns-in_default-clause-room c = λ h.
+    let p = parts c.reserve.new.self c.in_ok-reserve.ensures.room in
+    let few : length c.reserve.new.self.screens.items < 4294967295 = omega (arith, p.numbered, c.reserve.new.self.screens.ok.0) in
+    let bad : false ≡ true = c.in_default.ensures.room few in
+    absurd (cc)

@@ -1,4 +1,4 @@
-use Rattle.std.proofs.Common.{◌∙◌}
+use Rattle.std.proofs.Common.{◌≡◌, true, false, ◌∙◌}
 use Rattle.model_world.specs.World.{device_for}
 use Rattle.r9_draw.specs.World.{world_of}
 use Rattle.r9_wire.specs.View.{t_of}
@@ -12,4 +12,5 @@ returns c =
     record {
       answer = (begun (device_for c.args.number) c.args.self.now (world_of c.args.device.now) c.args.mark (t_of c.args.m.now) begins.0 begins.1 ∙ said.0, said.1);
       cause = tt;
+      refused = λ told. (let both : false ≡ true = told in absurd cc);
     }

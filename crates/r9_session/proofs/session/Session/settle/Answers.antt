@@ -1,13 +1,86 @@
-use Rattle.std.proofs.Common.{ℕ, List, sym, subst}
+use Rattle.std.proofs.Common.{rules, ◌≡◌, ◌∙◌, inl, inr, ℕ, List, true, false, not, Some, sym, ap, subst}
+use Rattle.std.specs.Prelude.{◌==◌, filter}
+use Rattle.std.specs.List.{fold}
+use Rattle.std.proofs.lemmas.Result.{on_ok_weaker}
+use Rattle.model_text.specs.Map.{lookup}
+use Rattle.model_tree.specs.Node.{Node}
 use Rattle.model_world.specs.Session.{Session}
-use Rattle.model_world.specs.Fids.{is_kept}
-use Rattle.model_world.specs.Links.{AreWithin}
-use Rattle.model_world.proofs.Links.{within_filter}
-use Rattle.r9_tree.specs.View.{most_connections}
+use Rattle.model_world.specs.Fids.{is_kept, keeps}
+use Rattle.model_world.specs.World.{device_for}
+use Rattle.r9_draw.specs.World.{world_of}
+use Rattle.r9_session.specs.Clients.{let_go}
+use Rattle.r9_session.specs.SessionView.{AreKept}
+use Rattle.r9_session.proofs.Keeping.{all_left, others_left}
 use Rattle.r9_session.proofs.session.Session.settle.Goals as goal
 
-pub invariant_of-self : goal.invariant_of-self
-invariant_of-self c =
+pub returns-then-not-keeps-clause-session : goal.returns-then-not-keeps-clause-session
+returns-then-not-keeps-clause-session c =
     let session = c.args.self.now in
-    let fits : AreWithin most_connections session.connections = subst (λ (s : Session). AreWithin most_connections s.connections) c.self.view_is c.self.invariant in
-    subst (λ (ns : List ℕ). AreWithin most_connections ns) (sym c.in_ok-kept.ensures) (within_filter (is_kept session) most_connections session.connections fits)
+    let found = c.in-Some.found.now in
+    let at : lookup session.fids c.args.fid ≡ Some found = search rules in
+    let kept : AreKept session.fids session.connections = subst (λ (s : Session). AreKept s.fids s.connections) c.self.view_is c.self.invariant.kept in
+    let own = ap (λ (node : Node). node.connection) c.node-connection.ensures.node in
+    let fails : keeps found.node.connection found ≡ false = ap (λ (n : ℕ). keeps n found) (sym own) ∙ sym c.keeps.ensures ∙ c.if-not-keeps.true in
+    let left = all_left session c.args.fid found at kept (inl fails) in
+    λ j. record session { connections = sym left.0 j }
+
+pub returns-then-not-keeps-clause-device : goal.returns-then-not-keeps-clause-device
+returns-then-not-keeps-clause-device c =
+    let session = c.args.self.now in
+    let found = c.in-Some.found.now in
+    let at : lookup session.fids c.args.fid ≡ Some found = search rules in
+    let kept : AreKept session.fids session.connections = subst (λ (s : Session). AreKept s.fids s.connections) c.self.view_is c.self.invariant.kept in
+    let own = ap (λ (node : Node). node.connection) c.node-connection.ensures.node in
+    let fails : keeps found.node.connection found ≡ false = ap (λ (n : ℕ). keeps n found) (sym own) ∙ sym c.keeps.ensures ∙ c.if-not-keeps.true in
+    let left = all_left session c.args.fid found at kept (inl fails) in
+    ap (λ (ns : List ℕ). fold (device_for c.args.number).leave (world_of c.args.device.now) ns) (sym left.1)
+
+pub returns-then-is_kept_beside-clause-session : goal.returns-then-is_kept_beside-clause-session
+returns-then-is_kept_beside-clause-session c =
+    let session = c.args.self.now in
+    let found = c.in-Some.found.now in
+    let at : lookup session.fids c.args.fid ≡ Some found = search rules in
+    let kept : AreKept session.fids session.connections = subst (λ (s : Session). AreKept s.fids s.connections) c.self.view_is c.self.invariant.kept in
+    let own = ap (λ (node : Node). node.connection) c.node-connection.ensures.node in
+    let more : is_kept (let_go session c.args.fid) found.node.connection ≡ true = ap (is_kept (let_go session c.args.fid)) (sym own) ∙ sym c.is_kept_beside.ensures ∙ c.if-is_kept_beside.true in
+    let left = all_left session c.args.fid found at kept (inr more) in
+    λ j. record session { connections = sym left.0 j }
+
+pub returns-then-is_kept_beside-clause-device : goal.returns-then-is_kept_beside-clause-device
+returns-then-is_kept_beside-clause-device c =
+    let session = c.args.self.now in
+    let found = c.in-Some.found.now in
+    let at : lookup session.fids c.args.fid ≡ Some found = search rules in
+    let kept : AreKept session.fids session.connections = subst (λ (s : Session). AreKept s.fids s.connections) c.self.view_is c.self.invariant.kept in
+    let own = ap (λ (node : Node). node.connection) c.node-connection.ensures.node in
+    let more : is_kept (let_go session c.args.fid) found.node.connection ≡ true = ap (is_kept (let_go session c.args.fid)) (sym own) ∙ sym c.is_kept_beside.ensures ∙ c.if-is_kept_beside.true in
+    let left = all_left session c.args.fid found at kept (inr more) in
+    ap (λ (ns : List ℕ). fold (device_for c.args.number).leave (world_of c.args.device.now) ns) (sym left.1)
+
+pub returns-clause-session : goal.returns-clause-session
+returns-clause-session c =
+    let session = c.args.self.now in
+    let found = c.in-Some.found.now in
+    let at : lookup session.fids c.args.fid ≡ Some found = search rules in
+    let kept : AreKept session.fids session.connections = subst (λ (s : Session). AreKept s.fids s.connections) c.self.view_is c.self.invariant.kept in
+    let own = ap (λ (node : Node). node.connection) c.node-connection.ensures.node in
+    let gone : is_kept (let_go session c.args.fid) found.node.connection ≡ false = ap (is_kept (let_go session c.args.fid)) (sym own) ∙ sym c.is_kept_beside.ensures ∙ c.if-is_kept_beside.false in
+    let left = others_left session c.args.fid found at kept gone in
+    on_ok_weaker c.end.result
+    (λ (is : c.end.new.self ≡ record session { connections = filter (λ n. not (n == c.node-connection.result.connection)) session.connections }).
+    is ∙ (λ j. record session { connections = filter (λ n. not (n == own j)) session.connections }) ∙ (λ j. record session { connections = sym left.0 j }))
+    c.end.ensures.session
+
+pub returns-clause-device : goal.returns-clause-device
+returns-clause-device c =
+    let session = c.args.self.now in
+    let found = c.in-Some.found.now in
+    let at : lookup session.fids c.args.fid ≡ Some found = search rules in
+    let kept : AreKept session.fids session.connections = subst (λ (s : Session). AreKept s.fids s.connections) c.self.view_is c.self.invariant.kept in
+    let own = ap (λ (node : Node). node.connection) c.node-connection.ensures.node in
+    let gone : is_kept (let_go session c.args.fid) found.node.connection ≡ false = ap (is_kept (let_go session c.args.fid)) (sym own) ∙ sym c.is_kept_beside.ensures ∙ c.if-is_kept_beside.false in
+    let left = others_left session c.args.fid found at kept gone in
+    on_ok_weaker c.end.result
+    (λ (is : world_of c.end.new.device ≡ fold (device_for c.args.number).leave (world_of c.args.device.now) (filter (λ n. n == c.node-connection.result.connection) session.connections)).
+    is ∙ ap (λ (ns : List ℕ). fold (device_for c.args.number).leave (world_of c.args.device.now) ns) ((λ j. filter (λ n. n == own j) session.connections) ∙ sym left.1))
+    c.end.ensures.device

@@ -1,0 +1,314 @@
+#!/usr/bin/env python3
+"""Times `rio9 replay` where much is alive, beside a peer: a plain program with the same words, which is given by its path.
+
+    bench/growth/beside.py PEER [--program PATH] [--only WORD]...
+
+Wants Python 3 and the built program (`cd crates/rio9 && rt run -- replay < stdin` builds it; --program names another one).
+With --only, only the rows that have one of the words in their name. The replies of both programs have to be equal. It prints
+one table: user seconds, the least of three runs, of both programs, their ratio, and the bar that the ratio is not to pass;
+peak memory of both; and what one message costs with 100,000 images alive beside what it costs with 10, in microseconds of
+user time, for each program. The kernel counts user time in ticks, so what takes less than 20 ms counts as 20 ms in a ratio.
+On a machine that has something else to do the rows of single messages tell little. Status 1 tells that replies differ or
+that a ratio is above its bar, 2 that a word or a file is wrong.
+"""
+import os
+import re
+import subprocess
+import sys
+import tempfile
+import time
+
+HERE = os.path.dirname(os.path.abspath(__file__))
+ROOT = os.path.dirname(os.path.dirname(HERE))
+sys.path[:0] = [os.path.join(ROOT, folder) for folder in ("bench/drawing", "bench/replay", "tools")]
+import formats
+from run import PROGRAM, message, most_memory, number, string
+from times import K1, POINT, WIDE, X8R8G8B8, allocate, draw, rect, topen, walk
+
+ROUNDS = 3
+PEER_BAR, GROWTH_BAR = 2.0, 1.5
+SMALL, LARGE = ["--size", "64x64"], ["--size", "2048x2048"]
+MOST_OF_A_WRITE = 65000
+FULL, COLOUR, FIRST = 1, 2, 10  # image ids: the full mask, a colour, and the first of those that are made in numbers
+FEW, MANY, REPEATS = 10, 100_000, 400_000
+LEAST_SECONDS = 0.02  # what the ticks can tell
+
+
+# Records: lists of lines.
+
+
+def line(session, data):
+    return b"M %d %s" % (session, data.hex().encode())
+
+
+def begin(session, connections=1):
+    """A session with connections whose data files are open as fids 11, 12 and so on."""
+    messages = [
+        message(100, 0xFFFF, number(65560, 4) + string(b"9P2000")),
+        message(104, 1, number(0, 4) + number(0xFFFFFFFF, 4) + string(b"") + string(b"")),
+    ]
+    for n in range(1, connections + 1):
+        messages += [walk(n, b"draw", b"new"), topen(n), walk(10 + n, b"draw", b"%d" % n, b"data"), topen(10 + n)]
+    return [b"B %d" % session] + [line(session, data) for data in messages]
+
+
+def writes(session, draw_messages, connection=1):
+    """Draw messages in data writes, as many in each as it holds."""
+    lines, held, size = [], [], 0
+    for draw_message in [*draw_messages, None]:
+        if held and (draw_message is None or size + len(draw_message) > MOST_OF_A_WRITE):
+            body = number(10 + connection, 4) + number(0, 8) + number(size, 4) + b"".join(held)
+            lines.append(line(session, message(118, 1, body)))
+            held, size = [], 0
+        if draw_message is not None:
+            held.append(draw_message)
+            size += len(draw_message)
+    return lines
+
+
+def image(number_of_it):
+    return allocate(number_of_it, X8R8G8B8, 0, POINT, POINT, 0xFF)
+
+
+def images(count):
+    return [image(FIRST + i) for i in range(count)]
+
+
+def free(number_of_it):
+    return b"f" + number(number_of_it, 4)
+
+
+def tie(tied, name):
+    return b"N" + number(COLOUR, 4) + bytes([tied, len(name)]) + name
+
+
+def lookup(number_of_it, name):
+    return b"n" + number(number_of_it, 4) + bytes([len(name)]) + name
+
+
+def name_of(i):
+    return b"name.%06d" % i
+
+
+# Two images of one pixel that repeat: the full mask, and a colour that half covers.
+PALETTE = [allocate(FULL, K1, 1, POINT, WIDE, 0xFFFFFFFF), allocate(COLOUR, X8R8G8B8, 1, POINT, WIDE, 0x336699FF)]
+
+
+def small_draws(count):
+    for i in range(count):
+        x, y = 4 * i % 60, 4 * (i // 15) % 60
+        yield draw(0, COLOUR, FULL, rect(x, y, x + 4, y + 4))
+
+
+def made_and_freed():
+    count = 32_000
+    return begin(1) + writes(1, images(count) + [free(FIRST + i) for i in range(count)])
+
+
+def on_four_connections():
+    return begin(1, 4) + [text for n in range(1, 5) for text in writes(1, images(32_500), n)]
+
+
+def names():
+    count = 32_000
+    messages = PALETTE + [tie(1, name_of(i)) for i in range(count)]
+    for i in range(count):
+        messages += [lookup(FIRST, name_of(i)), free(FIRST)]
+    return begin(1) + writes(1, messages + [tie(0, name_of(i)) for i in range(count)])
+
+
+def draws(count, held):
+    """Small draws of session 1, while session 2 holds so many images."""
+    other = begin(2) + writes(2, images(held)) if held else []
+    return begin(1) + writes(1, PALETTE) + other + writes(1, small_draws(count))
+
+
+def screen_reads():
+    length, count = 60 + 2048 * 2048 * 4, 2000
+    reads = [message(116, 1, number(3, 4) + number(i * 8_388_593 % length, 8) + number(1, 4)) for i in range(count)]
+    opened = [walk(3, b"screen"), message(112, 1, number(3, 4) + b"\0")]
+    return begin(1) + [line(1, data) for data in opened + reads]
+
+
+def fonts():
+    count = 1000
+    return begin(1) + writes(1, images(count) + [b"i" + number(FIRST + i, 4) + number(4096, 4) + b"\0" for i in range(count)])
+
+
+# What is done again and again where few and where many images are alive. Each leaves as much alive as it found.
+AGAIN = {
+    "a draw": lambda i: [draw(0, COLOUR, FULL, rect(i % 60, 0, i % 60 + 4, 4))],
+    "a lookup (n, and f of its id)": lambda i: [lookup(3, b"tied"), free(3)],
+    "a tie (N, and N with in=0)": lambda i: [tie(1, name_of(i)), tie(0, name_of(i))],
+    "a free (f, and b before it)": lambda i: [image(3), free(3)],
+}
+
+
+def alive(count):
+    return begin(1) + writes(1, PALETTE + [tie(1, b"tied")] + images(count))
+
+
+def repeated(messages):
+    return writes(1, (again for i in range(REPEATS) for again in messages(i)))
+
+
+# Runs.
+
+
+def run(program, words, text):
+    """User seconds, peak bytes and output of a run."""
+    with tempfile.TemporaryFile() as given, tempfile.TemporaryFile() as out:
+        given.write(text)
+        given.seek(0)
+        process = subprocess.Popen([program, "replay", *words], stdin=given, stdout=out, stderr=subprocess.DEVNULL)
+        memory, ended = 0, 0
+        while not ended:
+            memory = max(memory, most_memory(process))
+            time.sleep(0.001)
+            ended, status, usage = os.wait4(process.pid, os.WNOHANG)
+        process.returncode = os.waitstatus_to_exitcode(status)
+        if process.returncode != 0:
+            raise Differ(f"{program} ended with status {process.returncode}")
+        out.seek(0)
+        return usage.ru_utime, memory, out.read()
+
+
+class Differ(Exception):
+    """The programs do not answer the same, or do not answer what is asked."""
+
+
+class Best:
+    """The least user seconds and the peak memory of both programs on a record; their replies are compared."""
+
+    def __init__(self, programs, lines, words=SMALL):
+        self.programs, self.words = programs, words
+        self.text = b"\n".join([b"rio9 1", *lines, b""])
+        self.seconds, self.memory = [float("inf")] * 2, [0, 0]
+
+    def round(self):
+        outputs = []
+        for which, program in enumerate(self.programs):
+            seconds, memory, out = run(program, self.words, self.text)
+            self.seconds[which] = min(self.seconds[which], seconds)
+            self.memory[which] = max(self.memory[which], memory)
+            outputs.append(out)
+        compare(*outputs)
+
+    def beyond(self, other):
+        """How much longer both programs took than on another record."""
+        return [max(0.0, mine - theirs) for mine, theirs in zip(self.seconds, other.seconds)]
+
+
+def in_turn(*records):
+    """Runs records in turn, so that what else the machine does meets all of them."""
+    for _ in range(ROUNDS):
+        for record in records:
+            record.round()
+    return records
+
+
+def compare(ours, theirs):
+    """The same replies, and no Rerror (kind 107) among them, or what is timed would be refusals."""
+    refused = re.search(rb"^R [0-9]+ [0-9a-f]{8}6b.*", ours, re.MULTILINE)
+    if refused:
+        raise Differ(f"a message is refused: {refused[0][:80].decode()}")
+    if ours != theirs:
+        pairs = enumerate(zip(ours.split(b"\n"), theirs.split(b"\n")), 1)
+        at, (one, other) = next((pair for pair in pairs if pair[1][0] != pair[1][1]), (0, (b"the end", b"the end")))
+        raise Differ(f"replies differ at line {at}: {one[:80].decode()}, and the peer's {other[:80].decode()}")
+
+
+class Table:
+    """The table, row by row, and whether each ratio was within its bar."""
+
+    def __init__(self):
+        self.is_within = True
+        print(f"{'':<64} {'rio9':>10} {'peer':>10} {'ratio':>7} {'bar':>5}")
+
+    def row(self, name, form, ours, theirs, bar, least=0.0):
+        ratio = max(ours, least) / max(theirs, least)
+        over = bar is not None and ratio > bar
+        self.is_within = self.is_within and not over
+        told = "" if bar is None else f"{bar:5.1f}{'  above it' if over else ''}"
+        print(f"{name:<64} {form(ours):>10} {form(theirs):>10} {ratio:7.2f} {told}".rstrip(), flush=True)
+
+    def heading(self, measured, beside):
+        print(f"{'':<64} {measured:>10} {beside:>10} {'ratio':>7} {'bar':>5}")
+
+
+def seconds_of(value):
+    return f"{value:.3f} s"
+
+
+def megabytes_of(value):
+    return f"{value / 1e6:.1f} MB"
+
+
+def microseconds_of(value):
+    return f"{value:.3f} us"
+
+
+WHOLE_RUNS = [
+    ("32,000 images of one point, made and freed", made_and_freed, SMALL),
+    ("130,000 images on four connections", on_four_connections, SMALL),
+    ("32,000 names, tied, looked up and untied", names, SMALL),
+    ("2,000 reads of one byte of screen at 2048x2048", screen_reads, LARGE),
+]
+
+
+def compare_with_peer(table, programs, wanted):
+    for name, lines, words in WHOLE_RUNS:
+        if wanted(name):
+            (best,) = in_turn(Best(programs, lines(), words))
+            table.row(name, seconds_of, *best.seconds, PEER_BAR, LEAST_SECONDS)
+    for name, held in (("20,000 small draws, alone", 0), ("20,000 small draws, another session holding 32,000 images", 32_000)):
+        if wanted(name):
+            full, empty = in_turn(Best(programs, draws(20_000, held)), Best(programs, draws(0, held)))
+            table.row(name, seconds_of, *full.beyond(empty), PEER_BAR, LEAST_SECONDS)
+    if wanted("peak memory of 1,000 fonts of 4,096 characters"):
+        (best,) = in_turn(Best(programs, fonts()))
+        table.row("peak memory of 1,000 fonts of 4,096 characters", megabytes_of, *best.memory, None)
+
+
+def compare_few_and_many(table, programs, wanted):
+    chosen = {name: messages for name, messages in AGAIN.items() if wanted(name)}
+    if not chosen:
+        return
+    table.heading(f"{MANY:,}", f"{FEW:,}")
+    before = [alive(count) for count in (MANY, FEW)]
+    many_alone, few_alone = in_turn(*[Best(programs, lines) for lines in before])
+    for name, messages in chosen.items():
+        again = repeated(messages)
+        many, few = in_turn(*[Best(programs, lines + again) for lines in before])
+        costs = [[seconds / REPEATS * 1e6 for seconds in both] for both in (many.beyond(many_alone), few.beyond(few_alone))]
+        for who, bar, one, other in zip(("rio9", "the peer"), (GROWTH_BAR, None), *costs):
+            told = f"{name}, by {who}, by the images alive"
+            table.row(told, microseconds_of, one, other, bar, LEAST_SECONDS / REPEATS * 1e6)
+
+
+def main(words):
+    parser = formats.Words(prog="beside.py", description="Times rio9 where much is alive, beside a peer.")
+    parser.add_argument("peer", help="the path of the peer")
+    parser.add_argument("--program", default=PROGRAM, help="another program than the built one")
+    parser.add_argument("--only", action="append", metavar="WORD", help="only the rows that have this in their name")
+    options = parser.parse_args(words)
+    programs = [options.program, options.peer]
+    for program in programs:
+        if not (os.path.isfile(program) and os.access(program, os.X_OK)):
+            formats.stop("beside.py", f"no program: {program}")
+    table = Table()
+
+    def wanted(name):
+        return options.only is None or any(word in name for word in options.only)
+
+    try:
+        compare_with_peer(table, programs, wanted)
+        compare_few_and_many(table, programs, wanted)
+    except Differ as error:
+        sys.stderr.write(f"beside.py: {error}\n")
+        return 1
+    return 0 if table.is_within else 1
+
+
+if __name__ == "__main__":
+    sys.exit(main(sys.argv[1:]))

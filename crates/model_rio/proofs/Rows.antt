@@ -1,0 +1,147 @@
+-- What some acts do, by computing.
+use Rattle.std.specs.Prelude.{◌≡◌, refl, replicate, Some, None, ℕ, ◌+◌, true, false, pos, List, [], ◌∷◌, codes, Ok, Err}
+use Rattle.std.specs.List.{flat_map, last_or}
+use Rattle.std.specs.Fmt.{digits}
+use Rattle.std.specs.Str.{chars}
+use Rattle.r9_geom.specs.declared.Rect.{Rect}
+use Rattle.r9_event.specs.declared.rio.Note.{Note}
+use Rattle.r9_event.specs.declared.rio.Note.TheVariants as note
+use Rattle.r9_event.specs.declared.rio.Order.{Order}
+use Rattle.r9_event.specs.declared.rio.Order.TheVariants as order
+use Rattle.model_mouse.specs.declared.Mouse.{Mouse}
+use Rattle.model_text.specs.Outcome.{Outcome}
+use Rattle.model_wctl.specs.declared.Choice.TheVariants as choice
+use Rattle.model_wctl.specs.declared.Amount.TheVariants as amount
+use Rattle.model_wctl.specs.Command as wctl
+use Rattle.model_wctl.specs.Rectangle.{applied, box}
+use Rattle.model_rio.specs.Table.{Table, opened, name_by, path_up}
+use Rattle.model_rio.specs.Act.{Act}
+use Rattle.model_rio.specs.Act as act
+use Rattle.model_rio.specs.Step.{Step, with_current, retired}
+use Rattle.model_rio.specs.Moving.{replaced, moved, dropped, deleted}
+use Rattle.model_rio.specs.Routing.{moused, reacted, focus}
+use Rattle.model_rio.specs.Rio.{made, hidden, shown, new_in, hosted, moved_by, command_to, rio}
+
+-- the orders and notes of a step, or its refusal
+abbrev Told : Type 0
+Told = Outcome (List Order × List (ℕ × Note))
+
+abbrev told : Table → Outcome Step → (Table → List Told) → List Told
+told table (Ok step) rest = Ok (step.orders, step.notes) ∷ rest step.table
+told table (Err n) rest = Err n ∷ rest table
+
+-- what is told of acts, one after the other
+abbrev told_all : Table → List Act → List Told
+told_all table [] = []
+told_all table (a ∷ acts) = told table (rio table a) (λ next. told_all next acts)
+
+abbrev on : ℕ → ℕ → ℕ → ℕ → Rect
+on x0 y0 x1 y1 = box (pos x0) (pos y0) (pos x1) (pos y1)
+
+abbrev pointer : ℕ → ℕ → ℕ → ℕ → Mouse
+pointer x y buttons msec = record { x = pos x; y = pos y; buttons = buttons; msec = msec }
+
+abbrev display : Table
+display = opened (on 0 0 64 48)
+
+-- a window moves and gets the next name
+a_window_moves : told_all display
+    (
+    act.New 0 (choice.R (on 10 10 50 40) ∷ []) false ∷
+    act.Command 1 (wctl.Move (choice.Minx (amount.Is (pos 20)) ∷ choice.Miny (amount.Is (pos 12)) ∷ [])) ∷ [])
+    ≡ (
+    Ok ((order.Make 1 0 (on 10 10 50 40) (codes "window.1.1") false 1 ∷ []), ((1, note.Made 1 1 (codes "window.1.1") (on 10 10 50 40) 1) ∷ (1, note.Current true) ∷ [])) ∷
+    Ok ((order.Replace 1 0 (on 20 12 60 42) (codes "window.1.2") true false ∷ []), ((1, note.Moved (codes "window.1.2") (on 20 12 60 42)) ∷ [])) ∷ [])
+unfolding made new_in hosted moved_by command_to hidden shown moved replaced dropped deleted moused reacted focus with_current retired name_by path_up applied digits chars lib.Utf8.encode
+a_window_moves = refl
+
+-- a side has at least 12 points; a window that is not there is refused
+a_side_is_at_least_twelve : told_all display
+    (
+    act.New 0 (choice.R (on 10 10 50 40) ∷ []) false ∷
+    act.Command 1 (wctl.Resize (choice.R (on 0 0 11 40) ∷ [])) ∷
+    act.Command 1 (wctl.Resize (choice.R (on 0 0 12 12) ∷ [])) ∷
+    act.Command 9 wctl.Top ∷ [])
+    ≡ (
+    Ok ((order.Make 1 0 (on 10 10 50 40) (codes "window.1.1") false 1 ∷ []), ((1, note.Made 1 1 (codes "window.1.1") (on 10 10 50 40) 1) ∷ (1, note.Current true) ∷ [])) ∷
+    Err 47 ∷
+    Ok ((order.Replace 1 0 (on 0 0 12 12) (codes "window.1.2") false false ∷ []), ((1, note.Resized (codes "window.1.2") (on 0 0 12 12)) ∷ [])) ∷
+    Err 42 ∷ [])
+unfolding made new_in hosted moved_by command_to hidden shown moved replaced dropped deleted moused reacted focus with_current retired name_by path_up applied digits chars lib.Utf8.encode
+a_side_is_at_least_twelve = refl
+
+-- the windows of a rio in a window follow it, and go before it
+a_rio_in_a_window : told_all display
+    (
+    act.New 0 (choice.R (on 10 10 50 40) ∷ []) false ∷
+    act.Command 1 wctl.Host ∷
+    act.New 1 (choice.R (on 20 20 40 36) ∷ []) false ∷
+    act.Command 1 (wctl.Move (choice.Minx (amount.Is (pos 20)) ∷ [])) ∷
+    act.Command 1 wctl.Host ∷
+    act.Command 1 wctl.Delete ∷
+    act.Command 2 wctl.Top ∷ [])
+    ≡ (
+    Ok ((order.Make 1 0 (on 10 10 50 40) (codes "window.1.1") false 1 ∷ []), ((1, note.Made 1 1 (codes "window.1.1") (on 10 10 50 40) 1) ∷ (1, note.Current true) ∷ [])) ∷
+    Ok ((order.Host 1 true ∷ []), ([])) ∷
+    Ok ((order.Make 2 1 (on 20 20 40 36) (codes "window.1/1.1") false 2 ∷ []), ((2, note.Made 1 2 (codes "window.1/1.1") (on 20 20 40 36) 2) ∷ (2, note.Current true) ∷ [])) ∷
+    Ok ((order.Replace 1 0 (on 20 10 60 40) (codes "window.1.2") true false ∷ order.Host 1 false ∷ order.Replace 2 1 (on 30 20 50 36) (codes "window.1/1.2") true false ∷ []), ((1, note.Moved (codes "window.1.2") (on 20 10 60 40)) ∷ (2, note.Moved (codes "window.1/1.2") (on 30 20 50 36)) ∷ [])) ∷
+    Err 47 ∷
+    Ok ((order.Drop 2 ∷ order.Drop 1 ∷ []), ((2, note.Current false) ∷ (2, note.Deleted) ∷ (1, note.Current false) ∷ (1, note.Deleted) ∷ [])) ∷
+    Err 42 ∷ [])
+unfolding made new_in hosted moved_by command_to hidden shown moved replaced dropped deleted moused reacted focus with_current retired name_by path_up applied digits chars lib.Utf8.encode
+a_rio_in_a_window = refl
+
+-- a window that holds the mouse gets every event until its buttons are released
+a_drag_goes_to_its_holder : told_all display
+    (
+    act.New 0 (choice.R (on 0 0 20 20) ∷ []) false ∷
+    act.New 0 (choice.R (on 30 0 50 20) ∷ []) false ∷
+    act.Mouse (pointer 5 5 1 0) ∷
+    act.Mouse (pointer 35 5 1 1) ∷
+    act.Mouse (pointer 35 5 0 2) ∷
+    act.Mouse (pointer 35 5 0 3) ∷ [])
+    ≡ (
+    Ok ((order.Make 1 0 (on 0 0 20 20) (codes "window.1.1") false 1 ∷ []), ((1, note.Made 1 1 (codes "window.1.1") (on 0 0 20 20) 1) ∷ (1, note.Current true) ∷ [])) ∷
+    Ok ((order.Make 2 0 (on 30 0 50 20) (codes "window.2.1") false 1 ∷ []), ((2, note.Made 2 2 (codes "window.2.1") (on 30 0 50 20) 1) ∷ (1, note.Current false) ∷ (2, note.Current true) ∷ [])) ∷
+    Ok ((order.Raise 1 ∷ []), ((2, note.Current false) ∷ (1, note.Current true) ∷ (1, note.Mouse (pos 5) (pos 5) 1 0) ∷ [])) ∷
+    Ok (([]), ((1, note.Mouse (pos 35) (pos 5) 1 1) ∷ [])) ∷
+    Ok (([]), ((1, note.Mouse (pos 35) (pos 5) 0 2) ∷ [])) ∷
+    Ok (([]), ([])) ∷ [])
+unfolding made new_in hosted moved_by command_to hidden shown moved replaced dropped deleted moused reacted focus with_current retired name_by path_up applied digits chars lib.Utf8.encode
+a_drag_goes_to_its_holder = refl
+
+-- a hidden window gets nothing, and is shown where it becomes current
+hidden_and_shown : told_all display
+    (
+    act.New 0 [] true ∷
+    act.Command 1 (wctl.Move (choice.Minx (amount.Is (pos 30)) ∷ [])) ∷
+    act.Keys (codes "a") ∷
+    act.Command 1 wctl.Current ∷
+    act.Keys (codes "ab") ∷
+    act.Command 1 wctl.Hide ∷
+    act.Command 1 wctl.Hide ∷
+    act.Mouse (pointer 35 15 1 0) ∷
+    act.Mouse (pointer 35 15 0 0) ∷ [])
+    ≡ (
+    Ok ((order.Make 1 0 (on 10 10 42 34) (codes "window.1.1") true 1 ∷ []), ((1, note.Made 1 1 (codes "window.1.1") (on 10 10 42 34) 1) ∷ (1, note.Hidden true) ∷ [])) ∷
+    Ok ((order.Replace 1 0 (on 30 10 62 34) (codes "window.1.2") true true ∷ []), ((1, note.Moved (codes "window.1.2") (on 30 10 62 34)) ∷ [])) ∷
+    Ok (([]), ([])) ∷
+    Ok ((order.Place 1 (record { x = (pos 30); y = (pos 10) }) ∷ order.Raise 1 ∷ []), ((1, note.Hidden false) ∷ (1, note.Current true) ∷ [])) ∷
+    Ok (([]), ((1, note.Key (97 ∷ [])) ∷ (1, note.Key (98 ∷ [])) ∷ [])) ∷
+    Ok ((order.Place 1 (record { x = (pos 1048576); y = (pos 1048576) }) ∷ []), ((1, note.Hidden true) ∷ (1, note.Current false) ∷ [])) ∷
+    Ok (([]), ([])) ∷
+    Ok (([]), ([])) ∷
+    Ok (([]), ([])) ∷ [])
+unfolding made new_in hosted moved_by command_to hidden shown moved replaced dropped deleted moused reacted focus with_current retired name_by path_up applied digits chars lib.Utf8.encode
+hidden_and_shown = refl
+
+-- the sixty-fifth window
+one_too_many : last_or None (told_all display (replicate 65 (act.New 0 [] true))) ≡ Some (Err 49)
+unfolding made new_in with_current name_by path_up applied digits
+one_too_many = refl
+
+-- a rio in a window of a rio in a window, and so on: eight are nested in the root's
+one_too_deep : last_or None (told_all display (flat_map (λ k. act.New k (choice.R (on 0 0 20 20) ∷ []) true ∷ act.Command (k + 1) wctl.Host ∷ [])
+    (0 ∷ 1 ∷ 2 ∷ 3 ∷ 4 ∷ 5 ∷ 6 ∷ 7 ∷ 8 ∷ []))) ≡ Some (Err 50)
+unfolding made new_in hosted command_to with_current name_by path_up applied digits
+one_too_deep = refl

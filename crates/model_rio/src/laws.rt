@@ -1,0 +1,28 @@
+//! What the definitions say of the mouse and of the order of windows.
+
+ghost use Rattle.std.specs.Prelude.{◌≡◌, ◌==◌, ℕ, true, false, not, List, [], ◌∷◌, map, Some, Ok};
+ghost use Rattle.r9_geom.specs.declared.Point.{Point};
+ghost use Rattle.r9_geom.specs.Geometry.{holds};
+ghost use Rattle.r9_window.specs.declared.Window.{Window};
+ghost use Rattle.r9_event.specs.declared.rio.Note.TheVariants as note;
+ghost use Rattle.model_mouse.specs.declared.Mouse.{Mouse};
+ghost use Rattle.model_rio.specs.Table.{Table, Held, hold_of, is_host, topmost};
+ghost use Rattle.model_rio.specs.Act as act;
+ghost use Rattle.model_rio.specs.Step.{in_place};
+ghost use Rattle.model_rio.specs.Rio.{rio};
+
+/// While a window holds the mouse and buttons stay pressed, it alone is told of each event, wherever the pointer is, and
+/// nothing else changes.
+pub fn drag_goes_to_holder()
+    ensures { (table : Table) (e : Mouse) (serial : ℕ) → hold_of table 0 ≡ Held serial → is_host table serial ≡ false → (e.buttons == 0) ≡ false → rio table (act.Mouse e) ≡ Ok (record { table = table; orders = []; notes = (serial, note.Mouse e.x e.y e.buttons e.msec) ∷ [] }) }
+{}
+
+/// A window that takes the place of the one with its serial leaves the order of the windows as it is.
+pub fn replaced_windows_keep_their_places()
+    ensures { (w : Window) (ws : List Window) → map (λ v. v.serial) (in_place w ws) ≡ map (λ v. v.serial) ws }
+{}
+
+/// The topmost window at a point is one of that rio, has the point, and is not hidden.
+pub fn topmost_is_seen()
+    ensures { (table : Table) (host : ℕ) (p : Point) (w : Window) → topmost table host p ≡ Some w → ((w.host == host) ≡ true) × (not w.hidden ≡ true) × (holds w.r p ≡ true) }
+{}

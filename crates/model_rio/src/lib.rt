@@ -1,0 +1,7 @@
+//! The windows of rio, and what each act does to them (rio(1), rio(4)): the definitions that contracts of other crates cite,
+//! and laws about them as contracts of functions that do nothing.
+#![tactic(auto)]
+
+mod laws;
+
+pub use laws::{drag_goes_to_holder, replaced_windows_keep_their_places, topmost_is_seen};

@@ -1,0 +1,22 @@
+use Rattle.std.proofs.Common.{◌≡◌, ◌+◌, Some, None, sym, ap, ◌∙◌}
+use Rattle.std.specs.Prelude.{find}
+use Rattle.r9_sorted.specs.declared.key.Key.{Key}
+use Rattle.r9_sorted.specs.Order.{key}
+use Rattle.r9_sorted.specs.Rows.{has_key, without_key}
+use Rattle.r9_sorted.proofs.Ascending.{none-kept}
+use Rattle.r9_client.specs.Rows.{key_of, total_of}
+use Rattle.r9_client.proofs.Counting.{without-total}
+use Rattle.r9_client.proofs.sizes.take.Goals as goal
+
+pub returns-in-Some-clause-sum : goal.returns-in-Some-clause-sum
+returns-in-Some-clause-sum c =
+    let rows = c.args.rows.now.rows in
+    let found : find (has_key key_of (key c.args.id 0 0)) rows ≡ Some c.in-Some.row = ap (λ (k : Key). find (has_key key_of k) rows) (sym c.key_of_id.ensures) ∙ sym c.in-Some.ensures.found in
+    let left : c.remove.new.self.rows ≡ without_key key_of (key c.args.id 0 0) rows = c.remove.ensures.rows ∙ ap (λ (k : Key). without_key key_of k rows) c.key_of_id-in-Some.ensures in
+    ap (λ rest. total_of rest + c.in-Some.row.size) left ∙ without-total c.args.id rows c.in-Some.row c.get.ensures.order found
+
+pub returns-in-None-clause-rows : goal.returns-in-None-clause-rows
+returns-in-None-clause-rows c =
+    let rows = c.args.rows.now.rows in
+    let none : find (has_key key_of (key c.args.id 0 0)) rows ≡ None = ap (λ (k : Key). find (has_key key_of k) rows) (sym c.key_of_id.ensures) ∙ sym c.in-None.ensures.found in
+    sym (none-kept (has_key key_of (key c.args.id 0 0)) rows none)

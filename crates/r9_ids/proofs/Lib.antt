@@ -1,0 +1,5 @@
+mod ImageRows
+mod Mapped
+mod Order
+mod ScreensAscend
+mod ScreensInside

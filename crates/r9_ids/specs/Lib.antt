@@ -1,0 +1,3 @@
+pub mod ImageIds
+pub mod Rows
+pub mod ScreenIds

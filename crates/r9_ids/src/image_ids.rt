@@ -1,0 +1,107 @@
+//! The image ids of all connections.
+
+ghost use Rattle.std.specs.Prelude.{◌≡◌, ◌==◌, ◌<◌, ◌≤◌, ◌+◌, ◌&&◌, ◌∷◌, [], not, find, filter, length, None, Some, IfSome, OnOk, OnErr};
+ghost use Rattle.model_images.specs.Book.{put_image_id};
+ghost use Rattle.model_images.specs.Release.{is_image_id};
+
+use crate::rows::{ImageRow, key_of_id};
+use model_images::ImageId;
+use r9_memory::Memory;
+use r9_sorted::Sorted;
+use std::alloc::Global;
+use std::marker::Model;
+
+/// Image ids in ascending order by connection and then by id, each once.
+#[derive(Drop)]
+pub struct ImageIds {
+    rows: Sorted<ImageRow>,
+}
+
+impl Model for ImageIds {
+    ghost use Rattle.r9_ids.specs.ImageIds.{Ids};
+    ghost use Rattle.r9_ids.specs.Rows.{images_of};
+
+    ghost Value = { Ids };
+
+    ghost view = { λ s. record { ids = images_of s.rows.rows; room = s.rows.room } };
+}
+
+impl ImageIds {
+    /// No ids.
+    pub fn new(alloc: Global) -> Self
+        ensures { result.ids ≡ [] }
+    {
+        ImageIds {
+            rows: Sorted::new(alloc),
+        }
+    }
+
+    /// How many ids there are.
+    pub fn len(&self) -> usize
+        ensures { result ≡ length self.now.ids }
+    {
+        self.rows.len()
+    }
+
+    /// Makes room for one more id. The ids stay as they are, also after Memory.
+    pub fn reserve(&mut self) -> Result<(), Memory>
+        ensures room { OnOk result (0 < self.new.room) }
+        ensures full { OnErr result (self.old.room ≡ 0) }
+        ensures kept { self.new.ids ≡ self.old.ids }
+    {
+        self.rows.reserve()
+    }
+
+    /// What an id of a connection refers to.
+    pub fn get(&self, client: u64, id: u32) -> Option<ImageId>
+        ensures found { result ≡ find (is_image_id client id) self.now.ids }
+        ensures same { IfSome result (λ e. (e.client ≡ client) × (e.id ≡ id)) }
+    {
+        match self.rows.get(key_of_id(client, id)) {
+            Some(row) => Some(row.e),
+            None => None,
+        }
+    }
+
+    /// The first id of a connection.
+    pub fn first_of(&self, client: u64) -> Option<ImageId>
+        ensures found { result ≡ find (λ e. e.client == client) self.now.ids }
+        ensures there { IfSome result (λ e. find (is_image_id e.client e.id) self.now.ids ≡ Some e) }
+        ensures rest { IfSome result (λ e. filter (λ x. x.client == client) self.now.ids ≡ e ∷ filter (λ x. x.client == client) (filter (λ x. not (is_image_id e.client e.id x)) self.now.ids)) }
+    {
+        match self.rows.first_from(key_of_id(client, 0)) {
+            Some(row) => {
+                if row.e.client != client {
+                    return None;
+                }
+                Some(row.e)
+            }
+            None => None,
+        }
+    }
+
+    /// Puts an id into its place, which is not among them. There is room for it.
+    pub fn put(&mut self, e: ImageId)
+        requires room { 0 < self.old.room }
+        requires fresh { find (is_image_id e.client e.id) self.old.ids ≡ None }
+        ensures ids { self.new.ids ≡ put_image_id e self.old.ids }
+        ensures room { self.old.room ≤ self.new.room + 1 }
+    {
+        self.rows.put(ImageRow { e });
+    }
+
+    /// Takes an id out. Takes no memory.
+    pub fn remove(&mut self, client: u64, id: u32)
+        ensures rest { self.new.ids ≡ filter (λ e. not (is_image_id client id e)) self.old.ids }
+        ensures room { self.old.room ≤ self.new.room }
+        ensures back { IfSome (find (is_image_id client id) self.old.ids) (λ e. put_image_id e self.new.ids ≡ self.old.ids) }
+    {
+        let key = key_of_id(client, id);
+        match self.rows.get(key) {
+            Some(_) => {
+                let _ = self.rows.remove(key);
+            }
+            None => {}
+        }
+    }
+}

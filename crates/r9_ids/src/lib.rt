@@ -1,0 +1,10 @@
+//! The image ids and the screen ids of all connections, in order.
+#![tactic(auto)]
+
+mod before;
+mod image_ids;
+mod rows;
+mod screen_ids;
+
+pub use image_ids::ImageIds;
+pub use screen_ids::ScreenIds;

@@ -1,9 +1,0 @@
-use Rattle.std.proofs.Common.{rules, tests}
-use Rattle.std.proofs.lemmas.Iterator.{YieldsList-from_slice}
-use Rattle.std.proofs.lemmas.Iterator.Search.{any_from_yields_List}
-use Rattle.model_images.specs.Book.{is_on}
-use Rattle.r9_images.proofs.lists.any_on.Goals as goal
-
-pub returns : goal.returns
-returns c =
-    any_from_yields_List (is_on c.args.image) _ _ _ c.any.ensures.ran (YieldsList-from_slice c.args.screens.now cc) (λ x b q k. search (rules, tests))

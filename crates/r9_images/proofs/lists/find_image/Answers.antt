@@ -1,9 +1,0 @@
-use Rattle.std.proofs.Common.{◌==◌, ◌&&◌, ◌∙◌, rules, tests}
-use Rattle.std.proofs.lemmas.Iterator.{YieldsList-from_slice}
-use Rattle.std.proofs.lemmas.Iterator.Search.{find_from_yields_List}
-use Rattle.model_images.specs.declared.ImageId.{ImageId}
-use Rattle.r9_images.proofs.lists.find_image.Goals as goal
-
-pub returns : goal.returns
-returns c =
-    c.copied.ensures ∙ find_from_yields_List (λ (e : ImageId). (e.client == c.args.client) && (e.id == c.args.id)) _ _ _ c.find.ensures.ran (YieldsList-from_slice c.args.ids.now cc) (λ x b q k. search (rules, tests))

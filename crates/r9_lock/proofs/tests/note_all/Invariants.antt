@@ -1,5 +1,0 @@
-use Rattle.std.proofs.Common.{◌≡◌}
-use Rattle.r9_lock.proofs.tests.note_all.Given as goal
-
-abbrev pub invariant-loop-i : goal.invariant-loop-i
-invariant-loop-i g l = (l.pass.lock ≡ l.initial.pass.lock) × (l.pass.shares ≡ l.initial.pass.shares)

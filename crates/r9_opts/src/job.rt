@@ -1,0 +1,62 @@
+//! What the program is to do.
+
+use r9_event::Opening;
+use r9_memory::Memory;
+use r9_text::Bytes;
+use std::alloc::AllocError;
+
+/// What the words ask for.
+#[derive(Debug, Drop)]
+pub enum Job {
+    /// Answers a record, and gives the screen behind the replies where it is asked for.
+    Replay {
+        opening: Opening,
+        screen: bool,
+    },
+    /// Serves so many connections at an address, by so many workers.
+    Serve {
+        opening: Opening,
+        listen: Bytes,
+        workers: u32,
+        conns: u32,
+    },
+    /// Answers what one session of a record sent, as where it is alone with its window.
+    Alone {
+        opening: Opening,
+        session: u32,
+    },
+    /// Makes and answers a record of so many messages.
+    Gen {
+        number: u32,
+    },
+}
+
+/// Why there is no job.
+#[derive(Clone, Copy, Debug, PartialEq, Eq)]
+pub enum OptsFault {
+    /// The words ask for nothing.
+    Usage,
+    Memory,
+}
+
+impl From<Memory> for OptsFault {
+    ghost use Rattle.std.specs.Prelude.{◌≡◌};
+    ghost use Rattle.r9_opts.specs.declared.job.OptsFault.TheVariants as fault;
+
+    ghost from_gives = { λ _ e. e ≡ fault.Memory };
+
+    fn from(_: Memory) -> Self {
+        OptsFault::Memory
+    }
+}
+
+impl From<AllocError> for OptsFault {
+    ghost use Rattle.std.specs.Prelude.{◌≡◌};
+    ghost use Rattle.r9_opts.specs.declared.job.OptsFault.TheVariants as fault;
+
+    ghost from_gives = { λ _ e. e ≡ fault.Memory };
+
+    fn from(_: AllocError) -> Self {
+        OptsFault::Memory
+    }
+}

@@ -1,0 +1,27 @@
+use Rattle.std.proofs.Common.{rules, ◌≡◌, ◌∙◌, ℕ, None, Some, sym, ap, subst}
+use Rattle.model_text.specs.Map.{lookup}
+use Rattle.model_world.specs.Session.{Session}
+use Rattle.r9_session.specs.SessionView.{IsSession}
+use Rattle.r9_session.proofs.Keeping.{closed_more, kept_with}
+use Rattle.r9_session.proofs.Bound.{closed_of}
+use Rattle.r9_session.proofs.session.Session.rebind.Goals as goal
+use Rattle.r9_session.proofs.session.Session.rebind.Goals.{in-Some+in-Some-1, in-Some+in-None-1, in_default}
+
+pub invariant_of-self : goal.invariant_of-self
+invariant_of-self c = elim c.match-get_mut.branch [
+  | in-Some+in-Some-1 w ↦ subst IsSession (sym w.self-inside-is) (record {
+    within = c.self.invariant.within;
+    kept =
+        let found = w.in-Some.found.now in
+        let at : lookup c.self.inside.fids c.args.fid ≡ Some found = search rules in
+        kept_with c.self.inside.fids c.self.inside.connections c.args.fid found w.at.result at (λ n. closed_more n found w.at.result (closed_of c.args.self.now c.args.fid found c.requires.closed (ap (λ (s : Session). lookup s.fids c.args.fid) (sym c.self.view_is) ∙ at))) c.self.invariant.kept;
+  })
+  | in-Some+in-None-1 w ↦ subst IsSession (sym w.self-inside-is) (record {
+    within = c.self.invariant.within;
+    kept =
+        let found = w.in-Some.found.now in
+        let at : lookup c.self.inside.fids c.args.fid ≡ Some found = search rules in
+        kept_with c.self.inside.fids c.self.inside.connections c.args.fid found w.at.result at (λ n. closed_more n found w.at.result (closed_of c.args.self.now c.args.fid found c.requires.closed (ap (λ (s : Session). lookup s.fids c.args.fid) (sym c.self.view_is) ∙ at))) c.self.invariant.kept;
+  })
+  | in_default w ↦ subst IsSession (sym w.self-inside-is) c.self.invariant
+]

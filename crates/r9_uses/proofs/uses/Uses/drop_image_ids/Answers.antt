@@ -1,0 +1,48 @@
+use Rattle.std.proofs.Common.{◌==◌, ◌+◌, ◌*◌, ◌<◌, filter, length, ap, ◌∙◌, arith}
+use Rattle.std.specs.Prelude.{not}
+use Rattle.model_images.specs.declared.ImageId.{ImageId}
+use Rattle.model_images.specs.Release.{freed_image_id, is_image_id}
+use Rattle.r9_uses.specs.Freed.{freed_of}
+use Rattle.r9_uses.proofs.Rooms.{fewer-left, fold-none, fold-one, less-room, none-own}
+use Rattle.r9_uses.proofs.uses.Uses.drop_image_ids.Goals as goal
+
+pub dropping-smaller : goal.dropping-smaller
+dropping-smaller c =
+    let e = c.in-Some.e in
+    let less = fewer-left (is_image_id e.client e.id) e c.dropping.self.image_ids.ids c.in-Some.ensures.there in
+    let same = ap length c.drop_image_id.ensures.image_ids in
+    omega (arith, less, same)
+
+pub dropping-preserved : goal.dropping-preserved
+dropping-preserved c =
+    let e = c.in-Some.e in
+    let now = c.dropping.self in
+    let new = c.drop_image_id.new.self in
+    let less : length new.image_ids.ids < length now.image_ids.ids = dropping-smaller c in
+    record {
+      step = λ ties next_tie.
+          fold-one freed_image_id (freed_of now ties next_tie) (freed_of new ties next_tie) e (filter (λ x. x.client == c.args.client) now.image_ids.ids)
+          (filter (λ x. x.client == c.args.client) (filter (λ x. not (is_image_id e.client e.id x)) now.image_ids.ids)) (filter (λ x. x.client == c.args.client) new.image_ids.ids)
+          (c.drop_image_id.ensures.freed ties next_tie) (ap (filter (λ (x : ImageId). x.client == c.args.client)) c.drop_image_id.ensures.image_ids) c.in-Some.ensures.rest
+          ∙ c.dropping.invariant.step ties next_tie;
+      room = λ more h.
+          less-room new (length new.image_ids.ids + 3 * length new.windows.windows + more) (3 * length new.windows.windows + (length new.image_ids.ids + more)) (omega arith)
+          (c.drop_image_id.ensures.room (length new.image_ids.ids + more)
+          (less-room now (1 + 3 * length now.windows.windows + (length new.image_ids.ids + more)) (length now.image_ids.ids + 3 * length now.windows.windows + more) (omega (arith, less))
+          (c.dropping.invariant.room more h)));
+      fewer = omega (arith, c.drop_image_id.ensures.fewer, c.dropping.invariant.fewer, less);
+      none = c.drop_image_id.ensures.none;
+      most = c.drop_image_id.ensures.most ∙ c.dropping.invariant.most;
+      screen_ids = c.drop_image_id.ensures.screen_ids ∙ c.dropping.invariant.screen_ids;
+    }
+
+pub returns-clause-freed : goal.returns-clause-freed
+returns-clause-freed c = λ ties next_tie.
+    fold-none freed_image_id (freed_of c.dropping.self ties next_tie) (filter (λ e. e.client == c.args.client) c.dropping.self.image_ids.ids)
+    (none-own (λ (e : ImageId). e.client == c.args.client) c.dropping.self.image_ids.ids c.in_default.ensures.found)
+    ∙ c.dropping.invariant.step ties next_tie
+
+pub returns-clause-room : goal.returns-clause-room
+returns-clause-room c = λ more h.
+    let now = c.dropping.self in
+    less-room now (3 * length now.windows.windows + more) (length now.image_ids.ids + 3 * length now.windows.windows + more) (omega arith) (c.dropping.invariant.room more h)

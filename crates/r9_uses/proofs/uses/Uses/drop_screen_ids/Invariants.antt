@@ -1,0 +1,28 @@
+use Rattle.std.proofs.Common.{◌≡◌, ◌==◌, ◌+◌, ◌*◌, ◌≤◌, ℕ, [], List, filter, length}
+use Rattle.std.specs.List.{fold}
+use Rattle.model_images.specs.Release as model
+use Rattle.model_images.specs.declared.Tie.{Tie}
+use Rattle.r9_uses.specs.declared.uses.Uses.{Uses}
+use Rattle.r9_uses.specs.Freed.{freed_of, HasRoom}
+use Rattle.r9_uses.specs.Pending.{Things}
+use Rattle.r9_uses.proofs.uses.Uses.drop_screen_ids.Given as goal
+
+-- the ids that are left give what all gave
+pub record Dropping (client : ℕ) (now start : Uses) (pending first : Things) : Type 0 where
+  pub step :
+      (ties : List Tie) (next_tie : ℕ)
+      → fold model.freed_screen_id (freed_of now ties next_tie) (filter (λ e. e.client == client) now.screen_ids.ids)
+      ≡ fold model.freed_screen_id (freed_of start ties next_tie) (filter (λ e. e.client == client) start.screen_ids.ids)
+  pub room :
+      (more : ℕ) → HasRoom start (3 * length start.screen_ids.ids + 3 * length start.windows.windows + more)
+      → HasRoom now (3 * length now.screen_ids.ids + 3 * length now.windows.windows + more)
+  pub fewer : 3 * length now.screen_ids.ids + 3 * length now.windows.windows ≤ 3 * length start.screen_ids.ids + 3 * length start.windows.windows
+  pub none : pending.things ≡ []
+  pub most : pending.most ≡ first.most
+  pub image_ids : now.image_ids ≡ start.image_ids
+
+abbrev pub invariant-dropping : goal.invariant-dropping
+invariant-dropping l = Dropping l.client l.self l.initial.self l.pending l.initial.pending
+
+abbrev pub decreases-dropping : goal.decreases-dropping
+decreases-dropping l = length l.self.screen_ids.ids

@@ -1,0 +1,37 @@
+use Rattle.std.proofs.Common.{◌≡◌, ◌==◌, ◌+◌, ◌*◌, filter, length, ap, ◌∙◌, arith}
+use Rattle.std.specs.List.{fold}
+use Rattle.model_images.specs.declared.ScreenId.{ScreenId}
+use Rattle.model_images.specs.Release.{Freed, freed_screen_id}
+use Rattle.r9_ids.specs.ImageIds as images
+use Rattle.r9_ids.specs.ScreenIds as screens
+use Rattle.r9_uses.specs.Freed.{left_by}
+use Rattle.r9_uses.specs.Windows.{Standing}
+use Rattle.r9_uses.proofs.Rooms.{all-given, less-room, on_err}
+use Rattle.r9_uses.proofs.uses.Uses.leave.Goals as goal
+
+pub returns-in_err-pending-clause-none : goal.returns-in_err-pending-clause-none
+returns-in_err-pending-clause-none c = c.make_room.ensures.gone ∙ c.requires
+
+pub returns-in_err-pending-clause-kept : goal.returns-in_err-pending-clause-kept
+returns-in_err-pending-clause-kept c = λ ties next_tie. on_err _ _ (c.make_room.ensures.kept ties next_tie)
+
+pub drop_screen_ids-requires-clause-room : goal.drop_screen_ids-requires-clause-room
+drop_screen_ids-requires-clause-room c =
+    let old = c.args.self.now in
+    let ready = c.make_room.new.self in
+    let new = c.drop_image_ids.new.self in
+    let image_ids : length ready.image_ids.ids ≡ length old.image_ids.ids = ap (λ (x : images.Ids). length x.ids) c.make_room.ensures.image_ids in
+    let screen_ids : length ready.screen_ids.ids ≡ length old.screen_ids.ids = ap (λ (x : screens.Ids). length x.ids) c.make_room.ensures.screen_ids in
+    let others : length new.screen_ids.ids ≡ length ready.screen_ids.ids = ap (λ (x : screens.Ids). length x.ids) c.drop_image_ids.ensures.screen_ids in
+    let windows : length ready.windows.windows ≡ length old.windows.windows = ap (λ (x : Standing). length x.windows) c.make_room.ensures.windows in
+    less-room new (3 * length new.screen_ids.ids + 3 * length new.windows.windows) (3 * length new.windows.windows + 3 * length ready.screen_ids.ids) (omega (arith, others))
+    (c.drop_image_ids.ensures.room (3 * length ready.screen_ids.ids)
+    (less-room ready (length ready.image_ids.ids + 3 * length ready.windows.windows + 3 * length ready.screen_ids.ids) c.in_ok-most.most
+    (omega (arith, image_ids, screen_ids, windows, c.in_ok-most.ensures, c.len.ensures, c.len-2.ensures, c.len-3.ensures)) c.in_ok-pending.ensures.room))
+
+pub returns-clause-freed : goal.returns-clause-freed
+returns-clause-freed c = λ ties next_tie.
+    all-given c.take_gone.new.self c.drop_screen_ids.new.self c.take_gone.result.items _ ties next_tie (c.take_gone.ensures.kept c.take_gone.result.items ties next_tie) c.take_gone.ensures.gone
+    (c.drop_screen_ids.ensures.freed ties next_tie
+    ∙ (λ i. fold freed_screen_id (c.drop_image_ids.ensures.freed ties next_tie i) (filter (λ (e : ScreenId). e.client == c.args.client) (c.drop_image_ids.ensures.screen_ids i).ids))
+    ∙ ap (λ (f : Freed). left_by f c.args.client) (c.make_room.ensures.kept ties next_tie))

@@ -1,0 +1,240 @@
+//! Freeing ids, and the end of a connection.
+
+ghost use Rattle.std.specs.Prelude.{◌≡◌, ◌==◌, ◌<◌, ◌≤◌, ◌+◌, ◌*◌, ℕ, Bool, [], List, None, Some, false, true, not, filter, find, length, vec_capacity, IfOk, OnOk, OnErr};
+ghost use Rattle.std.specs.List.{fold, list_any};
+ghost use Rattle.model_images.specs.Release as model;
+ghost use Rattle.model_images.specs.declared.Thing.{Thing as AThing};
+ghost use Rattle.model_images.specs.declared.Thing.TheVariants as kind;
+ghost use Rattle.model_images.specs.declared.Tie.{Tie};
+ghost use Rattle.r9_uses.specs.Tally.{count_of, gone_of};
+
+use crate::pending::Pending;
+use crate::tally::Tally;
+use crate::uses::Uses;
+use model_images::{ImageId, ScreenId, Thing};
+use r9_memory::Memory;
+
+fn forget(images: &mut Tally, numbers: &mut Tally, thing: Thing)
+    ensures image_counts { (q : ℕ) → count_of images.new.uses q ≡ count_of images.old.uses q }
+    ensures screen_counts { (q : ℕ) → count_of numbers.new.uses q ≡ count_of numbers.old.uses q }
+    ensures images { (q : ℕ) → gone_of images.new.uses q ≡ true → (gone_of images.old.uses q ≡ true) × (model.same_thing (kind.Image q) thing ≡ false) }
+    ensures screens { (q : ℕ) → gone_of numbers.new.uses q ≡ true → (gone_of numbers.old.uses q ≡ true) × (model.same_thing (kind.Screen q) thing ≡ false) }
+{
+    match thing {
+        Thing::Image(i) => images.forget(i),
+        Thing::Screen(s) => numbers.forget(s),
+    }
+}
+
+// What has gone is no longer marked.
+fn forget_all(images: &mut Tally, numbers: &mut Tally, gone: &[Thing])
+    requires images { (q : ℕ) → gone_of images.old.uses q ≡ list_any (model.same_thing (kind.Image q)) gone.now }
+    requires screens { (q : ℕ) → gone_of numbers.old.uses q ≡ list_any (model.same_thing (kind.Screen q)) gone.now }
+    ensures image_counts { (q : ℕ) → count_of images.new.uses q ≡ count_of images.old.uses q }
+    ensures screen_counts { (q : ℕ) → count_of numbers.new.uses q ≡ count_of numbers.old.uses q }
+    ensures no_image { (q : ℕ) → gone_of images.new.uses q ≡ false }
+    ensures no_screen { (q : ℕ) → gone_of numbers.new.uses q ≡ false }
+{
+    for thing in gone {
+        forget(images, numbers, *thing);
+    }
+}
+
+// So many things may go: more than can be counted are more than there is memory for.
+fn most(images: usize, screens: usize, windows: usize) -> Result<usize, Memory>
+    ensures { IfOk result (λ n. n ≡ images + (3 * screens + 3 * windows)) }
+{
+    let from_screens = screens.checked_mul(3).ok_or(Memory)?;
+    let from_windows = windows.checked_mul(3).ok_or(Memory)?;
+    let others = from_screens.checked_add(from_windows).ok_or(Memory)?;
+    images.checked_add(others).ok_or(Memory)
+}
+
+impl Uses {
+    ghost use Rattle.r9_uses.specs.Freed.{freed_of, given, left_by, IsKnown, HasRoom};
+
+    // Makes room for so many things to go.
+    fn make_room(&mut self, most: usize) -> Result<Pending, Memory>
+        ensures room { OnOk result (HasRoom self.new most) }
+        ensures pending { IfOk result (λ p. p.things ≡ []) }
+        ensures most { IfOk result (λ p. p.most ≡ most) }
+        ensures kept { (ties : List Tie) (next_tie : ℕ) → freed_of self.new ties next_tie ≡ freed_of self.old ties next_tie }
+        ensures image_ids { self.new.image_ids ≡ self.old.image_ids }
+        ensures screen_ids { self.new.screen_ids ≡ self.old.screen_ids }
+        ensures windows { self.new.windows ≡ self.old.windows }
+        ensures gone { self.new.gone.items ≡ self.old.gone.items }
+    {
+        self.gone.reserve(most)?;
+        self.spare.reserve(most)?;
+        self.images.know(0)?;
+        Pending::with_room(self.alloc, most)
+    }
+
+    // Gives what has gone.
+    fn take_gone(&mut self) -> Vec<Thing>
+        ensures gone { result.items ≡ self.old.gone.items }
+        ensures none { self.new.gone.items ≡ [] }
+        ensures kept { (gone : List AThing) (ties : List Tie) (next_tie : ℕ) → given self.new gone ties next_tie ≡ given self.old gone ties next_tie }
+    {
+        let gone = std::mem::replace(&mut self.gone, Vec::new(self.alloc));
+        forget_all(&mut self.images, &mut self.numbers, &gone);
+        gone
+    }
+
+    // The id of an image that is no window goes. There is room for one thing to go.
+    fn drop_plain(&mut self, e: ImageId)
+        requires there { find (model.is_image_id e.client e.id) self.old.image_ids.ids ≡ Some e }
+        requires plain { find (λ w. w.image == e.image) self.old.windows.windows ≡ None }
+        requires gone { length self.old.gone.items < vec_capacity self.old.gone }
+        ensures freed { (ties : List Tie) (next_tie : ℕ) → freed_of self.new ties next_tie ≡ model.freed_image_id (freed_of self.old ties next_tie) e }
+    {
+        self.take_image_id(e);
+        if self.stays(Thing::Image(e.image)) {
+            return;
+        }
+        self.let_image_go(e.image);
+    }
+
+    // An image id goes. There is room for all that may go.
+    fn drop_image_id(&mut self, e: ImageId, pending: &mut Pending)
+        requires there { find (model.is_image_id e.client e.id) self.old.image_ids.ids ≡ Some e }
+        requires none { pending.old.things ≡ [] }
+        requires room { HasRoom self.old (1 + 3 * length self.old.windows.windows) }
+        requires most { 1 + 3 * length self.old.windows.windows ≤ pending.old.most }
+        ensures freed { (ties : List Tie) (next_tie : ℕ) → freed_of self.new ties next_tie ≡ model.freed_image_id (freed_of self.old ties next_tie) e }
+        ensures none { pending.new.things ≡ [] }
+        ensures most { pending.new.most ≡ pending.old.most }
+        ensures room { (more : ℕ) → HasRoom self.old (1 + 3 * length self.old.windows.windows + more) → HasRoom self.new (3 * length self.new.windows.windows + more) }
+        ensures fewer { 3 * length self.new.windows.windows ≤ 1 + 3 * length self.old.windows.windows }
+        ensures image_ids { self.new.image_ids.ids ≡ filter (λ x. not (model.is_image_id e.client e.id x)) self.old.image_ids.ids }
+        ensures screen_ids { self.new.screen_ids ≡ self.old.screen_ids }
+    {
+        self.take_image_id(e);
+        pending.push(Thing::Image(e.image));
+        self.settle(pending);
+    }
+
+    // A screen id goes. There is room for all that may go.
+    fn drop_screen_id(&mut self, e: ScreenId, pending: &mut Pending)
+        requires there { find (model.is_screen_id e.client e.id) self.old.screen_ids.ids ≡ Some e }
+        requires none { pending.old.things ≡ [] }
+        requires room { HasRoom self.old (3 + 3 * length self.old.windows.windows) }
+        requires most { 3 + 3 * length self.old.windows.windows ≤ pending.old.most }
+        ensures freed { (ties : List Tie) (next_tie : ℕ) → freed_of self.new ties next_tie ≡ model.freed_screen_id (freed_of self.old ties next_tie) e }
+        ensures none { pending.new.things ≡ [] }
+        ensures most { pending.new.most ≡ pending.old.most }
+        ensures room { (more : ℕ) → HasRoom self.old (3 + 3 * length self.old.windows.windows + more) → HasRoom self.new (3 * length self.new.windows.windows + more) }
+        ensures fewer { 3 * length self.new.windows.windows ≤ 3 + 3 * length self.old.windows.windows }
+        ensures screen_ids { self.new.screen_ids.ids ≡ filter (λ x. not (model.is_screen_id e.client e.id x)) self.old.screen_ids.ids }
+        ensures image_ids { self.new.image_ids ≡ self.old.image_ids }
+    {
+        self.take_screen_id(e);
+        pending.push(Thing::Screen(e.screen));
+        self.settle(pending);
+    }
+
+    // The image ids of a connection go, in ascending order. There is room for all that may go.
+    fn drop_image_ids(&mut self, client: u64, pending: &mut Pending)
+        requires none { pending.old.things ≡ [] }
+        requires room { HasRoom self.old (length self.old.image_ids.ids + 3 * length self.old.windows.windows) }
+        requires most { length self.old.image_ids.ids + 3 * length self.old.windows.windows ≤ pending.old.most }
+        ensures freed { (ties : List Tie) (next_tie : ℕ) → freed_of self.new ties next_tie ≡ fold model.freed_image_id (freed_of self.old ties next_tie) (filter (λ e. e.client == client) self.old.image_ids.ids) }
+        ensures none { pending.new.things ≡ [] }
+        ensures most { pending.new.most ≡ pending.old.most }
+        ensures room { (more : ℕ) → HasRoom self.old (length self.old.image_ids.ids + 3 * length self.old.windows.windows + more) → HasRoom self.new (3 * length self.new.windows.windows + more) }
+        ensures fewer { 3 * length self.new.windows.windows ≤ length self.old.image_ids.ids + 3 * length self.old.windows.windows }
+        ensures screen_ids { self.new.screen_ids ≡ self.old.screen_ids }
+    {
+        'dropping: while let Some(e) = self.image_ids.first_of(client) {
+            self.drop_image_id(e, pending);
+        }
+    }
+
+    // The screen ids of a connection go, in ascending order. There is room for all that may go.
+    fn drop_screen_ids(&mut self, client: u64, pending: &mut Pending)
+        requires none { pending.old.things ≡ [] }
+        requires room { HasRoom self.old (3 * length self.old.screen_ids.ids + 3 * length self.old.windows.windows) }
+        requires most { 3 * length self.old.screen_ids.ids + 3 * length self.old.windows.windows ≤ pending.old.most }
+        ensures freed { (ties : List Tie) (next_tie : ℕ) → freed_of self.new ties next_tie ≡ fold model.freed_screen_id (freed_of self.old ties next_tie) (filter (λ e. e.client == client) self.old.screen_ids.ids) }
+    {
+        'dropping: while let Some(e) = self.screen_ids.first_of(client) {
+            self.drop_screen_id(e, pending);
+        }
+    }
+
+    // The same, and gives what has gone.
+    fn free_plain(&mut self, e: ImageId) -> Result<Vec<Thing>, Memory>
+        requires there { find (model.is_image_id e.client e.id) self.old.image_ids.ids ≡ Some e }
+        requires plain { find (λ w. w.image == e.image) self.old.windows.windows ≡ None }
+        requires none { self.old.gone.items ≡ [] }
+        ensures freed { (ties : List Tie) (next_tie : ℕ) → IfOk result (λ gone. given self.new gone.items ties next_tie ≡ model.freed_image_id (freed_of self.old ties next_tie) e) }
+        ensures none { self.new.gone.items ≡ [] }
+        ensures kept { (ties : List Tie) (next_tie : ℕ) → OnErr result (freed_of self.new ties next_tie ≡ freed_of self.old ties next_tie) }
+    {
+        self.gone.reserve(1)?;
+        self.drop_plain(e);
+        Ok(self.take_gone())
+    }
+
+    fn free_window(&mut self, e: ImageId) -> Result<Vec<Thing>, Memory>
+        requires there { find (model.is_image_id e.client e.id) self.old.image_ids.ids ≡ Some e }
+        requires none { self.old.gone.items ≡ [] }
+        ensures freed { (ties : List Tie) (next_tie : ℕ) → IfOk result (λ gone. given self.new gone.items ties next_tie ≡ model.freed_image_id (freed_of self.old ties next_tie) e) }
+        ensures none { self.new.gone.items ≡ [] }
+        ensures kept { (ties : List Tie) (next_tie : ℕ) → OnErr result (freed_of self.new ties next_tie ≡ freed_of self.old ties next_tie) }
+    {
+        let most = most(1, 0, self.windows.len())?;
+        let mut pending = self.make_room(most)?;
+        self.drop_image_id(e, &mut pending);
+        Ok(self.take_gone())
+    }
+
+    /// An image id goes, and then what nothing refers to any more. Gives what has gone. After Memory all is as before. For an
+    /// image that is no window this takes memory for one thing at most, else for three times the windows that live.
+    pub fn free_image_id(&mut self, e: ImageId) -> Result<Vec<Thing>, Memory>
+        requires there { find (model.is_image_id e.client e.id) self.old.image_ids.ids ≡ Some e }
+        requires none { self.old.gone.items ≡ [] }
+        ensures freed { (ties : List Tie) (next_tie : ℕ) → IfOk result (λ gone. given self.new gone.items ties next_tie ≡ model.freed_image_id (freed_of self.old ties next_tie) e) }
+        ensures none { self.new.gone.items ≡ [] }
+        ensures kept { (ties : List Tie) (next_tie : ℕ) → OnErr result (freed_of self.new ties next_tie ≡ freed_of self.old ties next_tie) }
+    {
+        if self.screen_of(e.image).is_none() {
+            self.free_plain(e)
+        } else {
+            self.free_window(e)
+        }
+    }
+
+    /// A screen id goes, and then what nothing refers to any more. Gives what has gone. After Memory all is as before.
+    pub fn free_screen_id(&mut self, e: ScreenId) -> Result<Vec<Thing>, Memory>
+        requires there { find (model.is_screen_id e.client e.id) self.old.screen_ids.ids ≡ Some e }
+        requires none { self.old.gone.items ≡ [] }
+        ensures freed { (ties : List Tie) (next_tie : ℕ) → IfOk result (λ gone. given self.new gone.items ties next_tie ≡ model.freed_screen_id (freed_of self.old ties next_tie) e) }
+        ensures none { self.new.gone.items ≡ [] }
+        ensures kept { (ties : List Tie) (next_tie : ℕ) → OnErr result (freed_of self.new ties next_tie ≡ freed_of self.old ties next_tie) }
+    {
+        let most = most(0, 1, self.windows.len())?;
+        let mut pending = self.make_room(most)?;
+        self.drop_screen_id(e, &mut pending);
+        Ok(self.take_gone())
+    }
+
+    /// A connection ends: its image ids go in ascending order, and then its screen ids, each time with what nothing refers to
+    /// any more. Gives what has gone. After Memory all is as before.
+    pub fn leave(&mut self, client: u64) -> Result<Vec<Thing>, Memory>
+        requires { self.old.gone.items ≡ [] }
+        ensures freed { (ties : List Tie) (next_tie : ℕ) → IfOk result (λ gone. given self.new gone.items ties next_tie ≡ left_by (freed_of self.old ties next_tie) client) }
+        ensures none { self.new.gone.items ≡ [] }
+        ensures kept { (ties : List Tie) (next_tie : ℕ) → OnErr result (freed_of self.new ties next_tie ≡ freed_of self.old ties next_tie) }
+    {
+        let most = most(
+            self.image_ids.len(),
+            self.screen_ids.len(),
+            self.windows.len(),
+        )?;
+        let mut pending = self.make_room(most)?;
+        self.drop_image_ids(client, &mut pending);
+        self.drop_screen_ids(client, &mut pending);
+        Ok(self.take_gone())
+    }
+}

@@ -1,0 +1,179 @@
+//! What goes when a reference goes.
+
+ghost use Rattle.std.specs.Prelude.{◌≡◌, ◌==◌, ◌||◌, ◌<◌, ◌≤◌, ◌+◌, ◌*◌, ◌++◌, ◌∷◌, ℕ, [], List, All, length, true, vec_len, vec_capacity};
+ghost use Rattle.model_images.specs.Release as model;
+ghost use Rattle.model_images.specs.declared.Thing.{Thing as AThing};
+ghost use Rattle.model_images.specs.declared.Thing.TheVariants as thing;
+ghost use Rattle.model_images.specs.declared.Tie.{Tie};
+ghost use Rattle.r9_uses.specs.Tally.{knows};
+
+use crate::pending::Pending;
+use crate::uses::Uses;
+use model_images::Thing;
+
+impl Uses {
+    ghost use Rattle.r9_uses.specs.Freed.{freed_of, book_of, IsKnown, weight, left_of, HasRoom};
+
+    fn is_used(&self, thing: Thing) -> bool
+        ensures { (ties : List Tie) (next_tie : ℕ) → result ≡ model.is_used (freed_of self.now ties next_tie).book thing }
+    {
+        match thing {
+            Thing::Image(i) => self.images.count(i) > 0,
+            Thing::Screen(s) => self.numbers.count(s) > 0,
+        }
+    }
+
+    fn has_gone(&self, thing: Thing) -> bool
+        ensures { (ties : List Tie) (next_tie : ℕ) → result ≡ model.has_gone (freed_of self.now ties next_tie) thing }
+    {
+        match thing {
+            Thing::Image(i) => self.images.has_gone(i),
+            Thing::Screen(s) => self.numbers.has_gone(s),
+        }
+    }
+
+    pub(crate) fn stays(&self, thing: Thing) -> bool
+        ensures { (ties : List Tie) (next_tie : ℕ) → result ≡ (model.is_used (freed_of self.now ties next_tie).book thing || model.has_gone (freed_of self.now ties next_tie) thing) }
+    {
+        self.is_used(thing) || self.has_gone(thing)
+    }
+
+    // Puts what the image refers to before the other things: its screen, where it is a window.
+    fn refer_image(&self, image: u32, pending: &mut Pending)
+        requires { length (model.references (book_of self.now) (thing.Image image)) + length pending.old.things ≤ pending.old.most }
+        ensures things { (ties : List Tie) (next_tie : ℕ) → pending.new.things ≡ model.references (freed_of self.now ties next_tie).book (thing.Image image) ++ pending.old.things }
+        ensures known { All (IsKnown self.now) (model.references (book_of self.now) (thing.Image image)) }
+        ensures most { pending.new.most ≡ pending.old.most }
+    {
+        if let Some(screen) = self.screen_of(image) {
+            pending.push(Thing::Screen(screen));
+        }
+    }
+
+    // Puts what the screen refers to before the other things: its image and then its fill.
+    fn refer_screen(&self, screen: u32, pending: &mut Pending)
+        requires room { 2 + length pending.old.things ≤ pending.old.most }
+        requires image { IsKnown self.now (thing.Image 0) }
+        ensures things { (ties : List Tie) (next_tie : ℕ) → pending.new.things ≡ model.references (freed_of self.now ties next_tie).book (thing.Screen screen) ++ pending.old.things }
+        ensures known { All (IsKnown self.now) (model.references (book_of self.now) (thing.Screen screen)) }
+        ensures most { pending.new.most ≡ pending.old.most }
+    {
+        let (image, fill) = match self.screen_numbered(screen) {
+            Some(screen) => (screen.image, screen.fill),
+            None => (0, 0),
+        };
+        pending.push(Thing::Image(fill));
+        pending.push(Thing::Image(image));
+    }
+
+    pub(crate) fn let_image_go(&mut self, image: u32)
+        requires known { IsKnown self.old (thing.Image image) }
+        requires gone { length self.old.gone.items < vec_capacity self.old.gone }
+        ensures freed { (ties : List Tie) (next_tie : ℕ) → freed_of self.new ties next_tie ≡ model.with_gone (freed_of self.old ties next_tie) (thing.Image image) }
+        ensures known { (t : AThing) → IsKnown self.old t → IsKnown self.new t }
+        ensures gone { vec_capacity self.new.gone ≡ vec_capacity self.old.gone }
+        ensures spare { self.new.spare ≡ self.old.spare }
+        ensures image_ids { self.new.image_ids ≡ self.old.image_ids }
+        ensures screen_ids { self.new.screen_ids ≡ self.old.screen_ids }
+    {
+        self.close(image);
+        self.images.mark(image);
+        self.gone.push_reserved(Thing::Image(image));
+    }
+
+    fn let_screen_go(&mut self, screen: u32)
+        requires known { IsKnown self.old (thing.Screen screen) }
+        requires gone { length self.old.gone.items < vec_capacity self.old.gone }
+        requires spare { length self.old.spare.items < vec_capacity self.old.spare }
+        ensures freed { (ties : List Tie) (next_tie : ℕ) → freed_of self.new ties next_tie ≡ model.with_gone (freed_of self.old ties next_tie) (thing.Screen screen) }
+        ensures known { (t : AThing) → IsKnown self.old t → IsKnown self.new t }
+        ensures gone { vec_capacity self.new.gone ≡ vec_capacity self.old.gone }
+        ensures spare { vec_capacity self.new.spare ≡ vec_capacity self.old.spare }
+        ensures image_ids { self.new.image_ids ≡ self.old.image_ids }
+        ensures screen_ids { self.new.screen_ids ≡ self.old.screen_ids }
+    {
+        self.empty(screen);
+        self.numbers.mark(screen);
+        self.spare.push_reserved(screen);
+        self.gone.push_reserved(Thing::Screen(screen));
+    }
+
+    // Looks at an image that has lost a reference, which stands before the other things.
+    fn look_at_image(&mut self, image: u32, pending: &mut Pending)
+        requires known { IsKnown self.old (thing.Image image) }
+        requires all { All (IsKnown self.old) pending.old.things }
+        requires room { HasRoom self.old (left_of self.old (thing.Image image ∷ pending.old.things)) }
+        requires most { left_of self.old (thing.Image image ∷ pending.old.things) ≤ pending.old.most }
+        ensures step { (ties : List Tie) (next_tie : ℕ) → model.released (freed_of self.new ties next_tie) pending.new.things ≡ model.released (freed_of self.old ties next_tie) (thing.Image image ∷ pending.old.things) }
+        ensures less { left_of self.new pending.new.things < left_of self.old (thing.Image image ∷ pending.old.things) }
+        ensures room { (more : ℕ) → HasRoom self.old (left_of self.old (thing.Image image ∷ pending.old.things) + more) → HasRoom self.new (left_of self.new pending.new.things + more) }
+        ensures all { All (IsKnown self.new) pending.new.things }
+        ensures most { pending.new.most ≡ pending.old.most }
+        ensures image_ids { self.new.image_ids ≡ self.old.image_ids }
+        ensures screen_ids { self.new.screen_ids ≡ self.old.screen_ids }
+    {
+        if self.stays(Thing::Image(image)) {
+            return;
+        }
+        self.refer_image(image, pending);
+        self.let_image_go(image);
+    }
+
+    // Looks at a screen that has lost a reference, which stands before the other things.
+    fn look_at_screen(&mut self, screen: u32, pending: &mut Pending)
+        requires known { IsKnown self.old (thing.Screen screen) }
+        requires all { All (IsKnown self.old) pending.old.things }
+        requires room { HasRoom self.old (left_of self.old (thing.Screen screen ∷ pending.old.things)) }
+        requires most { left_of self.old (thing.Screen screen ∷ pending.old.things) ≤ pending.old.most }
+        ensures step { (ties : List Tie) (next_tie : ℕ) → model.released (freed_of self.new ties next_tie) pending.new.things ≡ model.released (freed_of self.old ties next_tie) (thing.Screen screen ∷ pending.old.things) }
+        ensures less { left_of self.new pending.new.things < left_of self.old (thing.Screen screen ∷ pending.old.things) }
+        ensures room { (more : ℕ) → HasRoom self.old (left_of self.old (thing.Screen screen ∷ pending.old.things) + more) → HasRoom self.new (left_of self.new pending.new.things + more) }
+        ensures all { All (IsKnown self.new) pending.new.things }
+        ensures most { pending.new.most ≡ pending.old.most }
+        ensures image_ids { self.new.image_ids ≡ self.old.image_ids }
+        ensures screen_ids { self.new.screen_ids ≡ self.old.screen_ids }
+    {
+        if self.stays(Thing::Screen(screen)) {
+            return;
+        }
+        self.refer_screen(screen, pending);
+        self.let_screen_go(screen);
+    }
+
+    fn look(&mut self, thing: Thing, pending: &mut Pending)
+        requires known { IsKnown self.old thing }
+        requires all { All (IsKnown self.old) pending.old.things }
+        requires room { HasRoom self.old (left_of self.old (thing ∷ pending.old.things)) }
+        requires most { left_of self.old (thing ∷ pending.old.things) ≤ pending.old.most }
+        ensures step { (ties : List Tie) (next_tie : ℕ) → model.released (freed_of self.new ties next_tie) pending.new.things ≡ model.released (freed_of self.old ties next_tie) (thing ∷ pending.old.things) }
+        ensures less { left_of self.new pending.new.things < left_of self.old (thing ∷ pending.old.things) }
+        ensures room { (more : ℕ) → HasRoom self.old (left_of self.old (thing ∷ pending.old.things) + more) → HasRoom self.new (left_of self.new pending.new.things + more) }
+        ensures all { All (IsKnown self.new) pending.new.things }
+        ensures most { pending.new.most ≡ pending.old.most }
+        ensures image_ids { self.new.image_ids ≡ self.old.image_ids }
+        ensures screen_ids { self.new.screen_ids ≡ self.old.screen_ids }
+    {
+        match thing {
+            Thing::Image(i) => self.look_at_image(i, pending),
+            Thing::Screen(s) => self.look_at_screen(s, pending),
+        }
+    }
+
+    // Looks at one after the other.
+    pub(crate) fn settle(&mut self, pending: &mut Pending)
+        requires all { All (IsKnown self.old) pending.old.things }
+        requires room { HasRoom self.old (left_of self.old pending.old.things) }
+        requires most { left_of self.old pending.old.things ≤ pending.old.most }
+        ensures freed { (ties : List Tie) (next_tie : ℕ) → freed_of self.new ties next_tie ≡ model.released (freed_of self.old ties next_tie) pending.old.things }
+        ensures none { pending.new.things ≡ [] }
+        ensures most { pending.new.most ≡ pending.old.most }
+        ensures room { (more : ℕ) → HasRoom self.old (left_of self.old pending.old.things + more) → HasRoom self.new (left_of self.new [] + more) }
+        ensures fewer { left_of self.new [] ≤ left_of self.old pending.old.things }
+        ensures image_ids { self.new.image_ids ≡ self.old.image_ids }
+        ensures screen_ids { self.new.screen_ids ≡ self.old.screen_ids }
+    {
+        'settling: while let Some(thing) = pending.pop() {
+            self.look(thing, pending);
+        }
+    }
+}

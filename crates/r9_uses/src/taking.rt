@@ -1,0 +1,111 @@
+//! Taking single references.
+
+ghost use Rattle.std.specs.Prelude.{◌≡◌, ◌==◌, ◌<◌, ◌≤◌, ◌+◌, ℕ, None, Some, not, true, false, filter, find, length, slice_set, vec_len, vec_capacity, IfSome};
+ghost use Rattle.model_images.specs.Release.{is_image_id, is_screen_id};
+ghost use Rattle.r9_uses.specs.Tally.{room_of, knows};
+
+use crate::uses::Uses;
+use model_images::{ImageId, ScreenId};
+
+impl Uses {
+    // An image id goes.
+    pub(crate) fn take_image_id(&mut self, e: ImageId)
+        requires { find (is_image_id e.client e.id) self.old.image_ids.ids ≡ Some e }
+        ensures ids { self.new.image_ids.ids ≡ filter (λ x. not (is_image_id e.client e.id x)) self.old.image_ids.ids }
+        ensures known { knows self.new.images.uses e.image ≡ true }
+        ensures image_room { self.old.image_ids.room ≤ self.new.image_ids.room }
+        ensures images { (q : ℕ) → knows self.old.images.uses q ≡ true → knows self.new.images.uses q ≡ true }
+        ensures numbers { self.new.numbers ≡ self.old.numbers }
+        ensures screen_ids { self.new.screen_ids ≡ self.old.screen_ids }
+        ensures screens { self.new.screens ≡ self.old.screens }
+        ensures spare { self.new.spare ≡ self.old.spare }
+        ensures windows { self.new.windows ≡ self.old.windows }
+        ensures gone { self.new.gone ≡ self.old.gone }
+    {
+        self.images.take(e.image);
+        self.image_ids.remove(e.client, e.id);
+    }
+
+    // A screen id goes.
+    pub(crate) fn take_screen_id(&mut self, e: ScreenId)
+        requires { find (is_screen_id e.client e.id) self.old.screen_ids.ids ≡ Some e }
+        ensures ids { self.new.screen_ids.ids ≡ filter (λ x. not (is_screen_id e.client e.id x)) self.old.screen_ids.ids }
+        ensures known { knows self.new.numbers.uses e.screen ≡ true }
+        ensures screen_room { self.old.screen_ids.room ≤ self.new.screen_ids.room }
+        ensures images { self.new.images ≡ self.old.images }
+        ensures numbers { (q : ℕ) → knows self.old.numbers.uses q ≡ true → knows self.new.numbers.uses q ≡ true }
+        ensures image_ids { self.new.image_ids ≡ self.old.image_ids }
+        ensures screens { self.new.screens ≡ self.old.screens }
+        ensures spare { self.new.spare ≡ self.old.spare }
+        ensures windows { self.new.windows ≡ self.old.windows }
+        ensures gone { self.new.gone ≡ self.old.gone }
+    {
+        self.numbers.take(e.screen);
+        self.screen_ids.remove(e.client, e.id);
+    }
+
+    // There is no screen of the number any more.
+    pub(crate) fn empty(&mut self, number: u32)
+        ensures emptied { self.new.screens.items ≡ slice_set self.old.screens.items number None }
+        ensures capacity { vec_capacity self.new.screens ≡ vec_capacity self.old.screens }
+        ensures known { (q : ℕ) → knows self.old.images.uses q ≡ true → knows self.new.images.uses q ≡ true }
+        ensures images_room { room_of self.new.images.uses self.new.images.made ≡ room_of self.old.images.uses self.old.images.made }
+        ensures on_room { room_of self.new.on.uses self.new.on.made ≡ room_of self.old.on.uses self.old.on.made }
+        ensures image_ids { self.new.image_ids ≡ self.old.image_ids }
+        ensures screen_ids { self.new.screen_ids ≡ self.old.screen_ids }
+        ensures numbers { self.new.numbers ≡ self.old.numbers }
+        ensures spare { self.new.spare ≡ self.old.spare }
+        ensures windows { self.new.windows ≡ self.old.windows }
+        ensures gone { self.new.gone ≡ self.old.gone }
+    {
+        let at = number as usize;
+        if at >= self.screens.len() {
+            return;
+        }
+        let Some(screen) = self.screens[at] else {
+            return;
+        };
+        self.images.take(screen.image);
+        self.images.take(screen.fill);
+        self.on.take(screen.image);
+        self.screens[at] = None;
+    }
+
+    // The image's first window goes, where it has one.
+    fn take_window(&mut self, image: u32) -> bool
+        ensures others { filter (λ w. not (w.image == image)) self.new.windows.windows ≡ filter (λ w. not (w.image == image)) self.old.windows.windows }
+        ensures none { result ≡ false → self.new.windows.windows ≡ filter (λ w. not (w.image == image)) self.old.windows.windows }
+        ensures less { result ≡ true → length self.new.windows.windows < length self.old.windows.windows }
+        ensures known { (q : ℕ) → knows self.old.numbers.uses q ≡ true → knows self.new.numbers.uses q ≡ true }
+        ensures room { self.old.windows.room ≤ self.new.windows.room }
+        ensures image_ids { self.new.image_ids ≡ self.old.image_ids }
+        ensures screen_ids { self.new.screen_ids ≡ self.old.screen_ids }
+        ensures images { self.new.images ≡ self.old.images }
+        ensures screens { self.new.screens ≡ self.old.screens }
+        ensures spare { self.new.spare ≡ self.old.spare }
+        ensures gone { self.new.gone ≡ self.old.gone }
+    {
+        match self.windows.take(image) {
+            Some(window) => {
+                self.numbers.take(window.screen);
+                true
+            }
+            None => false,
+        }
+    }
+
+    // The image is no window any more.
+    pub(crate) fn close(&mut self, image: u32)
+        ensures closed { self.new.windows.windows ≡ filter (λ w. not (w.image == image)) self.old.windows.windows }
+        ensures known { (q : ℕ) → knows self.old.numbers.uses q ≡ true → knows self.new.numbers.uses q ≡ true }
+        ensures room { self.old.windows.room ≤ self.new.windows.room }
+        ensures image_ids { self.new.image_ids ≡ self.old.image_ids }
+        ensures screen_ids { self.new.screen_ids ≡ self.old.screen_ids }
+        ensures images { self.new.images ≡ self.old.images }
+        ensures screens { self.new.screens ≡ self.old.screens }
+        ensures spare { self.new.spare ≡ self.old.spare }
+        ensures gone { self.new.gone ≡ self.old.gone }
+    {
+        'closing: while self.take_window(image) {}
+    }
+}

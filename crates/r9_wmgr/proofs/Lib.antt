@@ -1,0 +1,4 @@
+mod Loops
+mod Levels
+mod Results
+mod Windows

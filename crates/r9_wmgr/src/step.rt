@@ -1,0 +1,136 @@
+//! Acts, one after the other.
+
+ghost use Rattle.std.specs.Prelude.{◌≡◌, Ok, Err, IfOk, IfErr, OnOk, OnErr};
+ghost use Rattle.model_rio.specs.Table.{found, serials_of, below};
+ghost use Rattle.model_rio.specs.Rio as model;
+ghost use Rattle.model_rio.specs.Step.{begun};
+ghost use Rattle.r9_wctl.specs.Values.{wctl_of};
+ghost use Rattle.r9_wmgr.specs.Acts.{act_of, AreKeys, IfRefused};
+
+use crate::act::{Act, ActFault, Step};
+use crate::draft::Draft;
+use crate::making::GONE;
+use crate::manager::Manager;
+use crate::naming::DEEPEST;
+use r9_event::{Notes, Orders};
+use r9_memory::Memory;
+use r9_text::Numbers;
+use r9_wctl::Wctl;
+use r9_window::Window;
+
+impl Draft {
+    fn command(&mut self, what: &Wctl, w: &Window) -> Result<(), ActFault>
+        ensures done { OnOk result (model.commanded (wctl_of what.now) w.now self.old ≡ Ok self.new) }
+        ensures refused { IfErr result (λ f. IfRefused f (λ n. model.commanded (wctl_of what.now) w.now self.old ≡ Err n)) }
+    {
+        match what {
+            Wctl::New { options, hide } => return self.new_in(w.host, options, *hide),
+            Wctl::Resize(options) => return self.move_by(false, options, w),
+            Wctl::Move(options) => return self.move_by(true, options, w),
+            Wctl::Host => return self.host(w),
+            Wctl::Top => self.raise(*w)?,
+            Wctl::Bottom => self.lower(*w)?,
+            Wctl::Hide => self.hide(w)?,
+            Wctl::Unhide => self.show(w)?,
+            Wctl::Current => self.make_current(w)?,
+            Wctl::Delete => self.delete(DEEPEST, w)?,
+            Wctl::Scroll(_) | Wctl::Set => {}
+        }
+        Ok(())
+    }
+
+    // A command to the window with a serial.
+    #[tactic(auto, unfolding(model_rio::specs::Rio::command_to))]
+    fn command_to(&mut self, serial: u32, what: &Wctl) -> Result<(), ActFault>
+        ensures done { OnOk result (model.command_to serial (wctl_of what.now) self.old ≡ Ok self.new) }
+        ensures refused { IfErr result (λ f. IfRefused f (λ n. model.command_to serial (wctl_of what.now) self.old ≡ Err n)) }
+    {
+        let Some(w) = self.table.window_of(serial) else {
+            return Err(ActFault::Refused(GONE));
+        };
+        self.command(what, &w)
+    }
+
+    fn act(&mut self, act: &Act) -> Result<(), ActFault>
+        requires keys { AreKeys act.now }
+        ensures done { OnOk result (model.acted (act_of act.now) self.old ≡ Ok self.new) }
+        ensures refused { IfErr result (λ f. IfRefused f (λ n. model.acted (act_of act.now) self.old ≡ Err n)) }
+    {
+        match act {
+            Act::New { rio, options, hide } => return self.new_in(*rio, options, *hide),
+            Act::Command { window, what } => return self.command_to(*window, what),
+            Act::Gone { window } => return self.command_to(*window, &Wctl::Delete),
+            Act::Mouse(e) => self.mouse(DEEPEST, *e, 0)?,
+            Act::Keys(bytes) => self.keys(bytes.as_slice())?,
+        }
+        Ok(())
+    }
+}
+
+impl Manager {
+    fn draft(&self) -> Result<Draft, Memory>
+        ensures { IfOk result (λ draft. draft ≡ begun self.now) }
+    {
+        Ok(Draft {
+            table: self.try_clone()?,
+            orders: Orders::new(self.alloc),
+            notes: Notes::new(self.alloc),
+        })
+    }
+
+    // Takes over the table of a draft.
+    fn take_over(&mut self, draft: Draft) -> Step
+        ensures { draft ≡ record { table = self.new; orders = result.orders; notes = result.notes } }
+    {
+        let Draft {
+            table,
+            orders,
+            notes,
+        } = draft;
+        *self = table;
+        Step { orders, notes }
+    }
+
+    /// What an act does: the table changes, and it gives what that asks of the draw device and what windows are told.
+    /// Refused by 42 exactly where the window, or the rio of a new one, is not there; then by 47 where a rectangle or a
+    /// host is refused, by 49 where there would be too many windows, and by 50 where rios would be nested too deep. Where it
+    /// is refused or memory is short, nothing changes.
+    pub fn step(&mut self, act: Act) -> Result<Step, ActFault>
+        requires keys { AreKeys act }
+        ensures done { IfOk result (λ s. model.rio self.old (act_of act) ≡ Ok (record { table = self.new; orders = s.orders; notes = s.notes })) }
+        ensures refused { IfErr result (λ f. IfRefused f (λ n. model.rio self.old (act_of act) ≡ Err n)) }
+        ensures kept { OnErr result (self.new ≡ self.old) }
+    {
+        let mut draft = self.draft()?;
+        draft.act(&act)?;
+        Ok(self.take_over(draft))
+    }
+
+    /// The serial of the live window of a path, the numbers from the root rio inward. None exactly where there is none.
+    #[tactic(auto, unfolding(model_rio::specs::Table::found))]
+    pub fn find(&self, path: &[u32]) -> Option<u32>
+        ensures { result ≡ found self.now path.now }
+    {
+        if path.is_empty() {
+            return None;
+        }
+        let mut at = 0;
+        for number in path {
+            at = self.numbered(at, *number)?;
+        }
+        Some(at)
+    }
+
+    /// The serials of the windows of a host's rio, in ascending order. 0 is the root rio.
+    #[tactic(auto, unfolding(model_rio::specs::Table::serials_of))]
+    pub fn windows(&self, rio: u32) -> Result<Numbers, Memory>
+        ensures { IfOk result (λ serials. serials ≡ serials_of self.now rio) }
+    {
+        let windows = self.made_in(rio)?;
+        let mut serials = Numbers::new(self.alloc);
+        for w in &windows {
+            serials.push(w.serial)?;
+        }
+        Ok(serials)
+    }
+}

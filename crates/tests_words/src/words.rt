@@ -1,0 +1,91 @@
+use r9_opts::{Job, OptsFault, read_words};
+use std::test::Fail;
+
+// Words that ask for nothing.
+const REFUSED: [&[&str]; 46] = [
+    &[],
+    &["--"],
+    &["--", "replay"],
+    &["help"],
+    &["--help"],
+    &["-h"],
+    &["rep"],
+    &["replay", "--help"],
+    &["replay", "--version"],
+    &["replay", "--size", "64x48", "--size=64x48"],
+    &["replay", "--screen", "--screen"],
+    &["replay", "--size="],
+    &["replay", "--size", ""],
+    &["replay", "--size", "-"],
+    &["replay", "--size", "0x5"],
+    &["replay", "--size", "05x5"],
+    &["replay", "--size", "2049x5"],
+    &["replay", "--size", "64"],
+    &["replay", "--chan", "k9"],
+    &["replay", "--", "--screen"],
+    &["replay", "--scr"],
+    &["replay", "--screen=true"],
+    &["replay", "--screen="],
+    &["replay", "--size"],
+    &["replay", "--size", "--screen"],
+    &["replay", "-s"],
+    &["replay", "-"],
+    &["replay", "x"],
+    &["serve", "--conns", "1"],
+    &["serve", "--listen", "x"],
+    &["serve", "--listen", "x", "--conns=-1"],
+    &["serve", "--listen", "x", "--conns", "-1"],
+    &["serve", "--listen", "x", "--conns=1", "--workers=17"],
+    &["serve", "--listen", "x", "--conns=100001"],
+    &["alone"],
+    &["alone", "--conn", "0"],
+    &["alone", "--conn", "4294967296"],
+    &["alone", "--conn", "1", "--screen"],
+    &["gen"],
+    &["gen", "0"],
+    &["gen", "007"],
+    &["gen", "100001"],
+    &["gen", "+5"],
+    &["gen", "5", "6"],
+    &["gen", "--", "--", "5"],
+    &["gen", "--", "--"],
+];
+
+#[test]
+fn what_is_not_in_the_grammar_is_refused(rt: HostRuntime) {
+    for words in REFUSED {
+        assert!(rt; matches!(read_words(rt.alloc(), words), Err(OptsFault::Usage)));
+    }
+}
+
+#[test]
+fn a_server_has_an_address_and_a_count(rt: HostRuntime) -> Result<(), Fail> {
+    let words = ["serve", "--conns=3", "--listen", "a=-b"];
+    let Ok(
+        Job::Serve {
+            listen,
+            workers,
+            conns,
+            ..
+        },
+    ) = read_words(rt.alloc(), &words)
+    else {
+        return Err("a server")?;
+    };
+    assert_eq!(rt; listen.as_slice(), b"a=-b".as_slice());
+    assert_eq!(rt; (workers, conns), (1, 3));
+    Ok(())
+}
+
+#[test]
+fn a_number_stands_before_or_behind_the_ending(rt: HostRuntime) {
+    for words in [["gen", "--", "5"], ["gen", "5", "--"]] {
+        assert!(rt; matches!(read_words(rt.alloc(), &words), Ok(Job::Gen { number: 5 })));
+    }
+    assert!(rt;
+        matches!(
+            read_words(rt.alloc(), &["gen", "100000"]),
+            Ok(Job::Gen { number: 100_000 })
+        )
+    );
+}
