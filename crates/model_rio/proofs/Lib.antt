@@ -1,2 +1,11 @@
 mod Rows
 mod RioLaws
+mod Lookups
+mod Refusals
+mod Puts
+mod Tables
+mod Inputs
+mod Makings
+mod Movings
+mod Goings
+mod Soundness

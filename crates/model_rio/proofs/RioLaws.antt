@@ -16,7 +16,7 @@ pub held : (table : Table) (e : Mouse) (serial : ℕ) → hold_of table 0 ≡ He
 unfolding moused reacted
 held table e serial holds hosts pressed = rw (holds, pressed, hosts) refl
 
-same_serial : (b : Bool) (v w : Window) → (v.serial == w.serial) ≡ b → (cond b w v).serial ≡ v.serial
+pub same_serial : (b : Bool) (v w : Window) → (v.serial == w.serial) ≡ b → (cond b w v).serial ≡ v.serial
 same_serial true v w e = grind (arith, nat_tests)
 same_serial false v w e = refl
 

@@ -1,14 +1,17 @@
-//! What the definitions say of the mouse and of the order of windows.
+//! What the definitions say of the mouse, of the order of windows, and of what each table keeps.
 
-ghost use Rattle.std.specs.Prelude.{◌≡◌, ◌==◌, ℕ, true, false, not, List, [], ◌∷◌, map, Some, Ok};
+ghost use Rattle.std.specs.Prelude.{◌≡◌, ◌==◌, ◌≤◌, length, ℕ, true, false, not, List, [], ◌∷◌, map, Some, Ok};
 ghost use Rattle.r9_geom.specs.declared.Point.{Point};
+ghost use Rattle.r9_geom.specs.declared.Rect.{Rect};
 ghost use Rattle.r9_geom.specs.Geometry.{holds};
 ghost use Rattle.r9_window.specs.declared.Window.{Window};
 ghost use Rattle.r9_event.specs.declared.rio.Note.TheVariants as note;
 ghost use Rattle.model_mouse.specs.declared.Mouse.{Mouse};
-ghost use Rattle.model_rio.specs.Table.{Table, Held, hold_of, is_host, topmost};
+ghost use Rattle.model_rio.specs.Table.{Table, Held, hold_of, is_host, topmost, opened, window_of, path_up};
+ghost use Rattle.model_rio.specs.Act.{Act};
 ghost use Rattle.model_rio.specs.Act as act;
-ghost use Rattle.model_rio.specs.Step.{in_place};
+ghost use Rattle.model_rio.specs.Step.{Step, in_place};
+ghost use Rattle.model_rio.specs.Sound.{IsSound};
 ghost use Rattle.model_rio.specs.Rio.{rio};
 
 /// While a window holds the mouse and buttons stay pressed, it alone is told of each event, wherever the pointer is, and
@@ -25,4 +28,19 @@ pub fn replaced_windows_keep_their_places()
 /// The topmost window at a point is one of that rio, has the point, and is not hidden.
 pub fn topmost_is_seen()
     ensures { (table : Table) (host : ℕ) (p : Point) (w : Window) → topmost table host p ≡ Some w → ((w.host == host) ≡ true) × (not w.hidden ≡ true) × (holds w.r p ≡ true) }
+{}
+
+/// A display with no windows is sound.
+pub fn opening_is_sound()
+    ensures { (r : Rect) → IsSound (opened r) }
+{}
+
+/// Each act that is not refused leaves a sound table sound.
+pub fn acts_keep_tables_sound()
+    ensures { (table : Table) (a : Act) (step : Step) → IsSound table → rio table a ≡ Ok step → IsSound step.table }
+{}
+
+/// The path of a window has at most nine numbers, and looking further up finds no more of it.
+pub fn paths_have_at_most_nine_numbers()
+    ensures { (table : Table) (serial : ℕ) (w : Window) → IsSound table → window_of table serial ≡ Some w → (levels : ℕ) → 9 ≤ levels → (path_up levels table serial ≡ path_up 9 table serial) × (length (path_up levels table serial) ≤ 9) }
 {}

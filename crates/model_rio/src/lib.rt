@@ -4,4 +4,7 @@
 
 mod laws;
 
-pub use laws::{drag_goes_to_holder, replaced_windows_keep_their_places, topmost_is_seen};
+pub use laws::{
+    acts_keep_tables_sound, drag_goes_to_holder, opening_is_sound, paths_have_at_most_nine_numbers,
+    replaced_windows_keep_their_places, topmost_is_seen,
+};

@@ -1,0 +1,117 @@
+-- Windows that move or go keep a table sound.
+use Rattle.std.proofs.Common.{◌≡◌, ◌∙◌, ℕ, zero, suc, ◌==◌, Bool, true, false, cond, not, List, [], ◌∷◌, reverse, Option, Some, None, Ok, Err, option_map, All, refl, sym, ap, subst, eqb-true}
+use Rattle.std.proofs.lemmas.Bool.{eqb-false}
+use Rattle.std.proofs.lemmas.Option.{same_Some}
+use Rattle.std.proofs.lemmas.List.Elements.{All-head, All-tail, All-weaker, All-filter}
+use Rattle.std.proofs.lemmas.List.Sorted.{All-permutation, IsPermutation-reverse}
+use Rattle.r9_geom.specs.declared.Rect.{Rect}
+use Rattle.r9_geom.specs.declared.Point.{Point}
+use Rattle.r9_geom.specs.Geometry.{shifted}
+use Rattle.r9_window.specs.Ways.{way}
+use Rattle.model_text.specs.Outcome.{Outcome}
+use Rattle.model_wctl.specs.Rectangle.{is_near}
+use Rattle.model_rio.specs.Table.{Window, Table, is_host, windows_in, put}
+use Rattle.r9_event.specs.declared.rio.Order.TheVariants as order
+use Rattle.model_rio.specs.Step.{Step, ordered, in_place}
+use Rattle.model_rio.specs.Moving.{renewed, replaced, each, carried, followed, moved}
+use Rattle.model_rio.specs.Sound.{window_in, IsSound}
+use Rattle.model_rio.proofs.Lookups.{own}
+use Rattle.model_rio.proofs.Refusals.{same_Ok, then_ok}
+use Rattle.model_rio.proofs.Puts.{IsPut, IsPut-in_place}
+use Rattle.model_rio.proofs.Tables.{shown_sound}
+
+-- ---- windows that move
+
+-- what a move leaves of a window: its rio, and whether it is hidden
+abbrev left : Window → ℕ × Bool
+left w = (w.host, w.hidden)
+
+abbrev left_of : List Window → ℕ → Option (ℕ × Bool)
+left_of windows serial = option_map left (window_in windows serial)
+
+-- each serial has a window of the same rio, as hidden as before, or none as before
+abbrev pub IsStill : List Window → List Window → Type 0
+IsStill old new = (serial : ℕ) → left_of new serial ≡ left_of old serial
+
+-- a window that may have moved since
+abbrev pub StoodIn : List Window → Window → Type 0
+StoodIn windows w = left_of windows w.serial ≡ Some (left w)
+
+stood_still : (old new : List Window) → IsStill old new → (w : Window) → StoodIn old w → StoodIn new w
+stood_still old new still w e = still w.serial ∙ e
+
+some_left : (o : Option Window) (l : ℕ × Bool) → option_map left o ≡ Some l → (u : Window) × (o ≡ Some u) × (u.host ≡ l.0) × (u.hidden ≡ l.1)
+some_left (Some u) l e = let same : left u ≡ l = same_Some (left u) l e in (u, refl, ap (λ p. p.0) same, ap (λ p. p.1) same)
+some_left None l e = absurd (let f : ◌≡◌ {A = Option (ℕ × Bool)} None (Some l) = e in cc)
+
+in_place_still : (w u : Window) (old : List Window) → window_in old w.serial ≡ Some u → left w ≡ left u → IsPut w old (in_place w old) → IsStill old (in_place w old)
+in_place_still w u old found same put serial = by_test (serial == w.serial) refl
+  where
+    by_test : (b : Bool) → (serial == w.serial) ≡ b → left_of (in_place w old) serial ≡ left_of old serial
+    by_test true e =
+        let at = eqb-true serial w.serial e in
+        ap (left_of (in_place w old)) at ∙ ap (option_map left) put.at ∙ ap Some same ∙ sym (ap (option_map left) found) ∙ sym (ap (left_of old) at)
+    by_test false e = ap (option_map left) (put.others serial (eqb-false serial w.serial e))
+
+pub record IsMoved (old new : Step) : Type 0 where
+  pub sound : IsSound new.table
+  pub still : IsStill old.table.windows new.table.windows
+
+replaced-moved : (keep : Bool) (w : Window) (r : Rect) (step : Step) → IsSound step.table → StoodIn step.table.windows w → IsMoved step (replaced keep w r step)
+unfolding replaced
+replaced-moved keep w r step ok stood =
+    let found = some_left (window_in step.table.windows w.serial) (left w) stood in
+    let put = IsPut-in_place (renewed r w) found.0 step.table.windows found.1 in
+    record {
+      sound = shown_sound (renewed r w) found.0 (in_place (renewed r w) step.table.windows) step.table ok found.1 (sym found.2) (λ h. sym found.3 ∙ h) put;
+      still = in_place_still (renewed r w) found.0 step.table.windows found.1 (λ i. (sym found.2 i, sym found.3 i)) put;
+    }
+
+-- a change that moves windows
+abbrev Moves : (Window → Rect → Step → Outcome Step) → Type 0
+Moves move = (w : Window) (r : Rect) (step out : Step) → IsSound step.table → StoodIn step.table.windows w → move w r step ≡ Ok out → IsMoved step out
+
+carried-moved : (move : Window → Rect → Step → Outcome Step) → Moves move → (by : Point) (w : Window) (step out : Step) → IsSound step.table → StoodIn step.table.windows w → carried move by w step ≡ Ok out → IsMoved step out
+carried-moved move moves by w step out ok stood e = by_test (is_near (shifted w.r by)) e
+  where
+    by_test : (b : Bool) → cond b (move w (shifted w.r by) step) (Err 47) ≡ Ok out → IsMoved step out
+    by_test true e = moves w (shifted w.r by) step out ok stood e
+    by_test false e = absurd (let f : ◌≡◌ {A = Outcome Step} (Err 47) (Ok out) = e in cc)
+
+each-moved : (move : Window → Rect → Step → Outcome Step) → Moves move → (by : Point) (ws : List Window) (step out : Step) → IsSound step.table → All (StoodIn step.table.windows) ws → each (carried move by) ws step ≡ Ok out → IsMoved step out
+each-moved move moves by [] step out ok stood e = subst (IsMoved step) (same_Ok step out e) (record { sound = ok; still = λ serial. refl })
+each-moved move moves by (w ∷ ws) step out ok stood e =
+    let first = then_ok (carried move by w step) (each (carried move by) ws) out e in
+    let one = carried-moved move moves by w step first.0 ok (All-head (StoodIn step.table.windows) w ws stood) first.1 in
+    let rest = each-moved move moves by ws first.0 out one.sound (All-weaker (StoodIn step.table.windows) (StoodIn first.0.table.windows) (stood_still step.table.windows first.0.table.windows one.still) ws (All-tail (StoodIn step.table.windows) w ws stood)) first.2 in
+    record { sound = rest.sound; still = λ serial. rest.still serial ∙ one.still serial }
+
+pub stand_own : (table : Table) → IsSound table → All (λ w. window_in table.windows w.serial ≡ Some w) table.windows
+stand_own table ok = own (λ w. w.serial) table.windows ok.serials
+
+inner_stood : (table : Table) → IsSound table → (host : ℕ) → All (StoodIn table.windows) (reverse (windows_in table host))
+inner_stood table ok host =
+    All-permutation (StoodIn table.windows) (windows_in table host) (reverse (windows_in table host)) (IsPermutation-reverse (windows_in table host))
+    (All-filter (λ (w : Window). w.host == host) (StoodIn table.windows) table.windows
+    (All-weaker (λ w. window_in table.windows w.serial ≡ Some w) (StoodIn table.windows) (λ w e. ap (option_map left) e) table.windows (stand_own table ok)))
+
+followed-moved : (move : Window → Rect → Step → Outcome Step) → Moves move → (host : ℕ) (fill : Bool) (by : Point) (step out : Step) → IsSound step.table → followed move host fill by step ≡ Ok out → IsMoved step out
+followed-moved move moves host fill by step out ok e = by_test (is_host step.table host) refl
+  where
+    by_test : (b : Bool) → is_host step.table host ≡ b → IsMoved step out
+    by_test true is =
+        let led = ordered (order.Host host fill) step in
+        let all : each (carried move by) (reverse (windows_in step.table host)) led ≡ Ok out = rw is at e in
+        let done = each-moved move moves by (reverse (windows_in step.table host)) led out ok (inner_stood step.table ok host) all in
+        record { sound = done.sound; still = done.still }
+    by_test false is =
+        let same : ◌≡◌ {A = Outcome Step} (Ok step) (Ok out) = rw is at e in
+        subst (IsMoved step) (same_Ok step out same) (record { sound = ok; still = λ serial. refl })
+
+pub moved-moves : (levels : ℕ) (keep : Bool) → Moves (moved levels keep)
+unfolding moved
+moved-moves zero keep w r step out ok stood e = subst (IsMoved step) (same_Ok step out e) (record { sound = ok; still = λ serial. refl })
+moved-moves (suc levels) keep w r step out ok stood e =
+    let first = replaced-moved keep w r step ok stood in
+    let rest = followed-moved (moved levels true) (moved-moves levels true) w.serial (not keep) (way w.r r) (replaced keep w r step) out first.sound e in
+    record { sound = rest.sound; still = λ serial. rest.still serial ∙ first.still serial }
