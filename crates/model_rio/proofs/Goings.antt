@@ -106,15 +106,15 @@ pub record MayGo (levels : ℕ) (windows : List Window) (w : Window) : Type 0 wh
   pub deep : (depth : ℕ) → IsNested windows depth w.serial → 10 ≤ levels + depth
 
 -- what is found later was found before
-abbrev Fewer : Step → Step → Type 0
+abbrev pub Fewer : Step → Step → Type 0
 Fewer old new = (serial : ℕ) (w : Window) → window_in new.table.windows serial ≡ Some w → window_in old.table.windows serial ≡ Some w
 
-fewer : (old new : Step) → IsSound old.table → ((P : Window → Type 0) → All P old.table.windows → All P new.table.windows) → Fewer old new
+pub fewer : (old new : Step) → IsSound old.table → ((P : Window → Type 0) → All P old.table.windows → All P new.table.windows) → Fewer old new
 fewer old new ok each serial w e =
     let own = find-all (λ v. window_in old.table.windows v.serial ≡ Some v) (λ (v : Window). v.serial == serial) new.table.windows w (each (λ v. window_in old.table.windows v.serial ≡ Some v) (stand_own old.table ok)) e in
     ap (window_in old.table.windows) (sym (has_serial new.table.windows serial w e)) ∙ own
 
-may_still : (old new : Step) → Fewer old new → (levels : ℕ) (w : Window) → MayGo levels old.table.windows w → MayGo levels new.table.windows w
+pub may_still : (old new : Step) → Fewer old new → (levels : ℕ) (w : Window) → MayGo levels old.table.windows w → MayGo levels new.table.windows w
 may_still old new few levels w may = record {
   counted = may.counted;
   only = λ v e. may.only v (few w.serial v e);
@@ -122,12 +122,12 @@ may_still old new few levels w may = record {
 }
 
 -- what is left when several windows went
-record AreLeft (gone : List Window) (old new : Step) : Type 1 where
-  sound : IsSound new.table
-  each : (P : Window → Type 0) → All P old.table.windows → All P new.table.windows
-  all_gone : All (λ w. All (λ v. w.serial ≢ v.serial) gone) new.table.windows
+pub record AreLeft (gone : List Window) (old new : Step) : Type 1 where
+  pub sound : IsSound new.table
+  pub each : (P : Window → Type 0) → All P old.table.windows → All P new.table.windows
+  pub all_gone : All (λ w. All (λ v. w.serial ≢ v.serial) gone) new.table.windows
 
-all_deleted : (levels : ℕ) → ((w : Window) (step : Step) → IsSound step.table → MayGo levels step.table.windows w → IsLeft w.serial step (deleted levels w step))
+pub all_deleted : (levels : ℕ) → ((w : Window) (step : Step) → IsSound step.table → MayGo levels step.table.windows w → IsLeft w.serial step (deleted levels w step))
     → (ws : List Window) (step : Step) → IsSound step.table → All (MayGo levels step.table.windows) ws → AreLeft ws step (fold (λ step v. deleted levels v step) step ws)
 all_deleted levels deletes [] step ok may = record {
   sound = ok;
@@ -161,7 +161,7 @@ each_put Q (w ∷ ws) acc all =
     (All-tail Q w acc both, All-cons Q w ws (All-head Q w acc both) rest.1)
 
 -- each window of the rio in a window that may go may go, one level less looked at
-inner_may : (levels : ℕ) (w : Window) (table : Table) → IsSound table → MayGo (suc levels) table.windows w → All (MayGo levels table.windows) (made_in table w.serial)
+pub inner_may : (levels : ℕ) (w : Window) (table : Table) → IsSound table → MayGo (suc levels) table.windows w → All (MayGo levels table.windows) (made_in table w.serial)
 inner_may levels w table ok may =
     put_each (MayGo levels table.windows) (windows_in table w.serial) [] (All-nil (MayGo levels table.windows))
     (All-both (λ (v : Window). (v.host == w.serial) ≡ true) (λ v. IsSoundWindow table v × (window_in table.windows v.serial ≡ Some v)) (MayGo levels table.windows) each (windows_in table w.serial)

@@ -8,4 +8,6 @@ mod Inputs
 mod Makings
 mod Movings
 mod Goings
-mod Soundness
+pub mod Soundness
+mod Notes
+pub mod Turns

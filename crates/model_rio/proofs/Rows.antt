@@ -14,7 +14,7 @@ use Rattle.model_wctl.specs.declared.Choice.TheVariants as choice
 use Rattle.model_wctl.specs.declared.Amount.TheVariants as amount
 use Rattle.model_wctl.specs.Command as wctl
 use Rattle.model_wctl.specs.Rectangle.{applied, box}
-use Rattle.model_rio.specs.Table.{Table, opened, name_by, path_up}
+use Rattle.model_rio.specs.Table.{Table, opened, name_by, path_up, found, serials_of}
 use Rattle.model_rio.specs.Act.{Act}
 use Rattle.model_rio.specs.Act as act
 use Rattle.model_rio.specs.Step.{Step, with_current, retired}
@@ -145,3 +145,102 @@ one_too_deep : last_or None (told_all display (flat_map (λ k. act.New k (choice
     (0 ∷ 1 ∷ 2 ∷ 3 ∷ 4 ∷ 5 ∷ 6 ∷ 7 ∷ 8 ∷ []))) ≡ Some (Err 50)
 unfolding made new_in hosted command_to with_current name_by path_up applied digits
 one_too_deep = refl
+
+-- a press on a window that hosts a rio goes to a window of that rio, and the host is told that it is current alone; keys
+-- go the same way
+a_host_passes_on : told_all display
+    (
+    act.New 0 (choice.R (on 0 0 40 40) ∷ []) false ∷
+    act.New 0 (choice.R (on 44 0 60 40) ∷ []) false ∷
+    act.Command 1 wctl.Host ∷
+    act.New 1 (choice.R (on 10 10 30 30) ∷ []) false ∷
+    act.Mouse (pointer 15 15 1 7) ∷
+    act.Mouse (pointer 15 15 0 8) ∷
+    act.Mouse (pointer 2 2 1 9) ∷
+    act.Mouse (pointer 15 15 1 10) ∷
+    act.Keys (195 ∷ 169 ∷ 98 ∷ []) ∷ [])
+    ≡ (
+    Ok ((order.Make 1 0 (on 0 0 40 40) (codes "window.1.1") false 1 ∷ []), ((1, note.Made 1 1 (codes "window.1.1") (on 0 0 40 40) 1) ∷ (1, note.Current true) ∷ [])) ∷
+    Ok ((order.Make 2 0 (on 44 0 60 40) (codes "window.2.1") false 1 ∷ []), ((2, note.Made 2 2 (codes "window.2.1") (on 44 0 60 40) 1) ∷ (1, note.Current false) ∷ (2, note.Current true) ∷ [])) ∷
+    Ok ((order.Host 1 true ∷ []), ([])) ∷
+    Ok ((order.Make 3 1 (on 10 10 30 30) (codes "window.1/1.1") false 2 ∷ []), ((3, note.Made 1 3 (codes "window.1/1.1") (on 10 10 30 30) 2) ∷ (3, note.Current true) ∷ [])) ∷
+    Ok ((order.Raise 1 ∷ order.Raise 3 ∷ []), ((2, note.Current false) ∷ (1, note.Current true) ∷ (3, note.Mouse (pos 15) (pos 15) 1 7) ∷ [])) ∷
+    Ok (([]), ((3, note.Mouse (pos 15) (pos 15) 0 8) ∷ [])) ∷
+    Ok ((order.Raise 1 ∷ []), ([])) ∷
+    Ok (([]), ([])) ∷
+    Ok (([]), ((3, note.Key (195 ∷ 169 ∷ [])) ∷ (3, note.Key (98 ∷ [])) ∷ [])) ∷ [])
+unfolding made new_in hosted moved_by command_to hidden shown moved replaced dropped deleted moused reacted focus with_current retired name_by path_up applied digits chars lib.Utf8.encode
+a_host_passes_on = refl
+
+-- a host that gets another size is filled anew and its windows keep theirs; where one of them would come too far out, the
+-- whole act is refused
+a_host_gets_another_size : told_all display
+    (
+    act.New 0 (choice.R (on 10 10 50 40) ∷ []) false ∷
+    act.Command 1 wctl.Host ∷
+    act.New 1 (choice.R (on 20 20 40 36) ∷ []) false ∷
+    act.New 1 (choice.R (on 999900 0 1000000 90) ∷ []) true ∷
+    act.Command 1 (wctl.Resize (choice.R (on 12 10 44 36) ∷ [])) ∷
+    act.Command 1 (wctl.Move (choice.Minx (amount.Is (pos 100000)) ∷ [])) ∷
+    act.Command 1 (wctl.Move (choice.Minx (amount.Is (pos 13)) ∷ [])) ∷ [])
+    ≡ (
+    Ok ((order.Make 1 0 (on 10 10 50 40) (codes "window.1.1") false 1 ∷ []), ((1, note.Made 1 1 (codes "window.1.1") (on 10 10 50 40) 1) ∷ (1, note.Current true) ∷ [])) ∷
+    Ok ((order.Host 1 true ∷ []), ([])) ∷
+    Ok ((order.Make 2 1 (on 20 20 40 36) (codes "window.1/1.1") false 2 ∷ []), ((2, note.Made 1 2 (codes "window.1/1.1") (on 20 20 40 36) 2) ∷ (2, note.Current true) ∷ [])) ∷
+    Ok ((order.Make 3 1 (on 999900 0 1000000 90) (codes "window.1/2.1") true 2 ∷ []), ((3, note.Made 2 3 (codes "window.1/2.1") (on 999900 0 1000000 90) 2) ∷ (3, note.Hidden true) ∷ [])) ∷
+    Ok ((order.Replace 1 0 (on 12 10 44 36) (codes "window.1.2") false false ∷ order.Host 1 true ∷ order.Replace 2 1 (on 22 20 42 36) (codes "window.1/1.2") true false ∷ order.Replace 3 1 (on 999902 0 1000002 90) (codes "window.1/2.2") true true ∷ []), ((1, note.Resized (codes "window.1.2") (on 12 10 44 36)) ∷ (2, note.Moved (codes "window.1/1.2") (on 22 20 42 36)) ∷ (3, note.Moved (codes "window.1/2.2") (on 999902 0 1000002 90)) ∷ [])) ∷
+    Err 47 ∷
+    Ok ((order.Replace 1 0 (on 13 10 45 36) (codes "window.1.3") true false ∷ order.Host 1 false ∷ order.Replace 2 1 (on 23 20 43 36) (codes "window.1/1.3") true false ∷ order.Replace 3 1 (on 999903 0 1000003 90) (codes "window.1/2.3") true true ∷ []), ((1, note.Moved (codes "window.1.3") (on 13 10 45 36)) ∷ (2, note.Moved (codes "window.1/1.3") (on 23 20 43 36)) ∷ (3, note.Moved (codes "window.1/2.3") (on 999903 0 1000003 90)) ∷ [])) ∷ [])
+unfolding made new_in hosted moved_by command_to hidden shown moved replaced dropped deleted moused reacted focus with_current retired name_by path_up applied digits chars lib.Utf8.encode
+a_host_gets_another_size = refl
+
+-- a press beside all windows holds the mouse for nobody, and so does a holder that goes; a number is given once
+nobody_holds : told_all display
+    (
+    act.New 0 (choice.R (on 0 0 20 20) ∷ []) false ∷
+    act.New 0 (choice.R (on 0 0 20 20) ∷ []) false ∷
+    act.Mouse (pointer 40 40 1 0) ∷
+    act.Mouse (pointer 5 5 1 1) ∷
+    act.Mouse (pointer 5 5 0 2) ∷
+    act.Mouse (pointer 5 5 0 3) ∷
+    act.Command 2 wctl.Bottom ∷
+    act.Mouse (pointer 5 5 0 4) ∷
+    act.Mouse (pointer 5 5 2 5) ∷
+    act.Gone 1 ∷
+    act.Mouse (pointer 5 5 2 6) ∷
+    act.Gone 1 ∷
+    act.New 1 [] false ∷
+    act.New 0 (choice.R (on 0 0 20 20) ∷ []) true ∷ [])
+    ≡ (
+    Ok ((order.Make 1 0 (on 0 0 20 20) (codes "window.1.1") false 1 ∷ []), ((1, note.Made 1 1 (codes "window.1.1") (on 0 0 20 20) 1) ∷ (1, note.Current true) ∷ [])) ∷
+    Ok ((order.Make 2 0 (on 0 0 20 20) (codes "window.2.1") false 1 ∷ []), ((2, note.Made 2 2 (codes "window.2.1") (on 0 0 20 20) 1) ∷ (1, note.Current false) ∷ (2, note.Current true) ∷ [])) ∷
+    Ok (([]), ([])) ∷
+    Ok (([]), ([])) ∷
+    Ok (([]), ([])) ∷
+    Ok (([]), ((2, note.Mouse (pos 5) (pos 5) 0 3) ∷ [])) ∷
+    Ok ((order.Lower 2 ∷ []), ([])) ∷
+    Ok (([]), ([])) ∷
+    Ok ((order.Raise 1 ∷ []), ((2, note.Current false) ∷ (1, note.Current true) ∷ (1, note.Mouse (pos 5) (pos 5) 2 5) ∷ [])) ∷
+    Ok ((order.Drop 1 ∷ []), ((1, note.Current false) ∷ (1, note.Deleted) ∷ [])) ∷
+    Ok (([]), ([])) ∷
+    Err 42 ∷
+    Err 42 ∷
+    Ok ((order.Make 3 0 (on 0 0 20 20) (codes "window.3.1") true 1 ∷ []), ((3, note.Made 3 3 (codes "window.3.1") (on 0 0 20 20) 1) ∷ (3, note.Hidden true) ∷ [])) ∷ [])
+unfolding made new_in hosted moved_by command_to hidden shown moved replaced dropped deleted moused reacted focus with_current retired name_by path_up applied digits chars lib.Utf8.encode
+nobody_holds = refl
+
+-- the table after acts, one after the other
+abbrev table_of : Table → Outcome Step → Table
+table_of table (Ok step) = step.table
+table_of table (Err n) = table
+
+abbrev after : Table → List Act → Table
+after table [] = table
+after table (a ∷ acts) = after (table_of table (rio table a)) acts
+
+-- windows are found by the numbers on the way to them
+windows_by_path :
+    let table = after display (act.New 0 [] false ∷ act.New 0 [] false ∷ act.Command 2 wctl.Host ∷ act.New 2 (choice.R (on 0 0 20 20) ∷ []) false ∷ act.New 2 (choice.R (on 0 0 20 20) ∷ []) false ∷ act.Command 3 wctl.Bottom ∷ act.Gone 1 ∷ []) in
+    (found table (2 ∷ 2 ∷ []) ≡ Some 4) × (found table (1 ∷ []) ≡ None) × (found table [] ≡ None) × (found table (2 ∷ []) ≡ Some 2) × (serials_of table 2 ≡ 3 ∷ 4 ∷ [])
+unfolding made new_in hosted command_to dropped deleted with_current retired name_by path_up applied digits found serials_of
+windows_by_path = (refl, refl, refl, refl, refl)

@@ -49,7 +49,7 @@ moved_by-sound keep options w step out ok stands e =
     (moved-moves deepest keep w place.0 step out ok (rw stands refl) place.2).sound
 
 -- a window of the table may go
-may_go : (w : Window) (step : Step) → IsSound step.table → Stands w step → MayGo deepest step.table.windows w
+pub may_go : (w : Window) (step : Step) → IsSound step.table → Stands w step → MayGo deepest step.table.windows w
 may_go w step ok stands = record {
   counted = counted;
   only = λ v e. ap (λ z. z.host) (same_Some v w (sym e ∙ stands));
@@ -78,7 +78,7 @@ commanded-sound wctl.Set w step out ok stands e = subst (λ s. IsSound s.table) 
 commanded-sound wctl.Host w step out ok stands e = hosted-sound w step out ok stands e
 
 -- a window that is found stands under its serial
-found_stands : (step : Step) (serial : ℕ) (w : Window) → IsSound step.table → window_of step.table serial ≡ Some w → Stands w step
+pub found_stands : (step : Step) (serial : ℕ) (w : Window) → IsSound step.table → window_of step.table serial ≡ Some w → Stands w step
 found_stands step serial w ok e = ap (window_in step.table.windows) (has_serial step.table.windows serial w e) ∙ e
 
 command_to-sound : (serial : ℕ) (what : Wctl) (step out : Step) → IsSound step.table → command_to serial what step ≡ Ok out → IsSound out.table

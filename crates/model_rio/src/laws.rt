@@ -1,4 +1,4 @@
-//! What the definitions say of the mouse, of the order of windows, and of what each table keeps.
+//! What the definitions say of the mouse, of the order of windows and of notes, and of what each table keeps.
 
 ghost use Rattle.std.specs.Prelude.{◌≡◌, ◌==◌, ◌≤◌, length, ℕ, true, false, not, List, [], ◌∷◌, map, Some, Ok};
 ghost use Rattle.r9_geom.specs.declared.Point.{Point};
@@ -12,6 +12,7 @@ ghost use Rattle.model_rio.specs.Act.{Act};
 ghost use Rattle.model_rio.specs.Act as act;
 ghost use Rattle.model_rio.specs.Step.{Step, in_place};
 ghost use Rattle.model_rio.specs.Sound.{IsSound};
+ghost use Rattle.model_rio.specs.Notes.{AreInTurn};
 ghost use Rattle.model_rio.specs.Rio.{rio};
 
 /// While a window holds the mouse and buttons stay pressed, it alone is told of each event, wherever the pointer is, and
@@ -43,4 +44,9 @@ pub fn acts_keep_tables_sound()
 /// The path of a window has at most nine numbers, and looking further up finds no more of it.
 pub fn paths_have_at_most_nine_numbers()
     ensures { (table : Table) (serial : ℕ) (w : Window) → IsSound table → window_of table serial ≡ Some w → (levels : ℕ) → 9 ≤ levels → (path_up levels table serial ≡ path_up 9 table serial) × (length (path_up levels table serial) ≤ 9) }
+{}
+
+/// What an act tells one window stands in the order made, moved or resized, hidden, current, mouse, key, deleted.
+pub fn notes_stand_in_turn()
+    ensures { (table : Table) (a : Act) (step : Step) → IsSound table → rio table a ≡ Ok step → AreInTurn step.notes }
 {}
