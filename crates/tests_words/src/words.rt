@@ -89,3 +89,30 @@ fn a_number_stands_before_or_behind_the_ending(rt: HostRuntime) {
         )
     );
 }
+
+#[test]
+fn options_stand_in_any_order(rt: HostRuntime) {
+    let replays: [&[&str]; 3] = [
+        &["replay", "--screen"],
+        &["replay", "--screen", "--chan=k8", "--size", "16x1"],
+        &["replay", "--size=16x1", "--screen", "--chan", "k8", "--"],
+    ];
+    for words in replays {
+        assert!(rt;
+            matches!(
+                read_words(rt.alloc(), words),
+                Ok(Job::Replay { screen: true, .. })
+            )
+        );
+    }
+    let words = ["alone", "--conn", "4294967295", "--chan", "k8"];
+    assert!(rt;
+        matches!(
+            read_words(rt.alloc(), &words),
+            Ok(Job::Alone {
+                session: 4_294_967_295,
+                ..
+            })
+        )
+    );
+}
