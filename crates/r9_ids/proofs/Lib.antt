@@ -1,5 +1,4 @@
-mod ImageRows
+mod IdRows
+mod Entries
 mod Mapped
-mod Order
-mod ScreensAscend
-mod ScreensInside
+mod Publics

@@ -48,6 +48,7 @@ impl ImageIds {
         ensures room { OnOk result (0 < self.new.room) }
         ensures full { OnErr result (self.old.room ≡ 0) }
         ensures kept { self.new.ids ≡ self.old.ids }
+        ensures more { self.old.room ≤ self.new.room }
     {
         self.rows.reserve()
     }

@@ -1,7 +1,6 @@
 //! The image ids and the screen ids of all connections, in order.
 #![tactic(auto)]
 
-mod before;
 mod image_ids;
 mod rows;
 mod screen_ids;

@@ -1,31 +1,34 @@
 //! The screen ids of all connections.
 
 ghost use Rattle.std.specs.Prelude.{◌≡◌, ◌==◌, ◌<◌, ◌≤◌, ◌+◌, ◌&&◌, ◌∷◌, [], not, find, filter, length, None, Some, IfSome, OnOk, OnErr};
-ghost use Rattle.model_images.specs.Book.{comes_before, put_screen_id};
+ghost use Rattle.model_images.specs.Book.{put_screen_id};
 ghost use Rattle.model_images.specs.Release.{is_screen_id};
-ghost use Rattle.r9_ids.specs.ScreenIds.{place};
 
-use crate::before::comes_before;
+use crate::rows::{PublicRow, ScreenRow, key_of_id, key_of_public};
 use model_images::ScreenId;
 use r9_memory::Memory;
+use r9_sorted::Sorted;
 use std::alloc::Global;
 use std::marker::Model;
 
 /// Screen ids in ascending order by connection and then by id, each once.
 #[derive(Drop)]
 pub struct ScreenIds {
-    ids: Vec<ScreenId>,
+    rows: Sorted<ScreenRow>,
+    // Those of the public space, which are found by the id alone.
+    publics: Sorted<PublicRow>,
 }
 
 impl Model for ScreenIds {
-    ghost use Rattle.std.specs.Prelude.{◌-◌, vec_len, vec_capacity};
-    ghost use Rattle.r9_ids.specs.ScreenIds.{Ascend, Ids};
+    ghost use Rattle.std.specs.Prelude.{min};
+    ghost use Rattle.r9_ids.specs.ScreenIds.{Ids};
+    ghost use Rattle.r9_ids.specs.Rows.{ArePublic, screens_of};
 
     ghost Value = { Ids };
 
-    ghost view = { λ s. record { ids = s.ids.items; room = vec_capacity s.ids - vec_len s.ids } };
+    ghost view = { λ s. record { ids = screens_of s.rows.rows; room = min s.rows.room s.publics.room } };
 
-    ghost invariant = { λ s. Ascend s.ids.items };
+    ghost invariant = { λ s. ArePublic s.rows.rows s.publics.rows };
 }
 
 impl ScreenIds {
@@ -34,7 +37,8 @@ impl ScreenIds {
         ensures { result.ids ≡ [] }
     {
         ScreenIds {
-            ids: Vec::new(alloc),
+            rows: Sorted::new(alloc),
+            publics: Sorted::new(alloc),
         }
     }
 
@@ -42,7 +46,7 @@ impl ScreenIds {
     pub fn len(&self) -> usize
         ensures { result ≡ length self.now.ids }
     {
-        self.ids.len()
+        self.rows.len()
     }
 
     /// Makes room for one more id. The ids stay as they are, also after Memory.
@@ -50,17 +54,10 @@ impl ScreenIds {
         ensures room { OnOk result (0 < self.new.room) }
         ensures full { OnErr result (self.old.room ≡ 0) }
         ensures kept { self.new.ids ≡ self.old.ids }
+        ensures more { self.old.room ≤ self.new.room }
     {
-        self.ids.reserve(1)?;
-        Ok(())
-    }
-
-    // Where the id is, or would stand.
-    fn place(&self, client: u64, id: u32) -> usize
-        ensures { result ≡ place client id self.now.ids }
-    {
-        self.ids
-            .partition_point(|e| comes_before(e.client, e.id, client, id))
+        self.rows.reserve()?;
+        self.publics.reserve()
     }
 
     /// What an id of a connection refers to.
@@ -68,15 +65,9 @@ impl ScreenIds {
         ensures found { result ≡ find (is_screen_id client id) self.now.ids }
         ensures same { IfSome result (λ e. (e.client ≡ client) × (e.id ≡ id)) }
     {
-        let at = self.place(client, id);
-        if at >= self.ids.len() {
-            return None;
-        }
-        let e = self.ids[at];
-        if e.client == client && e.id == id {
-            Some(e)
-        } else {
-            None
+        match self.rows.get(key_of_id(client, id)) {
+            Some(row) => Some(row.e),
+            None => None,
         }
     }
 
@@ -86,14 +77,30 @@ impl ScreenIds {
         ensures there { IfSome result (λ e. find (is_screen_id e.client e.id) self.now.ids ≡ Some e) }
         ensures rest { IfSome result (λ e. filter (λ x. x.client == client) self.now.ids ≡ e ∷ filter (λ x. x.client == client) (filter (λ x. not (is_screen_id e.client e.id x)) self.now.ids)) }
     {
-        self.ids.iter().find(|e| e.client == client).copied()
+        match self.rows.first_from(key_of_id(client, 0)) {
+            Some(row) => {
+                if row.e.client != client {
+                    return None;
+                }
+                Some(row.e)
+            }
+            None => None,
+        }
     }
 
     /// The first public one of an id.
     pub fn public(&self, id: u32) -> Option<ScreenId>
         ensures { result ≡ find (λ e. e.public && (e.id == id)) self.now.ids }
     {
-        self.ids.iter().find(|e| e.public && e.id == id).copied()
+        match self.publics.first_from(key_of_public(id, 0)) {
+            Some(row) => {
+                if row.e.id != id {
+                    return None;
+                }
+                Some(row.e)
+            }
+            None => None,
+        }
     }
 
     /// Puts an id into its place, which is not among them. There is room for it.
@@ -103,10 +110,9 @@ impl ScreenIds {
         ensures ids { self.new.ids ≡ put_screen_id e self.old.ids }
         ensures room { self.old.room ≤ self.new.room + 1 }
     {
-        let at = self.place(e.client, e.id);
-        match self.ids.insert(at, e) {
-            Ok(()) => {}
-            Err(_) => unreachable!(),
+        self.rows.put(ScreenRow { e });
+        if e.public {
+            self.publics.put(PublicRow { e });
         }
     }
 
@@ -116,12 +122,8 @@ impl ScreenIds {
         ensures room { self.old.room ≤ self.new.room }
         ensures back { IfSome (find (is_screen_id client id) self.old.ids) (λ e. put_screen_id e self.new.ids ≡ self.old.ids) }
     {
-        match self.get(client, id) {
-            Some(_) => {
-                let at = self.place(client, id);
-                let _ = self.ids.remove(at);
-            }
-            None => {}
-        }
+        let _ = self.rows.remove(key_of_id(client, id));
+        // Where it is not public, this finds none.
+        let _ = self.publics.remove(key_of_public(id, client));
     }
 }

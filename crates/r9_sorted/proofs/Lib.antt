@@ -1,6 +1,7 @@
 pub mod Order
 pub mod Ascending
 pub mod Laws
+pub mod Members
 mod Pieced
 mod Inside
 mod Among

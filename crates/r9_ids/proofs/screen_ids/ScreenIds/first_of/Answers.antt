@@ -1,25 +1,38 @@
-use Rattle.std.proofs.Common.{◌≡◌, ◌==◌, ◌∷◌, Option, Some, find, filter, not, sym, subst, ◌∙◌, rules, tests}
-use Rattle.std.specs.Prelude.{IfSome}
-use Rattle.std.proofs.lemmas.Iterator.{YieldsList-from_slice}
-use Rattle.std.proofs.lemmas.Iterator.Search.{find_from_yields_List}
+use Rattle.std.proofs.Common.{◌==◌, find, sym, ap, ◌∙◌}
 use Rattle.model_images.specs.declared.ScreenId.{ScreenId}
 use Rattle.model_images.specs.Release.{is_screen_id}
-use Rattle.r9_ids.proofs.ScreensAscend.{own-there, own-rest}
-use Rattle.r9_ids.proofs.ScreensInside.{ascends}
+use Rattle.r9_sorted.specs.declared.key.Key.{Key}
+use Rattle.r9_sorted.specs.Rows.{first_from}
+use Rattle.r9_ids.specs.ScreenIds.{Ids}
+use Rattle.r9_ids.specs.Rows.{screen_key}
+use Rattle.r9_ids.proofs.IdRows.{own-found, own-rest, own-there, own-past, own-none, is-own, is-other}
+use Rattle.r9_ids.proofs.Entries.{screens}
 use Rattle.r9_ids.proofs.screen_ids.ScreenIds.first_of.Goals as goal
 
-pub returns-clause-found : goal.returns-clause-found
-returns-clause-found c =
-    c.copied.ensures ∙ find_from_yields_List (λ (e : ScreenId). e.client == c.args.client) _ _ _ c.find.ensures.ran (YieldsList-from_slice c.args.self.now.ids cc) (λ x b q k. search (rules, tests))
+pub returns-in-None-clause-found : goal.returns-in-None-clause-found
+returns-in-None-clause-found c =
+    own-none screens c.args.client c.self.inside.rows.rows (ap (λ (k : Key). first_from screen_key k c.self.inside.rows.rows) (sym c.key_of_id.ensures) ∙ sym c.first_from.ensures.found ∙ c.in-None.is)
+    ∙ ap (λ (x : Ids). find (λ (e : ScreenId). e.client == c.args.client) x.ids) c.self.view_is
 
-pub returns-clause-there : goal.returns-clause-there
-returns-clause-there c =
-    let es = c.args.self.now.ids in
-    let P : Option ScreenId → Type 0 = λ o. IfSome o (λ e. find (is_screen_id e.client e.id) es ≡ Some e) in
-    subst P (sym (returns-clause-found c)) (own-there c.args.client es (ascends c.self.inside _ c.self.view_is c.self.invariant))
+pub returns-then-row-client-clause-found : goal.returns-then-row-client-clause-found
+returns-then-row-client-clause-found c =
+    own-past screens c.args.client c.self.inside.rows.rows c.in-Some.row c.first_from.ensures.order
+    (ap (λ (k : Key). first_from screen_key k c.self.inside.rows.rows) (sym c.key_of_id.ensures) ∙ sym c.first_from.ensures.found ∙ c.in-Some.is) (is-other _ _ c.if-row-client.true)
+    ∙ ap (λ (x : Ids). find (λ (e : ScreenId). e.client == c.args.client) x.ids) c.self.view_is
 
-pub returns-clause-rest : goal.returns-clause-rest
-returns-clause-rest c =
-    let es = c.args.self.now.ids in
-    let P : Option ScreenId → Type 0 = λ o. IfSome o (λ e. filter (λ x. x.client == c.args.client) es ≡ e ∷ filter (λ x. x.client == c.args.client) (filter (λ x. not (is_screen_id e.client e.id x)) es)) in
-    subst P (sym (returns-clause-found c)) (own-rest c.args.client es (ascends c.self.inside _ c.self.view_is c.self.invariant))
+pub returns-else-row-client-clause-found : goal.returns-else-row-client-clause-found
+returns-else-row-client-clause-found c =
+    own-found screens c.args.client c.self.inside.rows.rows c.in-Some.row c.first_from.ensures.order
+    (ap (λ (k : Key). first_from screen_key k c.self.inside.rows.rows) (sym c.key_of_id.ensures) ∙ sym c.first_from.ensures.found ∙ c.in-Some.is) (is-own _ _ c.if-row-client.false)
+    ∙ ap (λ (x : Ids). find (λ (e : ScreenId). e.client == c.args.client) x.ids) c.self.view_is
+
+pub returns-else-row-client-clause-there : goal.returns-else-row-client-clause-there
+returns-else-row-client-clause-there c =
+    ap (λ (x : Ids). find (is_screen_id c.in-Some.row.e.client c.in-Some.row.e.id) x.ids) (sym c.self.view_is)
+    ∙ own-there screens c.args.client c.self.inside.rows.rows c.in-Some.row c.first_from.ensures.order
+    (ap (λ (k : Key). first_from screen_key k c.self.inside.rows.rows) (sym c.key_of_id.ensures) ∙ sym c.first_from.ensures.found ∙ c.in-Some.is)
+
+pub returns-else-row-client-clause-rest : goal.returns-else-row-client-clause-rest
+returns-else-row-client-clause-rest c =
+    own-rest screens c.args.client c.self.inside.rows.rows c.in-Some.row c.args.self.now.ids (ap (λ (x : Ids). x.ids) c.self.view_is) c.first_from.ensures.order
+    (ap (λ (k : Key). first_from screen_key k c.self.inside.rows.rows) (sym c.key_of_id.ensures) ∙ sym c.first_from.ensures.found ∙ c.in-Some.is) (is-own _ _ c.if-row-client.false)

@@ -1,24 +1,19 @@
-use Rattle.std.proofs.Common.{arith}
-use Rattle.r9_ids.proofs.ScreensAscend.{entry-is, entry-other, entry-none, is-true, other-client, other-id}
-use Rattle.r9_ids.proofs.ScreensInside.{items-are, ascends, length-is}
+use Rattle.std.proofs.Common.{Some, None, sym, ap, ◌∙◌}
+use Rattle.r9_ids.specs.ScreenIds.{Ids}
+use Rattle.r9_ids.proofs.IdRows.{found-done, key-done}
+use Rattle.r9_ids.proofs.Entries.{screens}
 use Rattle.r9_ids.proofs.screen_ids.ScreenIds.get.Goals as goal
-use Rattle.r9_ids.proofs.screen_ids.ScreenIds.get.Goals.{else-e-client-via-then-e-client+else-e-id, else-e-client-via-else-e-client}
 
-pub returns-then-at-len-clause-found : goal.returns-then-at-len-clause-found
-returns-then-at-len-clause-found c =
-    entry-none c.args.client c.args.id c.args.self.now.ids c.place-at.result (ascends c.self.inside _ c.self.view_is c.self.invariant) c.place-at.ensures
-    (omega (arith, length-is c.self.inside _ c.self.view_is, c.len.ensures, c.if-at-len.true))
+pub returns-in-Some-clause-found : goal.returns-in-Some-clause-found
+returns-in-Some-clause-found c =
+    found-done screens c.args.client c.args.id c.self.inside.rows.rows c.args.self.now.ids c.key_of_id.result (Some c.in-Some.row) (ap (λ (x : Ids). x.ids) c.self.view_is) c.key_of_id.ensures
+    (sym c.in-Some.is ∙ c.get.ensures.found)
 
-pub returns-then-e-id-clause-found : goal.returns-then-e-id-clause-found
-returns-then-e-id-clause-found c =
-    entry-is c.args.client c.args.id c.args.self.now.ids c.self.inside.ids.items c.place-at.result c.index-e.result.now (items-are c.self.inside _ c.self.view_is) c.place-at.ensures
-    (omega (arith, length-is c.self.inside _ c.self.view_is, c.len.ensures, c.if-at-len.false)) c.index-e.ensures (is-true _ _ _ _ c.if-e-client.true c.if-e-id.true)
+pub returns-in-Some-clause-same : goal.returns-in-Some-clause-same
+returns-in-Some-clause-same c =
+    key-done screens c.args.client c.args.id c.self.inside.rows.rows c.key_of_id.result c.in-Some.row c.key_of_id.ensures (sym c.get.ensures.found ∙ c.in-Some.is)
 
-pub returns-else-e-client-clause-found : goal.returns-else-e-client-clause-found
-returns-else-e-client-clause-found c =
-    entry-other c.args.client c.args.id c.args.self.now.ids c.self.inside.ids.items c.place-at.result c.index-e.result.now (ascends c.self.inside _ c.self.view_is c.self.invariant) (items-are c.self.inside _ c.self.view_is) c.place-at.ensures
-    c.index-e.ensures
-    (elim c.else-e-client.branch [
-      | else-e-client-via-then-e-client+else-e-id w ↦ other-id _ _ _ _ w.if-e-id.false
-      | else-e-client-via-else-e-client w ↦ other-client _ _ _ _ w.if-e-client.false
-    ])
+pub returns-in-None-clause-found : goal.returns-in-None-clause-found
+returns-in-None-clause-found c =
+    found-done screens c.args.client c.args.id c.self.inside.rows.rows c.args.self.now.ids c.key_of_id.result None (ap (λ (x : Ids). x.ids) c.self.view_is) c.key_of_id.ensures
+    (sym c.in-None.is ∙ c.get.ensures.found)

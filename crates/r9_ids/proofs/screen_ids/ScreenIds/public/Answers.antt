@@ -1,9 +1,35 @@
-use Rattle.std.proofs.Common.{◌==◌, ◌&&◌, ◌∙◌, rules, tests}
-use Rattle.std.proofs.lemmas.Iterator.{YieldsList-from_slice}
-use Rattle.std.proofs.lemmas.Iterator.Search.{find_from_yields_List}
+use Rattle.std.proofs.Common.{◌==◌, ◌&&◌, find, sym, ap, ◌∙◌}
 use Rattle.model_images.specs.declared.ScreenId.{ScreenId}
+use Rattle.r9_sorted.specs.declared.key.Key.{Key}
+use Rattle.r9_sorted.specs.Rows.{first_from}
+use Rattle.r9_ids.specs.Rows.{public_key}
+use Rattle.r9_ids.specs.ScreenIds.{Ids}
+use Rattle.r9_ids.proofs.IdRows.{is-own, is-other}
+use Rattle.r9_ids.proofs.Publics.{public-none, public-past, public-first, public-among}
 use Rattle.r9_ids.proofs.screen_ids.ScreenIds.public.Goals as goal
 
-pub returns : goal.returns
-returns c =
-    c.copied.ensures ∙ find_from_yields_List (λ (e : ScreenId). e.public && (e.id == c.args.id)) _ _ _ c.find.ensures.ran (YieldsList-from_slice c.args.self.now.ids cc) (λ x b q k. search (rules, tests))
+pub returns-in-None : goal.returns-in-None
+returns-in-None c =
+    let rows = c.self.inside.rows.rows in
+    let publics = c.self.inside.publics.rows in
+    public-among c.args.id rows publics c.self.invariant _
+    (public-none c.args.id rows publics c.self.invariant (ap (λ (k : Key). first_from public_key k publics) (sym c.key_of_public.ensures) ∙ sym c.first_from.ensures.found ∙ c.in-None.is))
+    ∙ ap (λ (x : Ids). find (λ (e : ScreenId). e.public && (e.id == c.args.id)) x.ids) c.self.view_is
+
+pub returns-then-row-id : goal.returns-then-row-id
+returns-then-row-id c =
+    let rows = c.self.inside.rows.rows in
+    let publics = c.self.inside.publics.rows in
+    public-among c.args.id rows publics c.self.invariant _
+    (public-past c.args.id rows publics c.self.invariant c.in-Some.row c.first_from.ensures.order
+    (ap (λ (k : Key). first_from public_key k publics) (sym c.key_of_public.ensures) ∙ sym c.first_from.ensures.found ∙ c.in-Some.is) (is-other _ _ c.if-row-id.true))
+    ∙ ap (λ (x : Ids). find (λ (e : ScreenId). e.public && (e.id == c.args.id)) x.ids) c.self.view_is
+
+pub returns-else-row-id : goal.returns-else-row-id
+returns-else-row-id c =
+    let rows = c.self.inside.rows.rows in
+    let publics = c.self.inside.publics.rows in
+    public-among c.args.id rows publics c.self.invariant _
+    (public-first c.args.id rows publics c.self.invariant c.in-Some.row c.first_from.ensures.order
+    (ap (λ (k : Key). first_from public_key k publics) (sym c.key_of_public.ensures) ∙ sym c.first_from.ensures.found ∙ c.in-Some.is) (is-own _ _ c.if-row-id.false))
+    ∙ ap (λ (x : Ids). find (λ (e : ScreenId). e.public && (e.id == c.args.id)) x.ids) c.self.view_is

@@ -1,22 +1,38 @@
-use Rattle.std.proofs.Common.{◌≡◌, List, sym, subst, arith}
-use Rattle.model_images.specs.declared.ScreenId.{ScreenId}
+use Rattle.std.proofs.Common.{find, ap, ◌∙◌}
 use Rattle.model_images.specs.Book.{put_screen_id}
-use Rattle.r9_ids.specs.ScreenIds.{Ascend}
-use Rattle.r9_ids.proofs.ScreensAscend.{place-within, put-done, ascend-put}
-use Rattle.r9_ids.proofs.ScreensInside.{items-are, ascends, length-is}
+use Rattle.model_images.specs.Release.{is_screen_id}
+use Rattle.r9_ids.specs.Rows.{screens_of}
+use Rattle.r9_ids.specs.ScreenIds.{Ids}
+use Rattle.r9_ids.proofs.IdRows.{absent, put}
+use Rattle.r9_ids.proofs.Entries.{screens}
+use Rattle.r9_ids.proofs.Publics.{private-put, public-absent, public-put}
 use Rattle.r9_ids.proofs.screen_ids.ScreenIds.put.Goals as goal
 
-pub insert-requires : goal.insert-requires
-insert-requires c =
-    omega (arith, length-is c.self.inside _ c.self.view_is, c.place-at.ensures, place-within c.args.e.client c.args.e.id c.args.self.now.ids)
+pub put-requires-clause-absent : goal.put-requires-clause-absent
+put-requires-clause-absent c =
+    absent screens c.args.e.client c.args.e.id c.self.inside.rows.rows (ap (λ (x : Ids). find (is_screen_id c.args.e.client c.args.e.id) x.ids) c.self.view_is ∙ c.requires.fresh)
 
-pub returns-clause-ids : goal.returns-clause-ids
-returns-clause-ids c =
-    put-done c.args.e c.args.self.now.ids c.self.inside.ids.items c.insert.new.self.items c.place-at.result (items-are c.self.inside _ c.self.view_is) c.place-at.ensures c.requires.fresh c.in-Ok.ensures.items
+pub put-requires-then-e-clause-absent : goal.put-requires-then-e-clause-absent
+put-requires-then-e-clause-absent c =
+    public-absent c.args.e c.self.inside.rows.rows c.self.inside.publics.rows c.self.invariant
+    (absent screens c.args.e.client c.args.e.id c.self.inside.rows.rows (ap (λ (x : Ids). find (is_screen_id c.args.e.client c.args.e.id) x.ids) c.self.view_is ∙ c.requires.fresh))
 
 pub invariant_of-self : goal.invariant_of-self
 invariant_of-self c =
-    let es = c.args.self.now.ids in
-    let same = items-are c.self.inside _ c.self.view_is in
-    let done : c.insert.new.self.items ≡ put_screen_id c.args.e es = put-done c.args.e es c.self.inside.ids.items c.insert.new.self.items c.place-at.result same c.place-at.ensures c.requires.fresh c.in-Ok.ensures.items in
-    subst (λ (xs : List ScreenId). Ascend xs) (sym done) (ascend-put c.args.e es (ascends c.self.inside _ c.self.view_is c.self.invariant) c.requires.fresh)
+    let rows = c.self.inside.rows.rows in
+    let fresh = absent screens c.args.e.client c.args.e.id rows (ap (λ (x : Ids). find (is_screen_id c.args.e.client c.args.e.id) x.ids) c.self.view_is ∙ c.requires.fresh) in
+    rw c.put.ensures.rows (rw c.put-then-e.ensures.rows (public-put c.args.e rows c.self.inside.publics.rows c.self.invariant fresh c.if-e.true))
+
+pub invariant_of-self-else-e : goal.invariant_of-self-else-e
+invariant_of-self-else-e c =
+    let rows = c.self.inside.rows.rows in
+    let fresh = absent screens c.args.e.client c.args.e.id rows (ap (λ (x : Ids). find (is_screen_id c.args.e.client c.args.e.id) x.ids) c.self.view_is ∙ c.requires.fresh) in
+    rw c.put.ensures.rows (private-put c.args.e rows c.self.inside.publics.rows c.self.invariant fresh c.if-e.false)
+
+pub returns-then-e-clause-ids : goal.returns-then-e-clause-ids
+returns-then-e-clause-ids c =
+    ap screens_of c.put.ensures.rows ∙ put screens (record { e = c.args.e }) c.self.inside.rows.rows ∙ ap (λ (x : Ids). put_screen_id c.args.e x.ids) c.self.view_is
+
+pub returns-else-e-clause-ids : goal.returns-else-e-clause-ids
+returns-else-e-clause-ids c =
+    ap screens_of c.put.ensures.rows ∙ put screens (record { e = c.args.e }) c.self.inside.rows.rows ∙ ap (λ (x : Ids). put_screen_id c.args.e x.ids) c.self.view_is

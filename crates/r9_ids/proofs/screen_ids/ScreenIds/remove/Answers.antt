@@ -1,39 +1,29 @@
-use Rattle.std.proofs.Common.{◌≡◌, List, Option, Some, find, filter, not, sym, ap, subst, ◌∙◌, arith}
-use Rattle.std.specs.Prelude.{IfSome}
-use Rattle.model_images.specs.declared.ScreenId.{ScreenId}
-use Rattle.model_images.specs.Book.{put_screen_id}
-use Rattle.model_images.specs.Release.{is_screen_id}
-use Rattle.r9_ids.specs.ScreenIds.{Ascend}
-use Rattle.r9_ids.proofs.ScreensAscend.{found-within, remove-done, ascend-filter, put-back, none-kept}
-use Rattle.r9_ids.proofs.ScreensInside.{items-are, ascends, length-is}
+use Rattle.std.proofs.Common.{◌≡◌, ap, ◌∙◌}
+use Rattle.r9_sorted.specs.declared.key.Key.{Key}
+use Rattle.r9_sorted.specs.Order.{key}
+use Rattle.r9_sorted.specs.Rows.{without_key}
+use Rattle.r9_ids.specs.Rows.{public_key, screen_key}
+use Rattle.r9_ids.specs.ScreenIds.{Ids}
+use Rattle.r9_ids.proofs.IdRows.{back-done, rest-done}
+use Rattle.r9_ids.proofs.Entries.{screens}
+use Rattle.r9_ids.proofs.Publics.{public-without}
 use Rattle.r9_ids.proofs.screen_ids.ScreenIds.remove.Goals as goal
-
-pub remove-requires : goal.remove-requires
-remove-requires c =
-    omega (arith, found-within c.args.client c.args.id c.args.self.now.ids c.in-Some.field-0 (sym c.get.ensures.found ∙ c.in-Some.is), c.place-at.ensures, length-is c.self.inside _ c.self.view_is)
-
-pub returns-in-Some-clause-rest : goal.returns-in-Some-clause-rest
-returns-in-Some-clause-rest c =
-    remove-done c.args.client c.args.id c.args.self.now.ids c.self.inside.ids.items c.remove.new.self.items c.place-at.result c.in-Some.field-0
-    (items-are c.self.inside _ c.self.view_is) c.place-at.ensures (ascends c.self.inside _ c.self.view_is c.self.invariant) (sym c.get.ensures.found ∙ c.in-Some.is) c.remove.ensures.items
 
 pub invariant_of-self : goal.invariant_of-self
 invariant_of-self c =
-    let es = c.args.self.now.ids in
-    let same = items-are c.self.inside _ c.self.view_is in
-    let found : find (is_screen_id c.args.client c.args.id) es ≡ Some c.in-Some.field-0 = sym c.get.ensures.found ∙ c.in-Some.is in
-    let ascend = ascends c.self.inside _ c.self.view_is c.self.invariant in
-    let done : c.remove.new.self.items ≡ filter (λ e. not (is_screen_id c.args.client c.args.id e)) es =
-    remove-done c.args.client c.args.id es c.self.inside.ids.items c.remove.new.self.items c.place-at.result c.in-Some.field-0 same c.place-at.ensures ascend found c.remove.ensures.items in
-    subst (λ (xs : List ScreenId). Ascend xs) (sym done) (ascend-filter _ es ascend)
+    let rows = c.self.inside.rows.rows in
+    let publics = c.self.inside.publics.rows in
+    let left : c.remove.new.self.rows ≡ without_key screen_key (key c.args.client c.args.id 0) rows =
+    c.remove.ensures.rows ∙ ap (λ (k : Key). without_key screen_key k rows) c.key_of_id.ensures in
+    let others : c.remove-2.new.self.rows ≡ without_key public_key (key c.args.id c.args.client 0) publics =
+    c.remove-2.ensures.rows ∙ ap (λ (k : Key). without_key public_key k publics) c.key_of_public.ensures in
+    rw left (rw others (public-without c.args.client c.args.id rows publics c.self.invariant))
 
-pub returns-in-Some-clause-back : goal.returns-in-Some-clause-back
-returns-in-Some-clause-back c =
-    let found : find (is_screen_id c.args.client c.args.id) c.args.self.now.ids ≡ Some c.in-Some.field-0 = sym c.get.ensures.found ∙ c.in-Some.is in
-    let P : Option ScreenId → Type 0 = λ o. IfSome o (λ e. put_screen_id e c.remove.new.self.items ≡ c.args.self.now.ids) in
-    subst P (sym found)
-    (ap (put_screen_id c.in-Some.field-0) (returns-in-Some-clause-rest c)
-    ∙ put-back c.args.client c.args.id c.args.self.now.ids c.in-Some.field-0 (ascends c.self.inside _ c.self.view_is c.self.invariant) found)
+pub returns-clause-rest : goal.returns-clause-rest
+returns-clause-rest c =
+    rest-done screens c.args.client c.args.id c.self.inside.rows.rows c.remove.new.self.rows c.args.self.now.ids c.key_of_id.result (ap (λ (x : Ids). x.ids) c.self.view_is) c.key_of_id.ensures c.remove.ensures.rows
 
-pub returns-in-None-clause-rest : goal.returns-in-None-clause-rest
-returns-in-None-clause-rest c = sym (none-kept c.args.client c.args.id c.args.self.now.ids (sym c.get.ensures.found ∙ c.in-None.is))
+pub returns-clause-back : goal.returns-clause-back
+returns-clause-back c =
+    back-done screens c.args.client c.args.id c.self.inside.rows.rows c.remove.new.self.rows c.args.self.now.ids c.key_of_id.result (ap (λ (x : Ids). x.ids) c.self.view_is) c.key_of_id.ensures c.remove.ensures.rows
+    c.self.invariant.order
