@@ -1,6 +1,7 @@
 pub mod Counts
 pub mod Falling
-pub mod Found
+pub mod Listed
+pub mod Making
 pub mod Parts
 pub mod Rooms
 pub mod Slots

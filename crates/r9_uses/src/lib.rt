@@ -6,6 +6,7 @@ mod adding;
 mod freeing;
 mod pending;
 mod release;
+mod rows;
 mod taking;
 mod tally;
 mod uses;

@@ -1,27 +1,48 @@
 //! The windows that live.
 
 ghost use Rattle.std.specs.Prelude.{◌≡◌, ◌==◌, ◌<◌, ◌≤◌, ◌+◌, ◌++◌, ◌∷◌, ℕ, [], not, cond, find, filter, length, IfSome, None, OnOk, OnErr};
-ghost use Rattle.std.specs.List.{count_by, position_or_len};
+ghost use Rattle.std.specs.List.{count_by};
 ghost use Rattle.std.specs.Option.{option_map};
+ghost use Rattle.r9_sorted.specs.Rows.{Ascend};
+ghost use Rattle.r9_uses.specs.Windows.{window_key};
 
+use crate::rows::{WindowRow, key_of_window};
 use model_images::OnScreen;
 use r9_memory::Memory;
+use r9_sorted::Sorted;
 use std::alloc::Global;
 use std::marker::Model;
 
-/// The windows in the order in which they were made.
+/// The windows in the order in which they were made, which are found by their images.
 #[derive(Drop)]
 pub struct Windows {
-    windows: Vec<OnScreen>,
+    rows: Sorted<WindowRow>,
+    // How many windows were ever made.
+    made: u64,
 }
 
 impl Model for Windows {
-    ghost use Rattle.std.specs.Prelude.{◌-◌, vec_len, vec_capacity};
-    ghost use Rattle.r9_uses.specs.Windows.{Standing};
+    ghost use Rattle.std.specs.Prelude.{◌-◌, min};
+    ghost use Rattle.r9_uses.specs.Windows.{AreMade, Standing, windows_of};
 
     ghost Value = { Standing };
 
-    ghost view = { λ w. record { windows = w.windows.items; room = vec_capacity w.windows - vec_len w.windows } };
+    ghost view = { λ w. record { windows = windows_of w.rows.rows w.made; room = min w.rows.room (18446744073709551615 - w.made) } };
+
+    ghost invariant = { λ w. AreMade w.rows.rows w.made };
+}
+
+// The image's first row.
+fn first_of(rows: &Sorted<WindowRow>, image: u32) -> Option<WindowRow>
+    ensures found { result ≡ find (λ row. row.window.image == image) rows.now.rows }
+    ensures order { Ascend window_key rows.now.rows }
+{
+    let row = rows.first_from(key_of_window(image, 0))?;
+    if row.window.image == image {
+        Some(row)
+    } else {
+        None
+    }
 }
 
 impl Windows {
@@ -29,14 +50,15 @@ impl Windows {
         ensures { result.windows ≡ [] }
     {
         Windows {
-            windows: Vec::new(alloc),
+            rows: Sorted::new(alloc),
+            made: 0,
         }
     }
 
     pub(crate) fn len(&self) -> usize
         ensures { result ≡ length self.now.windows }
     {
-        self.windows.len()
+        self.rows.len()
     }
 
     // Makes room for one more.
@@ -44,17 +66,20 @@ impl Windows {
         ensures room { OnOk result (0 < self.new.room) }
         ensures full { OnErr result (self.old.room ≡ 0) }
         ensures kept { self.new.windows ≡ self.old.windows }
+        ensures more { self.old.room ≤ self.new.room }
     {
-        self.windows.reserve(1)?;
-        Ok(())
+        if self.made == u64::MAX {
+            return Err(Memory);
+        }
+        self.rows.reserve()
     }
 
     // The screen of the image's first window.
     pub(crate) fn screen_of(&self, image: u32) -> Option<u32>
         ensures { result ≡ option_map (λ w. w.screen) (find (λ w. w.image == image) self.now.windows) }
     {
-        match self.windows.iter().find(|w| w.image == image) {
-            Some(w) => Some(w.screen),
+        match first_of(&self.rows, image) {
+            Some(row) => Some(row.window.screen),
             None => None,
         }
     }
@@ -65,17 +90,9 @@ impl Windows {
         ensures windows { self.new.windows ≡ self.old.windows ++ window ∷ [] }
         ensures room { self.old.room ≤ self.new.room + 1 }
     {
-        self.windows.push_reserved(window);
-    }
-
-    // The place of the image's first window, or the end.
-    fn place(&self, image: u32) -> usize
-        ensures { result ≡ position_or_len (λ w. w.image == image) self.now.windows }
-    {
-        self.windows
-            .iter()
-            .position(|w| w.image == image)
-            .unwrap_or(self.windows.len())
+        let made = self.made;
+        self.rows.put(WindowRow { window, made });
+        self.made += 1;
     }
 
     // Takes out the image's first window.
@@ -88,10 +105,8 @@ impl Windows {
         ensures less { IfSome result (λ _. length self.new.windows < length self.old.windows) }
         ensures room { self.old.room ≤ self.new.room }
     {
-        let at = self.place(image);
-        if at >= self.windows.len() {
-            return None;
-        }
-        Some(self.windows.remove(at))
+        let row = first_of(&self.rows, image)?;
+        let _ = self.rows.remove(key_of_window(image, row.made));
+        Some(row.window)
     }
 }
