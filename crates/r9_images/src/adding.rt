@@ -1,6 +1,6 @@
 //! Adding ids and screens.
 
-ghost use Rattle.std.specs.Prelude.{◌≡◌, ◌==◌, ◌&&◌, ◌<◌, Ok, Err, None, false, find, IfOk, IfErr, OnOk, OnErr};
+ghost use Rattle.std.specs.Prelude.{◌≡◌, ◌==◌, ◌&&◌, ◌<◌, ◌≤◌, Ok, Err, None, false, find, IfOk, IfErr, OnOk, OnErr};
 ghost use Rattle.std.specs.List.{list_any};
 ghost use Rattle.model_images.specs.Book as model;
 ghost use Rattle.model_images.specs.Release.{is_image_id, is_screen_id};
@@ -17,6 +17,7 @@ impl Book {
     pub fn reserve(&mut self) -> Result<(), Memory>
         ensures room { OnOk result (0 < self.new.room) }
         ensures kept { self.new.book ≡ self.old.book }
+        ensures more { self.old.room ≤ self.new.room }
     {
         self.uses.reserve()?;
         self.ties.reserve()?;

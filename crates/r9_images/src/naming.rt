@@ -127,6 +127,7 @@ impl Book {
         ensures refused { IfErr result (λ f. IfRefused f (λ n. model.untie self.old.book client id name.now ≡ Err n)) }
         ensures kept { OnErr result (self.new.book ≡ self.old.book) }
         ensures memory { IfErr result IsRefusal }
+        ensures room { self.old.room ≤ self.new.room }
     {
         let number = self.tie_to_end(client, id, name)?;
         self.ties.end(number);

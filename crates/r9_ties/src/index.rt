@@ -34,6 +34,7 @@ fn reserve_text(text: &mut Vec<u8>, len: usize) -> Result<(), Memory>
     ensures ok { OnOk result (len ≤ vec_capacity text.new) }
     ensures full { OnErr result (vec_capacity text.old < len) }
     ensures empty { text.new.items ≡ [] }
+    ensures more { vec_capacity text.old ≤ vec_capacity text.new }
 {
     text.clear();
     text.reserve(len)?;
@@ -54,6 +55,8 @@ fn take_text(alloc: Global, kept: &mut Vec<u8>, text: &[u8]) -> Vec<u8>
 }
 
 impl Index {
+    ghost use Rattle.r9_ties.specs.Room.{HasGrown};
+
     pub(crate) fn new(alloc: Global) -> Self
         ensures order { result.order.rows ≡ [] }
         ensures owners { result.owners.rows ≡ [] }
@@ -83,6 +86,7 @@ impl Index {
         ensures names_room { OnOk result (0 < spare self.new.names) }
         ensures text_room { OnOk result (len ≤ vec_capacity self.new.text) }
         ensures key_room { OnOk result (len ≤ vec_capacity self.new.key_text) }
+        ensures more { HasGrown self.old self.new }
         ensures room { 0 < self.old.order.room → 0 < self.old.owners.room → 0 < spare self.old.store → 0 < spare self.old.names → len ≤ vec_capacity self.old.text → len ≤ vec_capacity self.old.key_text → IsOk result }
     {
         self.order.reserve()?;
@@ -135,6 +139,7 @@ impl Index {
         ensures store { (n : ℕ) → get nat_eq self.new.store n ≡ cond (number == n) None (get nat_eq self.old.store n) }
         ensures owners { MatchOption (get nat_eq self.old.store number) (self.new.owners.rows ≡ self.old.owners.rows) (λ t. self.new.owners.rows ≡ without_key owned_key (key t.client t.id t.number) self.old.owners.rows) }
         ensures names { MatchOption (get nat_eq self.old.store number) (self.new.names ≡ self.old.names) (λ t. (q : List ℕ) → named self.new.names q ≡ cond (bytes_eq t.name q) None (named self.old.names q)) }
+        ensures more { HasGrown self.old self.new }
     {
         let _ = self.order.remove(Key {
             first: number,

@@ -65,6 +65,7 @@ impl Ties {
         ensures full { OnErr result (self.old.room ≡ 0) }
         ensures ties { self.new.ties ≡ self.old.ties }
         ensures next { self.new.next ≡ self.old.next }
+        ensures more { self.old.room ≤ self.new.room }
     {
         if self.next == u64::MAX {
             return Err(Memory);
@@ -112,6 +113,7 @@ impl Ties {
     pub fn end(&mut self, number: u64)
         ensures ties { self.new.ties ≡ filter (λ t. not (t.number == number)) self.old.ties }
         ensures next { self.new.next ≡ self.old.next }
+        ensures room { self.old.room ≤ self.new.room }
     {
         if self.index.store.contains_key(&number) {
             self.index.remove(number);
@@ -158,6 +160,7 @@ impl Ties {
     pub fn end_of_id(&mut self, client: u64, id: u32)
         ensures ties { self.new.ties ≡ filter (λ t. not (is_tied_by client id t)) self.old.ties }
         ensures next { self.new.next ≡ self.old.next }
+        ensures room { self.old.room ≤ self.new.room }
     {
         'ending: while let Some(number) = self.first_of_id(client, id) {
             self.end(number);
@@ -168,6 +171,7 @@ impl Ties {
     pub fn end_of_client(&mut self, client: u64)
         ensures ties { self.new.ties ≡ filter (λ t. not (t.client == client)) self.old.ties }
         ensures next { self.new.next ≡ self.old.next }
+        ensures room { self.old.room ≤ self.new.room }
     {
         'ending: while let Some(number) = self.first_of_client(client) {
             self.end(number);

@@ -1,5 +1,6 @@
 -- What the room of all says of each part.
-use Rattle.std.proofs.Common.{◌<◌, vec_len, vec_capacity, arith}
+use Rattle.std.proofs.Common.{◌≡◌, ℕ, ◌+◌, ◌<◌, ◌≤◌, vec_len, vec_capacity, arith}
+use Rattle.std.specs.Prelude.{◌-◌, min}
 use Rattle.r9_uses.specs.declared.uses.Uses.{Uses}
 use Rattle.r9_uses.specs.Room.{room}
 use Rattle.r9_uses.specs.Tally.{room_of}
@@ -26,3 +27,62 @@ parts u h = record {
   on = omega (arith, h);
   numbers = omega (arith, h);
 }
+
+-- ---- the room of all, where that of each part is known
+
+pub le-refl : (n : ℕ) → n ≤ n
+le-refl n = omega arith
+
+pub le-more : (n l : ℕ) → n ≤ n + l
+le-more n l = omega arith
+
+pub le-same : (n m : ℕ) → m ≡ n → n ≤ m
+le-same n m h = omega (arith, h)
+
+pub le-trans : (a b c : ℕ) → a ≤ b → b ≤ c → a ≤ c
+le-trans a b c h k = omega (arith, h, k)
+
+min-grows : (a b c d l : ℕ) → a ≤ c + l → b ≤ d + l → min a b ≤ min c d + l
+min-grows a b c d l h k = omega (arith, h, k)
+
+slots-grow : (most len most₂ len₂ l : ℕ) → len₂ ≡ len → most ≤ most₂ → min most 4294967295 - len ≤ min most₂ 4294967295 - len₂ + l
+slots-grow most len most₂ len₂ l h k = omega (arith, h, k)
+
+one-grows : (n m l : ℕ) → n ≤ m + l → n - 1 ≤ m - 1 + l
+one-grows n m l h = omega (arith, h)
+
+later : (n m l : ℕ) → n ≤ m → n ≤ m + l
+later n m l h = omega (arith, h)
+
+all-grow :
+    (a b c d e f g a₂ b₂ c₂ d₂ e₂ f₂ g₂ l : ℕ) → a ≤ a₂ + l → b ≤ b₂ + l → c ≤ c₂ + l → d ≤ d₂ + l → e ≤ e₂ + l → f ≤ f₂ + l → g ≤ g₂ + l
+    → min a (min b (min c (min d (min e (min f g))))) ≤ min a₂ (min b₂ (min c₂ (min d₂ (min e₂ (min f₂ g₂))))) + l
+all-grow a b c d e f g a₂ b₂ c₂ d₂ e₂ f₂ g₂ l h₁ h₂ h₃ h₄ h₅ h₆ h₇ =
+    min-grows a (min b (min c (min d (min e (min f g))))) a₂ (min b₂ (min c₂ (min d₂ (min e₂ (min f₂ g₂))))) l h₁
+    (min-grows b (min c (min d (min e (min f g)))) b₂ (min c₂ (min d₂ (min e₂ (min f₂ g₂)))) l h₂
+    (min-grows c (min d (min e (min f g))) c₂ (min d₂ (min e₂ (min f₂ g₂))) l h₃
+    (min-grows d (min e (min f g)) d₂ (min e₂ (min f₂ g₂)) l h₄ (min-grows e (min f g) e₂ (min f₂ g₂) l h₅ (min-grows f g f₂ g₂ l h₆ h₇)))))
+
+-- where that of the images' counts has fallen by so much at most
+pub room-grows :
+    (old new : Uses) (less : ℕ) → old.image_ids.room ≤ new.image_ids.room → old.screen_ids.room ≤ new.screen_ids.room → vec_len new.screens ≡ vec_len old.screens → vec_capacity old.screens ≤ vec_capacity new.screens
+    → old.windows.room ≤ new.windows.room → room_of old.images.uses old.images.made ≤ room_of new.images.uses new.images.made + less → room_of old.on.uses old.on.made ≤ room_of new.on.uses new.on.made
+    → room_of old.numbers.uses old.numbers.made ≤ room_of new.numbers.uses new.numbers.made → room old ≤ room new + less
+unfolding room
+room-grows old new less image_ids screen_ids len most windows images on numbers =
+    all-grow old.image_ids.room old.screen_ids.room (min (vec_capacity old.screens) 4294967295 - vec_len old.screens) old.windows.room (room_of old.images.uses old.images.made - 1) (room_of old.on.uses old.on.made - 1)
+    (room_of old.numbers.uses old.numbers.made - 1) new.image_ids.room new.screen_ids.room (min (vec_capacity new.screens) 4294967295 - vec_len new.screens) new.windows.room
+    (room_of new.images.uses new.images.made - 1) (room_of new.on.uses new.on.made - 1) (room_of new.numbers.uses new.numbers.made - 1) less (later _ _ less image_ids) (later _ _ less screen_ids)
+    (slots-grow (vec_capacity old.screens) (vec_len old.screens) (vec_capacity new.screens) (vec_len new.screens) less len most) (later _ _ less windows)
+    (one-grows (room_of old.images.uses old.images.made) (room_of new.images.uses new.images.made) less images)
+    (one-grows (room_of old.on.uses old.on.made) (room_of new.on.uses new.on.made) less (later _ _ less on))
+    (one-grows (room_of old.numbers.uses old.numbers.made) (room_of new.numbers.uses new.numbers.made) less (later _ _ less numbers))
+
+-- where none has fallen
+pub room-kept :
+    (old new : Uses) → old.image_ids.room ≤ new.image_ids.room → old.screen_ids.room ≤ new.screen_ids.room → vec_len new.screens ≡ vec_len old.screens → vec_capacity old.screens ≤ vec_capacity new.screens
+    → old.windows.room ≤ new.windows.room → room_of old.images.uses old.images.made ≤ room_of new.images.uses new.images.made → room_of old.on.uses old.on.made ≤ room_of new.on.uses new.on.made
+    → room_of old.numbers.uses old.numbers.made ≤ room_of new.numbers.uses new.numbers.made → room old ≤ room new
+room-kept old new image_ids screen_ids len most windows images on numbers =
+    let grows = room-grows old new 0 image_ids screen_ids len most windows (later _ _ 0 images) on numbers in
+    omega (arith, grows)

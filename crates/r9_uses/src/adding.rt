@@ -91,6 +91,7 @@ impl Uses {
     pub fn reserve(&mut self) -> Result<(), Memory>
         ensures room { OnOk result (0 < room self.new) }
         ensures full { OnErr result (room self.old ≡ 0) }
+        ensures more { room self.old ≤ room self.new }
         ensures image_ids { self.new.image_ids.ids ≡ self.old.image_ids.ids }
         ensures screen_ids { self.new.screen_ids.ids ≡ self.old.screen_ids.ids }
         ensures screens { self.new.screens.items ≡ self.old.screens.items }

@@ -6,7 +6,7 @@ ghost use Rattle.model_images.specs.Release as model;
 ghost use Rattle.model_images.specs.declared.Thing.{Thing as AThing};
 ghost use Rattle.model_images.specs.declared.Thing.TheVariants as kind;
 ghost use Rattle.model_images.specs.declared.Tie.{Tie};
-ghost use Rattle.r9_uses.specs.Tally.{count_of, gone_of};
+ghost use Rattle.r9_uses.specs.Tally.{count_of, gone_of, room_of};
 
 use crate::pending::Pending;
 use crate::tally::Tally;
@@ -19,6 +19,8 @@ fn forget(images: &mut Tally, numbers: &mut Tally, thing: Thing)
     ensures screen_counts { (q : ℕ) → count_of numbers.new.uses q ≡ count_of numbers.old.uses q }
     ensures images { (q : ℕ) → gone_of images.new.uses q ≡ true → (gone_of images.old.uses q ≡ true) × (model.same_thing (kind.Image q) thing ≡ false) }
     ensures screens { (q : ℕ) → gone_of numbers.new.uses q ≡ true → (gone_of numbers.old.uses q ≡ true) × (model.same_thing (kind.Screen q) thing ≡ false) }
+    ensures image_room { room_of images.old.uses images.old.made ≤ room_of images.new.uses images.new.made }
+    ensures screen_room { room_of numbers.old.uses numbers.old.made ≤ room_of numbers.new.uses numbers.new.made }
 {
     match thing {
         Thing::Image(i) => images.forget(i),
@@ -34,6 +36,8 @@ fn forget_all(images: &mut Tally, numbers: &mut Tally, gone: &[Thing])
     ensures screen_counts { (q : ℕ) → count_of numbers.new.uses q ≡ count_of numbers.old.uses q }
     ensures no_image { (q : ℕ) → gone_of images.new.uses q ≡ false }
     ensures no_screen { (q : ℕ) → gone_of numbers.new.uses q ≡ false }
+    ensures image_room { room_of images.old.uses images.old.made ≤ room_of images.new.uses images.new.made }
+    ensures screen_room { room_of numbers.old.uses numbers.old.made ≤ room_of numbers.new.uses numbers.new.made }
 {
     for thing in gone {
         forget(images, numbers, *thing);
@@ -51,6 +55,7 @@ fn most(images: usize, screens: usize, windows: usize) -> Result<usize, Memory>
 }
 
 impl Uses {
+    ghost use Rattle.r9_uses.specs.Room.{room};
     ghost use Rattle.r9_uses.specs.Freed.{freed_of, given, left_by, IsKnown, HasRoom};
 
     // Makes room for so many things to go.
@@ -63,6 +68,7 @@ impl Uses {
         ensures screen_ids { self.new.screen_ids ≡ self.old.screen_ids }
         ensures windows { self.new.windows ≡ self.old.windows }
         ensures gone { self.new.gone.items ≡ self.old.gone.items }
+        ensures more { room self.old ≤ room self.new + 1 }
     {
         self.gone.reserve(most)?;
         self.spare.reserve(most)?;
@@ -75,6 +81,7 @@ impl Uses {
         ensures gone { result.items ≡ self.old.gone.items }
         ensures none { self.new.gone.items ≡ [] }
         ensures kept { (gone : List AThing) (ties : List Tie) (next_tie : ℕ) → given self.new gone ties next_tie ≡ given self.old gone ties next_tie }
+        ensures more { room self.old ≤ room self.new }
     {
         let gone = std::mem::replace(&mut self.gone, Vec::new(self.alloc));
         forget_all(&mut self.images, &mut self.numbers, &gone);
@@ -87,6 +94,7 @@ impl Uses {
         requires plain { find (λ w. w.image == e.image) self.old.windows.windows ≡ None }
         requires gone { length self.old.gone.items < vec_capacity self.old.gone }
         ensures freed { (ties : List Tie) (next_tie : ℕ) → freed_of self.new ties next_tie ≡ model.freed_image_id (freed_of self.old ties next_tie) e }
+        ensures more { room self.old ≤ room self.new }
     {
         self.take_image_id(e);
         if self.stays(Thing::Image(e.image)) {
@@ -108,6 +116,7 @@ impl Uses {
         ensures fewer { 3 * length self.new.windows.windows ≤ 1 + 3 * length self.old.windows.windows }
         ensures image_ids { self.new.image_ids.ids ≡ filter (λ x. not (model.is_image_id e.client e.id x)) self.old.image_ids.ids }
         ensures screen_ids { self.new.screen_ids ≡ self.old.screen_ids }
+        ensures more { room self.old ≤ room self.new }
     {
         self.take_image_id(e);
         pending.push(Thing::Image(e.image));
@@ -127,6 +136,7 @@ impl Uses {
         ensures fewer { 3 * length self.new.windows.windows ≤ 3 + 3 * length self.old.windows.windows }
         ensures screen_ids { self.new.screen_ids.ids ≡ filter (λ x. not (model.is_screen_id e.client e.id x)) self.old.screen_ids.ids }
         ensures image_ids { self.new.image_ids ≡ self.old.image_ids }
+        ensures more { room self.old ≤ room self.new }
     {
         self.take_screen_id(e);
         pending.push(Thing::Screen(e.screen));
@@ -144,6 +154,7 @@ impl Uses {
         ensures room { (more : ℕ) → HasRoom self.old (length self.old.image_ids.ids + 3 * length self.old.windows.windows + more) → HasRoom self.new (3 * length self.new.windows.windows + more) }
         ensures fewer { 3 * length self.new.windows.windows ≤ length self.old.image_ids.ids + 3 * length self.old.windows.windows }
         ensures screen_ids { self.new.screen_ids ≡ self.old.screen_ids }
+        ensures more { room self.old ≤ room self.new }
     {
         'dropping: while let Some(e) = self.image_ids.first_of(client) {
             self.drop_image_id(e, pending);
@@ -156,6 +167,7 @@ impl Uses {
         requires room { HasRoom self.old (3 * length self.old.screen_ids.ids + 3 * length self.old.windows.windows) }
         requires most { 3 * length self.old.screen_ids.ids + 3 * length self.old.windows.windows ≤ pending.old.most }
         ensures freed { (ties : List Tie) (next_tie : ℕ) → freed_of self.new ties next_tie ≡ fold model.freed_screen_id (freed_of self.old ties next_tie) (filter (λ e. e.client == client) self.old.screen_ids.ids) }
+        ensures more { room self.old ≤ room self.new }
     {
         'dropping: while let Some(e) = self.screen_ids.first_of(client) {
             self.drop_screen_id(e, pending);
@@ -170,6 +182,7 @@ impl Uses {
         ensures freed { (ties : List Tie) (next_tie : ℕ) → IfOk result (λ gone. given self.new gone.items ties next_tie ≡ model.freed_image_id (freed_of self.old ties next_tie) e) }
         ensures none { self.new.gone.items ≡ [] }
         ensures kept { (ties : List Tie) (next_tie : ℕ) → OnErr result (freed_of self.new ties next_tie ≡ freed_of self.old ties next_tie) }
+        ensures more { room self.old ≤ room self.new }
     {
         self.gone.reserve(1)?;
         self.drop_plain(e);
@@ -182,6 +195,7 @@ impl Uses {
         ensures freed { (ties : List Tie) (next_tie : ℕ) → IfOk result (λ gone. given self.new gone.items ties next_tie ≡ model.freed_image_id (freed_of self.old ties next_tie) e) }
         ensures none { self.new.gone.items ≡ [] }
         ensures kept { (ties : List Tie) (next_tie : ℕ) → OnErr result (freed_of self.new ties next_tie ≡ freed_of self.old ties next_tie) }
+        ensures more { room self.old ≤ room self.new + 1 }
     {
         let most = most(1, 0, self.windows.len())?;
         let mut pending = self.make_room(most)?;
@@ -197,6 +211,7 @@ impl Uses {
         ensures freed { (ties : List Tie) (next_tie : ℕ) → IfOk result (λ gone. given self.new gone.items ties next_tie ≡ model.freed_image_id (freed_of self.old ties next_tie) e) }
         ensures none { self.new.gone.items ≡ [] }
         ensures kept { (ties : List Tie) (next_tie : ℕ) → OnErr result (freed_of self.new ties next_tie ≡ freed_of self.old ties next_tie) }
+        ensures more { room self.old ≤ room self.new + 1 }
     {
         if self.screen_of(e.image).is_none() {
             self.free_plain(e)
@@ -212,6 +227,7 @@ impl Uses {
         ensures freed { (ties : List Tie) (next_tie : ℕ) → IfOk result (λ gone. given self.new gone.items ties next_tie ≡ model.freed_screen_id (freed_of self.old ties next_tie) e) }
         ensures none { self.new.gone.items ≡ [] }
         ensures kept { (ties : List Tie) (next_tie : ℕ) → OnErr result (freed_of self.new ties next_tie ≡ freed_of self.old ties next_tie) }
+        ensures more { room self.old ≤ room self.new + 1 }
     {
         let most = most(0, 1, self.windows.len())?;
         let mut pending = self.make_room(most)?;
@@ -226,6 +242,7 @@ impl Uses {
         ensures freed { (ties : List Tie) (next_tie : ℕ) → IfOk result (λ gone. given self.new gone.items ties next_tie ≡ left_by (freed_of self.old ties next_tie) client) }
         ensures none { self.new.gone.items ≡ [] }
         ensures kept { (ties : List Tie) (next_tie : ℕ) → OnErr result (freed_of self.new ties next_tie ≡ freed_of self.old ties next_tie) }
+        ensures more { room self.old ≤ room self.new + 1 }
     {
         let most = most(
             self.image_ids.len(),

@@ -12,6 +12,7 @@ use crate::uses::Uses;
 use model_images::Thing;
 
 impl Uses {
+    ghost use Rattle.r9_uses.specs.Room.{room};
     ghost use Rattle.r9_uses.specs.Freed.{freed_of, book_of, IsKnown, weight, left_of, HasRoom};
 
     fn is_used(&self, thing: Thing) -> bool
@@ -75,6 +76,7 @@ impl Uses {
         ensures spare { self.new.spare ≡ self.old.spare }
         ensures image_ids { self.new.image_ids ≡ self.old.image_ids }
         ensures screen_ids { self.new.screen_ids ≡ self.old.screen_ids }
+        ensures more { room self.old ≤ room self.new }
     {
         self.close(image);
         self.images.mark(image);
@@ -91,6 +93,7 @@ impl Uses {
         ensures spare { vec_capacity self.new.spare ≡ vec_capacity self.old.spare }
         ensures image_ids { self.new.image_ids ≡ self.old.image_ids }
         ensures screen_ids { self.new.screen_ids ≡ self.old.screen_ids }
+        ensures more { room self.old ≤ room self.new }
     {
         self.empty(screen);
         self.numbers.mark(screen);
@@ -111,6 +114,7 @@ impl Uses {
         ensures most { pending.new.most ≡ pending.old.most }
         ensures image_ids { self.new.image_ids ≡ self.old.image_ids }
         ensures screen_ids { self.new.screen_ids ≡ self.old.screen_ids }
+        ensures more { room self.old ≤ room self.new }
     {
         if self.stays(Thing::Image(image)) {
             return;
@@ -132,6 +136,7 @@ impl Uses {
         ensures most { pending.new.most ≡ pending.old.most }
         ensures image_ids { self.new.image_ids ≡ self.old.image_ids }
         ensures screen_ids { self.new.screen_ids ≡ self.old.screen_ids }
+        ensures more { room self.old ≤ room self.new }
     {
         if self.stays(Thing::Screen(screen)) {
             return;
@@ -152,6 +157,7 @@ impl Uses {
         ensures most { pending.new.most ≡ pending.old.most }
         ensures image_ids { self.new.image_ids ≡ self.old.image_ids }
         ensures screen_ids { self.new.screen_ids ≡ self.old.screen_ids }
+        ensures more { room self.old ≤ room self.new }
     {
         match thing {
             Thing::Image(i) => self.look_at_image(i, pending),
@@ -171,6 +177,7 @@ impl Uses {
         ensures fewer { left_of self.new [] ≤ left_of self.old pending.old.things }
         ensures image_ids { self.new.image_ids ≡ self.old.image_ids }
         ensures screen_ids { self.new.screen_ids ≡ self.old.screen_ids }
+        ensures more { room self.old ≤ room self.new }
     {
         'settling: while let Some(thing) = pending.pop() {
             self.look(thing, pending);

@@ -8,6 +8,8 @@ use crate::uses::Uses;
 use model_images::{ImageId, ScreenId};
 
 impl Uses {
+    ghost use Rattle.r9_uses.specs.Room.{room};
+
     // An image id goes.
     pub(crate) fn take_image_id(&mut self, e: ImageId)
         requires { find (is_image_id e.client e.id) self.old.image_ids.ids ≡ Some e }
@@ -21,6 +23,7 @@ impl Uses {
         ensures spare { self.new.spare ≡ self.old.spare }
         ensures windows { self.new.windows ≡ self.old.windows }
         ensures gone { self.new.gone ≡ self.old.gone }
+        ensures more { room self.old ≤ room self.new }
     {
         self.images.take(e.image);
         self.image_ids.remove(e.client, e.id);
@@ -39,6 +42,7 @@ impl Uses {
         ensures spare { self.new.spare ≡ self.old.spare }
         ensures windows { self.new.windows ≡ self.old.windows }
         ensures gone { self.new.gone ≡ self.old.gone }
+        ensures more { room self.old ≤ room self.new }
     {
         self.numbers.take(e.screen);
         self.screen_ids.remove(e.client, e.id);
@@ -57,6 +61,7 @@ impl Uses {
         ensures spare { self.new.spare ≡ self.old.spare }
         ensures windows { self.new.windows ≡ self.old.windows }
         ensures gone { self.new.gone ≡ self.old.gone }
+        ensures more { room self.old ≤ room self.new }
     {
         let at = number as usize;
         if at >= self.screens.len() {
@@ -84,6 +89,7 @@ impl Uses {
         ensures screens { self.new.screens ≡ self.old.screens }
         ensures spare { self.new.spare ≡ self.old.spare }
         ensures gone { self.new.gone ≡ self.old.gone }
+        ensures more { room self.old ≤ room self.new }
     {
         match self.windows.take(image) {
             Some(window) => {
@@ -105,6 +111,7 @@ impl Uses {
         ensures screens { self.new.screens ≡ self.old.screens }
         ensures spare { self.new.spare ≡ self.old.spare }
         ensures gone { self.new.gone ≡ self.old.gone }
+        ensures more { room self.old ≤ room self.new }
     {
         'closing: while self.take_window(image) {}
     }

@@ -22,6 +22,7 @@ ending-preserved c =
           ∙ filter-twice (is_tied_by c.args.client c.args.id) (λ (t : Tie). t.number == c.in-Some.number) c.ending.self.ties (same-told (is_tied_by c.args.client c.args.id) true c.in-Some.number found.0 c.ending.self.ties c.in-Some.ensures.once found.1 found.2)
           ∙ c.ending.invariant.rest;
       same = c.end.ensures.next ∙ c.ending.invariant.same;
+      room = omega (arith, c.end.ensures.room, c.ending.invariant.room);
     }
 
 pub returns-clause-ties : goal.returns-clause-ties

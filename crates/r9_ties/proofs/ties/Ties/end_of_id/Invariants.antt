@@ -1,4 +1,4 @@
-use Rattle.std.proofs.Common.{◌≡◌, length}
+use Rattle.std.proofs.Common.{◌≡◌, ◌≤◌, length}
 use Rattle.std.specs.Prelude.{not, filter}
 use Rattle.model_images.specs.Release.{is_tied_by}
 use Rattle.r9_ties.proofs.ties.Ties.end_of_id.Given as goal
@@ -7,6 +7,7 @@ abbrev pub invariant-ending : goal.invariant-ending
 invariant-ending l = record {
   rest : filter (λ t. not (is_tied_by l.client l.id t)) l.self.ties ≡ filter (λ t. not (is_tied_by l.client l.id t)) l.initial.self.ties;
   same : l.self.next ≡ l.initial.self.next;
+  room : l.initial.self.room ≤ l.self.room;
 }
 
 abbrev pub decreases-ending : goal.decreases-ending

@@ -32,6 +32,7 @@ dropping-preserved c =
           (c.dropping.invariant.room more h)));
       fewer = omega (arith, c.drop_image_id.ensures.fewer, c.dropping.invariant.fewer, less);
       none = c.drop_image_id.ensures.none;
+      more = omega (arith, c.drop_image_id.ensures.more, c.dropping.invariant.more);
       most = c.drop_image_id.ensures.most ∙ c.dropping.invariant.most;
       screen_ids = c.drop_image_id.ensures.screen_ids ∙ c.dropping.invariant.screen_ids;
     }

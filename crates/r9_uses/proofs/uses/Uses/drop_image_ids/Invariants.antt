@@ -5,6 +5,7 @@ use Rattle.model_images.specs.declared.Tie.{Tie}
 use Rattle.r9_uses.specs.declared.uses.Uses.{Uses}
 use Rattle.r9_uses.specs.Freed.{freed_of, HasRoom}
 use Rattle.r9_uses.specs.Pending.{Things}
+use Rattle.r9_uses.specs.Room.{room as room_of_all}
 use Rattle.r9_uses.proofs.uses.Uses.drop_image_ids.Given as goal
 
 -- the ids that are left give what all gave
@@ -18,6 +19,7 @@ pub record Dropping (client : ℕ) (now start : Uses) (pending first : Things) :
       → HasRoom now (length now.image_ids.ids + 3 * length now.windows.windows + more)
   pub fewer : length now.image_ids.ids + 3 * length now.windows.windows ≤ length start.image_ids.ids + 3 * length start.windows.windows
   pub none : pending.things ≡ []
+  pub more : room_of_all start ≤ room_of_all now
   pub most : pending.most ≡ first.most
   pub screen_ids : now.screen_ids ≡ start.screen_ids
 

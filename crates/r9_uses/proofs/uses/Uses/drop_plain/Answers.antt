@@ -6,11 +6,13 @@ use Rattle.model_images.specs.declared.Thing.TheVariants.{Image, Screen}
 use Rattle.model_images.specs.Release.{Freed, released}
 use Rattle.r9_uses.specs.Freed.{freed_of}
 use Rattle.r9_uses.specs.Windows.{Standing}
+use Rattle.r9_uses.proofs.Parts.{le-trans}
 use Rattle.r9_uses.proofs.Rooms.{image-taken, plain-stays, plain-goes}
 use Rattle.r9_uses.proofs.uses.Uses.drop_plain.Goals as goal
 
 pub returns-then-stays : goal.returns-then-stays
 returns-then-stays c = record {
+  more = c.take_image_id.ensures.more;
   freed = λ ties next_tie.
       let t = c.take_image_id.ensures in
       let taken = freed_of c.take_image_id.new.self ties next_tie in
@@ -20,6 +22,7 @@ returns-then-stays c = record {
 
 pub returns : goal.returns
 returns c = record {
+  more = le-trans _ _ _ c.take_image_id.ensures.more c.let_image_go.ensures.more;
   freed = λ ties next_tie.
       let t = c.take_image_id.ensures in
       let taken = freed_of c.take_image_id.new.self ties next_tie in

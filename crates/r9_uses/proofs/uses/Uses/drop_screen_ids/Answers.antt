@@ -32,12 +32,14 @@ dropping-preserved c =
           (c.dropping.invariant.room more h)));
       fewer = omega (arith, c.drop_screen_id.ensures.fewer, c.dropping.invariant.fewer, less);
       none = c.drop_screen_id.ensures.none;
+      more = omega (arith, c.drop_screen_id.ensures.more, c.dropping.invariant.more);
       most = c.drop_screen_id.ensures.most ∙ c.dropping.invariant.most;
       image_ids = c.drop_screen_id.ensures.image_ids ∙ c.dropping.invariant.image_ids;
     }
 
 pub returns : goal.returns
 returns c = record {
+  more = c.dropping.invariant.more;
   freed = λ ties next_tie.
       fold-none freed_screen_id (freed_of c.dropping.self ties next_tie) (filter (λ e. e.client == c.args.client) c.dropping.self.screen_ids.ids)
       (none-own (λ (e : ScreenId). e.client == c.args.client) c.dropping.self.screen_ids.ids c.in_default.ensures.found)

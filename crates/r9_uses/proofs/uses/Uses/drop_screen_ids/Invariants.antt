@@ -5,6 +5,7 @@ use Rattle.model_images.specs.declared.Tie.{Tie}
 use Rattle.r9_uses.specs.declared.uses.Uses.{Uses}
 use Rattle.r9_uses.specs.Freed.{freed_of, HasRoom}
 use Rattle.r9_uses.specs.Pending.{Things}
+use Rattle.r9_uses.specs.Room.{room as room_of_all}
 use Rattle.r9_uses.proofs.uses.Uses.drop_screen_ids.Given as goal
 
 -- the ids that are left give what all gave
@@ -18,6 +19,7 @@ pub record Dropping (client : ℕ) (now start : Uses) (pending first : Things) :
       → HasRoom now (3 * length now.screen_ids.ids + 3 * length now.windows.windows + more)
   pub fewer : 3 * length now.screen_ids.ids + 3 * length now.windows.windows ≤ 3 * length start.screen_ids.ids + 3 * length start.windows.windows
   pub none : pending.things ≡ []
+  pub more : room_of_all start ≤ room_of_all now
   pub most : pending.most ≡ first.most
   pub image_ids : now.image_ids ≡ start.image_ids
 

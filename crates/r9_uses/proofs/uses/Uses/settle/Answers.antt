@@ -21,6 +21,7 @@ settling-preserved c =
           c.look.ensures.room more (subst P next (c.settling.invariant.room more h));
       fewer = let same = ap (λ (ts : List Thing). left_of now ts) next in omega (arith, c.look.ensures.less, c.settling.invariant.fewer, same);
       all = c.look.ensures.all;
+      more = omega (arith, c.look.ensures.more, c.settling.invariant.more);
       most = c.look.ensures.most ∙ c.pop.ensures.room ∙ c.settling.invariant.most;
       image_ids = c.look.ensures.image_ids ∙ c.settling.invariant.image_ids;
       screen_ids = c.look.ensures.screen_ids ∙ c.settling.invariant.screen_ids;

@@ -5,6 +5,7 @@ use Rattle.model_images.specs.declared.Tie.{Tie}
 use Rattle.r9_uses.specs.declared.uses.Uses.{Uses}
 use Rattle.r9_uses.specs.Freed.{freed_of, IsKnown, left_of, HasRoom}
 use Rattle.r9_uses.specs.Pending.{Things}
+use Rattle.r9_uses.specs.Room.{room as room_of_all}
 use Rattle.r9_uses.proofs.uses.Uses.settle.Given as goal
 
 -- what is left to look at gives what all gave
@@ -13,6 +14,7 @@ pub record Settling (now start : Uses) (pending first : Things) : Type 0 where
   pub room : (more : ℕ) → HasRoom start (left_of start first.things + more) → HasRoom now (left_of now pending.things + more)
   pub fewer : left_of now pending.things ≤ left_of start first.things
   pub all : All (IsKnown now) pending.things
+  pub more : room_of_all start ≤ room_of_all now
   pub most : pending.most ≡ first.most
   pub image_ids : now.image_ids ≡ start.image_ids
   pub screen_ids : now.screen_ids ≡ start.screen_ids

@@ -1,7 +1,8 @@
-use Rattle.std.proofs.Common.{◌==◌, ◌∙◌, arith}
+use Rattle.std.proofs.Common.{◌==◌, ◌∙◌, arith, refl}
 use Rattle.model_images.specs.declared.ImageId.{ImageId}
 use Rattle.model_images.specs.Release.{is_image_id}
 use Rattle.r9_uses.proofs.Counts.{count-found, count-taken_image, same-number}
+use Rattle.r9_uses.proofs.Parts.{le-refl, le-same, room-kept}
 use Rattle.r9_uses.proofs.uses.Uses.take_image_id.Goals as goal
 
 pub take-requires : goal.take-requires
@@ -21,3 +22,7 @@ invariant_of-self-clause-images_counted c = λ i.
 
 pub invariant_of-self-clause-images_gone : goal.invariant_of-self-clause-images_gone
 invariant_of-self-clause-images_gone c = λ i. c.take.ensures.gone i ∙ c.args.self.now.images_gone i
+
+pub returns-clause-more : goal.returns-clause-more
+returns-clause-more c =
+    room-kept c.args.self.now _ c.remove.ensures.room (le-refl _) refl (le-refl _) (le-refl _) (le-same _ _ c.take.ensures.room) (le-refl _) (le-refl _)

@@ -1,7 +1,8 @@
-use Rattle.std.proofs.Common.{◌==◌, ◌∙◌, arith}
+use Rattle.std.proofs.Common.{◌==◌, ◌∙◌, arith, refl}
 use Rattle.model_images.specs.declared.ScreenId.{ScreenId}
 use Rattle.model_images.specs.Release.{is_screen_id}
 use Rattle.r9_uses.proofs.Counts.{count-found, count-taken_screen, same-number}
+use Rattle.r9_uses.proofs.Parts.{le-refl, le-same, room-kept}
 use Rattle.r9_uses.proofs.uses.Uses.take_screen_id.Goals as goal
 
 pub take-requires : goal.take-requires
@@ -21,3 +22,7 @@ invariant_of-self-clause-screens_counted c = λ s.
 
 pub invariant_of-self-clause-screens_gone : goal.invariant_of-self-clause-screens_gone
 invariant_of-self-clause-screens_gone c = λ s. c.take.ensures.gone s ∙ c.args.self.now.screens_gone s
+
+pub returns-clause-more : goal.returns-clause-more
+returns-clause-more c =
+    room-kept c.args.self.now _ (le-refl _) c.remove.ensures.room refl (le-refl _) (le-refl _) (le-refl _) (le-refl _) (le-same _ _ c.take.ensures.room)

@@ -1,5 +1,6 @@
 use Rattle.std.proofs.Common.{arith, refl}
 use Rattle.r9_uses.proofs.Counts.{is-counted}
+use Rattle.r9_uses.proofs.Parts.{le-refl, le-same, room-kept}
 use Rattle.r9_uses.proofs.uses.Uses.take_window.Goals as goal
 
 pub take-requires-in-Some : goal.take-requires-in-Some
@@ -10,3 +11,11 @@ take-requires-in-Some c =
 
 pub invariant_of-self-in-None-clause-screens_counted : goal.invariant_of-self-in-None-clause-screens_counted
 invariant_of-self-in-None-clause-screens_counted c = λ s. rw (c.in-None.ensures.kept refl) (c.args.self.now.screens_counted s)
+
+pub returns-in-Some-clause-more : goal.returns-in-Some-clause-more
+returns-in-Some-clause-more c =
+    room-kept c.args.self.now _ (le-refl _) (le-refl _) refl (le-refl _) c.take.ensures.room (le-refl _) (le-refl _) (le-same _ _ c.take-in-Some.ensures.room)
+
+pub returns-in-None-clause-more : goal.returns-in-None-clause-more
+returns-in-None-clause-more c =
+    room-kept c.args.self.now _ (le-refl _) (le-refl _) refl (le-refl _) c.take.ensures.room (le-refl _) (le-refl _) (le-refl _)
