@@ -6,12 +6,12 @@ use Rattle.std.proofs.lemmas.Option.{same_Some}
 use Rattle.std.proofs.lemmas.List.Elements.{All-nil, All-cons, All-head, All-tail, All-weaker, All-filter, filter_passes}
 use Rattle.std.proofs.lemmas.List.Kept.{AllPairs-filter}
 use Rattle.std.proofs.lemmas.List.Sorted.{All-permutation, IsPermutation-insert, IsPermutation-sym}
-use Rattle.model_rio.specs.Table.{Window, Rio, Table, Held, is_host, rio_of, current_of, hold_of, windows_in, made_in, put}
+use Rattle.model_rio.specs.Table.{Window, Rio, Table, Held, rio_of, current_of, hold_of, windows_in, made_in, put}
 use Rattle.model_rio.specs.Step.{Step, without, retired, is_same, is_held}
 use Rattle.model_rio.specs.Moving.{dropped, deleted}
 use Rattle.model_rio.specs.Sound.{window_in, IsSeenIn, IsNested, IsSoundWindow, IsSoundRio, IsSound, AreDistinct}
 use Rattle.model_rio.proofs.Lookups.{map-others, find-all, find-filter, length-filter_le, found_of, of_found, filtered_out, All-both}
-use Rattle.model_rio.proofs.Puts.{has_serial, differs, distinct_others, found_other}
+use Rattle.model_rio.proofs.Puts.{numbers_without, has_serial, differs, distinct_others, found_other}
 use Rattle.model_rio.proofs.Tables.{rios_of, nested_kept, rio_kept}
 use Rattle.model_rio.proofs.Inputs.{retired-sound, retired-windows, retired-current, retired-hold}
 use Rattle.model_rio.proofs.Makings.{lone, never_current, never_held, depth_of}
@@ -30,10 +30,10 @@ without_it serial table = record table { rios = filter (λ rio. not (rio.host ==
 rios_left : (serial : ℕ) (table : Table) → IsSound table → 0 < serial → filter (λ rio. not (rio.host == serial)) (rios_of table) ≡ rios_of (without_it serial table)
 rios_left serial table ok counted = rw (ne_eqb table.root.host serial (λ same. absurd (omega (arith, same, ok.root)))) refl
 
-host_left : (serial : ℕ) (table : Table) → IsSound table → 0 < serial → (host : ℕ) → host ≢ serial → is_host (without_it serial table) host ≡ is_host table host
+host_left : (serial : ℕ) (table : Table) → IsSound table → 0 < serial → (host : ℕ) → host ≢ serial → rio_of (without_it serial table) host ≡ rio_of table host
 host_left serial table ok counted host apart =
-    ap (λ rios. is_some (find (λ (rio : Rio). rio.host == host) rios)) (sym (rios_left serial table ok counted))
-    ∙ ap is_some (find-filter (λ (rio : Rio). rio.host == host) (λ rio. not (rio.host == serial)) (λ rio e. ap not (ne_eqb rio.host serial (λ same. apart (sym (eqb-true rio.host host e) ∙ same)))) (rios_of table))
+    ap (find (λ (rio : Rio). rio.host == host)) (sym (rios_left serial table ok counted))
+    ∙ (find-filter (λ (rio : Rio). rio.host == host) (λ rio. not (rio.host == serial)) (λ rio e. ap not (ne_eqb rio.host serial (λ same. apart (sym (eqb-true rio.host host e) ∙ same)))) (rios_of table))
 
 nested_left : (serial : ℕ) (table : Table) → All (λ v. v.host ≢ serial) table.windows → (levels at : ℕ) → at ≢ serial → IsNested table.windows levels at → IsNested (without serial table.windows) levels at
 nested_left serial table alone levels at apart is =
@@ -65,8 +65,16 @@ left_sound serial host table ok counted only alone current hold = record {
   few = omega (arith, length-filter_le (λ (v : Window). not (v.serial == serial)) table.windows, ok.few);
   serials = distinct_others serial table.windows ok.serials;
   hosts = subst AreDistinct (sym (map-others (λ (rio : Rio). rio.host) serial (rios_of table)) ∙ ap (map (λ rio. rio.host)) left) (AllPairs-filter ◌≢◌ (λ n. not (n == serial)) (map (λ rio. rio.host) (rios_of table)) ok.hosts);
-  windows = All-both (IsSoundWindow table) (λ v. v.host ≢ serial) (IsSoundWindow (without_it serial table)) (λ v is apart. record { counted = is.counted; given = is.given; housed = host_left serial table ok counted v.host apart ∙ is.housed }) (without serial table.windows)
+  windows = All-both (IsSoundWindow table) (λ v. v.host ≢ serial) (IsSoundWindow (without_it serial table)) (λ v is apart. record {
+    counted = is.counted;
+    given = is.given;
+    within = is.within;
+    housed = ap is_some (host_left serial table ok counted v.host apart) ∙ is.housed;
+    numbered = λ more. subst (λ o. IsSomeAnd o (λ rio. v.number < rio.next)) (sym (host_left serial table ok counted v.host apart)) (is.numbered more);
+  }) (without serial table.windows)
       (All-filter (λ (v : Window). not (v.serial == serial)) (IsSoundWindow table) table.windows ok.windows) (All-filter (λ (v : Window). not (v.serial == serial)) (λ v. v.host ≢ serial) table.windows alone);
+  numbers = numbers_without serial table.windows ok.numbers;
+  next = subst (All (λ rio. rio.next ≤ table.serials + 1)) left (All-filter (λ (rio : Rio). not (rio.host == serial)) (λ rio. rio.next ≤ table.serials + 1) (rios_of table) ok.next);
   rios = subst (All (IsSoundRio (without serial table.windows))) left
       (All-both (λ rio. rio.host ≢ serial) (λ rio. (rio_of table rio.host ≡ Some rio) × IsSoundRio table.windows rio) (IsSoundRio (without serial table.windows)) (λ rio apart is. rio_left serial host table only alone current hold rio apart is.0 is.1)
       (filter (λ rio. not (rio.host == serial)) (rios_of table))

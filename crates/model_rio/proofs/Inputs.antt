@@ -13,7 +13,7 @@ use Rattle.model_rio.specs.Routing.{moused, reacted, given, pressed, point_of, r
 use Rattle.model_rio.specs.Sound.{window_in, IsSeenIn, IfHeld, IsSound}
 use Rattle.model_rio.proofs.Lookups.{own, find-all, find-passes, of_found}
 use Rattle.model_rio.proofs.RioLaws.{hit}
-use Rattle.model_rio.proofs.Puts.{IsPut-raised}
+use Rattle.model_rio.proofs.Puts.{itself, numbers_raised, IsPut-raised}
 use Rattle.model_rio.proofs.Tables.{rios_of, rios_sound, rio_changed, shown_sound}
 
 -- ---- the current window
@@ -52,14 +52,14 @@ with_current-windows host new step = with_current-both (λ table. table.windows 
 pub current_sound : (host : ℕ) (new : Option ℕ) (step : Step) → IsSound step.table → IfSome new (IsSeenIn step.table.windows host) → IsSound (with_current host new step).table
 current_sound host new step ok seen =
     with_current-both IsSound host new step ok
-    (rios_sound host (current_to new) (λ rio. refl) step.table ok
+    (rios_sound host (current_to new) (λ rio. refl) (λ rio. refl) step.table ok
     (λ rio same is. record { nested = is.nested; current = subst (λ at. IfSome new (IsSeenIn step.table.windows at)) (sym same) seen; hold = is.hold }))
 
 -- ---- the hold
 
 pub hold_sound : (host : ℕ) (hold : Hold) (step : Step) → IsSound step.table → IfHeld hold (IsSeenIn step.table.windows host) → IsSound (with_hold host hold step).table
 hold_sound host hold step ok seen =
-    rios_sound host (λ rio. record rio { hold = hold }) (λ rio. refl) step.table ok
+    rios_sound host (λ rio. record rio { hold = hold }) (λ rio. refl) (λ rio. refl) step.table ok
     (λ rio same is. record { nested = is.nested; current = is.current; hold = subst (λ at. IfHeld hold (IsSeenIn step.table.windows at)) (sym same) seen })
 
 -- ---- a window that is hidden or goes
@@ -153,7 +153,7 @@ pressed-sound host p (Some w) step e ok =
     let is = topmost_own step.table ok host p w e in
     let put = IsPut-raised w w step.table.windows is.0 in
     let up : Step = ordered (order.Raise w.serial) (with_windows (raised w) step) in
-    let sound : IsSound up.table = shown_sound w w (raised w step.table.windows) step.table ok is.0 refl (λ hidden. hidden) put in
+    let sound : IsSound up.table = shown_sound w w (raised w step.table.windows) step.table ok is.0 (itself w) (λ hidden. hidden) put (numbers_raised w w step.table.windows is.0 (itself w) ok.numbers) in
     let seen : IsSeenIn (raised w step.table.windows) host w.serial = of_found (window_in (raised w step.table.windows) w.serial) (λ v. (v.host ≡ host) × (v.hidden ≡ false)) w put.at (is.1, is.2) in
     let next : Step = with_current host (Some w.serial) up in
     hold_sound host (Held w.serial) next (current_sound host (Some w.serial) up sound seen) (subst (λ ws. IsSeenIn ws host w.serial) (sym (with_current-windows host (Some w.serial) up)) seen)

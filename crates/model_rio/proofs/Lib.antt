@@ -8,6 +8,7 @@ mod Inputs
 mod Makings
 mod Movings
 mod Goings
+mod Paths
 pub mod Soundness
 mod Notes
 pub mod Turns

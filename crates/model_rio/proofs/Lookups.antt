@@ -1,7 +1,8 @@
 -- What a look-up finds in a list that was changed.
 use Rattle.std.proofs.Common.{ap, not, ◌≡◌, ◌≢◌, ◌∙◌, ℕ, suc, ◌+◌, ◌≤◌, ◌==◌, Bool, true, false, cond, List, [], ◌∷◌, map, length, filter, find, Option, Some, None, option_map, All, AllPairs, IsSomeAnd, refl, sym, subst, arith, eq-eqb, ne_eqb}
 use Rattle.std.proofs.lemmas.Bool.{cond_both, cond-true, cond-false}
-use Rattle.std.proofs.lemmas.List.Elements.{All-cons, All-head, All-tail, All-nil}
+use Rattle.std.proofs.lemmas.List.Elements.{All-cons, All-head, All-tail, All-nil, All-weaker, All-map}
+use Rattle.std.proofs.lemmas.List.Kept.{AllPairs-cons}
 
 pub find-all : {X : Type 0} (P : X → Type 0) (p : X → Bool) (xs : List X) (x : X) → All P xs → find p xs ≡ Some x → P x
 find-all P p [] x all e = absurd cc
@@ -121,3 +122,25 @@ filtered_out p Q (x ∷ xs) all = here (p x) refl (filtered_out p Q xs) all
     here : (b : Bool) → p x ≡ b → (All Q (filter p xs) → All (λ y. p y ≡ true → Q y) xs) → All Q (cond b (x ∷ filter p xs) (filter p xs)) → All (λ y. p y ≡ true → Q y) (x ∷ xs)
     here true is later all = All-cons (λ y. p y ≡ true → Q y) x xs (λ passes. All-head Q x (filter p xs) all) (later (All-tail Q x (filter p xs) all))
     here false is later all = All-cons (λ y. p y ≡ true → Q y) x xs (λ passes. absurd (let e : true ≡ false = sym passes ∙ is in cc)) (later all)
+
+-- ---- facts of each two elements
+
+pub pairs_mapped : {X : Type 0} (R : X → X → Type 0) (K : X → Type 0) (f : X → X) → ((x y : X) → K x → K y → R x y → R (f x) (f y)) → (xs : List X) → All K xs → AllPairs R xs → AllPairs R (map f xs)
+pairs_mapped R K f keeps [] each pairs = λ i j d before within. absurd (omega arith)
+pairs_mapped R K f keeps (x ∷ xs) each pairs =
+    AllPairs-cons R (f x) (map f xs)
+    (All-map (R (f x)) f xs (All-both K (R x) (λ y. R (f x) (f y)) (λ y k r. keeps x y (All-head K x xs each) k r) xs (All-tail K x xs each) (AllPairs-first R x xs pairs)))
+    (pairs_mapped R K f keeps xs (All-tail K x xs each) (AllPairs-rest R x xs pairs))
+
+-- an element that is found, and each that a test tells from it
+pub pairs_found : {X : Type 0} (R : X → X → Type 0) → ((x y : X) → R x y → R y x) → (p : X → Bool) (xs : List X) (x : X) → AllPairs R xs → find p xs ≡ Some x → All (λ y. p y ≡ false → R x y) xs
+pairs_found R flips p [] x pairs e = All-nil (λ y. p y ≡ false → R x y)
+pairs_found R flips p (y ∷ ys) x pairs e = here (p y) refl (pairs_found R flips p ys x (AllPairs-rest R y ys pairs)) e
+  where
+    here : (b : Bool) → p y ≡ b → (find p ys ≡ Some x → All (λ z. p z ≡ false → R x z) ys) → cond b (Some y) (find p ys) ≡ Some x → All (λ z. p z ≡ false → R x z) (y ∷ ys)
+    here true is later e =
+        let same : y ≡ x = cc in
+        All-cons (λ z. p z ≡ false → R x z) y ys (λ fails. absurd (let f : true ≡ false = sym is ∙ fails in cc))
+        (subst (λ w. All (λ z. p z ≡ false → R w z) ys) same (All-weaker (R y) (λ z. p z ≡ false → R y z) (λ z r _. r) ys (AllPairs-first R y ys pairs)))
+    here false is later e =
+        All-cons (λ z. p z ≡ false → R x z) y ys (λ _. flips y x (find-all (R y) p ys x (AllPairs-first R y ys pairs) e)) (later e)

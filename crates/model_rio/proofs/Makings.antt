@@ -1,5 +1,5 @@
 -- New windows, new rios, and windows that are hidden, shown or moved keep a table sound.
-use Rattle.std.proofs.Common.{◌≡◌, ◌≢◌, ◌∙◌, ℕ, zero, suc, ◌-◌, ◌^◌, ◌<◌, ◌≤◌, ◌==◌, Bool, true, false, cond, List, [], ◌∷◌, ◌++◌, map, length, find, Option, Some, None, Ok, is_some, All, IsSomeAnd, refl, sym, ap, subst, arith, eqb-true, eq-eqb, ne_eqb, length-append}
+use Rattle.std.proofs.Common.{option_map, ◌≡◌, ◌≢◌, ◌∙◌, ℕ, zero, suc, ◌+◌, ◌-◌, ◌^◌, ◌<◌, ◌≤◌, ◌==◌, Bool, true, false, cond, List, [], ◌∷◌, ◌++◌, map, length, find, Option, Some, None, Ok, is_some, All, IsSomeAnd, refl, sym, ap, subst, arith, eqb-true, eq-eqb, ne_eqb, length-append}
 use Rattle.std.specs.Prelude.{nat_le}
 use Rattle.std.specs.Option.{option_or, option_and_then, option_map_or}
 use Rattle.std.proofs.lemmas.Bool.{eqb-false, cond_both, cond-true, cond-false, or_parts, leb-false}
@@ -10,17 +10,17 @@ use Rattle.std.proofs.lemmas.List.Kept.{AllPairs-cons}
 use Rattle.std.proofs.lemmas.List.Quantifiers.{all_pairs_push}
 use Rattle.std.proofs.lemmas.List.Folds.{find-append}
 use Rattle.model_rio.specs.Table.{Window, Rio, Table, Free, Held, Nobody, no_windows, rio_of, is_host, current_of, hold_of, path_up, path_of, name_by}
-use Rattle.model_rio.specs.Step.{Step, ordered, noted, with_current, with_windows, with_hold, not_current, in_place, raised, lowered, retired, is_same, is_held}
+use Rattle.model_rio.specs.Step.{Step, changed, ordered, noted, with_current, with_windows, with_hold, not_current, in_place, raised, lowered, retired, is_same, is_held}
 use Rattle.model_rio.specs.Rio.{is_full, next_number, entered, made, hidden, shown, to_top, to_bottom, made_current, hosted, outside}
-use Rattle.model_rio.specs.Sound.{window_in, IsSeenIn, IsNested, IsSoundWindow, IsSoundRio, IsSound, AreDistinct}
+use Rattle.model_rio.specs.Sound.{window_in, IsSeenIn, IsNested, IsSoundWindow, IsSoundRio, IsSound, AreDistinct, HaveOwnNumbers}
 use Rattle.r9_event.specs.declared.rio.Note.{Note}
 use Rattle.r9_event.specs.declared.rio.Note.TheVariants as note
 use Rattle.r9_event.specs.declared.rio.Order.{Order}
 use Rattle.r9_event.specs.declared.rio.Order.TheVariants as order
 use Rattle.model_rio.proofs.Refusals.{refuse_ok, same_Ok}
-use Rattle.model_rio.proofs.Lookups.{own, find-all, find-passes, of_found, found_of, All-both}
-use Rattle.model_rio.proofs.Puts.{has_serial, IsPut, IsPut-in_place, IsPut-raised, IsPut-lowered, serials_in}
-use Rattle.model_rio.proofs.Tables.{rios_of, with_rios, with_windows_of, rios_sound, nested_kept, nested_put, rio_kept, put_sound, shown_sound, found_sound}
+use Rattle.model_rio.proofs.Lookups.{All-changed, own, find-all, find-passes, of_found, found_of, All-both}
+use Rattle.model_rio.proofs.Puts.{SamePlace, itself, numbers_in_place, numbers_raised, numbers_lowered, has_serial, IsPut, IsPut-in_place, IsPut-raised, IsPut-lowered, serials_in}
+use Rattle.model_rio.proofs.Tables.{same_host, same_hosts, rio_changed, hosts_changed, rios_of, with_rios, with_windows_of, nested_kept, nested_put, rio_kept, put_sound, shown_sound, found_sound}
 use Rattle.model_rio.proofs.Inputs.{current_sound, retired-sound, retired-windows, retired-current, retired-hold, with_current-table, with_current-idle}
 
 -- ---- a window that enters
@@ -48,28 +48,88 @@ seen_new table ok w more host serial is =
     let was = found_of (window_in table.windows serial) (λ v. (v.host ≡ host) × (v.hidden ≡ false)) is in
     of_found (window_in (w ∷ table.windows) serial) (λ v. (v.host ≡ host) × (v.hidden ≡ false)) was.0 (new_other table ok w more serial was.0 was.1) was.2
 
-pub new_sound : (table : Table) → IsSound table → (w : Window) → table.serials < w.serial → length table.windows < 64 → is_host table w.host ≡ true → IsSound (with_new w table)
-new_sound table ok w more room housed = record {
-  root = ok.root;
+-- a window whose number is the next one of its rio has a number of its own there
+number_new : (table : Table) → IsSound table → table.serials < 2 ^ 32 - 1 → (w : Window) (home : Rio) → rio_of table w.host ≡ Some home → w.number ≡ home.next → All (HaveOwnNumbers w) table.windows
+number_new table ok left w home found number =
+    All-weaker (IsSoundWindow table) (HaveOwnNumbers w) (λ v is same again. absurd (less v same again (is.numbered left))) table.windows ok.windows
+  where
+    less : (v : Window) → w.host ≡ v.host → w.number ≡ v.number → IsSomeAnd (rio_of table v.host) (λ rio. v.number < rio.next) → ⊥
+    less v same again is =
+        let here : IsSomeAnd (Some home) (λ rio. v.number < rio.next) = subst (λ o. IsSomeAnd o (λ rio. v.number < rio.next)) (ap (rio_of table) (sym same) ∙ found) is in
+        omega (arith, here, number, again)
+
+abbrev numbered_on : Rio → Rio
+numbered_on rio = record rio { next = next_number rio.next }
+
+-- the numbers that were given stay given
+next_more : (host number : ℕ) (o : Option Rio) → number < 2 ^ 32 - 1 → IsSomeAnd o (λ rio. number < rio.next) → IsSomeAnd (option_map (changed host numbered_on) o) (λ rio. number < rio.next)
+next_more host number (Some rio) left less = cond_both (rio.host == host) (numbered_on rio) rio (λ z. number < z.next) (λ _. omega (arith, less)) (λ _. less)
+next_more host number None left less = less
+
+-- the table with one window more
+abbrev with_entered : Window → Table → Table
+with_entered w table = with_rios w.host numbered_on (with_new w table)
+
+entered_sound : (w : Window) (home : Rio) (step : Step) → IsSound step.table → step.table.serials < w.serial → length step.table.windows < 64 → step.table.serials < 2 ^ 32 - 1
+    → rio_of step.table w.host ≡ Some home → w.number ≡ home.next → IsSound (entered w step).table
+entered_sound w home step ok more room left found number = record {
+  root = same_host w.host numbered_on (λ rio. refl) table.root ∙ ok.root;
   few = omega (arith, room);
   serials = AllPairs-cons ◌≢◌ w.serial (serials_in table.windows) (fresh_among table ok w.serial more) ok.serials;
-  hosts = ok.hosts;
-  windows = All-cons (IsSoundWindow (with_new w table)) w table.windows (record { counted = omega (arith, more); given = omega arith; housed = housed })
-      (All-weaker (IsSoundWindow table) (IsSoundWindow (with_new w table)) (λ v is. record { counted = is.counted; given = omega (arith, is.given, more); housed = is.housed }) table.windows ok.windows);
-  rios = All-weaker (IsSoundRio table.windows) (IsSoundRio (w ∷ table.windows))
+  hosts = subst AreDistinct (sym (same_hosts (changed w.host numbered_on) (same_host w.host numbered_on (λ rio. refl)) (rios_of table))) ok.hosts;
+  numbers = AllPairs-cons HaveOwnNumbers w table.windows (number_new table ok left w home found number) ok.numbers;
+  windows = All-cons (IsSoundWindow next) w table.windows here (All-weaker (IsSoundWindow table) (IsSoundWindow next) others table.windows ok.windows);
+  rios = All-changed (IsSoundRio (w ∷ table.windows)) (changed w.host numbered_on)
+      (λ rio is. cond_both (rio.host == w.host) (numbered_on rio) rio (IsSoundRio (w ∷ table.windows)) (λ _. record { nested = is.nested; current = is.current; hold = is.hold }) (λ _. is)) (rios_of table)
+      (All-weaker (IsSoundRio table.windows) (IsSoundRio (w ∷ table.windows))
       (λ rio is. rio_kept table.windows (w ∷ table.windows) rio (λ levels. nested_new table ok w more levels rio.host) (λ serial _. seen_new table ok w more rio.host serial) (λ serial _. seen_new table ok w more rio.host serial) is)
-      (rios_of table) ok.rios;
+      (rios_of table) ok.rios);
+  next = All-map (λ rio. rio.next ≤ w.serial + 1) (changed w.host numbered_on) (rios_of table)
+      (All-weaker (λ (rio : Rio). rio.next ≤ table.serials + 1) (λ rio. (changed w.host numbered_on rio).next ≤ w.serial + 1) (λ rio is. cond_both (rio.host == w.host) (numbered_on rio) rio (λ z. z.next ≤ w.serial + 1) (λ _. omega (arith, is, more)) (λ _. omega (arith, is, more))) (rios_of table) ok.next);
 }
+  where
+    table : Table
+    table = step.table
 
-entered_sound : (w : Window) (step : Step) → IsSound step.table → step.table.serials < w.serial → length step.table.windows < 64 → is_host step.table w.host ≡ true → IsSound (entered w step).table
-entered_sound w step ok more room housed =
-    rios_sound w.host (λ rio. record rio { next = next_number rio.next }) (λ rio. refl) (with_new w step.table) (new_sound step.table ok w more room housed)
-    (λ rio same is. record { nested = is.nested; current = is.current; hold = is.hold })
+    next : Table
+    next = with_entered w table
 
-pub made_sound : (w : Window) (step : Step) → IsSound step.table → step.table.serials < w.serial → length step.table.windows < 64 → is_host step.table w.host ≡ true → IsSound (made w step).table
+    at_most : home.next ≤ table.serials + 1
+    at_most = find-all (λ (rio : Rio). rio.next ≤ table.serials + 1) (λ (rio : Rio). rio.host == w.host) (rios_of table) home ok.next found
+
+    on : (host : ℕ) → rio_of next host ≡ option_map (changed w.host numbered_on) (rio_of table host)
+    on host = rio_changed w.host numbered_on (λ rio. refl) (with_new w table) host
+
+    own_host : home.host ≡ w.host
+    own_host = eqb-true home.host w.host (find-passes (λ (rio : Rio). rio.host == w.host) (rios_of table) home found)
+
+    newest : w.serial < 2 ^ 32 - 1 → IsSomeAnd (option_map (changed w.host numbered_on) (rio_of table w.host)) (λ rio. w.number < rio.next)
+    newest left = subst (λ o. IsSomeAnd (option_map (changed w.host numbered_on) o) (λ rio. w.number < rio.next)) (sym found)
+        (subst (λ rio. w.number < rio.next) (sym (cond-true (home.host == w.host) (numbered_on home) home (eq-eqb home.host w.host own_host))) (omega (arith, at_most, number, left, more)))
+
+    here : IsSoundWindow next w
+    here = record {
+      counted = omega (arith, more);
+      given = omega arith;
+      within = omega (arith, at_most, number, more);
+      housed = hosts_changed w.host numbered_on (λ rio. refl) (with_new w table) w.host ∙ ap is_some found;
+      numbered = λ left. subst (λ o. IsSomeAnd o (λ rio. w.number < rio.next)) (sym (on w.host)) (newest left);
+    }
+
+    others : (v : Window) → IsSoundWindow table v → IsSoundWindow next v
+    others v is = record {
+      counted = is.counted;
+      given = omega (arith, is.given, more);
+      within = is.within;
+      housed = hosts_changed w.host numbered_on (λ rio. refl) (with_new w table) v.host ∙ is.housed;
+      numbered = λ more_left. subst (λ o. IsSomeAnd o (λ rio. v.number < rio.next)) (sym (on v.host)) (next_more w.host v.number (rio_of table v.host) (omega (arith, is.within, is.given, left)) (is.numbered left));
+    }
+
+pub made_sound : (w : Window) (home : Rio) (step : Step) → IsSound step.table → step.table.serials < w.serial → length step.table.windows < 64 → step.table.serials < 2 ^ 32 - 1
+    → rio_of step.table w.host ≡ Some home → w.number ≡ home.next → IsSound (made w step).table
 unfolding made
-made_sound w step ok more room housed =
-    let sound : IsSound (entered w step).table = entered_sound w step ok more room housed in
+made_sound w home step ok more room left found number =
+    let sound : IsSound (entered w step).table = entered_sound w home step ok more room left found number in
     let path = path_of step.table w.host ++ w.number ∷ [] in
     let name = name_by path w.generation in
     let there : Step = noted w.serial (note.Made w.number w.serial name w.r (length path)) (ordered (order.Make w.serial w.host w.r name w.hidden (length path)) (entered w step)) in
@@ -82,10 +142,6 @@ room_from table e =
     let parts = or_parts (nat_le 64 (length table.windows)) (nat_le (2 ^ 32 - 1) table.serials) e in
     (leb-false 64 (length table.windows) parts.0, leb-false (2 ^ 32 - 1) table.serials parts.1)
 
--- a rio that is there is found by its host
-pub housed_in : (table : Table) (host : ℕ) (rio : Rio) → rio_of table host ≡ Some rio → is_host table host ≡ true
-housed_in table host rio e = ap is_some e
-
 -- ---- a window that is shown, or comes to the top or the bottom
 
 -- a window of the table is the one that stands under its serial
@@ -93,10 +149,10 @@ abbrev pub Stands : Window → Step → Type 0
 Stands w step = window_in step.table.windows w.serial ≡ Some w
 
 pub raised_sound : (w : Window) (step : Step) → IsSound step.table → Stands w step → IsSound (to_top w step).table
-raised_sound w step ok stands = shown_sound w w (raised w step.table.windows) step.table ok stands refl (λ h. h) (IsPut-raised w w step.table.windows stands)
+raised_sound w step ok stands = shown_sound w w (raised w step.table.windows) step.table ok stands (itself w) (λ h. h) (IsPut-raised w w step.table.windows stands) (numbers_raised w w step.table.windows stands (itself w) ok.numbers)
 
 pub lowered_sound : (w : Window) (step : Step) → IsSound step.table → Stands w step → IsSound (to_bottom w step).table
-lowered_sound w step ok stands = shown_sound w w (lowered w step.table.windows) step.table ok stands refl (λ h. h) (IsPut-lowered w w step.table.windows stands)
+lowered_sound w step ok stands = shown_sound w w (lowered w step.table.windows) step.table ok stands (itself w) (λ h. h) (IsPut-lowered w w step.table.windows stands) (numbers_lowered w w step.table.windows stands (itself w) ok.numbers)
 
 abbrev unhidden : Window → Window
 unhidden w = record w { hidden = false }
@@ -105,8 +161,9 @@ pub shown-sound : (w : Window) (step : Step) → IsSound step.table → Stands w
 unfolding shown
 shown-sound w step ok stands =
     let put = IsPut-raised (unhidden w) w step.table.windows stands in
+    let same : SamePlace (unhidden w) w = record { host = refl; number = refl } in
     let up : Step = to_top (unhidden w) (noted w.serial (note.Hidden false) (ordered (order.Place w.serial w.r.min) step)) in
-    let sound : IsSound up.table = shown_sound (unhidden w) w (raised (unhidden w) step.table.windows) step.table ok stands refl (λ _. refl) put in
+    let sound : IsSound up.table = shown_sound (unhidden w) w (raised (unhidden w) step.table.windows) step.table ok stands same (λ _. refl) put (numbers_raised (unhidden w) w step.table.windows stands same ok.numbers) in
     cond_both w.hidden (with_current w.host (Some w.serial) up) step (λ s. IsSound s.table)
     (λ _. current_sound w.host (Some w.serial) up sound (of_found (window_in up.table.windows w.serial) (λ v. (v.host ≡ w.host) × (v.hidden ≡ false)) (unhidden w) put.at (refl, refl)))
     (λ _. ok)
@@ -144,9 +201,12 @@ hidden_put : (w : Window) (table : Table) → IsSound table → window_in table.
     → is_same (current_of table w.host) (Some w.serial) ≡ false → is_held w.serial (hold_of table w.host) ≡ false
     → IsSound (with_windows_of table (in_place (unseen w) table.windows))
 hidden_put w table ok stands current hold =
-    put_sound (unseen w) w (in_place (unseen w) table.windows) table ok stands refl put
+    put_sound (unseen w) w (in_place (unseen w) table.windows) table ok stands same put (numbers_in_place (unseen w) w table.windows stands same ok.serials ok.numbers)
     (All-both (λ rio. rio_of table rio.host ≡ Some rio) (IsSoundRio table.windows) (IsSoundRio (in_place (unseen w) table.windows)) keeps (rios_of table) (lone table ok) ok.rios)
   where
+    same : SamePlace (unseen w) w
+    same = record { host = refl; number = refl }
+
     put : IsPut (unseen w) table.windows (in_place (unseen w) table.windows)
     put = IsPut-in_place (unseen w) w table.windows stands
 
@@ -273,6 +333,15 @@ host_still : (serial : ℕ) (table : Table) (host : ℕ) → is_host table host 
 host_still serial table host is =
     ap is_some (find-append (λ (rio : Rio). rio.host == host) (rios_of table) (no_windows serial ∷ [])) ∙ some_or (rio_of table host) (find (λ (rio : Rio). rio.host == host) (no_windows serial ∷ [])) is
 
+some_still : {A : Type 0} (P : A → Type 0) (a b : Option A) → IsSomeAnd a P → IsSomeAnd (option_or a b) P
+some_still P (Some x) b is = is
+some_still P None b is = absurd is
+
+next_still : (serial : ℕ) (table : Table) (v : Window) → IsSomeAnd (rio_of table v.host) (λ rio. v.number < rio.next) → IsSomeAnd (rio_of (with_one_more serial table) v.host) (λ rio. v.number < rio.next)
+next_still serial table v is =
+    subst (λ o. IsSomeAnd o (λ rio. v.number < rio.next)) (sym (find-append (λ (rio : Rio). rio.host == v.host) (rios_of table) (no_windows serial ∷ [])))
+    (some_still (λ rio. v.number < rio.next) (rio_of table v.host) (find (λ (rio : Rio). rio.host == v.host) (no_windows serial ∷ [])) is)
+
 one_more_sound : (w : Window) (table : Table) → IsSound table → window_in table.windows w.serial ≡ Some w → is_host table w.serial ≡ false → nat_le 8 (length (path_of table w.host)) ≡ false → IsSound (with_one_more w.serial table)
 one_more_sound w table ok stands free shallow =
     let depth = depth_of table ok w.host (found_sound table ok w.serial w stands).housed in
@@ -284,7 +353,9 @@ one_more_sound w table ok stands free shallow =
       hosts = subst AreDistinct (sym (map_push (λ (rio : Rio). rio.host) (rios_of table) (no_windows w.serial)))
           (all_pairs_push ◌≢◌ (map (λ rio. rio.host) (rios_of table)) w.serial ok.hosts
           (All-map (λ n. n ≢ w.serial) (λ (rio : Rio). rio.host) (rios_of table) (All-weaker (λ (rio : Rio). (rio.host == w.serial) ≡ false) (λ rio. rio.host ≢ w.serial) (λ rio e. eqb-false rio.host w.serial e) (rios_of table) (none_passes (λ (rio : Rio). rio.host == w.serial) (rios_of table) free))));
-      windows = All-weaker (IsSoundWindow table) (IsSoundWindow (with_one_more w.serial table)) (λ v is. record { counted = is.counted; given = is.given; housed = host_still w.serial table v.host is.housed }) table.windows ok.windows;
+      windows = All-weaker (IsSoundWindow table) (IsSoundWindow (with_one_more w.serial table)) (λ v is. record { counted = is.counted; given = is.given; within = is.within; housed = host_still w.serial table v.host is.housed; numbered = λ left. next_still w.serial table v (is.numbered left) }) table.windows ok.windows;
+      numbers = ok.numbers;
+      next = All-push (λ rio. rio.next ≤ table.serials + 1) (rios_of table) (no_windows w.serial) ok.next (omega arith);
       rios = All-push (IsSoundRio table.windows) (rios_of table) (no_windows w.serial) ok.rios (record {
         nested = (suc depth.0, omega (arith, leb-false 8 (length (path_of table w.host)) shallow, long), of_found (window_in table.windows w.serial) (λ v. IsNested table.windows depth.0 v.host) w stands depth.2);
         current = tt;

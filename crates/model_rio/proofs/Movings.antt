@@ -17,19 +17,19 @@ use Rattle.model_rio.specs.Moving.{renewed, replaced, each, carried, followed, m
 use Rattle.model_rio.specs.Sound.{window_in, IsSound}
 use Rattle.model_rio.proofs.Lookups.{own}
 use Rattle.model_rio.proofs.Refusals.{same_Ok, then_ok}
-use Rattle.model_rio.proofs.Puts.{IsPut, IsPut-in_place}
+use Rattle.model_rio.proofs.Puts.{SamePlace, numbers_in_place, IsPut, IsPut-in_place}
 use Rattle.model_rio.proofs.Tables.{shown_sound}
 
 -- ---- windows that move
 
--- what a move leaves of a window: its rio, and whether it is hidden
-abbrev left : Window → ℕ × Bool
-left w = (w.host, w.hidden)
+-- what a move leaves of a window: its rio, its number there, and whether it is hidden
+abbrev left : Window → ℕ × ℕ × Bool
+left w = (w.host, w.number, w.hidden)
 
-abbrev left_of : List Window → ℕ → Option (ℕ × Bool)
+abbrev left_of : List Window → ℕ → Option (ℕ × ℕ × Bool)
 left_of windows serial = option_map left (window_in windows serial)
 
--- each serial has a window of the same rio, as hidden as before, or none as before
+-- each serial has a window of the same rio and number, as hidden as before, or none as before
 abbrev pub IsStill : List Window → List Window → Type 0
 IsStill old new = (serial : ℕ) → left_of new serial ≡ left_of old serial
 
@@ -40,9 +40,9 @@ StoodIn windows w = left_of windows w.serial ≡ Some (left w)
 stood_still : (old new : List Window) → IsStill old new → (w : Window) → StoodIn old w → StoodIn new w
 stood_still old new still w e = still w.serial ∙ e
 
-some_left : (o : Option Window) (l : ℕ × Bool) → option_map left o ≡ Some l → (u : Window) × (o ≡ Some u) × (u.host ≡ l.0) × (u.hidden ≡ l.1)
-some_left (Some u) l e = let same : left u ≡ l = same_Some (left u) l e in (u, refl, ap (λ p. p.0) same, ap (λ p. p.1) same)
-some_left None l e = absurd (let f : ◌≡◌ {A = Option (ℕ × Bool)} None (Some l) = e in cc)
+some_left : (o : Option Window) (l : ℕ × ℕ × Bool) → option_map left o ≡ Some l → (u : Window) × (o ≡ Some u) × (u.host ≡ l.0) × (u.number ≡ l.1) × (u.hidden ≡ l.2)
+some_left (Some u) l e = let same : left u ≡ l = same_Some (left u) l e in (u, refl, ap (λ p. p.0) same, ap (λ p. p.1) same, ap (λ p. p.2) same)
+some_left None l e = absurd (let f : ◌≡◌ {A = Option (ℕ × ℕ × Bool)} None (Some l) = e in cc)
 
 in_place_still : (w u : Window) (old : List Window) → window_in old w.serial ≡ Some u → left w ≡ left u → IsPut w old (in_place w old) → IsStill old (in_place w old)
 in_place_still w u old found same put serial = by_test (serial == w.serial) refl
@@ -62,9 +62,11 @@ unfolding replaced
 replaced-moved keep w r step ok stood =
     let found = some_left (window_in step.table.windows w.serial) (left w) stood in
     let put = IsPut-in_place (renewed r w) found.0 step.table.windows found.1 in
+    let place : SamePlace (renewed r w) found.0 = record { host = sym found.2; number = sym found.3 } in
     record {
-      sound = shown_sound (renewed r w) found.0 (in_place (renewed r w) step.table.windows) step.table ok found.1 (sym found.2) (λ h. sym found.3 ∙ h) put;
-      still = in_place_still (renewed r w) found.0 step.table.windows found.1 (λ i. (sym found.2 i, sym found.3 i)) put;
+      sound = shown_sound (renewed r w) found.0 (in_place (renewed r w) step.table.windows) step.table ok found.1 place (λ h. sym found.4 ∙ h) put
+          (numbers_in_place (renewed r w) found.0 step.table.windows found.1 place ok.serials ok.numbers);
+      still = in_place_still (renewed r w) found.0 step.table.windows found.1 (λ i. (sym found.2 i, sym found.3 i, sym found.4 i)) put;
     }
 
 -- a change that moves windows

@@ -1,7 +1,8 @@
 -- Windows that are put in place of the one with their serial.
-use Rattle.std.proofs.Common.{◌≡◌, ◌≢◌, ◌∙◌, ℕ, ◌+◌, ◌≤◌, ◌==◌, Bool, true, false, cond, not, List, [], ◌∷◌, map, length, Option, Some, None, option_map, All, refl, sym, ap, subst, arith, eqb-true, eq-eqb, ne_eqb, length-append}
+use Rattle.std.proofs.Common.{AllPairs, ◌≡◌, ◌≢◌, ◌∙◌, ℕ, ◌+◌, ◌≤◌, ◌==◌, Bool, true, false, cond, not, List, [], ◌∷◌, map, length, Option, Some, None, option_map, All, refl, sym, ap, subst, arith, eqb-true, eq-eqb, ne_eqb, length-append}
 use Rattle.std.specs.Option.{option_or}
-use Rattle.std.proofs.lemmas.Bool.{cond_both, cond-true, cond-false}
+use Rattle.std.proofs.lemmas.Option.{same_Some}
+use Rattle.std.proofs.lemmas.Bool.{not-true, cond_both, cond-true, cond-false}
 use Rattle.std.proofs.lemmas.List.{length-map, map_push}
 use Rattle.std.proofs.lemmas.List.Elements.{All-cons, All-push, All-filter, All-weaker, filter_passes}
 use Rattle.std.proofs.lemmas.List.Kept.{AllPairs-cons, AllPairs-filter}
@@ -9,9 +10,9 @@ use Rattle.std.proofs.lemmas.List.Quantifiers.{all_pairs_push}
 use Rattle.std.proofs.lemmas.List.Folds.{find-append}
 use Rattle.model_rio.specs.Table.{Window}
 use Rattle.model_rio.specs.Step.{in_place, without, raised, lowered}
-use Rattle.model_rio.specs.Sound.{window_in, AreDistinct}
+use Rattle.model_rio.specs.Sound.{window_in, AreDistinct, HaveOwnNumbers}
 use Rattle.model_rio.proofs.RioLaws.{placed, same_serial}
-use Rattle.model_rio.proofs.Lookups.{map-others, find-passes, find-map, find-filter, find-filter_out, All-changed, length-filter_out}
+use Rattle.model_rio.proofs.Lookups.{All-both, pairs_mapped, pairs_found, own, map-others, find-passes, find-map, find-filter, find-filter_out, All-changed, length-filter_out}
 
 abbrev pub serials_in : List Window → List ℕ
 serials_in ws = map (λ w. w.serial) ws
@@ -97,3 +98,46 @@ IsPut-lowered w u ws e = record {
   few = omega (arith, fewer w u ws e, length-append (without w.serial ws) (w ∷ []));
   serials = λ apart. subst AreDistinct (sym (map_push (λ (v : Window). v.serial) (without w.serial ws) w)) (all_pairs_push ◌≢◌ (serials_in (without w.serial ws)) w.serial (distinct_others w.serial ws apart) (all_other w.serial ws));
 }
+
+-- ---- the numbers of windows in their rios
+
+-- the place of a window among all: its rio and its number there
+pub record SamePlace (w u : Window) : Type 0 where
+  pub host : w.host ≡ u.host
+  pub number : w.number ≡ u.number
+
+pub own_numbers : (v w v2 w2 : Window) → SamePlace v2 v → SamePlace w2 w → HaveOwnNumbers v w → HaveOwnNumbers v2 w2
+own_numbers v w v2 w2 left right apart same again = apart (sym left.host ∙ same ∙ right.host) (sym left.number ∙ again ∙ right.number)
+
+flipped : (v w : Window) → HaveOwnNumbers v w → HaveOwnNumbers w v
+flipped v w apart same again = apart (sym same) (sym again)
+
+pub itself : (w : Window) → SamePlace w w
+itself w = record { host = refl; number = refl }
+
+pub numbers_in_place : (w u : Window) (ws : List Window) → window_in ws w.serial ≡ Some u → SamePlace w u → AreDistinct (serials_in ws) → AllPairs HaveOwnNumbers ws → AllPairs HaveOwnNumbers (in_place w ws)
+numbers_in_place w u ws e same apart pairs =
+    pairs_mapped HaveOwnNumbers (λ v. SamePlace (one_of w v) v) (one_of w) (λ x y kx ky r. own_numbers x y (one_of w x) (one_of w y) kx ky r) ws
+    (All-weaker (λ v. window_in ws v.serial ≡ Some v) (λ v. SamePlace (one_of w v) v) stays ws (own (λ v. v.serial) ws apart)) pairs
+  where
+    stays : (v : Window) → window_in ws v.serial ≡ Some v → SamePlace (one_of w v) v
+    stays v is =
+        cond_both (v.serial == w.serial) w v (λ z. SamePlace z v)
+        (λ at. subst (SamePlace w) (same_Some u v (sym e ∙ ap (window_in ws) (sym (eqb-true v.serial w.serial at)) ∙ is)) same) (λ _. itself v)
+
+-- each other window has another number than one that takes the place of u
+other_numbers : (w u : Window) (ws : List Window) → window_in ws w.serial ≡ Some u → SamePlace w u → AllPairs HaveOwnNumbers ws → All (HaveOwnNumbers w) (without w.serial ws)
+other_numbers w u ws e same pairs =
+    All-both (λ v. is_other w.serial v ≡ true) (λ v. (v.serial == w.serial) ≡ false → HaveOwnNumbers u v) (HaveOwnNumbers w)
+    (λ v other apart. own_numbers u v w v same (itself v) (apart (not-true (v.serial == w.serial) other))) (without w.serial ws)
+    (filter_passes (is_other w.serial) ws) (All-filter (is_other w.serial) (λ v. (v.serial == w.serial) ≡ false → HaveOwnNumbers u v) ws (pairs_found HaveOwnNumbers flipped (λ (v : Window). v.serial == w.serial) ws u pairs e))
+
+pub numbers_without : (serial : ℕ) (ws : List Window) → AllPairs HaveOwnNumbers ws → AllPairs HaveOwnNumbers (without serial ws)
+numbers_without serial ws pairs = AllPairs-filter HaveOwnNumbers (is_other serial) ws pairs
+
+pub numbers_raised : (w u : Window) (ws : List Window) → window_in ws w.serial ≡ Some u → SamePlace w u → AllPairs HaveOwnNumbers ws → AllPairs HaveOwnNumbers (raised w ws)
+numbers_raised w u ws e same pairs = AllPairs-cons HaveOwnNumbers w (without w.serial ws) (other_numbers w u ws e same pairs) (numbers_without w.serial ws pairs)
+
+pub numbers_lowered : (w u : Window) (ws : List Window) → window_in ws w.serial ≡ Some u → SamePlace w u → AllPairs HaveOwnNumbers ws → AllPairs HaveOwnNumbers (lowered w ws)
+numbers_lowered w u ws e same pairs =
+    all_pairs_push HaveOwnNumbers (without w.serial ws) w (numbers_without w.serial ws pairs) (All-weaker (HaveOwnNumbers w) (λ v. HaveOwnNumbers v w) (λ v apart. flipped w v apart) (without w.serial ws) (other_numbers w u ws e same pairs))

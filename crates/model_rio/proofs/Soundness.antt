@@ -1,5 +1,5 @@
 -- Each act keeps a table sound.
-use Rattle.std.proofs.Common.{◌≡◌, ◌∙◌, ℕ, zero, suc, ◌+◌, ◌<◌, ◌≤◌, Bool, true, false, List, [], ◌∷◌, ◌++◌, length, Some, Ok, refl, sym, ap, subst, arith}
+use Rattle.std.proofs.Common.{◌≡◌, ◌∙◌, ℕ, zero, suc, ◌+◌, ◌<◌, ◌≤◌, Bool, true, false, List, [], Some, Ok, refl, sym, ap, subst, arith}
 use Rattle.std.proofs.lemmas.Option.{same_Some}
 use Rattle.std.proofs.lemmas.List.Elements.{All-nil, All-cons}
 use Rattle.r9_geom.specs.declared.Rect.{Rect}
@@ -7,19 +7,18 @@ use Rattle.model_wctl.specs.declared.Choice.{Choice}
 use Rattle.model_wctl.specs.Command.{Wctl}
 use Rattle.model_wctl.specs.Command as wctl
 use Rattle.model_wctl.specs.Rectangle.{applied}
-use Rattle.model_rio.specs.Table.{Window, Table, opened, no_windows, path_up, rio_of, window_of, rectangle_of, deepest}
+use Rattle.model_rio.specs.Table.{Window, Rio, Table, opened, no_windows, rio_of, window_of, rectangle_of, deepest}
 use Rattle.model_rio.specs.Act.{Act}
 use Rattle.model_rio.specs.Act as act
 use Rattle.model_rio.specs.Step.{Step, begun}
 use Rattle.model_rio.specs.Routing.{focus, keys_of}
 use Rattle.model_rio.specs.Rio.{is_full, new_window, new_in, first_rectangle, moved_by, commanded, command_to, rio}
 use Rattle.model_rio.specs.Sound.{window_in, IsNested, IsSoundWindow, IsSoundRio, IsSound}
-use Rattle.model_rio.proofs.Lookups.{found_of, of_found}
 use Rattle.model_rio.proofs.Refusals.{same_Ok, refuse_ok, value_ok}
 use Rattle.model_rio.proofs.Puts.{has_serial}
 use Rattle.model_rio.proofs.Tables.{found_sound}
 use Rattle.model_rio.proofs.Inputs.{moused-sound, keyed-table}
-use Rattle.model_rio.proofs.Makings.{none_at_root, path_length, depth_of, Stands, made_sound, room_from, housed_in, raised_sound, lowered_sound, shown-sound, hidden-sound, made_current-sound, hosted-sound}
+use Rattle.model_rio.proofs.Makings.{Stands, made_sound, room_from, raised_sound, lowered_sound, shown-sound, hidden-sound, made_current-sound, hosted-sound}
 use Rattle.model_rio.proofs.Movings.{moved-moves}
 use Rattle.model_rio.proofs.Goings.{MayGo, deleted-left}
 
@@ -30,6 +29,8 @@ opened_sound r = record {
   serials = λ i j d before within. absurd (omega arith);
   hosts = λ i j d before within. absurd (omega arith);
   windows = All-nil (IsSoundWindow (opened r));
+  numbers = λ i j d before within. absurd (omega arith);
+  next = All-cons (λ (rio : Rio). rio.next ≤ 1) (no_windows 0) [] (omega arith) (All-nil (λ (rio : Rio). rio.next ≤ 1));
   rios = All-cons (IsSoundRio []) (no_windows 0) [] (record { nested = (0, omega arith, refl); current = tt; hold = tt }) (All-nil (IsSoundRio []));
 }
 
@@ -40,7 +41,7 @@ new_in-sound host options hide step out ok e =
     let place = value_ok (applied false options (first_rectangle (rectangle_of step.table host))) 47 _ out home.2 in
     let room = refuse_ok (is_full step.table) 49 _ out place.2 in
     let w = new_window step.table host home.0.next hide place.0 in
-    subst (λ s. IsSound s.table) (same_Ok _ out room.1) (made_sound w step ok (omega arith) (room_from step.table room.0).0 (housed_in step.table host home.0 home.1))
+    subst (λ s. IsSound s.table) (same_Ok _ out room.1) (made_sound w home.0 step ok (omega arith) (room_from step.table room.0).0 (room_from step.table room.0).1 home.1 refl)
 
 moved_by-sound : (keep : Bool) (options : List Choice) (w : Window) (step out : Step) → IsSound step.table → Stands w step → moved_by keep options w step ≡ Ok out → IsSound out.table
 unfolding moved_by
@@ -94,22 +95,3 @@ step_sound table (act.Mouse pointer) out ok e = subst (λ s. IsSound s.table) (s
 step_sound table (act.Keys bytes) out ok e =
     subst (λ s. IsSound s.table) (same_Ok _ out e) (subst IsSound (sym (keyed-table (focus deepest table 0) (keys_of bytes) (begun table))) ok)
 step_sound table (act.Gone window) out ok e = command_to-sound window wctl.Delete (begun table) out ok e
-
--- a path is the same from wherever it is looked at
-path_same : (table : Table) → IsSound table → (levels most serial : ℕ) → levels ≤ most → IsNested table.windows levels serial → path_up most table serial ≡ path_up levels table serial
-unfolding path_up
-path_same table ok zero zero serial few is = refl
-path_same table ok zero (suc most) serial few is = rw (is, none_at_root table ok (window_in table.windows 0) refl) refl
-path_same table ok (suc levels) zero serial few is = absurd (omega arith)
-path_same table ok (suc levels) (suc most) serial few is =
-    let found = found_of (window_in table.windows serial) (λ w. IsNested table.windows levels w.host) is in
-    rw found.1 (ap (λ path. path ++ found.0.number ∷ []) (path_same table ok levels most found.0.host (omega arith) found.2))
-
-pub path_whole : (table : Table) (serial : ℕ) (w : Window) → IsSound table → window_of table serial ≡ Some w → (levels : ℕ) → 9 ≤ levels
-    → (path_up levels table serial ≡ path_up 9 table serial) × (length (path_up levels table serial) ≤ 9)
-path_whole table serial w ok e levels more =
-    let up = depth_of table ok w.host (found_sound table ok serial w e).housed in
-    let is : IsNested table.windows (suc up.0) serial = of_found (window_in table.windows serial) (λ v. IsNested table.windows up.0 v.host) w e up.2 in (
-      path_same table ok (suc up.0) levels serial (omega (arith, up.1, more)) is ∙ sym (path_same table ok (suc up.0) 9 serial (omega (arith, up.1)) is),
-      omega (arith, path_length table ok (suc up.0) levels serial (omega (arith, up.1, more)) is, up.1),
-    )

@@ -1,12 +1,12 @@
 -- Changes of a table that keep it sound.
-use Rattle.std.proofs.Common.{◌≡◌, ◌∙◌, ℕ, zero, suc, ◌<◌, ◌≤◌, ◌==◌, Bool, true, false, List, [], ◌∷◌, map, Option, Some, None, option_map, is_some, All, IsSomeAnd, IfSome, refl, sym, ap, subst, arith, eqb-true}
+use Rattle.std.proofs.Common.{◌≡◌, ◌∙◌, ℕ, zero, suc, AllPairs, ◌+◌, ◌-◌, ◌^◌, ◌<◌, ◌≤◌, ◌==◌, Bool, true, false, List, [], ◌∷◌, map, Option, Some, None, option_map, is_some, All, IsSomeAnd, IfSome, refl, sym, ap, subst, arith, eqb-true}
 use Rattle.std.proofs.lemmas.Bool.{eqb-false, cond_both}
 use Rattle.std.proofs.lemmas.List.Elements.{All-weaker}
 use Rattle.model_rio.specs.Table.{Window, Rio, Table, Hold, Free, Held, Nobody, rio_of, is_host}
 use Rattle.model_rio.specs.Step.{changed}
-use Rattle.model_rio.specs.Sound.{window_in, IsSeenIn, IsNested, IfHeld, IsSoundWindow, IsSoundRio, IsSound, AreDistinct}
+use Rattle.model_rio.specs.Sound.{window_in, IsSeenIn, IsNested, IfHeld, IsSoundWindow, IsSoundRio, IsSound, AreDistinct, HaveOwnNumbers}
 use Rattle.model_rio.proofs.Lookups.{find-all, find-map, found_of, of_found, All-changed}
-use Rattle.model_rio.proofs.Puts.{has_serial, IsPut}
+use Rattle.model_rio.proofs.Puts.{SamePlace, has_serial, IsPut}
 
 abbrev pub rios_of : Table → List Rio
 rios_of table = table.root ∷ table.rios
@@ -50,13 +50,13 @@ rio_kept old new rio nests current holds is = record {
 
 -- ---- another state of a rio
 
-same_host : (host : ℕ) (change : Rio → Rio) → ((rio : Rio) → (change rio).host ≡ rio.host) → (rio : Rio) → (changed host change rio).host ≡ rio.host
+pub same_host : (host : ℕ) (change : Rio → Rio) → ((rio : Rio) → (change rio).host ≡ rio.host) → (rio : Rio) → (changed host change rio).host ≡ rio.host
 same_host host change keeps rio = cond_both (rio.host == host) (change rio) rio (λ z. z.host ≡ rio.host) (λ _. keeps rio) (λ _. refl)
 
-abbrev hosts_in : List Rio → List ℕ
+abbrev pub hosts_in : List Rio → List ℕ
 hosts_in rios = map (λ rio. rio.host) rios
 
-same_hosts : (f : Rio → Rio) → ((rio : Rio) → (f rio).host ≡ rio.host) → (rios : List Rio) → hosts_in (map f rios) ≡ hosts_in rios
+pub same_hosts : (f : Rio → Rio) → ((rio : Rio) → (f rio).host ≡ rio.host) → (rios : List Rio) → hosts_in (map f rios) ≡ hosts_in rios
 same_hosts f keeps [] = refl
 same_hosts f keeps (rio ∷ rios) = λ i. keeps rio i ∷ same_hosts f keeps rios i
 
@@ -74,15 +74,28 @@ some_mapped f None = refl
 pub hosts_changed : (host : ℕ) (change : Rio → Rio) → ((rio : Rio) → (change rio).host ≡ rio.host) → (table : Table) (at : ℕ) → is_host (with_rios host change table) at ≡ is_host table at
 hosts_changed host change keeps table at = ap is_some (rio_changed host change keeps table at) ∙ some_mapped (changed host change) (rio_of table at)
 
-pub rios_sound : (host : ℕ) (change : Rio → Rio) → ((rio : Rio) → (change rio).host ≡ rio.host) → (table : Table) → IsSound table
+-- a rio that is there has still given the numbers that it had given
+next_changed : (host : ℕ) (change : Rio → Rio) → ((rio : Rio) → (change rio).next ≡ rio.next) → (number : ℕ) (o : Option Rio) → IsSomeAnd o (λ rio. number < rio.next) → IsSomeAnd (option_map (changed host change) o) (λ rio. number < rio.next)
+next_changed host change nexts number (Some rio) less = cond_both (rio.host == host) (change rio) rio (λ z. number < z.next) (λ _. subst (λ n. number < n) (sym (nexts rio)) less) (λ _. less)
+next_changed host change nexts number None less = less
+
+pub rios_sound : (host : ℕ) (change : Rio → Rio) → ((rio : Rio) → (change rio).host ≡ rio.host) → ((rio : Rio) → (change rio).next ≡ rio.next) → (table : Table) → IsSound table
     → ((rio : Rio) → rio.host ≡ host → IsSoundRio table.windows rio → IsSoundRio table.windows (change rio)) → IsSound (with_rios host change table)
-rios_sound host change keeps table ok sound = record {
+rios_sound host change keeps nexts table ok sound = record {
   root = same_host host change keeps table.root ∙ ok.root;
   few = ok.few;
   serials = ok.serials;
   hosts = subst AreDistinct (sym (same_hosts (changed host change) (same_host host change keeps) (rios_of table))) ok.hosts;
-  windows = All-weaker (IsSoundWindow table) (IsSoundWindow (with_rios host change table)) (λ w is. record { counted = is.counted; given = is.given; housed = hosts_changed host change keeps table w.host ∙ is.housed }) table.windows ok.windows;
+  windows = All-weaker (IsSoundWindow table) (IsSoundWindow (with_rios host change table)) (λ w is. record {
+    counted = is.counted;
+    given = is.given;
+    within = is.within;
+    housed = hosts_changed host change keeps table w.host ∙ is.housed;
+    numbered = λ left. subst (λ o. IsSomeAnd o (λ rio. w.number < rio.next)) (sym (rio_changed host change keeps table w.host)) (next_changed host change nexts w.number (rio_of table w.host) (is.numbered left));
+  }) table.windows ok.windows;
   rios = All-changed (IsSoundRio table.windows) (changed host change) (λ rio is. cond_both (rio.host == host) (change rio) rio (IsSoundRio table.windows) (λ same. sound rio (eqb-true rio.host host same) is) (λ _. is)) (rios_of table) ok.rios;
+  numbers = ok.numbers;
+  next = All-changed (λ rio. rio.next ≤ table.serials + 1) (changed host change) (λ rio is. cond_both (rio.host == host) (change rio) rio (λ z. z.next ≤ table.serials + 1) (λ _. subst (λ n. n ≤ table.serials + 1) (sym (nexts rio)) is) (λ _. is)) (rios_of table) ok.next;
 }
 
 -- ---- a window in another's place
@@ -118,9 +131,9 @@ seen_put w u old new found at shows put host serial is = by_test (serial == w.se
 pub found_sound : (table : Table) → IsSound table → (serial : ℕ) (w : Window) → window_in table.windows serial ≡ Some w → IsSoundWindow table w
 found_sound table ok serial w e = find-all (IsSoundWindow table) (λ (v : Window). v.serial == serial) table.windows w ok.windows e
 
-pub put_sound : (w u : Window) (new : List Window) (table : Table) → IsSound table → window_in table.windows w.serial ≡ Some u → w.host ≡ u.host → IsPut w table.windows new
-    → All (IsSoundRio new) (rios_of table) → IsSound (with_windows_of table new)
-put_sound w u new table ok found host put rios =
+pub put_sound : (w u : Window) (new : List Window) (table : Table) → IsSound table → window_in table.windows w.serial ≡ Some u → SamePlace w u → IsPut w table.windows new
+    → AllPairs HaveOwnNumbers new → All (IsSoundRio new) (rios_of table) → IsSound (with_windows_of table new)
+put_sound w u new table ok found place put numbers rios =
     let is = found_sound table ok w.serial u found in
     let same = has_serial table.windows w.serial u found in
     record {
@@ -128,16 +141,23 @@ put_sound w u new table ok found host put rios =
       few = omega (arith, put.few, ok.few);
       serials = put.serials ok.serials;
       hosts = ok.hosts;
-      windows = All-weaker (IsSoundWindow table) (IsSoundWindow (with_windows_of table new)) (λ v was. record { counted = was.counted; given = was.given; housed = was.housed }) new
-          (put.each (IsSoundWindow table) ok.windows (record { counted = subst (λ n. 0 < n) same is.counted; given = subst (λ n. n ≤ table.serials) same is.given; housed = ap (is_host table) host ∙ is.housed }));
+      windows = All-weaker (IsSoundWindow table) (IsSoundWindow (with_windows_of table new)) (λ v was. record { counted = was.counted; given = was.given; within = was.within; housed = was.housed; numbered = was.numbered }) new
+          (put.each (IsSoundWindow table) ok.windows (record { counted = subst (λ n. 0 < n) same is.counted; given = subst (λ n. n ≤ table.serials) same is.given; within = omega (arith, is.within, place.number, same); housed = ap (is_host table) place.host ∙ is.housed; numbered = still is }));
       rios = rios;
+      numbers = numbers;
+      next = ok.next;
     }
+  where
+    still : IsSoundWindow table u → table.serials < 2 ^ 32 - 1 → IsSomeAnd (rio_of table w.host) (λ rio. w.number < rio.next)
+    still is left =
+        subst (λ at. IsSomeAnd (rio_of table at) (λ rio. w.number < rio.next)) (sym place.host)
+        (subst (λ n. IsSomeAnd (rio_of table u.host) (λ rio. n < rio.next)) (sym place.number) (is.numbered left))
 
 -- a window that is still seen where it was
-pub shown_sound : (w u : Window) (new : List Window) (table : Table) → IsSound table → window_in table.windows w.serial ≡ Some u → w.host ≡ u.host → (u.hidden ≡ false → w.hidden ≡ false) → IsPut w table.windows new
-    → IsSound (with_windows_of table new)
-shown_sound w u new table ok found host shows put =
-    put_sound w u new table ok found host put
+pub shown_sound : (w u : Window) (new : List Window) (table : Table) → IsSound table → window_in table.windows w.serial ≡ Some u → SamePlace w u → (u.hidden ≡ false → w.hidden ≡ false) → IsPut w table.windows new
+    → AllPairs HaveOwnNumbers new → IsSound (with_windows_of table new)
+shown_sound w u new table ok found place shows put numbers =
+    put_sound w u new table ok found place put numbers
     (All-weaker (IsSoundRio table.windows) (IsSoundRio new)
-    (λ rio is. rio_kept table.windows new rio (λ levels. nested_put w u table.windows new found host put levels rio.host) (λ serial _. seen_put w u table.windows new found host shows put rio.host serial) (λ serial _. seen_put w u table.windows new found host shows put rio.host serial) is)
+    (λ rio is. rio_kept table.windows new rio (λ levels. nested_put w u table.windows new found place.host put levels rio.host) (λ serial _. seen_put w u table.windows new found place.host shows put rio.host serial) (λ serial _. seen_put w u table.windows new found place.host shows put rio.host serial) is)
     (rios_of table) ok.rios)

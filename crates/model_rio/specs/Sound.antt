@@ -1,6 +1,6 @@
 -- What each table of windows keeps, from the opening on.
-use Rattle.std.specs.Prelude.{◌≡◌, ◌≢◌, ◌<◌, ◌≤◌, ℕ, zero, suc, ◌==◌, true, false, List, ◌∷◌, map, length, Option, find, All, AllPairs, IsSomeAnd, IfSome}
-use Rattle.model_rio.specs.Table.{Window, Rio, Hold, Table, Free, Held, Nobody, is_host}
+use Rattle.std.specs.Prelude.{◌≡◌, ◌≢◌, ◌<◌, ◌≤◌, ◌+◌, ◌-◌, ◌^◌, ℕ, zero, suc, ◌==◌, true, false, List, ◌∷◌, map, length, Option, find, All, AllPairs, IsSomeAnd, IfSome}
+use Rattle.model_rio.specs.Table.{Window, Rio, Hold, Table, Free, Held, Nobody, rio_of, is_host}
 
 -- the window with a serial
 abbrev pub window_in : List Window → ℕ → Option Window
@@ -25,8 +25,12 @@ pub record IsSoundWindow (table : Table) (w : Window) : Type 0 where
   -- 0 stands for the root rio
   pub counted : 0 < w.serial
   pub given : w.serial ≤ table.serials
+  -- as many windows at least were made as there are numbers in its rio
+  pub within : w.number ≤ w.serial
   -- it is in a rio that is there
   pub housed : is_host table w.host ≡ true
+  -- no later window of that rio gets its number, as long as serials are left
+  pub numbered : table.serials < 2 ^ 32 - 1 → IsSomeAnd (rio_of table w.host) (λ rio. w.number < rio.next)
 
 pub record IsSoundRio (windows : List Window) (rio : Rio) : Type 0 where
   -- its host is a window that is there, at most eight deep, or none for the root's
@@ -37,10 +41,16 @@ pub record IsSoundRio (windows : List Window) (rio : Rio) : Type 0 where
 abbrev pub AreDistinct : List ℕ → Type 0
 AreDistinct = AllPairs ◌≢◌
 
+-- two windows of one rio have two numbers
+abbrev pub HaveOwnNumbers : Window → Window → Type 0
+HaveOwnNumbers v w = v.host ≡ w.host → v.number ≢ w.number
+
 pub record IsSound (table : Table) : Type 0 where
   pub root : table.root.host ≡ 0
   pub few : length table.windows ≤ 64
   pub serials : AreDistinct (map (λ w. w.serial) table.windows)
+  pub numbers : AllPairs HaveOwnNumbers table.windows
   pub hosts : AreDistinct (map (λ rio. rio.host) (table.root ∷ table.rios))
   pub windows : All (IsSoundWindow table) table.windows
   pub rios : All (IsSoundRio table.windows) (table.root ∷ table.rios)
+  pub next : All (λ rio. rio.next ≤ table.serials + 1) (table.root ∷ table.rios)

@@ -7,7 +7,7 @@ ghost use Rattle.r9_geom.specs.Geometry.{holds};
 ghost use Rattle.r9_window.specs.declared.Window.{Window};
 ghost use Rattle.r9_event.specs.declared.rio.Note.TheVariants as note;
 ghost use Rattle.model_mouse.specs.declared.Mouse.{Mouse};
-ghost use Rattle.model_rio.specs.Table.{Table, Held, hold_of, is_host, topmost, opened, window_of, path_up};
+ghost use Rattle.model_rio.specs.Table.{Table, Held, hold_of, is_host, topmost, opened, window_of, path_up, path_of, found};
 ghost use Rattle.model_rio.specs.Act.{Act};
 ghost use Rattle.model_rio.specs.Act as act;
 ghost use Rattle.model_rio.specs.Step.{Step, in_place};
@@ -44,6 +44,12 @@ pub fn acts_keep_tables_sound()
 /// The path of a window has at most nine numbers, and looking further up finds no more of it.
 pub fn paths_have_at_most_nine_numbers()
     ensures { (table : Table) (serial : ℕ) (w : Window) → IsSound table → window_of table serial ≡ Some w → (levels : ℕ) → 9 ≤ levels → (path_up levels table serial ≡ path_up 9 table serial) × (length (path_up levels table serial) ≤ 9) }
+{}
+
+/// A window of a sound table is found by its path, and each path finds at most the one window whose path it is.
+pub fn paths_name_windows()
+    ensures found { (table : Table) (serial : ℕ) (w : Window) → IsSound table → window_of table serial ≡ Some w → found table (path_of table serial) ≡ Some serial }
+    ensures path { (table : Table) (path : List ℕ) (serial : ℕ) → IsSound table → found table path ≡ Some serial → path_of table serial ≡ path }
 {}
 
 /// What an act tells one window stands in the order made, moved or resized, hidden, current, mouse, key, deleted.

@@ -1,4 +1,4 @@
-use Rattle.model_rio.proofs.Soundness.{path_whole}
+use Rattle.model_rio.proofs.Paths.{path_whole}
 use Rattle.model_rio.proofs.laws.paths_have_at_most_nine_numbers.Goals as goal
 
 pub returns : goal.returns
