@@ -21,20 +21,23 @@ IfHeld (Held serial) P = P serial
 IfHeld Free P = Unit {0}
 IfHeld Nobody P = Unit {0}
 
+-- what holds of each window
 pub record IsSoundWindow (table : Table) (w : Window) : Type 0 where
-  -- 0 stands for the root rio
+  -- its serial is one of those that were given; 0 stands for the root rio
   pub counted : 0 < w.serial
   pub given : w.serial ≤ table.serials
-  -- as many windows at least were made as there are numbers in its rio
+  -- all windows that were made are no fewer than those of its rio
   pub within : w.number ≤ w.serial
   -- it is in a rio that is there
   pub housed : is_host table w.host ≡ true
   -- no later window of that rio gets its number, as long as serials are left
   pub numbered : table.serials < 2 ^ 32 - 1 → IsSomeAnd (rio_of table w.host) (λ rio. w.number < rio.next)
 
+-- what holds of each rio
 pub record IsSoundRio (windows : List Window) (rio : Rio) : Type 0 where
   -- its host is a window that is there, at most eight deep, or none for the root's
   pub nested : (levels : ℕ) × (levels ≤ 8) × IsNested windows levels rio.host
+  -- what is current in it, or holds the mouse, is a window of it that is not hidden
   pub current : IfSome rio.current (IsSeenIn windows rio.host)
   pub hold : IfHeld rio.hold (IsSeenIn windows rio.host)
 
@@ -45,6 +48,7 @@ AreDistinct = AllPairs ◌≢◌
 abbrev pub HaveOwnNumbers : Window → Window → Type 0
 HaveOwnNumbers v w = v.host ≡ w.host → v.number ≢ w.number
 
+-- what each table keeps
 pub record IsSound (table : Table) : Type 0 where
   pub root : table.root.host ≡ 0
   pub few : length table.windows ≤ 64
@@ -53,4 +57,5 @@ pub record IsSound (table : Table) : Type 0 where
   pub hosts : AreDistinct (map (λ rio. rio.host) (table.root ∷ table.rios))
   pub windows : All (IsSoundWindow table) table.windows
   pub rios : All (IsSoundRio table.windows) (table.root ∷ table.rios)
+  -- no rio gives a number that is beyond all serials
   pub next : All (λ rio. rio.next ≤ table.serials + 1) (table.root ∷ table.rios)

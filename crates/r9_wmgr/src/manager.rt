@@ -4,6 +4,7 @@ ghost use Rattle.std.specs.Prelude.{◌≡◌, ◌==◌, ◌≤◌, ◌^◌, ◌
 ghost use Rattle.r9_geom.specs.Geometry.{IsRectNearBy};
 ghost use Rattle.model_rio.specs.Table as model;
 ghost use Rattle.model_rio.specs.Step.{changed, in_place, without, raised, lowered};
+ghost use Rattle.model_rio.specs.Sound.{IsSound};
 ghost use Rattle.r9_wmgr.specs.Changes.{by};
 
 use crate::lists::{
@@ -46,9 +47,11 @@ impl Model for Manager {
 
 impl Manager {
     /// The manager of a display with this rectangle: the root rio, and no windows.
+    #[tactic(auto, using(model_rio::proofs::Soundness::opened_sound))]
     pub fn new(alloc: Global, r: Rect) -> Self
         requires { IsRectNearBy (2 ^ 33) r }
-        ensures { result ≡ model.opened r }
+        ensures value { result ≡ model.opened r }
+        ensures sound { IsSound result }
     {
         Manager {
             alloc,

@@ -4,6 +4,8 @@ ghost use Rattle.std.specs.Prelude.{◌≡◌, Ok, Err, IfOk, IfErr, OnOk, OnErr
 ghost use Rattle.model_rio.specs.Table.{found, serials_of, below};
 ghost use Rattle.model_rio.specs.Rio as model;
 ghost use Rattle.model_rio.specs.Step.{begun};
+ghost use Rattle.model_rio.specs.Sound.{IsSound};
+ghost use Rattle.model_rio.specs.Notes.{AreInTurn};
 ghost use Rattle.r9_wctl.specs.Values.{wctl_of};
 ghost use Rattle.r9_wmgr.specs.Acts.{act_of, AreKeys, IfRefused};
 
@@ -94,12 +96,15 @@ impl Manager {
     /// What an act does: the table changes, and it gives what that asks of the draw device and what windows are told.
     /// Refused by 42 exactly where the window, or the rio of a new one, is not there; then by 47 where a rectangle or a
     /// host is refused, by 49 where there would be too many windows, and by 50 where rios would be nested too deep. Where it
-    /// is refused or memory is short, nothing changes.
+    /// is refused or memory is short, nothing changes. A sound table stays sound, and what one window is told stands in the
+    /// order made, moved or resized, hidden, current, mouse, key, deleted.
     pub fn step(&mut self, act: Act) -> Result<Step, ActFault>
         requires keys { AreKeys act }
         ensures done { IfOk result (λ s. model.rio self.old (act_of act) ≡ Ok (record { table = self.new; orders = s.orders; notes = s.notes })) }
         ensures refused { IfErr result (λ f. IfRefused f (λ n. model.rio self.old (act_of act) ≡ Err n)) }
         ensures kept { OnErr result (self.new ≡ self.old) }
+        ensures sound { IsSound self.old → IsSound self.new }
+        ensures in_turn { IfOk result (λ s. IsSound self.old → AreInTurn s.notes) }
     {
         let mut draft = self.draft()?;
         draft.act(&act)?;
