@@ -10,10 +10,11 @@ use Rattle.model_forest.specs.declared.Window.{Window}
 use Rattle.model_forest.specs.World.{Image, World, image_at, no_image, parent_of, with_image, IsForest, IsLive}
 use Rattle.model_forest.specs.View.{is_bare, view}
 use Rattle.model_forest.specs.Draw.{with_canvas}
-use Rattle.model_forest.specs.Steps.{after_image, after_list, after_origin, after_release, after_replace, after_set, carried_rect, new_image, outside, put_above, shifted_image}
-use Rattle.model_forest.specs.Stack.{after_lower, after_raise, after_window, lowered, moved, new_window, raised, with_windows, without}
+use Rattle.model_forest.specs.Steps.{after_image, after_list, after_origin, after_release, after_replace, after_replace_on, after_set, carried_rect, new_image, outside, put_above, shifted_image}
+use Rattle.model_forest.specs.Stack.{after_lower, after_raise, after_window, lowered, moved, raised, with_windows, without}
 use Rattle.model_forest.proofs.Changes.{live-standing, with_image-each, with_image-free}
-use Rattle.model_forest.proofs.Stacks.{made}
+use Rattle.model_forest.proofs.Stacks.{made, made_on, on_top}
+use Rattle.model_forest.proofs.Steps.{standing-on_top}
 use Rattle.model_forest.proofs.Windows.{lives-with_windows, parent_of-with_windows}
 use Rattle.model_forest.proofs.Listed.{group_parent}
 
@@ -50,14 +51,18 @@ lives-with_canvas world i area new n live =
     let image : Image = record (image_at world i) { canvas = λ p. if area p && is_bare (image_at world i).windows p then new p else (image_at world i).canvas p } in
     lives-with_image world i image n live
 
-pub lives-after_window : (world : World) (i parent fill : ℕ) (r : Rect) (raw n : ℕ) → IsLive world parent → is_some (after_window world i parent fill r raw n) ≡ (n == i || is_some (world n))
-unfolding after_window
-lives-after_window world i parent fill r raw n live =
-    let image : Image = new_window world parent fill r raw in
+-- after a window came, topmost
+lives-on_top : (world : World) (i parent fill : ℕ) (r place : Rect) (canvas : Point → ℕ) (n : ℕ) → IsLive world parent → is_some (on_top world i parent fill r place canvas n) ≡ (n == i || is_some (world n))
+lives-on_top world i parent fill r place canvas n live =
+    let image : Image = made_on world parent fill r canvas in
     let new : World = with_image world i (Some image) in
-    let windows : List Window = record { image = i; place = r } ∷ (image_at world parent).windows in
+    let windows : List Window = record { image = i; place = place } ∷ (image_at world parent).windows in
     let there : IsLive new parent = lives-new world i image parent ∙ or_right (parent == i) _ live in
     lives-with_windows new parent windows n there ∙ lives-new world i image n
+
+pub lives-after_window : (world : World) (i parent fill : ℕ) (r : Rect) (raw n : ℕ) → IsLive world parent → is_some (after_window world i parent fill r raw n) ≡ (n == i || is_some (world n))
+unfolding after_window
+lives-after_window world i parent fill r raw n live = lives-on_top world i parent fill r r (λ _. raw) n live
 
 pub lives-after_raise : (world : World) (group : List ℕ) (n : ℕ) → All (λ n. IsSome (parent_of world n)) group → IsForest world → is_some (after_raise world group n) ≡ is_some (world n)
 unfolding after_raise
@@ -128,3 +133,15 @@ lives-after_replace world i old r corner raw keep n free window ok = by_parent (
         let stood : parent_of world old ≡ Some q = sym (ap (λ (slot : Option Image). option_map (λ s. s.parent) (unwrap_or slot no_image).standing) at_old) ∙ stands in
         lives-new world i fresh q ∙ or_right (q == i) _ (ok.parents old q live stood) in
         lives-after_two one old (put_above first old) (moved old (carried_rect image.r image.r.min outside)) n there ∙ lives-new world i fresh n
+
+pub lives-after_replace_on : (world : World) (i old parent fill : ℕ) (r : Rect) (corner : Point) (raw : ℕ) (keep : Bool) (n : ℕ) → world i ≡ None → IsLive world old → IsLive world parent → IsForest world → is_some (after_replace_on world i old parent fill r corner raw keep n) ≡ (n == i || is_some (world n))
+unfolding after_replace_on
+lives-after_replace_on world i old parent fill r corner raw keep n free live below ok =
+    let image = image_at world old in
+    let place = carried_rect r r.min corner in
+    let canvas : Point → ℕ = λ q. if keep then view world old (carried q r.min image.r.min) else raw in
+    let two : World = on_top world i parent fill r place canvas in
+    let there : (q : ℕ) → parent_of two old ≡ Some q → IsLive two q = λ q stands.
+    let stood : parent_of world old ≡ Some q = sym (ap (option_map (λ s. s.parent)) (standing-on_top world i parent fill r place canvas old free below live)) ∙ stands in
+    lives-on_top world i parent fill r place canvas q below ∙ or_right (q == i) _ (ok.parents old q live stood) in
+    lives-after_list two old (moved old (carried_rect image.r image.r.min outside)) n there ∙ lives-on_top world i parent fill r place canvas n below

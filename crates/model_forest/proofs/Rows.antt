@@ -1,19 +1,19 @@
 -- Worked rows of the definitions, which the check computes: a line of four grey pixels on which windows come and go.
-use Rattle.std.specs.Prelude.{◌≡◌, ℕ, pos, true, [], ◌∷◌, List, None, map, refl}
+use Rattle.std.specs.Prelude.{◌≡◌, ℕ, pos, false, true, [], ◌∷◌, List, None, map, refl}
 use Rattle.r9_geom.specs.declared.Rect.{Rect}
 use Rattle.model_pixel.specs.Channels.{channels, expand, mask, pack, promoted}
 use Rattle.model_pixel.specs.Composition.{comp, composed}
 use Rattle.model_forest.specs.Cost.{area}
-use Rattle.model_forest.specs.Draw.{Drawing, after_draw, after_load}
+use Rattle.model_forest.specs.Draw.{Drawing, after_draw, after_fill, after_load}
 use Rattle.model_forest.specs.Numbers.{given_back, next_number, no_numbers, taken}
 use Rattle.model_forest.specs.Paint.{paint}
 use Rattle.model_forest.specs.Stack.{after_lower, after_raise, after_window}
-use Rattle.model_forest.specs.Steps.{after_image, after_origin, after_release, after_replace, after_set}
+use Rattle.model_forest.specs.Steps.{after_image, after_origin, after_release, after_replace, after_replace_on, after_set}
 use Rattle.model_forest.specs.View.{view}
 use Rattle.model_forest.specs.World.{World, deepest}
 
 everything : ℕ
-unfolding channels expand mask pack promoted comp composed after_draw after_load paint after_lower after_raise after_window after_image after_origin after_release after_replace after_set view deepest
+unfolding channels expand mask pack promoted comp composed after_draw after_fill after_load paint after_lower after_raise after_window after_image after_origin after_release after_replace after_replace_on after_set view deepest
 everything = 0
 
 abbrev line : ℕ → ℕ → Rect
@@ -82,6 +82,27 @@ drawing_spares_windows = refl
 drawing_below_windows : shown (after_release (after_draw covered scroll) 2) 0 ≡ 7 ∷ 9 ∷ 9 ∷ 5 ∷ []
 unfolding everything
 drawing_below_windows = refl
+
+a_filled_line_spares_windows : shown (after_fill covered 0 (line 0 3) 4) 0 ≡ 4 ∷ 5 ∷ 5 ∷ 7 ∷ []
+unfolding everything
+a_filled_line_spares_windows = refl
+
+filled_below_windows : shown (after_release (after_fill covered 0 (line 0 3) 4) 2) 0 ≡ 4 ∷ 9 ∷ 9 ∷ 7 ∷ []
+unfolding everything
+filled_below_windows = refl
+
+-- a window 3 of a six on that of fives
+abbrev nested : World
+nested = after_window covered 3 2 1 (line 2 3) 6
+
+-- the fill shows where it stood
+a_window_on_another_image : shown (after_replace_on nested 4 3 0 1 (line 2 3) (record { x = pos 0; y = pos 0 }) 8 true) 0 ≡ 6 ∷ 5 ∷ 9 ∷ 7 ∷ []
+unfolding everything
+a_window_on_another_image = refl
+
+a_new_window_on_another_image : shown (after_replace_on nested 4 3 0 1 (line 5 7) (record { x = pos 2; y = pos 0 }) 8 false) 0 ≡ 7 ∷ 5 ∷ 8 ∷ 8 ∷ []
+unfolding everything
+a_new_window_on_another_image = refl
 
 area_of_a_scroll : area covered scroll ≡ line 1 4
 unfolding everything

@@ -4,21 +4,20 @@ use Rattle.std.specs.Prelude.{◌&&◌, neg_ℤ, not, All, filter, is_none, if�
 use Rattle.std.proofs.lemmas.Bool.{false≢true}
 use Rattle.std.proofs.lemmas.Int.{ints}
 use Rattle.std.proofs.lemmas.Nat.{pow_pos}
-use Rattle.std.proofs.lemmas.List.Elements.{All-append, All-cons, All-filter, All-weaker}
+use Rattle.std.proofs.lemmas.List.Elements.{All-append, All-filter}
 use Rattle.std.proofs.lemmas.List.Filters.{length-filter_both}
 use Rattle.r9_geom.specs.declared.Point.{Point}
 use Rattle.r9_geom.specs.declared.Rect.{Rect}
-use Rattle.r9_geom.specs.Geometry.{distance, holds, IsOrdered, IsRectNearBy}
+use Rattle.r9_geom.specs.Geometry.{distance, holds, IsNearBy, IsOrdered, IsRectNearBy}
 use Rattle.r9_geom.proofs.GeometryLemmas.{distance_is, near_wider}
 use Rattle.model_pixel.specs.Channels as channels
 use Rattle.model_pixel.specs.Channels.{is_descriptor}
 use Rattle.model_forest.specs.declared.Window.{Window}
 use Rattle.model_forest.specs.declared.Standing.{Standing}
-use Rattle.model_forest.specs.World.{Image, World, deepest, image_at, with_image, IsForest, IsImage, IsLive, IsWindowOf}
+use Rattle.model_forest.specs.World.{Image, World, deepest, image_at, with_image, IsImage, IsLive, IsWindowOf, SameSize}
 use Rattle.model_forest.specs.View.{is_bare, top_window}
-use Rattle.model_forest.specs.Stack.{is_in, lowered, new_window, raised, seen}
+use Rattle.model_forest.specs.Stack.{is_in, lowered, raised, seen, with_windows}
 use Rattle.model_forest.proofs.Changes.{with_image-at, with_image-free}
-use Rattle.model_forest.proofs.Sound.{IsWindowOf-new_image}
 
 pub All-raised : (P : Window → Type 0) (group : List ℕ) (ws : List Window) → All P ws → All P (raised group ws)
 All-raised P group ws all =
@@ -93,18 +92,23 @@ IsImage-made r chan standing depth canvas shallow lawful fits near ordered = rec
   repeats = λ repeats. absurd (false≢true repeats);
 }
 
-pub IsImage-new_window : (world : World) (parent fill : ℕ) (r : Rect) (raw : ℕ) → (image_at world parent).depth + 1 < 2 ^ 32 → is_descriptor (image_at world parent).chan ≡ true → raw < 2 ^ channels.depth (image_at world parent).chan → IsRectNearBy (2 ^ 34) r → IsOrdered r → IsImage (new_window world parent fill r raw)
-unfolding deepest
-IsImage-new_window world parent fill r raw depth lawful fits near ordered =
-    IsImage-made r (image_at world parent).chan (Some (record { parent = parent; fill = fill })) ((image_at world parent).depth + 1) (λ _. raw) (omega arith) lawful (λ p. fits) near ordered
+-- an image that is made to stand on another, one level above it
+abbrev pub made_on : World → (parent fill : ℕ) → Rect → (Point → ℕ) → Image
+made_on world parent fill r canvas =
+    made r (image_at world parent).chan (Some (record { parent = parent; fill = fill })) ((image_at world parent).depth + 1) canvas
 
--- the new window stands on its parent
-IsWindowOf-new : (world : World) (i parent fill : ℕ) (r : Rect) (raw : ℕ) → world i ≡ None → IsLive world parent → IsLive world fill → IsRectNearBy (2 ^ 34) r → IsImage (image_at world parent) → IsWindowOf (with_image world i (Some (new_window world parent fill r raw))) parent (record { image = i; place = r })
-IsWindowOf-new world i parent fill r raw free live fill_live near below =
-    let W : World = with_image world i (Some (new_window world parent fill r raw)) in
-    let here : W i ≡ Some (new_window world parent fill r raw) = with_image-at world i (Some (new_window world parent fill r raw)) in
-    let there : W parent ≡ world parent = with_image-free world i parent (Some (new_window world parent fill r raw)) free live in
-    let filled : W fill ≡ world fill = with_image-free world i fill (Some (new_window world parent fill r raw)) free fill_live in
+pub IsImage-made_on : (world : World) (parent fill : ℕ) (r : Rect) (canvas : Point → ℕ) → (image_at world parent).depth + 1 < 2 ^ 32 → is_descriptor (image_at world parent).chan ≡ true → ((p : Point) → canvas p < 2 ^ channels.depth (image_at world parent).chan) → IsRectNearBy (2 ^ 34) r → IsOrdered r → IsImage (made_on world parent fill r canvas)
+unfolding deepest
+IsImage-made_on world parent fill r canvas depth lawful fits near ordered =
+    IsImage-made r (image_at world parent).chan (Some (record { parent = parent; fill = fill })) ((image_at world parent).depth + 1) canvas (omega arith) lawful fits near ordered
+
+-- it is a window of that one at any place of its size
+pub IsWindowOf-made_on : (world : World) (i parent fill : ℕ) (r place : Rect) (canvas : Point → ℕ) → world i ≡ None → IsLive world parent → IsLive world fill → SameSize place r → IsNearBy (2 ^ 34) place.min → IsImage (image_at world parent) → IsWindowOf (with_image world i (Some (made_on world parent fill r canvas))) parent (record { image = i; place = place })
+IsWindowOf-made_on world i parent fill r place canvas free live fill_live size near below =
+    let W : World = with_image world i (Some (made_on world parent fill r canvas)) in
+    let here : W i ≡ Some (made_on world parent fill r canvas) = with_image-at world i (Some (made_on world parent fill r canvas)) in
+    let there : W parent ≡ world parent = with_image-free world i parent (Some (made_on world parent fill r canvas)) free live in
+    let filled : W fill ≡ world fill = with_image-free world i fill (Some (made_on world parent fill r canvas)) free fill_live in
     let min = below.near_min in
     record {
       live = rw here refl;
@@ -112,24 +116,32 @@ IsWindowOf-new world i parent fill r raw free live fill_live near below =
       fill = rw (here, filled) fill_live;
       above = rw (here, there) refl;
       chan = rw (here, there) refl;
-      size = rw here (record { width = refl; height = refl });
+      size = rw here size;
       reach = rw there (record {
-        left = omega (arith, ints, near.min.left, min.right);
-        right = omega (arith, ints, near.min.right, min.left);
-        top = omega (arith, ints, near.min.top, min.bottom);
-        bottom = omega (arith, ints, near.min.bottom, min.top);
+        left = omega (arith, ints, near.left, min.right);
+        right = omega (arith, ints, near.right, min.left);
+        top = omega (arith, ints, near.top, min.bottom);
+        bottom = omega (arith, ints, near.bottom, min.top);
       });
     }
 
--- all windows then do
-pub All-IsWindowOf-new : (world : World) (i parent fill : ℕ) (r : Rect) (raw : ℕ) → world i ≡ None → IsLive world parent → IsLive world fill → IsRectNearBy (2 ^ 34) r → IsForest world → All (IsWindowOf (with_image world i (Some (new_window world parent fill r raw))) parent) (record { image = i; place = r } ∷ (image_at world parent).windows)
-All-IsWindowOf-new world i parent fill r raw free live fill_live near ok =
-    let W : World = with_image world i (Some (new_window world parent fill r raw)) in
-    let ws = (image_at world parent).windows in
-    All-cons (IsWindowOf W parent) (record { image = i; place = r }) ws
-    (IsWindowOf-new world i parent fill r raw free live fill_live near (ok.images parent live))
-    (All-weaker (IsWindowOf world parent) (IsWindowOf W parent)
-    (λ w. IsWindowOf-new_image world i (new_window world parent fill r raw) free parent w live) ws (ok.windows parent live))
+-- the world in which it came under number i, topmost
+abbrev pub on_top : World → (i parent fill : ℕ) → (r place : Rect) → (Point → ℕ) → World
+on_top world i parent fill r place canvas =
+    with_windows (with_image world i (Some (made_on world parent fill r canvas))) parent
+    (record { image = i; place = place } ∷ (image_at world parent).windows)
+
+-- what a new window needs
+pub record IsTopmost (world : World) (parent fill : ℕ) (r place : Rect) (canvas : Point → ℕ) : Type 0 where
+  pub live : IsLive world parent
+  pub fill_live : IsLive world fill
+  pub shallow : (image_at world parent).depth + 1 < 2 ^ 32
+  pub few : length (image_at world parent).windows + 1 < 2 ^ 32
+  pub fits : (p : Point) → canvas p < 2 ^ channels.depth (image_at world parent).chan
+  pub near : IsRectNearBy (2 ^ 34) r
+  pub ordered : IsOrdered r
+  pub size : SameSize place r
+  pub corner : IsNearBy (2 ^ 34) place.min
 
 -- one more window uncovers nothing
 pub covers-more : (inside : Bool) (w : Window) (ws : List Window) (q : Point) → false ≡ (inside && (is_bare (w ∷ ws) q && not (is_bare ws q)))

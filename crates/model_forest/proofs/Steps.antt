@@ -4,7 +4,7 @@ use Rattle.std.specs.Prelude.{◌==◌, ◌&&◌, not, is_some, option_map, unwr
 use Rattle.std.specs.Option.{option_map_or}
 use Rattle.std.proofs.lemmas.Bool.{or_left, or_right, true≢false}
 use Rattle.std.proofs.lemmas.Int.{ints}
-use Rattle.std.proofs.lemmas.List.Elements.{All-filter, All-weaker}
+use Rattle.std.proofs.lemmas.List.Elements.{All-cons, All-filter, All-weaker}
 use Rattle.r9_geom.specs.declared.Point.{Point}
 use Rattle.r9_geom.specs.declared.Rect.{Rect}
 use Rattle.r9_geom.specs.Geometry.{carried, holds, HasPoints, IsNearBy, IsOrdered, IsRectNearBy}
@@ -13,14 +13,14 @@ use Rattle.model_pixel.specs.Channels.{expand, is_descriptor}
 use Rattle.model_forest.specs.declared.Window.{Window}
 use Rattle.model_forest.specs.World.{CanGo, Image, World, fill_of, image_at, no_image, origin_point, parent_of, with_image, IsForest, IsImage, IsLive, IsWindowOf, SameSize}
 use Rattle.model_forest.specs.View.{at, is_bare, view}
-use Rattle.model_forest.specs.Draw.{Drawing, after_draw, after_load, drawn, in_area, mask_value, with_canvas}
-use Rattle.model_forest.specs.Steps.{after_image, after_list, after_origin, after_release, after_replace, after_set, carried_rect, new_image, outside, put_above, shifted_image}
-use Rattle.model_forest.specs.Stack.{after_lower, after_raise, after_window, lowered, moved, new_window, raised, with_windows, without}
+use Rattle.model_forest.specs.Draw.{Drawing, after_draw, after_fill, after_load, drawn, in_area, mask_value, with_canvas}
+use Rattle.model_forest.specs.Steps.{after_image, after_list, after_origin, after_release, after_replace, after_replace_on, after_set, carried_rect, new_image, outside, put_above, shifted_image}
+use Rattle.model_forest.specs.Stack.{after_lower, after_raise, after_window, lowered, moved, raised, with_windows, without}
 use Rattle.model_forest.proofs.Changes.{with_image-at, live-standing, with_image-free}
 use Rattle.model_forest.proofs.Raws.{drawn_below}
 use Rattle.model_forest.proofs.Sound.{is_listed, IsImage-like, IsStill, IsForestBut, IsForestBut-any, IsForestBut-new_image, IsForest-listed, IsForest-with_image, none_or_some, some_same, view-below, IsWindowOf-new_image}
-use Rattle.model_forest.proofs.Stacks.{All-IsWindowOf-new, All-lowered, All-raised, made, IsImage-made, IsImage-new_window, length-lowered, length-raised}
-use Rattle.model_forest.proofs.Windows.{IsForestBut-with_windows, IsForest-with_windows, IsStill-with_windows, parent_of-with_windows, with_windows-other, windows-with_windows, windows-with_windows_or}
+use Rattle.model_forest.proofs.Stacks.{All-lowered, All-raised, made, made_on, on_top, IsImage-made, IsImage-made_on, IsTopmost, IsWindowOf-made_on, length-lowered, length-raised}
+use Rattle.model_forest.proofs.Windows.{IsForestBut-with_windows, IsForest-with_windows, IsStill-with_windows, parent_of-with_windows, rect-with_windows, with_windows-other, windows-with_windows, windows-with_windows_or}
 use Rattle.model_forest.proofs.Listed.{All-put_above, once-new, once-put_above, times-lowered, times-raised, times-without, unlisted-free, length-put_above, length-without, listed-lowered, listed-put_above, listed-put_above_new, listed-raised, listed-without, listed-without_other, group_parent, parent-apart, unlisted, window_of}
 use Rattle.model_forest.proofs.Placed.{carried_min_near, IsForest-moved, IsForest-shifted, SameSize-carried}
 use Rattle.model_forest.proofs.Gone.{IsForest-gone}
@@ -37,11 +37,6 @@ IsForest-nothing world none = record {
   where
     not_live : (n : ℕ) → IsLive world n → ⊥
     not_live n live = true≢false (sym live ∙ ap is_some (none n))
-
--- a pixel that is kept or not
-replaced_below : (keep : Bool) (old raw most : ℕ) → old < most → raw < most → (if keep then old else raw) < most
-replaced_below true old raw most a b = a
-replaced_below false old raw most a b = b
 
 -- an image that stands nowhere comes
 pub IsForest-after_image : (world : World) (i : ℕ) (r : Rect) (chan raw : ℕ) → world i ≡ None → is_descriptor chan ≡ true → raw < 2 ^ channels.depth chan → IsRectNearBy (2 ^ 34) r → IsOrdered r → IsForest world → IsForest (after_image world i r chan raw)
@@ -79,6 +74,10 @@ IsForest-with_canvas world i area new live fits ok =
     by_cases p true false e = (ok.images i live).raws p
     by_cases p false bare e = (ok.images i live).raws p
 
+pub IsForest-after_fill : (world : World) (i : ℕ) (r : Rect) (raw : ℕ) → IsLive world i → raw < 2 ^ channels.depth (image_at world i).chan → IsForest world → IsForest (after_fill world i r raw)
+unfolding after_fill
+IsForest-after_fill world i r raw live fits ok = IsForest-with_canvas world i (holds r) (λ _. raw) live (λ p _. fits) ok
+
 pub IsForest-after_load : (world : World) (i : ℕ) (r : Rect) (raws : Point → ℕ) → IsLive world i → ((p : Point) → holds r p ≡ true → raws p < 2 ^ channels.depth (image_at world i).chan) → IsForest world → IsForest (after_load world i r raws)
 unfolding after_load
 IsForest-after_load world i r raws live fits ok = IsForest-with_canvas world i (holds r) raws live fits ok
@@ -97,28 +96,65 @@ IsForest-after_draw world d live ok =
     ok
 
 -- a window comes, topmost
-pub IsForest-after_window : (world : World) (i parent fill : ℕ) (r : Rect) (raw : ℕ) → world i ≡ None → IsLive world parent → IsLive world fill → (image_at world parent).depth + 1 < 2 ^ 32 → length (image_at world parent).windows + 1 < 2 ^ 32 → raw < 2 ^ channels.depth (image_at world parent).chan → IsRectNearBy (2 ^ 34) r → IsOrdered r → IsForest world → IsForest (after_window world i parent fill r raw)
-unfolding after_window
-IsForest-after_window world i parent fill r raw free live fill_live depth few fits near ordered ok =
-    let image : Image = new_window world parent fill r raw in
+pub IsForest-on_top : (world : World) (i parent fill : ℕ) (r place : Rect) (canvas : Point → ℕ) → world i ≡ None → IsTopmost world parent fill r place canvas → IsForest world → IsForest (on_top world i parent fill r place canvas)
+IsForest-on_top world i parent fill r place canvas free is ok =
+    let image : Image = made_on world parent fill r canvas in
     let new : World = with_image world i (Some image) in
-    let windows : List Window = record { image = i; place = r } ∷ (image_at world parent).windows in
-    let is : IsImage image = IsImage-new_window world parent fill r raw depth (ok.images parent live).chan fits near ordered in
-    let still : new parent ≡ world parent = with_image-free world i parent (Some image) free live in
-    let but : IsForestBut (Some i) new = IsForestBut-new_image world i image free is refl (λ p stands. subst (IsLive world) (some_same parent p stands) live) ok in
+    let first : Window = record { image = i; place = place } in
+    let ws = (image_at world parent).windows in
+    let windows : List Window = first ∷ ws in
+    let fresh : IsImage image = IsImage-made_on world parent fill r canvas is.shallow (ok.images parent is.live).chan is.fits is.near is.ordered in
+    let still : new parent ≡ world parent = with_image-free world i parent (Some image) free is.live in
+    let but : IsForestBut (Some i) new = IsForestBut-new_image world i image free fresh refl (λ p stands. subst (IsLive world) (some_same parent p stands) is.live) ok in
+    let are : All (IsWindowOf new parent) windows =
+    All-cons (IsWindowOf new parent) first ws
+    (IsWindowOf-made_on world i parent fill r place canvas free is.live is.fill_live is.size is.corner (ok.images parent is.live))
+    (All-weaker (IsWindowOf world parent) (IsWindowOf new parent) (λ w. IsWindowOf-new_image world i image free parent w is.live) ws (ok.windows parent is.live)) in
     let more : IsForestBut (Some i) (with_windows new parent windows) =
-    IsForestBut-with_windows new (Some i) parent windows (rw still live) (omega arith)
-    (All-IsWindowOf-new world i parent fill r raw free live fill_live near ok)
+    IsForestBut-with_windows new (Some i) parent windows (rw still is.live) (omega (arith, is.few)) are
     (λ n apart was. or_right (i == n) _ (rw still at was))
-    (once-new (record { image = i; place = r }) (image_at world parent).windows (unlisted-free world ok parent i live free) (λ n. ok.once parent n live)) but in
+    (once-new first ws (unlisted-free world ok parent i is.live free) (λ n. ok.once parent n is.live)) but in
     let below : parent_of (with_windows new parent windows) i ≡ Some parent =
-    parent_of-with_windows new parent windows i (rw still live) ∙ ap (λ (slot : Option Image). option_map (λ s. s.parent) (unwrap_or slot no_image).standing) (with_image-at world i (Some image)) in
+    parent_of-with_windows new parent windows i (rw still is.live) ∙ ap (λ (slot : Option Image). option_map (λ s. s.parent) (unwrap_or slot no_image).standing) (with_image-at world i (Some image)) in
     IsForest-listed (with_windows new parent windows) i
     (λ p stands.
     let is_there : IsTrue (is_listed windows i) = or_left (i == i) _ (eq-eqb i i refl) in
     subst (λ k. IsTrue (is_listed (image_at (with_windows new parent windows) k).windows i)) (some_same parent p (sym below ∙ stands))
     (rw (windows-with_windows new parent windows) is_there))
     more
+
+-- one of one raw pixel
+pub IsForest-after_window : (world : World) (i parent fill : ℕ) (r : Rect) (raw : ℕ) → world i ≡ None → IsLive world parent → IsLive world fill → (image_at world parent).depth + 1 < 2 ^ 32 → length (image_at world parent).windows + 1 < 2 ^ 32 → raw < 2 ^ channels.depth (image_at world parent).chan → IsRectNearBy (2 ^ 34) r → IsOrdered r → IsForest world → IsForest (after_window world i parent fill r raw)
+unfolding after_window
+IsForest-after_window world i parent fill r raw free live fill_live depth few fits near ordered ok =
+    IsForest-on_top world i parent fill r r (λ _. raw) free
+    (record {
+      live = live;
+      fill_live = fill_live;
+      shallow = depth;
+      few = few;
+      fits = λ p. fits;
+      near = near;
+      ordered = ordered;
+      size = record { width = refl; height = refl };
+      corner = near.min;
+    })
+    ok
+
+-- what was there stands as it stood, in the rectangle that it had
+pub standing-on_top : (world : World) (i parent fill : ℕ) (r place : Rect) (canvas : Point → ℕ) (n : ℕ) → world i ≡ None → IsLive world parent → IsLive world n → (image_at (on_top world i parent fill r place canvas) n).standing ≡ (image_at world n).standing
+standing-on_top world i parent fill r place canvas n free live there =
+    let image : Image = made_on world parent fill r canvas in
+    let new : World = with_image world i (Some image) in
+    let still : IsLive new parent = rw (with_image-free world i parent (Some image) free live) live in
+    ((IsStill-with_windows new parent (record { image = i; place = place } ∷ (image_at world parent).windows) still).same n).standing
+    ∙ ap (λ (slot : Option Image). (unwrap_or slot no_image).standing) (with_image-free world i n (Some image) free there)
+
+pub rect-on_top : (world : World) (i parent fill : ℕ) (r place : Rect) (canvas : Point → ℕ) (n : ℕ) → world i ≡ None → IsLive world n → (image_at (on_top world i parent fill r place canvas) n).r ≡ (image_at world n).r
+rect-on_top world i parent fill r place canvas n free there =
+    let image : Image = made_on world parent fill r canvas in
+    rect-with_windows (with_image world i (Some image)) parent (record { image = i; place = place } ∷ (image_at world parent).windows) n
+    ∙ ap (λ (slot : Option Image). (unwrap_or slot no_image).r) (with_image-free world i n (Some image) free there)
 
 -- windows of one image come above its others
 pub IsForest-after_raise : (world : World) (group : List ℕ) → All (λ n. IsSome (parent_of world n)) group → IsForest world → IsForest (after_raise world group)
@@ -293,18 +329,23 @@ IsForest-outside world ok i p r e same =
 abbrev pub taken_over : World → ℕ → Rect → ℕ → Bool → Point → ℕ
 taken_over world old r raw keep = λ p. if keep then view world old (carried p r.min (image_at world old).r.min) else raw
 
+-- they fit the channels of the other, or others where no pixel is kept
+taken_over_below : (world : World) (old chan : ℕ) (r : Rect) (raw : ℕ) (keep : Bool) (p : Point) → IsLive world old → (keep ≡ true → chan ≡ (image_at world old).chan) → raw < 2 ^ channels.depth chan → IsForest world → taken_over world old r raw keep p < 2 ^ channels.depth chan
+taken_over_below world old chan r raw true p live same fits ok =
+    let from = carried p r.min (image_at world old).r.min in
+    subst (λ c. view world old from < 2 ^ channels.depth c) (sym (same refl)) (view-below world ok old from live)
+taken_over_below world old chan r raw false p live same fits ok = fits
+
 abbrev pub replacement : World → ℕ → Rect → ℕ → Bool → Image
 replacement world old r raw keep =
     made r (image_at world old).chan (image_at world old).standing (image_at world old).depth (taken_over world old r raw keep)
 
 -- an image with what another shows comes, which stands nowhere
-pub IsForest-copied : (world : World) (i old : ℕ) (r : Rect) (raw : ℕ) (keep : Bool) → world i ≡ None → IsLive world old → IsRectNearBy (2 ^ 34) r → IsOrdered r → raw < 2 ^ channels.depth (image_at world old).chan → IsForest world → IsForest (with_image world i (Some (made r (image_at world old).chan None 0 (taken_over world old r raw keep))))
-IsForest-copied world i old r raw keep free live near ordered fits ok =
-    let chan = (image_at world old).chan in
-    let pixel : Point → ℕ = taken_over world old r raw keep in
-    let image : Image = made r chan None 0 pixel in
-    let fit : (q : Point) → pixel q < 2 ^ channels.depth chan = λ q. replaced_below keep (view world old (carried q r.min (image_at world old).r.min)) raw (2 ^ channels.depth chan) (view-below world ok old (carried q r.min (image_at world old).r.min) live) fits in
-    let is : IsImage image = IsImage-made r chan None 0 pixel (omega arith) (ok.images old live).chan fit near ordered in
+pub IsForest-copied : (world : World) (i old chan : ℕ) (r : Rect) (raw : ℕ) (keep : Bool) → world i ≡ None → IsLive world old → is_descriptor chan ≡ true → (keep ≡ true → chan ≡ (image_at world old).chan) → IsRectNearBy (2 ^ 34) r → IsOrdered r → raw < 2 ^ channels.depth chan → IsForest world → IsForest (with_image world i (Some (made r chan None 0 (taken_over world old r raw keep))))
+IsForest-copied world i old chan r raw keep free live lawful same near ordered fits ok =
+    let canvas : Point → ℕ = taken_over world old r raw keep in
+    let image : Image = made r chan None 0 canvas in
+    let is : IsImage image = IsImage-made r chan None 0 canvas (omega arith) lawful (λ p. taken_over_below world old chan r raw keep p live same fits ok) near ordered in
     IsForest-listed (with_image world i (Some image)) i
     (λ p stands.
     let none : None ≡ Some p = rw (with_image-at world i (Some image)) at stands in
@@ -317,9 +358,8 @@ IsForest-replacement world i old p r corner raw keep free e room near ordered ne
     let image = image_at world old in
     let live : IsLive world old = live-standing world old p e in
     let below : IsLive world p = ok.parents old p live e in
-    let pixel : Point → ℕ = taken_over world old r raw keep in
-    let fit : (q : Point) → pixel q < 2 ^ channels.depth image.chan = λ q. replaced_below keep (view world old (carried q r.min image.r.min)) raw (2 ^ channels.depth image.chan) (view-below world ok old (carried q r.min image.r.min) live) fits in
-    let is : IsImage (replacement world old r raw keep) = IsImage-made r image.chan image.standing image.depth pixel (ok.images old live).shallow (ok.images old live).chan fit near ordered in
+    let fit : (q : Point) → taken_over world old r raw keep q < 2 ^ channels.depth image.chan = λ q. taken_over_below world old image.chan r raw keep q live (λ _. refl) fits ok in
+    let is : IsImage (replacement world old r raw keep) = IsImage-made r image.chan image.standing image.depth (taken_over world old r raw keep) (ok.images old live).shallow (ok.images old live).chan fit near ordered in
     IsForest-put_above world i old p (replacement world old r raw keep) (carried_rect r r.min corner) free e room is refl refl refl refl (SameSize-carried r r.min corner)
     (reaches_near world ok p (carried r.min r.min corner) below (carried_min_near (2 ^ 34) r.min corner near_corner))
     ok
@@ -346,3 +386,49 @@ IsForest-after_replace world i old r corner raw keep free window room near order
         let second : IsForest two = IsForest-replacement world i old p r corner raw keep free e (room p e) near ordered near_corner fits ok in
         subst (λ (w : World). IsForest (after_list w old (moved old (carried_rect image.r image.r.min outside)))) (sym (after_list-at one old p (put_above first old) stands_one))
         (IsForest-outside two second old p image.r stands_two (ap (λ (slot : Option Image). (unwrap_or slot no_image).r) still_old))
+
+-- what a window needs that comes topmost on an image, with what another shows in the same channels, or one raw pixel
+pub record IsCarriedOver (world : World) (old parent fill : ℕ) (r : Rect) (corner : Point) (raw : ℕ) (keep : Bool) : Type 0 where
+  pub live : IsLive world old
+  pub parent_live : IsLive world parent
+  pub fill_live : IsLive world fill
+  pub shallow : (image_at world parent).depth + 1 < 2 ^ 32
+  pub few : length (image_at world parent).windows + 1 < 2 ^ 32
+  pub near : IsRectNearBy (2 ^ 34) r
+  pub ordered : IsOrdered r
+  pub near_corner : IsNearBy (2 ^ 34) corner
+  pub fits : raw < 2 ^ channels.depth (image_at world parent).chan
+  pub chan : keep ≡ true → (image_at world parent).chan ≡ (image_at world old).chan
+
+pub IsForest-carried_over : (world : World) (i old parent fill : ℕ) (r : Rect) (corner : Point) (raw : ℕ) (keep : Bool) → world i ≡ None → IsCarriedOver world old parent fill r corner raw keep → IsForest world → IsForest (on_top world i parent fill r (carried_rect r r.min corner) (taken_over world old r raw keep))
+IsForest-carried_over world i old parent fill r corner raw keep free is ok =
+    IsForest-on_top world i parent fill r (carried_rect r r.min corner) (taken_over world old r raw keep) free
+    (record {
+      live = is.parent_live;
+      fill_live = is.fill_live;
+      shallow = is.shallow;
+      few = is.few;
+      fits = λ p. taken_over_below world old (image_at world parent).chan r raw keep p is.live is.chan is.fits ok;
+      near = is.near;
+      ordered = is.ordered;
+      size = SameSize-carried r r.min corner;
+      corner = carried_min_near (2 ^ 34) r.min corner is.near_corner;
+    })
+    ok
+
+-- and that moves far outside
+pub IsForest-after_replace_on : (world : World) (i old parent fill : ℕ) (r : Rect) (corner : Point) (raw : ℕ) (keep : Bool) → world i ≡ None → IsCarriedOver world old parent fill r corner raw keep → IsForest world → IsForest (after_replace_on world i old parent fill r corner raw keep)
+unfolding after_replace_on
+IsForest-after_replace_on world i old parent fill r corner raw keep free is ok = by_parent (parent_of two old) refl
+  where
+    two : World
+    two = on_top world i parent fill r (carried_rect r r.min corner) (taken_over world old r raw keep)
+
+    second : IsForest two
+    second = IsForest-carried_over world i old parent fill r corner raw keep free is ok
+
+    by_parent : (p : Option ℕ) → parent_of two old ≡ p → IsForest (after_list two old (moved old (carried_rect (image_at world old).r (image_at world old).r.min outside)))
+    by_parent None e = rw e second
+    by_parent (Some p) e =
+        IsForest-outside two second old p (image_at world old).r e
+        (rect-on_top world i parent fill r (carried_rect r r.min corner) (taken_over world old r raw keep) old free is.live)

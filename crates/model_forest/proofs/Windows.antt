@@ -63,6 +63,13 @@ IsStill-with_windows world i ws live =
 pub parent_of-with_windows : (world : World) (i : ℕ) (ws : List Window) (n : ℕ) → IsLive world i → parent_of (with_windows world i ws) n ≡ parent_of world n
 parent_of-with_windows world i ws n live = ap (option_map (λ s. s.parent)) ((IsStill-with_windows world i ws live).same n).standing
 
+-- and has the rectangle that it had
+pub rect-with_windows : (world : World) (i : ℕ) (ws : List Window) (n : ℕ) → (image_at (with_windows world i ws) n).r ≡ (image_at world n).r
+rect-with_windows world i ws =
+    let image = image_at world i in
+    let new : Image = record image { windows = ws; canvas = seen image.r ws (uncovered world i) } in
+    with_image-each world i (Some new) (λ n slot. (unwrap_or slot no_image).r ≡ (image_at world n).r) refl (λ n other. refl)
+
 pub lives-with_windows : (world : World) (i : ℕ) (ws : List Window) (n : ℕ) → IsLive world i → is_some (with_windows world i ws n) ≡ is_some (world n)
 lives-with_windows world i ws n live = (IsStill-with_windows world i ws live).live n
 

@@ -64,3 +64,7 @@ after_draw world d = with_canvas world d.dst (in_area world d) (drawn world d)
 -- pixels put into a rectangle of an image
 unfoldable pub after_load : World → ℕ → Rect → (Point → ℕ) → World
 after_load world i r raws = with_canvas world i (holds r) raws
+
+-- one raw pixel at the bare points of a rectangle of an image
+unfoldable pub after_fill : World → ℕ → Rect → ℕ → World
+after_fill world i r raw = with_canvas world i (holds r) (λ _. raw)

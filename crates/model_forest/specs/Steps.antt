@@ -1,5 +1,5 @@
 -- The other changes of a world: images that come and go, windows that move, and what they keep.
-use Rattle.std.specs.Prelude.{ℕ, ◌^◌, ◌==◌, ℤ, pos, neg_ℤ, ◌-ℤ◌, Bool, false, List, [], ◌∷◌, Some, None, map, if◌then◌else◌}
+use Rattle.std.specs.Prelude.{ℕ, ◌+◌, ◌^◌, ◌==◌, ℤ, pos, neg_ℤ, ◌-ℤ◌, Bool, false, List, [], ◌∷◌, Some, None, map, if◌then◌else◌}
 use Rattle.std.specs.Option.{option_map_or}
 use Rattle.std.specs.Int.{int_min, int_max}
 use Rattle.r9_geom.specs.declared.Point.{Point}
@@ -100,3 +100,23 @@ after_replace world i old r corner raw keep =
     let first : Window = record { image = i; place = carried_rect r r.min corner } in
     let replaced = after_list (with_image world i (Some window)) old (put_above first old) in
     after_list replaced old (moved old (carried_rect image.r image.r.min outside))
+
+-- The same where it comes on another image, topmost there, with that image's channels and one level above it, and with
+-- a fill of its own.
+unfoldable pub after_replace_on : World → (i old parent fill : ℕ) → Rect → Point → ℕ → Bool → World
+after_replace_on world i old parent fill r corner raw keep =
+    let image = image_at world old in
+    let pixel = λ (p : Point). if keep then view world old (carried p r.min image.r.min) else raw in
+    let window : Image = record {
+      r = r;
+      clipr = r;
+      repl = false;
+      chan = (image_at world parent).chan;
+      standing = Some (record { parent = parent; fill = fill });
+      depth = (image_at world parent).depth + 1;
+      canvas = seen r [] pixel;
+      windows = [];
+    } in
+    let first : Window = record { image = i; place = carried_rect r r.min corner } in
+    let placed = with_windows (with_image world i (Some window)) parent (first ∷ (image_at world parent).windows) in
+    after_list placed old (moved old (carried_rect image.r image.r.min outside))

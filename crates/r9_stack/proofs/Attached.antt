@@ -1,13 +1,15 @@
 -- A window that is put into the list of its parent.
 use Rattle.std.proofs.Common.{◌≡◌, ◌≢◌, ◌∙◌, ℕ, ◌+◌, List, [], ◌∷◌, Option, Some, None, sym, ap, subst}
 use Rattle.std.specs.Prelude.{is_some, unwrap_or}
+use Rattle.r9_geom.specs.declared.Point.{Point}
 use Rattle.r9_geom.specs.declared.Rect.{Rect}
 use Rattle.model_forest.specs.declared.Standing.{Standing}
 use Rattle.model_forest.specs.declared.Window.{Window}
 use Rattle.model_forest.specs.World.{Image, World, image_at, no_image, with_image, IsLive}
-use Rattle.model_forest.specs.Stack.{after_window, new_window, seen, uncovered, with_windows}
+use Rattle.model_forest.specs.Stack.{after_window, seen, uncovered, with_windows}
 use Rattle.model_forest.specs.Steps.{new_image}
 use Rattle.model_forest.proofs.Changes.{with_image-at, with_image-free, with_image-other, World-changed}
+use Rattle.model_forest.proofs.Stacks.{made, made_on, on_top}
 use Rattle.model_forest.proofs.Uncovers.{seen-covers_more, CoversMore}
 use Rattle.r9_stack.specs.declared.kept.Kept.{Kept}
 use Rattle.r9_stack.specs.Images.{pixels_at, world_of}
@@ -60,17 +62,22 @@ attached start made between after i s depth list change apart live stands taken 
     ∙ ap (λ (l : List Window). with_windows (stood (world_of start) i s depth) p (change l)) (stood-windows (world_of start) i s depth p apart)
 
 -- a new window, made nowhere and then put on top
+pub made_on_top : (world inserted : World) (i parent fill : ℕ) (r place : Rect) (chan depth : ℕ) (canvas : Point → ℕ) (image : Image) → world i ≡ None → IsLive world parent → image ≡ made r chan None 0 canvas → chan ≡ (image_at world parent).chan → depth ≡ (image_at world parent).depth → inserted ≡ with_image world i (Some image) → with_windows (stood inserted i (record { parent = parent; fill = fill }) (depth + 1)) parent (record { image = i; place = place } ∷ (image_at inserted parent).windows) ≡ on_top world i parent fill r place canvas
+made_on_top world inserted i parent fill r place chan depth canvas image free live is chan_is depth_is put =
+    let s : Standing = record { parent = parent; fill = fill } in
+    let one = with_image world i (Some (made r chan None 0 canvas)) in
+    let put_new : inserted ≡ one = put ∙ ap (λ (im : Image). with_image world i (Some im)) is in
+    let windows : (image_at one parent).windows ≡ (image_at world parent).windows =
+    ap (λ (o : Option Image). (unwrap_or o no_image).windows) (with_image-free world i parent (Some (made r chan None 0 canvas)) free live) in
+    let stands : stood one i s (depth + 1) ≡ with_image world i (Some (made_on world parent fill r canvas)) =
+    stood-made world i (made r chan None 0 canvas) s (depth + 1)
+    ∙ (λ j. with_image world i (Some (made r (chan_is j) (Some s) (depth_is j + 1) canvas))) in
+    ap (λ (w : World). with_windows (stood w i s (depth + 1)) parent (record { image = i; place = place } ∷ (image_at w parent).windows)) put_new
+    ∙ ap (λ (ws : List Window). with_windows (stood one i s (depth + 1)) parent (record { image = i; place = place } ∷ ws)) windows
+    ∙ ap (λ (w : World). with_windows w parent (record { image = i; place = place } ∷ (image_at world parent).windows)) stands
+
+-- one of one raw pixel, at its own place
 pub made_window : (world inserted : World) (i parent fill : ℕ) (r : Rect) (chan raw depth : ℕ) (image : Image) → world i ≡ None → IsLive world parent → image ≡ new_image r chan raw → chan ≡ (image_at world parent).chan → depth ≡ (image_at world parent).depth → inserted ≡ with_image world i (Some image) → with_windows (stood inserted i (record { parent = parent; fill = fill }) (depth + 1)) parent (record { image = i; place = r } ∷ (image_at inserted parent).windows) ≡ after_window world i parent fill r raw
 unfolding after_window
 made_window world inserted i parent fill r chan raw depth image free live is chan_is depth_is put =
-    let s : Standing = record { parent = parent; fill = fill } in
-    let one = with_image world i (Some (new_image r chan raw)) in
-    let put_new : inserted ≡ one = put ∙ ap (λ (im : Image). with_image world i (Some im)) is in
-    let windows : (image_at one parent).windows ≡ (image_at world parent).windows =
-    ap (λ (o : Option Image). (unwrap_or o no_image).windows) (with_image-free world i parent (Some (new_image r chan raw)) free live) in
-    let stands : stood one i s (depth + 1) ≡ with_image world i (Some (new_window world parent fill r raw)) =
-    stood-made world i (new_image r chan raw) s (depth + 1)
-    ∙ (λ j. with_image world i (Some (record (new_image r (chan_is j) raw) { standing = Some s; depth = depth_is j + 1 }))) in
-    ap (λ (w : World). with_windows (stood w i s (depth + 1)) parent (record { image = i; place = r } ∷ (image_at w parent).windows)) put_new
-    ∙ ap (λ (ws : List Window). with_windows (stood one i s (depth + 1)) parent (record { image = i; place = r } ∷ ws)) windows
-    ∙ ap (λ (w : World). with_windows w parent (record { image = i; place = r } ∷ (image_at world parent).windows)) stands
+    made_on_top world inserted i parent fill r r chan depth (λ _. raw) image free live is chan_is depth_is put

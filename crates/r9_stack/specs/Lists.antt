@@ -26,9 +26,9 @@ abbrev pub stood : World → ℕ → Standing → ℕ → World
 stood world i standing depth =
     with_image world i (Some (record (image_at world i) { standing = Some standing; depth = depth }))
 
--- an image that stands nowhere, with the view of another, counted from both corners, or one raw pixel
-abbrev pub copied : World → ℕ → Rect → ℕ → Bool → Image
-copied world old r raw keep =
-    record (new_image r (image_at world old).chan raw) {
+-- an image of these channels that stands nowhere, with the view of another, counted from both corners, or one raw pixel
+abbrev pub copied : World → (old chan : ℕ) → Rect → ℕ → Bool → Image
+copied world old chan r raw keep =
+    record (new_image r chan raw) {
       canvas = seen r [] (λ p. if keep then view world old (carried p r.min (image_at world old).r.min) else raw);
     }

@@ -46,8 +46,8 @@ impl Images {
         Ok(i)
     }
 
-    // Makes an image the topmost window on another. The list is empty, and has room for all windows there.
-    fn put_on_top(
+    /// Makes an image the topmost window on another. The list is empty, and has room for all windows there.
+    pub(crate) fn put_on_top(
         &mut self,
         i: u32,
         standing: Standing,

@@ -1,4 +1,4 @@
-//! A window that takes the place of another.
+//! A window that takes the place of another, or comes with what another shows.
 
 ghost use Rattle.std.specs.Prelude.{◌≡◌, ◌≢◌, ◌+◌, ◌^◌, ◌<◌, ◌≤◌, [], true, Some, None, length, vec_capacity, IfOk, IsSome, IsTrue, OnErr, OnOk, if◌then◌else◌};
 ghost use Rattle.r9_geom.specs.declared.Point.{Point as Spot};
@@ -7,7 +7,7 @@ ghost use Rattle.model_pixel.specs.Channels as channels;
 ghost use Rattle.model_forest.specs.Numbers.{next_number, taken};
 ghost use Rattle.model_forest.specs.World.{image_at, parent_of, IsForest, IsLive, SameSize};
 ghost use Rattle.model_forest.specs.Stack.{seen, with_windows};
-ghost use Rattle.model_forest.specs.Steps.{after_replace, new_image, put_above};
+ghost use Rattle.model_forest.specs.Steps.{after_replace, after_replace_on, new_image, put_above};
 ghost use Rattle.model_forest.specs.View as model;
 ghost use Rattle.r9_stack.specs.Images.{image_of, pixels_of};
 ghost use Rattle.r9_stack.specs.Lists.{copied, stood};
@@ -17,6 +17,7 @@ use super::kept::{Kept, carried_rect};
 use super::reading::along;
 use super::{lists, slots};
 use model_forest::{Standing, Window};
+use r9_chan::Chan;
 use r9_geom::{Point, Rect};
 use r9_memory::Memory;
 
@@ -56,6 +57,7 @@ impl Images {
     {
         let below = self.get(old);
         let own = below.rect();
+        let chan = below.chan();
         let depth = below.depth();
         let Some(standing) = below.standing() else {
             return Err(Memory);
@@ -65,12 +67,62 @@ impl Images {
             return Err(Memory);
         }
         let list = Vec::with_capacity(self.alloc, count + 1)?;
-        let kept = self.copy(old, r, raw, keep)?;
+        let kept = self.copy(old, r, chan, raw, keep)?;
         let i = self.insert(kept)?;
         let place = carried_rect(&r, r.min, corner);
         self.put_over(i, standing, depth, place, old, list);
         let far = carried_rect(&own, own.min, OUTSIDE);
         self.move_window(standing.parent, old, standing.fill, far);
+        Ok(i)
+    }
+
+    /// Makes a window that shows what another shows, counted from both mins, or one raw pixel, topmost on any image, with the
+    /// channels of that image and an image that fills what it uncovers, at the place of r's size whose min is `corner`. The
+    /// other moves far outside.
+    pub fn replace_on(
+        &mut self,
+        old: u32,
+        parent: u32,
+        fill: u32,
+        r: Rect,
+        corner: Point,
+        raw: u32,
+        keep: bool,
+    ) -> Result<u32, Memory>
+        requires window { IsSome (parent_of (world self.old) old) }
+        requires parent { IsLive (world self.old) parent }
+        requires fill { IsLive (world self.old) fill }
+        requires near { IsRectNearBy (2 ^ 34) r }
+        requires ordered { IsOrdered r }
+        requires corner { IsNearBy (2 ^ 34) corner }
+        requires raw { raw < 2 ^ channels.depth (image_at (world self.old) parent).chan }
+        requires size { keep ≡ true → SameSize r (image_at (world self.old) old).r }
+        requires chan { keep ≡ true → (image_at (world self.old) parent).chan ≡ (image_at (world self.old) old).chan }
+        ensures number { IfOk result (λ i. i ≡ next_number (numbers self.old)) }
+        ensures free { IfOk result (λ i. world self.old i ≡ None) }
+        ensures made { IfOk result (λ i. world self.new ≡ after_replace_on (world self.old) i old parent fill r corner raw keep) }
+        ensures taken { OnOk result (numbers self.new ≡ taken (numbers self.old)) }
+        ensures err { OnErr result (IsUnchanged self.old self.new) }
+    {
+        let shown = self.get(old);
+        let own = shown.rect();
+        let Some(left) = shown.standing() else {
+            return Err(Memory);
+        };
+        let below = self.get(parent);
+        let chan = below.chan();
+        let depth = below.depth();
+        let count = below.windows().len();
+        if depth == u32::MAX || count as u32 == u32::MAX {
+            return Err(Memory);
+        }
+        let list = Vec::with_capacity(self.alloc, count + 1)?;
+        let kept = self.copy(old, r, chan, raw, keep)?;
+        let i = self.insert(kept)?;
+        let place = carried_rect(&r, r.min, corner);
+        self.put_on_top(i, Standing { parent, fill }, depth + 1, place, list);
+        let far = carried_rect(&own, own.min, OUTSIDE);
+        self.move_window(left.parent, old, left.fill, far);
         Ok(i)
     }
 
@@ -100,16 +152,17 @@ impl Images {
         slots::set_list(&mut self.slots, standing.parent, list);
     }
 
-    // An image that stands nowhere, with the channels of another and what that shows, or one raw pixel.
-    fn copy(&self, old: u32, r: Rect, raw: u32, keep: bool) -> Result<Kept, Memory>
+    // An image of some channels that stands nowhere, with what another shows in them, or one raw pixel.
+    fn copy(&self, old: u32, r: Rect, chan: Chan, raw: u32, keep: bool) -> Result<Kept, Memory>
         requires live { IsLive (world self.now) old }
         requires near { IsRectNearBy (2 ^ 34) r }
         requires ordered { IsOrdered r }
-        requires raw { raw < 2 ^ channels.depth (image_at (world self.now) old).chan }
+        requires raw { raw < 2 ^ channels.depth chan }
         requires size { keep ≡ true → SameSize r (image_at (world self.now) old).r }
-        ensures { IfOk result (λ kept. image_of kept ≡ copied (world self.now) old r raw keep) }
+        requires chan { keep ≡ true → chan ≡ (image_at (world self.now) old).chan }
+        ensures { IfOk result (λ kept. image_of kept ≡ copied (world self.now) old chan r raw keep) }
     {
-        let mut kept = Kept::new(self.alloc, r, self.get(old).chan(), raw)?;
+        let mut kept = Kept::new(self.alloc, r, chan, raw)?;
         if keep {
             self.copy_rows(old, &r, &mut kept);
         }

@@ -3,6 +3,7 @@ use Rattle.std.specs.Prelude.{is_some, unwrap_or}
 use Rattle.std.proofs.lemmas.Int.{ints}
 use Rattle.r9_geom.specs.declared.Rect.{Rect}
 use Rattle.r9_geom.specs.Geometry.{IsNearBy}
+use Rattle.model_pixel.specs.Channels.{depth, is_descriptor}
 use Rattle.model_forest.specs.Numbers.{next_number}
 use Rattle.model_forest.specs.World.{Image, World, image_at, no_image, with_image, IsForest, IsLive}
 use Rattle.model_forest.specs.Stack.{moved, with_windows}
@@ -39,9 +40,9 @@ above c =
     let s = c.in-Some.standing in
     let here = c.get-below.ensures.image in
     c.put_over.ensures.world
-    ∙ above_is w (world c.insert.new.self) c.in_ok-i.i old s c.depth-depth.result c.args.r c.carried_rect-place.result c.args.raw c.args.keep (image_of c.in_ok-kept.kept)
+    ∙ above_is w (world c.insert.new.self) c.in_ok-i.i old s c.chan-chan.result c.depth-depth.result c.args.r c.carried_rect-place.result c.args.raw c.args.keep (image_of c.in_ok-kept.kept)
     c.in_ok-i.ensures.free (parent_of_window w old s c.args.self.now.forest c.requires.window here c.in-Some.ensures) c.in_ok-kept.ensures (stands_as w old here c.in-Some.ensures)
-    (c.depth-depth.ensures ∙ sym (ap (λ (image : Image). image.depth) here)) c.in_ok-i.ensures.world
+    (c.chan-chan.ensures ∙ sym (ap (λ (image : Image). image.chan) here)) (c.depth-depth.ensures ∙ sym (ap (λ (image : Image). image.depth) here)) c.in_ok-i.ensures.world
 
 -- the other is as it was
 still : (c : After-carried_rect-far) → world c.put_over.new.self c.args.old ≡ world c.args.self.now c.args.old
@@ -79,8 +80,12 @@ insert-requires c =
     let table = c.args.self.now in
     let w = world table in
     let i = next_number (numbers table) in
+    let live = stands-live w c.args.old c.requires.window in
+    let chan = c.chan-chan.ensures ∙ sym (ap (λ (image : Image). image.chan) c.get-below.ensures.image) in
+    let raw = subst (λ n. c.args.raw < 2 ^ depth n) (sym chan) c.requires.raw in
     subst (λ (image : Image). IsForest (with_image w i (Some image))) (sym c.in_ok-kept.ensures)
-    (IsForest-copied w i c.args.old c.args.r c.args.raw c.args.keep (next_free table.slots.items table.spare.items table.table) (stands-live w c.args.old c.requires.window) c.requires.near c.requires.ordered c.requires.raw table.forest)
+    (IsForest-copied w i c.args.old c.chan-chan.result c.args.r c.args.raw c.args.keep (next_free table.slots.items table.spare.items table.table) live
+    (ap is_descriptor chan ∙ (table.forest.images c.args.old live).chan) (λ _. chan) c.requires.near c.requires.ordered raw table.forest)
 
 pub put_over-requires-clause-parent : goal.put_over-requires-clause-parent
 unfolding world
@@ -119,7 +124,7 @@ put_over-requires-clause-forest c =
     let count = ap (λ (image : Image). length image.windows) c.get.ensures.image ∙ ap length (sym c.windows-count.ensures.items) in
     let room : length (image_at w p).windows + 1 < 2 ^ 32 = omega (arith, count, c.if-count.false, c.windows-count.ensures.few) in
     subst IsForest
-    (sym (above_is w (world c.insert.new.self) i old s c.depth-depth.result c.args.r c.carried_rect-place.result c.args.raw c.args.keep (image_of c.in_ok-kept.kept) c.in_ok-i.ensures.free below c.in_ok-kept.ensures stands (c.depth-depth.ensures ∙ sym (ap (λ (image : Image). image.depth) here)) c.in_ok-i.ensures.world))
+    (sym (above_is w (world c.insert.new.self) i old s c.chan-chan.result c.depth-depth.result c.args.r c.carried_rect-place.result c.args.raw c.args.keep (image_of c.in_ok-kept.kept) c.in_ok-i.ensures.free below c.in_ok-kept.ensures stands (c.chan-chan.ensures ∙ sym (ap (λ (image : Image). image.chan) here)) (c.depth-depth.ensures ∙ sym (ap (λ (image : Image). image.depth) here)) c.in_ok-i.ensures.world))
     (subst (λ (place : Rect). IsForest (above_world w i old p c.args.r place c.args.raw c.args.keep)) (sym c.carried_rect-place.ensures)
     (IsForest-replacement w i old p c.args.r c.args.corner c.args.raw c.args.keep c.in_ok-i.ensures.free (parent_stands w old s stands) room c.requires.near c.requires.ordered c.requires.corner c.requires.raw c.args.self.now.forest))
 
