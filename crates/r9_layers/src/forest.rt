@@ -6,9 +6,9 @@ ghost use Rattle.r9_geom.specs.Geometry.{area_of, height, holds, meet, HasPoints
 ghost use Rattle.model_pixel.specs.Channels as channels;
 ghost use Rattle.model_pixel.specs.Rows.{row_bytes, row_pixel, rows_of};
 ghost use Rattle.r9_chan.specs.Op.{number};
-ghost use Rattle.model_forest.specs.Draw.{after_draw, after_load};
+ghost use Rattle.model_forest.specs.Draw.{after_draw, after_fill, after_load};
 ghost use Rattle.model_forest.specs.Numbers.{given_back, next_number, no_numbers, taken};
-ghost use Rattle.model_forest.specs.Steps.{after_image, after_origin, after_release, after_replace, after_set};
+ghost use Rattle.model_forest.specs.Steps.{after_image, after_origin, after_release, after_replace, after_replace_on, after_set};
 ghost use Rattle.model_forest.specs.Stack.{after_lower, after_raise, after_window};
 ghost use Rattle.model_forest.specs.Paint.{paint};
 ghost use Rattle.model_forest.specs.View as model;
@@ -166,6 +166,41 @@ impl Forest {
         Ok(ImageNo(number))
     }
 
+    /// Makes a window that shows what another shows, counted from both mins, or one raw pixel, topmost on any image, with the
+    /// channels of that image and an image that fills what it uncovers, at the place of r's size whose min is `corner`. The
+    /// other moves far outside.
+    pub fn replace_on(
+        &mut self,
+        old: ImageNo,
+        parent: ImageNo,
+        fill: ImageNo,
+        r: Rect,
+        corner: Point,
+        raw: u32,
+        keep: bool,
+    ) -> Result<ImageNo, Memory>
+        requires window { IsSome (parent_of (world self.old) old.0) }
+        requires parent { IsLive (world self.old) parent.0 }
+        requires fill { IsLive (world self.old) fill.0 }
+        requires near { IsRectNearBy (2 ^ 34) r }
+        requires ordered { IsOrdered r }
+        requires corner { IsNearBy (2 ^ 34) corner }
+        requires raw { raw < 2 ^ channels.depth (image_at (world self.old) parent.0).chan }
+        requires size { keep ≡ true → SameSize r (image_at (world self.old) old.0).r }
+        requires chan { keep ≡ true → (image_at (world self.old) parent.0).chan ≡ (image_at (world self.old) old.0).chan }
+        ensures number { IfOk result (λ i. i.0 ≡ next_number (numbers self.old)) }
+        ensures free { IfOk result (λ i. world self.old i.0 ≡ None) }
+        ensures made { IfOk result (λ i. world self.new ≡ after_replace_on (world self.old) i.0 old.0 parent.0 fill.0 r corner raw keep) }
+        ensures taken { OnOk result (numbers self.new ≡ taken (numbers self.old)) }
+        ensures room { room self.old ≤ room self.new }
+        ensures err { OnErr result (IsUnchanged self.old self.new) }
+    {
+        let number = self
+            .images
+            .replace_on(old.0, parent.0, fill.0, r, corner, raw, keep)?;
+        Ok(ImageNo(number))
+    }
+
     /// Takes an image away on which nothing stands and which fills for no window: first from the list that it stands in,
     /// where the fill then shows. It takes no memory.
     pub fn release(&mut self, i: ImageNo)
@@ -309,6 +344,20 @@ impl Forest {
     {
         self.images.load(i.0, r, rows);
         Ok(())
+    }
+
+    /// Writes one raw pixel at the points of a rectangle of an image that no window covers. It takes no memory.
+    pub fn fill(&mut self, i: ImageNo, r: Rect, raw: u32)
+        requires live { IsLive (world self.old) i.0 }
+        requires near { IsRectNearBy (2 ^ 34) r }
+        requires ordered { IsOrdered r }
+        requires inside { (p : Spot) → IsTrue (holds r p) → IsTrue (holds (image_at (world self.old) i.0).r p) }
+        requires raw { raw < 2 ^ channels.depth (image_at (world self.old) i.0).chan }
+        ensures world { world self.new ≡ after_fill (world self.old) i.0 r raw }
+        ensures numbers { numbers self.new ≡ numbers self.old }
+        ensures room { room self.old ≤ room self.new }
+    {
+        self.images.fill(i.0, r, raw);
     }
 
     /// The rows of what an image shows in a rectangle (image(6)): the picture that is painted from back to front, too.
