@@ -7,4 +7,5 @@ pub mod Writing
 pub mod Act
 pub mod Files
 pub mod Memory
+pub mod Orders
 pub mod Sound

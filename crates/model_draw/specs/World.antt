@@ -1,5 +1,5 @@
 -- What a draw device has: images, what ids and names refer to, and its connections (draw(3)).
-use Rattle.std.specs.Prelude.{ℕ, ◌==◌, ◌-◌, Bool, false, List, [], not, None}
+use Rattle.std.specs.Prelude.{ℕ, ◌==◌, Bool, false, List, [], None}
 use Rattle.std.specs.Option.{option_map_or}
 use Rattle.std.specs.Result.{result_unwrap_or}
 use Rattle.std.specs.List.{fold}

@@ -9,6 +9,7 @@ use Rattle.model_tree.specs.declared.Kind.TheVariants.{Draw, Connection, Ctl, Sn
 use Rattle.model_tree.specs.Node.{Node, row, kinds, kind_numbered, qid, may}
 use Rattle.model_tree.specs.Tree.{View, files, kinds_in, stat_named, name_of, walk, check_live, root_of}
 use Rattle.model_tree.specs.Listing.{stats, fitting}
+use Rattle.model_tree.specs.Attach.{Whole, Existing, Fresh, Unknown, attach_of}
 
 -- a session with two connections, and the root rio with two windows
 abbrev view : View
@@ -105,3 +106,9 @@ modes : map (may device) (0 ∷ 1 ∷ 2 ∷ 16 ∷ 3 ∷ 17 ∷ 20 ∷ []) ++ ma
     ≡ true ∷ false ∷ false ∷ true ∷ false ∷ false ∷ false ∷ false ∷ true ∷ true ∷ false ∷ false ∷ []
 unfolding may row
 modes = refl
+
+attaches : map attach_of ([] ∷ codes "new" ∷ codes "new -r 10 10 50 40" ∷ codes "3/1/new -hide" ∷ codes "2" ∷ codes "1x" ∷ codes "/new" ∷ codes "newer" ∷ codes "03" ∷ (codes "new" ++ 10 ∷ []) ∷ [])
+    ≡ Whole ∷ Fresh [] (codes "new") ∷ Fresh [] (codes "new -r 10 10 50 40") ∷ Fresh (3 ∷ 1 ∷ []) (codes "new -hide")
+    ∷ Existing (2 ∷ []) ∷ Unknown ∷ Unknown ∷ Unknown ∷ Existing (3 ∷ []) ∷ Unknown ∷ []
+unfolding attach_of
+attaches = refl
