@@ -9,7 +9,10 @@ use Rattle.r9_geom.specs.declared.Rect.{Rect}
 use Rattle.r9_geom.specs.Geometry.{at_min, holds}
 use Rattle.r9_event.specs.declared.rio.Order.{Order}
 use Rattle.r9_event.specs.declared.rio.Order.TheVariants.{Make, Place, Replace, Raise, Lower, Drop, Host, Leave}
-use Rattle.model_pixel.specs.Channels.{colour_of, pack}
+use Rattle.model_pixel.specs.Channels.{colour_of, depth, pack}
+use Rattle.model_pixel.specs.Rows.{rows_of}
+use Rattle.model_imgfile.specs.ImageFile.{image_file}
+use Rattle.model_forest.specs.Paint.{paint}
 use Rattle.model_text.specs.Outcome.{◌>>=◌}
 use Rattle.model_forest.specs.World.{World as Images, image_at}
 use Rattle.model_forest.specs.Draw.{after_fill, with_canvas}
@@ -183,3 +186,13 @@ ordered world (Leave client) = after_leave world client
 -- the device after orders, which are carried out one after the other
 abbrev pub carried_out : World → List Order → World
 carried_out world orders = fold ordered world orders
+
+-- ---- pictures
+
+-- the image file of a window, or for 0 of the display: what is painted from back to front, on it and on all that stands on it
+-- (image(6))
+unfoldable pub picture_of : World → (window : ℕ) → List ℕ
+picture_of world window =
+    let i = image_shown world window in
+    let image = at_number world i in
+    image_file image.chan image.r (rows_of image.r (depth image.chan) (paint world.images i))
