@@ -3,6 +3,7 @@ use Rattle.std.proofs.Common.{◌≡◌, ℕ, ◌+◌, ◌<◌, Bool, true, fals
 use Rattle.std.specs.Prelude.{◌==◌, ◌||◌, find, nat_lt, if◌then◌else◌, slice_index_or, slice_set, IfSome}
 use Rattle.std.specs.List.{count_by, list_any, sum_by}
 use Rattle.std.proofs.lemmas.Bool.Decides.{nat_tests}
+use Rattle.std.proofs.lemmas.List.{get_or_past}
 use Rattle.std.proofs.lemmas.List.Sums.{sum_by-cons, sum_by-append, sum_by-set}
 use Rattle.model_images.specs.declared.ImageId.{ImageId}
 use Rattle.model_images.specs.declared.ScreenId.{ScreenId}
@@ -85,13 +86,14 @@ refers-count i (Some s ∷ xs) = by (s.image == i) (s.fill == i) (list_any (is_o
     by false false c d h = h
 
 -- a screen that goes was counted
-pub count-emptied : (p : Option Filled → Bool) (xs : List (Option Filled)) (n : ℕ) (o : Option Filled) → n < length xs → o ≡ slice_index_or xs n o → p None ≡ false
-    → count_by p xs ≡ cond (p o) 1 0 + count_by p (slice_set xs n None)
-count-emptied p xs n o l is none =
+pub count-emptied : (p : Option Filled → Bool) (xs : List (Option Filled)) (n : ℕ) (s : Filled) → slice_index_or xs n None ≡ Some s → p None ≡ false
+    → count_by p xs ≡ cond (p (Some s)) 1 0 + count_by p (slice_set xs n None)
+count-emptied p xs n s is none =
     let f : Option Filled → ℕ = λ x. cond (p x) 1 0 in
-    let step : sum_by f (set xs n None) + f (get_or xs n o) ≡ sum_by f xs + f None = sum_by-set f xs n None o l in
+    let l : n < length xs = grind (arith, get_or_past) in
+    let step : sum_by f (set xs n None) + f (get_or xs n None) ≡ sum_by f xs + f None = sum_by-set f xs n None None l in
     let zero : f None ≡ 0 = rw none refl in
-    let old : f (get_or xs n o) ≡ f o = ap f (sym is) in
+    let old : f (get_or xs n None) ≡ f (Some s) = ap f is in
     omega (arith, step, zero, old)
 
 -- a screen that comes where there was none

@@ -1,5 +1,5 @@
 -- What the room of all says of each part.
-use Rattle.std.proofs.Common.{◌≡◌, ℕ, ◌+◌, ◌<◌, ◌≤◌, vec_len, vec_capacity, arith}
+use Rattle.std.proofs.Common.{◌≡◌, ℕ, ◌+◌, ◌<◌, ◌≤◌, arith}
 use Rattle.std.specs.Prelude.{◌-◌, min}
 use Rattle.r9_uses.specs.declared.uses.Uses.{Uses}
 use Rattle.r9_uses.specs.Room.{room}
@@ -8,8 +8,7 @@ use Rattle.r9_uses.specs.Tally.{room_of}
 pub record Parts (u : Uses) : Type 0 where
   pub image_ids : 0 < u.image_ids.room
   pub screen_ids : 0 < u.screen_ids.room
-  pub screens : vec_len u.screens < vec_capacity u.screens
-  pub numbered : vec_len u.screens < 4294967295
+  pub screens : 0 < u.screens.room
   pub windows : 0 < u.windows.room
   pub images : 1 < room_of u.images.uses u.images.made
   pub on : 1 < room_of u.on.uses u.on.made
@@ -21,7 +20,6 @@ parts u h = record {
   image_ids = omega (arith, h);
   screen_ids = omega (arith, h);
   screens = omega (arith, h);
-  numbered = omega (arith, h);
   windows = omega (arith, h);
   images = omega (arith, h);
   on = omega (arith, h);
@@ -45,9 +43,6 @@ le-trans a b c h k = omega (arith, h, k)
 min-grows : (a b c d l : ℕ) → a ≤ c + l → b ≤ d + l → min a b ≤ min c d + l
 min-grows a b c d l h k = omega (arith, h, k)
 
-slots-grow : (most len most₂ len₂ l : ℕ) → len₂ ≡ len → most ≤ most₂ → min most 4294967295 - len ≤ min most₂ 4294967295 - len₂ + l
-slots-grow most len most₂ len₂ l h k = omega (arith, h, k)
-
 one-grows : (n m l : ℕ) → n ≤ m + l → n - 1 ≤ m - 1 + l
 one-grows n m l h = omega (arith, h)
 
@@ -65,24 +60,24 @@ all-grow a b c d e f g a₂ b₂ c₂ d₂ e₂ f₂ g₂ l h₁ h₂ h₃ h₄ 
 
 -- where that of the images' counts has fallen by so much at most
 pub room-grows :
-    (old new : Uses) (less : ℕ) → old.image_ids.room ≤ new.image_ids.room → old.screen_ids.room ≤ new.screen_ids.room → vec_len new.screens ≡ vec_len old.screens → vec_capacity old.screens ≤ vec_capacity new.screens
+    (old new : Uses) (less : ℕ) → old.image_ids.room ≤ new.image_ids.room → old.screen_ids.room ≤ new.screen_ids.room → old.screens.room ≤ new.screens.room
     → old.windows.room ≤ new.windows.room → room_of old.images.uses old.images.made ≤ room_of new.images.uses new.images.made + less → room_of old.on.uses old.on.made ≤ room_of new.on.uses new.on.made
     → room_of old.numbers.uses old.numbers.made ≤ room_of new.numbers.uses new.numbers.made → room old ≤ room new + less
 unfolding room
-room-grows old new less image_ids screen_ids len most windows images on numbers =
-    all-grow old.image_ids.room old.screen_ids.room (min (vec_capacity old.screens) 4294967295 - vec_len old.screens) old.windows.room (room_of old.images.uses old.images.made - 1) (room_of old.on.uses old.on.made - 1)
-    (room_of old.numbers.uses old.numbers.made - 1) new.image_ids.room new.screen_ids.room (min (vec_capacity new.screens) 4294967295 - vec_len new.screens) new.windows.room
+room-grows old new less image_ids screen_ids screens windows images on numbers =
+    all-grow old.image_ids.room old.screen_ids.room old.screens.room old.windows.room (room_of old.images.uses old.images.made - 1) (room_of old.on.uses old.on.made - 1)
+    (room_of old.numbers.uses old.numbers.made - 1) new.image_ids.room new.screen_ids.room new.screens.room new.windows.room
     (room_of new.images.uses new.images.made - 1) (room_of new.on.uses new.on.made - 1) (room_of new.numbers.uses new.numbers.made - 1) less (later _ _ less image_ids) (later _ _ less screen_ids)
-    (slots-grow (vec_capacity old.screens) (vec_len old.screens) (vec_capacity new.screens) (vec_len new.screens) less len most) (later _ _ less windows)
+    (later _ _ less screens) (later _ _ less windows)
     (one-grows (room_of old.images.uses old.images.made) (room_of new.images.uses new.images.made) less images)
     (one-grows (room_of old.on.uses old.on.made) (room_of new.on.uses new.on.made) less (later _ _ less on))
     (one-grows (room_of old.numbers.uses old.numbers.made) (room_of new.numbers.uses new.numbers.made) less (later _ _ less numbers))
 
 -- where none has fallen
 pub room-kept :
-    (old new : Uses) → old.image_ids.room ≤ new.image_ids.room → old.screen_ids.room ≤ new.screen_ids.room → vec_len new.screens ≡ vec_len old.screens → vec_capacity old.screens ≤ vec_capacity new.screens
+    (old new : Uses) → old.image_ids.room ≤ new.image_ids.room → old.screen_ids.room ≤ new.screen_ids.room → old.screens.room ≤ new.screens.room
     → old.windows.room ≤ new.windows.room → room_of old.images.uses old.images.made ≤ room_of new.images.uses new.images.made → room_of old.on.uses old.on.made ≤ room_of new.on.uses new.on.made
     → room_of old.numbers.uses old.numbers.made ≤ room_of new.numbers.uses new.numbers.made → room old ≤ room new
-room-kept old new image_ids screen_ids len most windows images on numbers =
-    let grows = room-grows old new 0 image_ids screen_ids len most windows (later _ _ 0 images) on numbers in
+room-kept old new image_ids screen_ids screens windows images on numbers =
+    let grows = room-grows old new 0 image_ids screen_ids screens windows (later _ _ 0 images) on numbers in
     omega (arith, grows)

@@ -1,5 +1,5 @@
 -- How many more references there is room for.
-use Rattle.std.specs.Prelude.{ℕ, ◌-◌, min, vec_len, vec_capacity}
+use Rattle.std.specs.Prelude.{ℕ, ◌-◌, min}
 use Rattle.r9_uses.specs.declared.uses.Uses.{Uses}
 use Rattle.r9_uses.specs.Tally.{room_of}
 
@@ -8,7 +8,7 @@ unfoldable pub room : Uses → ℕ
 room u =
     min u.image_ids.room
     (min u.screen_ids.room
-    (min (min (vec_capacity u.screens) 4294967295 - vec_len u.screens)
+    (min u.screens.room
     (min u.windows.room
     (min (room_of u.images.uses u.images.made - 1)
     (min (room_of u.on.uses u.on.made - 1)

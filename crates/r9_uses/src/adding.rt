@@ -1,6 +1,6 @@
 //! Adding single references, for which there is room.
 
-ghost use Rattle.std.specs.Prelude.{◌≡◌, ◌<◌, ◌≤◌, ◌+◌, ◌-◌, ◌++◌, ◌∷◌, ℕ, [], None, Some, true, find, length, slice_index_or, slice_set, take, vec_len, vec_capacity, List, OnOk, OnErr};
+ghost use Rattle.std.specs.Prelude.{◌≡◌, ◌<◌, ◌≤◌, ◌+◌, ◌-◌, ◌++◌, ◌∷◌, [], None, Some, find, length, take, OnOk, OnErr};
 ghost use Rattle.model_images.specs.Book.{put_image_id, put_screen_id, with_screen, with_window};
 ghost use Rattle.model_images.specs.Release.{is_image_id, is_screen_id};
 ghost use Rattle.r9_uses.specs.Tally.{room_of};
@@ -65,8 +65,8 @@ impl Uses {
     pub(crate) fn put_screen(&mut self, number: u32, screen: Screen)
         requires images { 1 < room_of self.old.images.uses self.old.images.made }
         requires on { 0 < room_of self.old.on.uses self.old.on.made }
-        requires screens { length self.old.screens.items < vec_capacity self.old.screens }
-        ensures put { self.new.screens.items ≡ with_screen self.old.screens.items number screen }
+        requires screens { 0 < self.old.screens.room }
+        ensures put { self.new.screens.screens ≡ with_screen self.old.screens.screens number screen }
         ensures image_ids { self.new.image_ids ≡ self.old.image_ids }
         ensures screen_ids { self.new.screen_ids ≡ self.old.screen_ids }
         ensures numbers { self.new.numbers ≡ self.old.numbers }
@@ -78,12 +78,7 @@ impl Uses {
         self.images.add(screen.image);
         self.images.add(screen.fill);
         self.on.add(screen.image);
-        let at = number as usize;
-        if at < self.screens.len() {
-            self.screens[at] = Some(screen);
-            return;
-        }
-        self.screens.push_reserved(Some(screen));
+        self.screens.put(number, screen);
     }
 
     /// Makes room for one more of each. All stays as it is, also after Memory.
@@ -94,17 +89,14 @@ impl Uses {
         ensures more { room self.old ≤ room self.new }
         ensures image_ids { self.new.image_ids.ids ≡ self.old.image_ids.ids }
         ensures screen_ids { self.new.screen_ids.ids ≡ self.old.screen_ids.ids }
-        ensures screens { self.new.screens.items ≡ self.old.screens.items }
+        ensures screens { self.new.screens.screens ≡ self.old.screens.screens }
         ensures spare { self.new.spare.items ≡ self.old.spare.items }
         ensures windows { self.new.windows.windows ≡ self.old.windows.windows }
         ensures gone { self.new.gone.items ≡ self.old.gone.items }
     {
-        if self.screens.len() >= u32::MAX as usize {
-            return Err(Memory);
-        }
         self.image_ids.reserve()?;
         self.screen_ids.reserve()?;
-        self.screens.reserve(1)?;
+        self.screens.reserve()?;
         self.windows.reserve()?;
         self.images.reserve()?;
         self.on.reserve()?;
@@ -118,7 +110,7 @@ impl Uses {
         ensures added { self.new.image_ids.ids ≡ put_image_id e self.old.image_ids.ids }
         ensures windows { self.new.windows.windows ≡ with_window e.image screen self.old.windows.windows }
         ensures screen_ids { self.new.screen_ids.ids ≡ self.old.screen_ids.ids }
-        ensures screens { self.new.screens.items ≡ self.old.screens.items }
+        ensures screens { self.new.screens.screens ≡ self.old.screens.screens }
         ensures spare { self.new.spare.items ≡ self.old.spare.items }
         ensures gone { self.new.gone.items ≡ self.old.gone.items }
     {
@@ -137,7 +129,7 @@ impl Uses {
         requires fresh { find (is_screen_id e.client e.id) self.old.screen_ids.ids ≡ None }
         ensures added { self.new.screen_ids.ids ≡ put_screen_id e self.old.screen_ids.ids }
         ensures image_ids { self.new.image_ids.ids ≡ self.old.image_ids.ids }
-        ensures screens { self.new.screens.items ≡ self.old.screens.items }
+        ensures screens { self.new.screens.screens ≡ self.old.screens.screens }
         ensures spare { self.new.spare.items ≡ self.old.spare.items }
         ensures windows { self.new.windows.windows ≡ self.old.windows.windows }
         ensures gone { self.new.gone.items ≡ self.old.gone.items }
@@ -151,7 +143,7 @@ impl Uses {
         requires room { 0 < room self.old }
         requires fresh { find (is_screen_id e.client e.id) self.old.screen_ids.ids ≡ None }
         ensures added { self.new.screen_ids.ids ≡ put_screen_id e self.old.screen_ids.ids }
-        ensures screens { self.new.screens.items ≡ with_screen self.old.screens.items e.screen screen }
+        ensures screens { self.new.screens.screens ≡ with_screen self.old.screens.screens e.screen screen }
         ensures spare { self.new.spare.items ≡ take (length self.old.spare.items - 1) self.old.spare.items }
         ensures image_ids { self.new.image_ids.ids ≡ self.old.image_ids.ids }
         ensures windows { self.new.windows.windows ≡ self.old.windows.windows }

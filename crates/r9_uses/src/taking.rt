@@ -1,6 +1,6 @@
 //! Taking single references.
 
-ghost use Rattle.std.specs.Prelude.{◌≡◌, ◌==◌, ◌<◌, ◌≤◌, ◌+◌, ℕ, None, Some, not, true, false, filter, find, length, slice_set, vec_len, vec_capacity, IfSome};
+ghost use Rattle.std.specs.Prelude.{◌≡◌, ◌==◌, ◌<◌, ◌≤◌, ◌+◌, ℕ, None, Some, not, true, false, filter, find, length, slice_set};
 ghost use Rattle.model_images.specs.Release.{is_image_id, is_screen_id};
 ghost use Rattle.r9_uses.specs.Tally.{room_of, knows};
 
@@ -50,8 +50,8 @@ impl Uses {
 
     // There is no screen of the number any more.
     pub(crate) fn empty(&mut self, number: u32)
-        ensures emptied { self.new.screens.items ≡ slice_set self.old.screens.items number None }
-        ensures capacity { vec_capacity self.new.screens ≡ vec_capacity self.old.screens }
+        ensures emptied { self.new.screens.screens ≡ slice_set self.old.screens.screens number None }
+        ensures room { self.old.screens.room ≤ self.new.screens.room }
         ensures known { (q : ℕ) → knows self.old.images.uses q ≡ true → knows self.new.images.uses q ≡ true }
         ensures images_room { room_of self.new.images.uses self.new.images.made ≡ room_of self.old.images.uses self.old.images.made }
         ensures on_room { room_of self.new.on.uses self.new.on.made ≡ room_of self.old.on.uses self.old.on.made }
@@ -63,17 +63,13 @@ impl Uses {
         ensures gone { self.new.gone ≡ self.old.gone }
         ensures more { room self.old ≤ room self.new }
     {
-        let at = number as usize;
-        if at >= self.screens.len() {
-            return;
-        }
-        let Some(screen) = self.screens[at] else {
+        let Some(screen) = self.screens.get(number) else {
             return;
         };
         self.images.take(screen.image);
         self.images.take(screen.fill);
         self.on.take(screen.image);
-        self.screens[at] = None;
+        self.screens.remove(number);
     }
 
     // The image's first window goes, where it has one.

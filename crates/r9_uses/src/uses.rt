@@ -1,6 +1,6 @@
 //! What lives, and looking up in it.
 
-ghost use Rattle.std.specs.Prelude.{◌≡◌, ◌==◌, ◌<◌, ◌≤◌, ◌-◌, ◌&&◌, ◌||◌, ℕ, [], false, true, length, find, slice_index_or, None, IfSome, IsSome};
+ghost use Rattle.std.specs.Prelude.{◌≡◌, ◌==◌, ◌<◌, ◌≤◌, ◌-◌, ◌&&◌, ◌||◌, ℕ, [], length, find, slice_index_or, None, IfSome, IsSome};
 ghost use Rattle.std.specs.List.{list_any};
 ghost use Rattle.std.specs.Option.{option_map};
 ghost use Rattle.model_images.specs.Book.{is_on};
@@ -13,6 +13,7 @@ use crate::tally::Tally;
 use crate::windows::Windows;
 use model_images::{ImageId, Screen, ScreenId, Thing};
 use r9_ids::{ImageIds, ScreenIds};
+use r9_screens::Screens;
 use std::alloc::Global;
 
 /// The image ids, the screen ids, the screens and the windows that live, with how often each image and each screen is referred
@@ -22,8 +23,8 @@ pub struct Uses {
     pub(crate) alloc: Global,
     pub(crate) image_ids: ImageIds,
     pub(crate) screen_ids: ScreenIds,
-    // The screen of each number that was given out, and the numbers of those that have gone.
-    pub(crate) screens: Vec<Option<Screen>>,
+    pub(crate) screens: Screens,
+    // The numbers of the screens that have gone.
     pub(crate) spare: Vec<u32>,
     pub(crate) windows: Windows,
     pub(crate) gone: Vec<Thing>,
@@ -31,19 +32,21 @@ pub struct Uses {
     pub(crate) images: Tally,
     pub(crate) on: Tally,
     pub(crate) numbers: Tally,
-    ghost images_counted: { (i : ℕ) → count_of images.uses i ≡ image_uses i image_ids.ids screens.items },
-    ghost on_counted: { (i : ℕ) → count_of on.uses i ≡ screens_on i screens.items },
+    ghost images_counted: { (i : ℕ) → count_of images.uses i ≡ image_uses i image_ids.ids screens.screens },
+    ghost on_counted: { (i : ℕ) → count_of on.uses i ≡ screens_on i screens.screens },
     ghost screens_counted: { (s : ℕ) → count_of numbers.uses s ≡ screen_uses s screen_ids.ids windows.windows },
     ghost images_gone: { (i : ℕ) → gone_of images.uses i ≡ list_any (same_thing (thing.Image i)) gone.items },
     ghost screens_gone: { (s : ℕ) → gone_of numbers.uses s ≡ list_any (same_thing (thing.Screen s)) gone.items },
 }
 
 impl Uses {
+    ghost use Rattle.r9_uses.specs.Room.{room};
+
     /// Nothing.
     pub fn new(alloc: Global) -> Self
         ensures image_ids { result.image_ids.ids ≡ [] }
         ensures screen_ids { result.screen_ids.ids ≡ [] }
-        ensures screens { result.screens.items ≡ [] }
+        ensures screens { result.screens.screens ≡ [] }
         ensures spare { result.spare.items ≡ [] }
         ensures windows { result.windows.windows ≡ [] }
         ensures gone { result.gone.items ≡ [] }
@@ -52,7 +55,7 @@ impl Uses {
             alloc,
             image_ids: ImageIds::new(alloc),
             screen_ids: ScreenIds::new(alloc),
-            screens: Vec::new(alloc),
+            screens: Screens::new(alloc),
             spare: Vec::new(alloc),
             windows: Windows::new(alloc),
             gone: Vec::new(alloc),
@@ -87,7 +90,7 @@ impl Uses {
 
     /// Whether there is a screen on the image.
     pub fn has_screen(&self, image: u32) -> bool
-        ensures { result ≡ list_any (is_on image) self.now.screens.items }
+        ensures { result ≡ list_any (is_on image) self.now.screens.screens }
     {
         self.on.count(image) > 0
     }
@@ -101,21 +104,17 @@ impl Uses {
 
     /// The screen of a number, where it lives.
     pub fn screen_numbered(&self, screen: u32) -> Option<Screen>
-        ensures { result ≡ slice_index_or self.now.screens.items screen None }
+        ensures { result ≡ slice_index_or self.now.screens.screens screen None }
     {
-        let at = screen as usize;
-        if at < self.screens.len() {
-            self.screens[at]
-        } else {
-            None
-        }
+        self.screens.get(screen)
     }
 
     /// The number of the next screen: the one that came back last, else the lowest that was never given out. None where the
     /// numbers are used up.
     pub fn next_screen(&self) -> Option<u32>
-        ensures number { IfSome result (λ n. n ≡ slice_index_or self.now.spare.items (length self.now.spare.items - 1) (length self.now.screens.items)) }
-        ensures room { length self.now.screens.items < 4294967295 → IsSome result }
+        ensures number { IfSome result (λ n. n ≡ slice_index_or self.now.spare.items (length self.now.spare.items - 1) (length self.now.screens.screens)) }
+        ensures room { length self.now.screens.screens < 4294967295 → IsSome result }
+        ensures ready { 0 < room self.now → IsSome result }
     {
         match self.spare.last() {
             Some(number) => Some(*number),

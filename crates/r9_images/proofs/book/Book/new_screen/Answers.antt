@@ -1,10 +1,9 @@
-use Rattle.std.proofs.Common.{◌≡◌, ◌<◌, false, true, List, length, ap, ◌∙◌, arith}
+use Rattle.std.proofs.Common.{◌≡◌, false, true, List, ap, ◌∙◌, arith}
 use Rattle.std.specs.Prelude.{find}
 use Rattle.model_images.specs.declared.ScreenId.{ScreenId}
 use Rattle.model_images.specs.Release.{is_screen_id}
 use Rattle.r9_images.specs.View.{Roomy}
 use Rattle.r9_images.proofs.Rooms.{room_in}
-use Rattle.r9_uses.proofs.Parts.{parts}
 use Rattle.r9_images.proofs.book.Book.new_screen.Goals as goal
 
 pub returns-in_err-reserve-clause-room : goal.returns-in_err-reserve-clause-room
@@ -18,7 +17,5 @@ add_screen-requires-clause-fresh c =
 
 pub returns-in_default-clause-room : goal.returns-in_default-clause-room
 returns-in_default-clause-room c = λ h.
-    let p = parts c.reserve.new.self c.in_ok-reserve.ensures.room in
-    let few : length c.reserve.new.self.screens.items < 4294967295 = omega (arith, p.numbered, c.reserve.new.self.screens.ok.0) in
-    let bad : false ≡ true = c.in_default.ensures.room few in
+    let bad : false ≡ true = c.in_default.ensures.ready c.in_ok-reserve.ensures.room in
     absurd (cc)

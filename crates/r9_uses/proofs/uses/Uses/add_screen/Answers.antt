@@ -9,7 +9,7 @@ pub put_screen-requires-clause-on : goal.put_screen-requires-clause-on
 put_screen-requires-clause-on c = let p = parts c.args.self.now c.requires.room in omega (arith, p.on)
 
 pub put_screen-requires-clause-screens : goal.put_screen-requires-clause-screens
-put_screen-requires-clause-screens c = let p = parts c.args.self.now c.requires.room in omega (arith, p.screens, c.args.self.now.screens.ok.0)
+put_screen-requires-clause-screens c = (parts c.args.self.now c.requires.room).screens
 
 pub put_screen_id-requires-clause-ids : goal.put_screen_id-requires-clause-ids
 put_screen_id-requires-clause-ids c = rw c.put_screen.ensures.screen_ids (parts c.args.self.now c.requires.room).screen_ids

@@ -1,4 +1,4 @@
-use Rattle.std.proofs.Common.{◌∙◌, refl}
+use Rattle.std.proofs.Common.{◌∙◌}
 use Rattle.model_images.specs.Release.{freed_image_id}
 use Rattle.r9_uses.specs.Freed.{given}
 use Rattle.r9_uses.proofs.Rooms.{all-given}
@@ -12,8 +12,8 @@ returns-clause-freed c = λ ties next_tie.
 
 pub returns-in_err-reserve-clause-more : goal.returns-in_err-reserve-clause-more
 returns-in_err-reserve-clause-more c =
-    room-kept c.args.self.now _ (le-refl _) (le-refl _) refl (le-refl _) (le-refl _) (le-refl _) (le-refl _) (le-refl _)
+    room-kept c.args.self.now _ (le-refl _) (le-refl _) (le-refl _) (le-refl _) (le-refl _) (le-refl _) (le-refl _)
 
 pub returns-clause-more : goal.returns-clause-more
 returns-clause-more c =
-    le-trans _ _ _ (room-kept c.args.self.now _ (le-refl _) (le-refl _) refl (le-refl _) (le-refl _) (le-refl _) (le-refl _) (le-refl _)) (le-trans _ _ _ c.drop_plain.ensures.more c.take_gone.ensures.more)
+    le-trans _ _ _ (room-kept c.args.self.now _ (le-refl _) (le-refl _) (le-refl _) (le-refl _) (le-refl _) (le-refl _) (le-refl _)) (le-trans _ _ _ c.drop_plain.ensures.more c.take_gone.ensures.more)

@@ -1,7 +1,6 @@
-use Rattle.std.proofs.Common.{refl}
 use Rattle.r9_uses.proofs.Parts.{le-refl, le-same, le-trans, room-kept}
 use Rattle.r9_uses.proofs.uses.Uses.let_image_go.Goals as goal
 
 pub returns-clause-more : goal.returns-clause-more
 returns-clause-more c =
-    le-trans _ _ _ c.close.ensures.more (room-kept c.close.new.self _ (le-refl _) (le-refl _) refl (le-refl _) (le-refl _) (le-same _ _ c.mark.ensures.room) (le-refl _) (le-refl _))
+    le-trans _ _ _ c.close.ensures.more (room-kept c.close.new.self _ (le-refl _) (le-refl _) (le-refl _) (le-refl _) (le-same _ _ c.mark.ensures.room) (le-refl _) (le-refl _))

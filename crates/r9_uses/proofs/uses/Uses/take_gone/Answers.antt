@@ -1,7 +1,6 @@
-use Rattle.std.proofs.Common.{refl}
 use Rattle.r9_uses.proofs.Parts.{le-refl, room-kept}
 use Rattle.r9_uses.proofs.uses.Uses.take_gone.Goals as goal
 
 pub returns-clause-more : goal.returns-clause-more
 returns-clause-more c =
-    room-kept c.args.self.now _ (le-refl _) (le-refl _) refl (le-refl _) (le-refl _) c.forget_all.ensures.image_room (le-refl _) c.forget_all.ensures.screen_room
+    room-kept c.args.self.now _ (le-refl _) (le-refl _) (le-refl _) (le-refl _) c.forget_all.ensures.image_room (le-refl _) c.forget_all.ensures.screen_room

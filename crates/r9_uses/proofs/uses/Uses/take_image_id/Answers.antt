@@ -1,4 +1,4 @@
-use Rattle.std.proofs.Common.{◌==◌, ◌∙◌, arith, refl}
+use Rattle.std.proofs.Common.{◌==◌, ◌∙◌, arith}
 use Rattle.model_images.specs.declared.ImageId.{ImageId}
 use Rattle.model_images.specs.Release.{is_image_id}
 use Rattle.r9_uses.proofs.Counts.{count-found, count-taken_image, same-number}
@@ -25,4 +25,4 @@ invariant_of-self-clause-images_gone c = λ i. c.take.ensures.gone i ∙ c.args.
 
 pub returns-clause-more : goal.returns-clause-more
 returns-clause-more c =
-    room-kept c.args.self.now _ c.remove.ensures.room (le-refl _) refl (le-refl _) (le-refl _) (le-same _ _ c.take.ensures.room) (le-refl _) (le-refl _)
+    room-kept c.args.self.now _ c.remove.ensures.room (le-refl _) (le-refl _) (le-refl _) (le-same _ _ c.take.ensures.room) (le-refl _) (le-refl _)

@@ -1,4 +1,4 @@
-use Rattle.std.proofs.Common.{◌==◌, ◌∙◌, arith, refl}
+use Rattle.std.proofs.Common.{◌==◌, ◌∙◌, arith}
 use Rattle.model_images.specs.declared.ScreenId.{ScreenId}
 use Rattle.model_images.specs.Release.{is_screen_id}
 use Rattle.r9_uses.proofs.Counts.{count-found, count-taken_screen, same-number}
@@ -25,4 +25,4 @@ invariant_of-self-clause-screens_gone c = λ s. c.take.ensures.gone s ∙ c.args
 
 pub returns-clause-more : goal.returns-clause-more
 returns-clause-more c =
-    room-kept c.args.self.now _ (le-refl _) c.remove.ensures.room refl (le-refl _) (le-refl _) (le-refl _) (le-refl _) (le-same _ _ c.take.ensures.room)
+    room-kept c.args.self.now _ (le-refl _) c.remove.ensures.room (le-refl _) (le-refl _) (le-refl _) (le-refl _) (le-same _ _ c.take.ensures.room)

@@ -14,8 +14,8 @@ invariant_of-self-in-None-clause-screens_counted c = λ s. rw (c.in-None.ensures
 
 pub returns-in-Some-clause-more : goal.returns-in-Some-clause-more
 returns-in-Some-clause-more c =
-    room-kept c.args.self.now _ (le-refl _) (le-refl _) refl (le-refl _) c.take.ensures.room (le-refl _) (le-refl _) (le-same _ _ c.take-in-Some.ensures.room)
+    room-kept c.args.self.now _ (le-refl _) (le-refl _) (le-refl _) c.take.ensures.room (le-refl _) (le-refl _) (le-same _ _ c.take-in-Some.ensures.room)
 
 pub returns-in-None-clause-more : goal.returns-in-None-clause-more
 returns-in-None-clause-more c =
-    room-kept c.args.self.now _ (le-refl _) (le-refl _) refl (le-refl _) c.take.ensures.room (le-refl _) (le-refl _) (le-refl _)
+    room-kept c.args.self.now _ (le-refl _) (le-refl _) (le-refl _) c.take.ensures.room (le-refl _) (le-refl _) (le-refl _)
