@@ -1,4 +1,5 @@
 mod IdRows
 mod Entries
 mod Mapped
+mod Next
 mod Publics

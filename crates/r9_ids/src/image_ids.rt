@@ -1,13 +1,14 @@
 //! The image ids of all connections.
 
-ghost use Rattle.std.specs.Prelude.{◌≡◌, ◌==◌, ◌<◌, ◌≤◌, ◌+◌, ◌&&◌, ◌∷◌, [], not, find, filter, length, None, Some, IfSome, OnOk, OnErr};
+ghost use Rattle.std.specs.Prelude.{◌≡◌, ◌==◌, ◌<◌, ◌≤◌, ◌+◌, ◌&&◌, ◌∷◌, [], not, find, filter, length, None, Some, IfSome, IfOk, MatchOption, OnOk, OnErr};
 ghost use Rattle.model_images.specs.Book.{put_image_id};
 ghost use Rattle.model_images.specs.Release.{is_image_id};
+ghost use Rattle.r9_ids.specs.Own.{images_from};
 
 use crate::rows::{ImageRow, key_of_id};
 use model_images::ImageId;
 use r9_memory::Memory;
-use r9_sorted::Sorted;
+use r9_sorted::{Key, Sorted};
 use std::alloc::Global;
 use std::marker::Model;
 
@@ -79,6 +80,35 @@ impl ImageIds {
             }
             None => None,
         }
+    }
+
+    // The first id of a connection from one on.
+    fn next_of(&self, client: u64, from: u64) -> Option<ImageId>
+        ensures rest { MatchOption result (images_from client from self.now.ids ≡ []) (λ e. images_from client from self.now.ids ≡ e ∷ images_from client (e.id + 1) self.now.ids) }
+    {
+        let row = self.rows.first_from(Key {
+            first: client,
+            second: from,
+            third: 0,
+        })?;
+        if row.e.client == client {
+            Some(row.e)
+        } else {
+            None
+        }
+    }
+
+    /// How many ids a connection has: more than can be counted are more than there is memory for.
+    pub fn count_of(&self, client: u64) -> Result<usize, Memory>
+        ensures { IfOk result (λ n. n ≡ length (filter (λ e. e.client == client) self.now.ids)) }
+    {
+        let mut count: usize = 0;
+        let mut from: u64 = 0;
+        'counting: while let Some(e) = self.next_of(client, from) {
+            count = count.checked_add(1).ok_or(Memory)?;
+            from = u64::from(e.id) + 1;
+        }
+        Ok(count)
     }
 
     /// Puts an id into its place, which is not among them. There is room for it.

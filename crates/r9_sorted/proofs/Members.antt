@@ -27,7 +27,7 @@ none-holds p q (y ∷ ys) x none h = by (none-holds p q ys x (miss-tail (p y) y 
 
 module _ {T : Type 0} (key_of : T → Key) where
   -- a row that comes after is greater, whatever it is found by
-  after-holds : (k : Key) (p : T → Bool) (xs : List T) (x : T) → AreAfter key_of k xs → find p xs ≡ Some x → comes_before k (key_of x) ≡ true
+  pub after-holds : (k : Key) (p : T → Bool) (xs : List T) (x : T) → AreAfter key_of k xs → find p xs ≡ Some x → comes_before k (key_of x) ≡ true
   after-holds k p [] x after h = absurd cc
   after-holds k p (y ∷ ys) x after h = by (after-holds k p ys x after.1) (p y) h
     where

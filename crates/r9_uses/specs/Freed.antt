@@ -32,6 +32,13 @@ book_of u = (freed_of u [] 0).book
 abbrev pub given : Uses → List Thing → List Tie → ℕ → release.Freed
 given u gone ties next_tie = record { book = (freed_of u ties next_tie).book; gone = gone }
 
+-- how many image ids and screen ids a connection has
+abbrev pub own_images : Uses → (client : ℕ) → ℕ
+own_images u client = length (filter (λ e. e.client == client) u.image_ids.ids)
+
+abbrev pub own_screens : Uses → (client : ℕ) → ℕ
+own_screens u client = length (filter (λ e. e.client == client) u.screen_ids.ids)
+
 -- once the image ids of a connection and then its screen ids are freed
 abbrev pub left_by : release.Freed → ℕ → release.Freed
 left_by freed client =

@@ -56,7 +56,7 @@ fn most(images: usize, screens: usize, windows: usize) -> Result<usize, Memory>
 
 impl Uses {
     ghost use Rattle.r9_uses.specs.Room.{room};
-    ghost use Rattle.r9_uses.specs.Freed.{freed_of, given, left_by, IsKnown, HasRoom};
+    ghost use Rattle.r9_uses.specs.Freed.{freed_of, given, left_by, own_images, own_screens, IsKnown, HasRoom};
 
     // Makes room for so many things to go.
     fn make_room(&mut self, most: usize) -> Result<Pending, Memory>
@@ -146,13 +146,13 @@ impl Uses {
     // The image ids of a connection go, in ascending order. There is room for all that may go.
     fn drop_image_ids(&mut self, client: u64, pending: &mut Pending)
         requires none { pending.old.things ≡ [] }
-        requires room { HasRoom self.old (length self.old.image_ids.ids + 3 * length self.old.windows.windows) }
-        requires most { length self.old.image_ids.ids + 3 * length self.old.windows.windows ≤ pending.old.most }
+        requires room { HasRoom self.old (own_images self.old client + 3 * length self.old.windows.windows) }
+        requires most { own_images self.old client + 3 * length self.old.windows.windows ≤ pending.old.most }
         ensures freed { (ties : List Tie) (next_tie : ℕ) → freed_of self.new ties next_tie ≡ fold model.freed_image_id (freed_of self.old ties next_tie) (filter (λ e. e.client == client) self.old.image_ids.ids) }
         ensures none { pending.new.things ≡ [] }
         ensures most { pending.new.most ≡ pending.old.most }
-        ensures room { (more : ℕ) → HasRoom self.old (length self.old.image_ids.ids + 3 * length self.old.windows.windows + more) → HasRoom self.new (3 * length self.new.windows.windows + more) }
-        ensures fewer { 3 * length self.new.windows.windows ≤ length self.old.image_ids.ids + 3 * length self.old.windows.windows }
+        ensures room { (more : ℕ) → HasRoom self.old (own_images self.old client + 3 * length self.old.windows.windows + more) → HasRoom self.new (3 * length self.new.windows.windows + more) }
+        ensures fewer { 3 * length self.new.windows.windows ≤ own_images self.old client + 3 * length self.old.windows.windows }
         ensures screen_ids { self.new.screen_ids ≡ self.old.screen_ids }
         ensures more { room self.old ≤ room self.new }
     {
@@ -164,8 +164,8 @@ impl Uses {
     // The screen ids of a connection go, in ascending order. There is room for all that may go.
     fn drop_screen_ids(&mut self, client: u64, pending: &mut Pending)
         requires none { pending.old.things ≡ [] }
-        requires room { HasRoom self.old (3 * length self.old.screen_ids.ids + 3 * length self.old.windows.windows) }
-        requires most { 3 * length self.old.screen_ids.ids + 3 * length self.old.windows.windows ≤ pending.old.most }
+        requires room { HasRoom self.old (3 * own_screens self.old client + 3 * length self.old.windows.windows) }
+        requires most { 3 * own_screens self.old client + 3 * length self.old.windows.windows ≤ pending.old.most }
         ensures freed { (ties : List Tie) (next_tie : ℕ) → freed_of self.new ties next_tie ≡ fold model.freed_screen_id (freed_of self.old ties next_tie) (filter (λ e. e.client == client) self.old.screen_ids.ids) }
         ensures more { room self.old ≤ room self.new }
     {
@@ -236,7 +236,8 @@ impl Uses {
     }
 
     /// A connection ends: its image ids go in ascending order, and then its screen ids, each time with what nothing refers to
-    /// any more. Gives what has gone. After Memory all is as before.
+    /// any more. Gives what has gone. After Memory all is as before. This takes memory for the ids of the connection and for
+    /// three times the windows that live, and none where it has no id.
     pub fn leave(&mut self, client: u64) -> Result<Vec<Thing>, Memory>
         requires { self.old.gone.items ≡ [] }
         ensures freed { (ties : List Tie) (next_tie : ℕ) → IfOk result (λ gone. given self.new gone.items ties next_tie ≡ left_by (freed_of self.old ties next_tie) client) }
@@ -244,11 +245,12 @@ impl Uses {
         ensures kept { (ties : List Tie) (next_tie : ℕ) → OnErr result (freed_of self.new ties next_tie ≡ freed_of self.old ties next_tie) }
         ensures more { room self.old ≤ room self.new + 1 }
     {
-        let most = most(
-            self.image_ids.len(),
-            self.screen_ids.len(),
-            self.windows.len(),
-        )?;
+        let images = self.image_ids.count_of(client)?;
+        let screens = self.screen_ids.count_of(client)?;
+        if images == 0 && screens == 0 {
+            return Ok(Vec::new(self.alloc));
+        }
+        let most = most(images, screens, self.windows.len())?;
         let mut pending = self.make_room(most)?;
         self.drop_image_ids(client, &mut pending);
         self.drop_screen_ids(client, &mut pending);

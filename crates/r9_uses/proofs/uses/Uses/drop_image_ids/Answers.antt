@@ -1,8 +1,8 @@
-use Rattle.std.proofs.Common.{◌==◌, ◌+◌, ◌*◌, ◌<◌, filter, length, ap, ◌∙◌, arith}
+use Rattle.std.proofs.Common.{◌==◌, ◌+◌, ◌*◌, ◌<◌, List, filter, length, ap, ◌∙◌, arith}
 use Rattle.std.specs.Prelude.{not}
 use Rattle.model_images.specs.declared.ImageId.{ImageId}
 use Rattle.model_images.specs.Release.{freed_image_id, is_image_id}
-use Rattle.r9_uses.specs.Freed.{freed_of}
+use Rattle.r9_uses.specs.Freed.{freed_of, own_images}
 use Rattle.r9_uses.proofs.Rooms.{fewer-left, fold-none, fold-one, less-room, none-own}
 use Rattle.r9_uses.proofs.uses.Uses.drop_image_ids.Goals as goal
 
@@ -18,7 +18,9 @@ dropping-preserved c =
     let e = c.in-Some.e in
     let now = c.dropping.self in
     let new = c.drop_image_id.new.self in
-    let less : length new.image_ids.ids < length now.image_ids.ids = dropping-smaller c in
+    let rest = ap length c.in-Some.ensures.rest in
+    let left = ap (λ (ids : List ImageId). length (filter (λ x. x.client == c.args.client) ids)) c.drop_image_id.ensures.image_ids in
+    let less : own_images new c.args.client < own_images now c.args.client = omega (arith, rest, left) in
     record {
       step = λ ties next_tie.
           fold-one freed_image_id (freed_of now ties next_tie) (freed_of new ties next_tie) e (filter (λ x. x.client == c.args.client) now.image_ids.ids)
@@ -26,9 +28,9 @@ dropping-preserved c =
           (c.drop_image_id.ensures.freed ties next_tie) (ap (filter (λ (x : ImageId). x.client == c.args.client)) c.drop_image_id.ensures.image_ids) c.in-Some.ensures.rest
           ∙ c.dropping.invariant.step ties next_tie;
       room = λ more h.
-          less-room new (length new.image_ids.ids + 3 * length new.windows.windows + more) (3 * length new.windows.windows + (length new.image_ids.ids + more)) (omega arith)
-          (c.drop_image_id.ensures.room (length new.image_ids.ids + more)
-          (less-room now (1 + 3 * length now.windows.windows + (length new.image_ids.ids + more)) (length now.image_ids.ids + 3 * length now.windows.windows + more) (omega (arith, less))
+          less-room new (own_images new c.args.client + 3 * length new.windows.windows + more) (3 * length new.windows.windows + (own_images new c.args.client + more)) (omega arith)
+          (c.drop_image_id.ensures.room (own_images new c.args.client + more)
+          (less-room now (1 + 3 * length now.windows.windows + (own_images new c.args.client + more)) (own_images now c.args.client + 3 * length now.windows.windows + more) (omega (arith, less))
           (c.dropping.invariant.room more h)));
       fewer = omega (arith, c.drop_image_id.ensures.fewer, c.dropping.invariant.fewer, less);
       none = c.drop_image_id.ensures.none;
@@ -46,4 +48,4 @@ returns-clause-freed c = λ ties next_tie.
 pub returns-clause-room : goal.returns-clause-room
 returns-clause-room c = λ more h.
     let now = c.dropping.self in
-    less-room now (3 * length now.windows.windows + more) (length now.image_ids.ids + 3 * length now.windows.windows + more) (omega arith) (c.dropping.invariant.room more h)
+    less-room now (3 * length now.windows.windows + more) (own_images now c.args.client + 3 * length now.windows.windows + more) (omega arith) (c.dropping.invariant.room more h)

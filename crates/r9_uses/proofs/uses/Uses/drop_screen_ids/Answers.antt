@@ -1,8 +1,8 @@
-use Rattle.std.proofs.Common.{◌==◌, ◌+◌, ◌*◌, ◌<◌, filter, length, ap, ◌∙◌, arith}
+use Rattle.std.proofs.Common.{◌==◌, ◌+◌, ◌*◌, ◌<◌, List, filter, length, ap, ◌∙◌, arith}
 use Rattle.std.specs.Prelude.{not}
 use Rattle.model_images.specs.declared.ScreenId.{ScreenId}
 use Rattle.model_images.specs.Release.{freed_screen_id, is_screen_id}
-use Rattle.r9_uses.specs.Freed.{freed_of}
+use Rattle.r9_uses.specs.Freed.{freed_of, own_screens}
 use Rattle.r9_uses.proofs.Rooms.{fewer-left, fold-none, fold-one, less-room, none-own}
 use Rattle.r9_uses.proofs.uses.Uses.drop_screen_ids.Goals as goal
 
@@ -18,7 +18,9 @@ dropping-preserved c =
     let e = c.in-Some.e in
     let now = c.dropping.self in
     let new = c.drop_screen_id.new.self in
-    let less : length new.screen_ids.ids < length now.screen_ids.ids = dropping-smaller c in
+    let rest = ap length c.in-Some.ensures.rest in
+    let left = ap (λ (ids : List ScreenId). length (filter (λ x. x.client == c.args.client) ids)) c.drop_screen_id.ensures.screen_ids in
+    let less : own_screens new c.args.client < own_screens now c.args.client = omega (arith, rest, left) in
     record {
       step = λ ties next_tie.
           fold-one freed_screen_id (freed_of now ties next_tie) (freed_of new ties next_tie) e (filter (λ x. x.client == c.args.client) now.screen_ids.ids)
@@ -26,9 +28,9 @@ dropping-preserved c =
           (c.drop_screen_id.ensures.freed ties next_tie) (ap (filter (λ (x : ScreenId). x.client == c.args.client)) c.drop_screen_id.ensures.screen_ids) c.in-Some.ensures.rest
           ∙ c.dropping.invariant.step ties next_tie;
       room = λ more h.
-          less-room new (3 * length new.screen_ids.ids + 3 * length new.windows.windows + more) (3 * length new.windows.windows + (3 * length new.screen_ids.ids + more)) (omega arith)
-          (c.drop_screen_id.ensures.room (3 * length new.screen_ids.ids + more)
-          (less-room now (3 + 3 * length now.windows.windows + (3 * length new.screen_ids.ids + more)) (3 * length now.screen_ids.ids + 3 * length now.windows.windows + more) (omega (arith, less))
+          less-room new (3 * own_screens new c.args.client + 3 * length new.windows.windows + more) (3 * length new.windows.windows + (3 * own_screens new c.args.client + more)) (omega arith)
+          (c.drop_screen_id.ensures.room (3 * own_screens new c.args.client + more)
+          (less-room now (3 + 3 * length now.windows.windows + (3 * own_screens new c.args.client + more)) (3 * own_screens now c.args.client + 3 * length now.windows.windows + more) (omega (arith, less))
           (c.dropping.invariant.room more h)));
       fewer = omega (arith, c.drop_screen_id.ensures.fewer, c.dropping.invariant.fewer, less);
       none = c.drop_screen_id.ensures.none;

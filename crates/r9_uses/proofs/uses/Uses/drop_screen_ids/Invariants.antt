@@ -3,7 +3,7 @@ use Rattle.std.specs.List.{fold}
 use Rattle.model_images.specs.Release as model
 use Rattle.model_images.specs.declared.Tie.{Tie}
 use Rattle.r9_uses.specs.declared.uses.Uses.{Uses}
-use Rattle.r9_uses.specs.Freed.{freed_of, HasRoom}
+use Rattle.r9_uses.specs.Freed.{freed_of, own_screens, HasRoom}
 use Rattle.r9_uses.specs.Pending.{Things}
 use Rattle.r9_uses.specs.Room.{room as room_of_all}
 use Rattle.r9_uses.proofs.uses.Uses.drop_screen_ids.Given as goal
@@ -15,9 +15,9 @@ pub record Dropping (client : ℕ) (now start : Uses) (pending first : Things) :
       → fold model.freed_screen_id (freed_of now ties next_tie) (filter (λ e. e.client == client) now.screen_ids.ids)
       ≡ fold model.freed_screen_id (freed_of start ties next_tie) (filter (λ e. e.client == client) start.screen_ids.ids)
   pub room :
-      (more : ℕ) → HasRoom start (3 * length start.screen_ids.ids + 3 * length start.windows.windows + more)
-      → HasRoom now (3 * length now.screen_ids.ids + 3 * length now.windows.windows + more)
-  pub fewer : 3 * length now.screen_ids.ids + 3 * length now.windows.windows ≤ 3 * length start.screen_ids.ids + 3 * length start.windows.windows
+      (more : ℕ) → HasRoom start (3 * own_screens start client + 3 * length start.windows.windows + more)
+      → HasRoom now (3 * own_screens now client + 3 * length now.windows.windows + more)
+  pub fewer : 3 * own_screens now client + 3 * length now.windows.windows ≤ 3 * own_screens start client + 3 * length start.windows.windows
   pub none : pending.things ≡ []
   pub more : room_of_all start ≤ room_of_all now
   pub most : pending.most ≡ first.most

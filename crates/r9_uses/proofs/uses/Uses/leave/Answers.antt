@@ -4,7 +4,7 @@ use Rattle.model_images.specs.declared.ScreenId.{ScreenId}
 use Rattle.model_images.specs.Release.{Freed, freed_screen_id}
 use Rattle.r9_ids.specs.ImageIds as images
 use Rattle.r9_ids.specs.ScreenIds as screens
-use Rattle.r9_uses.specs.Freed.{left_by}
+use Rattle.r9_uses.specs.Freed.{left_by, own_images, own_screens}
 use Rattle.r9_uses.specs.Windows.{Standing}
 use Rattle.r9_uses.proofs.Rooms.{all-given, less-room, on_err}
 use Rattle.r9_uses.proofs.uses.Uses.leave.Goals as goal
@@ -17,17 +17,18 @@ returns-in_err-pending-clause-kept c = λ ties next_tie. on_err _ _ (c.make_room
 
 pub drop_screen_ids-requires-clause-room : goal.drop_screen_ids-requires-clause-room
 drop_screen_ids-requires-clause-room c =
+    let client = c.args.client in
     let old = c.args.self.now in
     let ready = c.make_room.new.self in
     let new = c.drop_image_ids.new.self in
-    let image_ids : length ready.image_ids.ids ≡ length old.image_ids.ids = ap (λ (x : images.Ids). length x.ids) c.make_room.ensures.image_ids in
-    let screen_ids : length ready.screen_ids.ids ≡ length old.screen_ids.ids = ap (λ (x : screens.Ids). length x.ids) c.make_room.ensures.screen_ids in
-    let others : length new.screen_ids.ids ≡ length ready.screen_ids.ids = ap (λ (x : screens.Ids). length x.ids) c.drop_image_ids.ensures.screen_ids in
-    let windows : length ready.windows.windows ≡ length old.windows.windows = ap (λ (x : Standing). length x.windows) c.make_room.ensures.windows in
-    less-room new (3 * length new.screen_ids.ids + 3 * length new.windows.windows) (3 * length new.windows.windows + 3 * length ready.screen_ids.ids) (omega (arith, others))
-    (c.drop_image_ids.ensures.room (3 * length ready.screen_ids.ids)
-    (less-room ready (length ready.image_ids.ids + 3 * length ready.windows.windows + 3 * length ready.screen_ids.ids) c.in_ok-most.most
-    (omega (arith, image_ids, screen_ids, windows, c.in_ok-most.ensures, c.len.ensures, c.len-2.ensures, c.len-3.ensures)) c.in_ok-pending.ensures.room))
+    let image_ids : own_images ready client ≡ own_images old client = ap (λ (x : images.Ids). length (filter (λ e. e.client == client) x.ids)) c.make_room.ensures.image_ids in
+    let screen_ids : own_screens ready client ≡ own_screens old client = ap (λ (x : screens.Ids). length (filter (λ e. e.client == client) x.ids)) c.make_room.ensures.screen_ids in
+    let others : own_screens new client ≡ own_screens ready client = ap (λ (x : screens.Ids). length (filter (λ e. e.client == client) x.ids)) c.drop_image_ids.ensures.screen_ids in
+    let windows : length ready.windows.windows ≡ length old.windows.windows = ap (λ (w : Standing). length w.windows) c.make_room.ensures.windows in
+    less-room new (3 * own_screens new client + 3 * length new.windows.windows) (3 * length new.windows.windows + 3 * own_screens ready client) (omega (arith, others))
+    (c.drop_image_ids.ensures.room (3 * own_screens ready client)
+    (less-room ready (own_images ready client + 3 * length ready.windows.windows + 3 * own_screens ready client) c.in_ok-most.most
+    (omega (arith, image_ids, screen_ids, windows, c.in_ok-most.ensures, c.in_ok-images.ensures, c.in_ok-screens.ensures, c.len.ensures)) c.in_ok-pending.ensures.room))
 
 pub returns-clause-freed : goal.returns-clause-freed
 returns-clause-freed c = λ ties next_tie.
