@@ -156,12 +156,12 @@ all_deleted levels deletes (w ∷ ws) step ok may =
     }
 
 -- the windows of a rio in ascending serial are its windows
-put_each : (Q : Window → Type 0) (ws acc : List Window) → All Q acc → All Q ws → All Q (fold put acc ws)
+pub put_each : (Q : Window → Type 0) (ws acc : List Window) → All Q acc → All Q ws → All Q (fold put acc ws)
 put_each Q [] acc old all = old
 put_each Q (w ∷ ws) acc old all =
     put_each Q ws (put acc w) (All-permutation Q (w ∷ acc) (put acc w) (IsPermutation-insert acc (position_or_len (λ v. nat_lt w.serial v.serial) acc) w) (All-cons Q w acc (All-head Q w ws all) old)) (All-tail Q w ws all)
 
-each_put : (Q : Window → Type 0) (ws acc : List Window) → All Q (fold put acc ws) → All Q acc × All Q ws
+pub each_put : (Q : Window → Type 0) (ws acc : List Window) → All Q (fold put acc ws) → All Q acc × All Q ws
 each_put Q [] acc all = (all, All-nil Q)
 each_put Q (w ∷ ws) acc all =
     let rest = each_put Q ws (put acc w) all in

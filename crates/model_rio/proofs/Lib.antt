@@ -8,7 +8,8 @@ mod Inputs
 mod Makings
 mod Movings
 mod Goings
-mod Paths
+pub mod Paths
+pub mod Listing
 pub mod Soundness
 mod Notes
 pub mod Turns

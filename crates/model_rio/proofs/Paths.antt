@@ -1,5 +1,5 @@
 -- Paths name windows.
-use Rattle.std.proofs.Common.{◌≡◌, ◌∙◌, ℕ, zero, suc, ◌≤◌, ◌==◌, ◌&&◌, Bool, true, false, List, [], ◌∷◌, ◌++◌, length, find, Option, Some, None, option_map, option_and_then, All, AllPairs, refl, sym, ap, arith, append_assoc, append-nil, eqb-true, eq-eqb, ne_eqb}
+use Rattle.std.proofs.Common.{◌≢◌, IfSome, IfNone, IsSome, ◌≡◌, ◌∙◌, ℕ, zero, suc, ◌≤◌, ◌==◌, ◌&&◌, Bool, true, false, List, [], ◌∷◌, ◌++◌, length, find, Option, Some, None, option_map, option_and_then, All, AllPairs, refl, sym, ap, arith, append_assoc, append-nil, eqb-true, eq-eqb, ne_eqb}
 use Rattle.std.proofs.lemmas.Bool.{and_parts}
 use Rattle.std.proofs.lemmas.List.Elements.{All-nil, All-cons}
 use Rattle.model_rio.specs.Table.{Window, Table, window_of, path_up, path_of, numbered, below, found}
@@ -132,3 +132,16 @@ pub found_path : (table : Table) (path : List ℕ) (serial : ℕ) → IsSound ta
 unfolding found
 found_path table [] serial ok e = absurd (let f : ◌≡◌ {A = Option ℕ} None (Some serial) = e in cc)
 found_path table (number ∷ path) serial ok e = below_path table ok (number ∷ path) 0 serial e ∙ ap (λ front. front ++ number ∷ path) (root_path table ok)
+
+-- what a search for a path answers
+pub answered : (table : Table) (path : List ℕ) (answer : Option ℕ) → answer ≡ found table path → IsSound table → IfSome answer (λ serial. path_of table serial ≡ path)
+answered table path (Some serial) e ok = found_path table path serial ok (sym e)
+answered table path None e ok = tt
+
+pub unanswered : (table : Table) (path : List ℕ) (answer : Option ℕ) → answer ≡ found table path → IsSound table → IfNone answer ((serial : ℕ) → IsSome (window_of table serial) → path_of table serial ≢ path)
+unanswered table path (Some serial) e ok = tt
+unanswered table path None e ok = λ serial is same. by_window serial same (window_of table serial) refl is
+  where
+    by_window : (serial : ℕ) → path_of table serial ≡ path → (o : Option Window) → window_of table serial ≡ o → IsSome o → ⊥
+    by_window serial same (Some w) at is = absurd (let f : ◌≡◌ {A = Option ℕ} None (Some serial) = e ∙ ap (found table) (sym same) ∙ path_found table serial w ok at in cc)
+    by_window serial same None at is = absurd (let f : false ≡ true = is in cc)

@@ -1,13 +1,13 @@
 //! What the definitions say of the mouse, of the order of windows and of notes, and of what each table keeps.
 
-ghost use Rattle.std.specs.Prelude.{◌≡◌, ◌==◌, ◌≤◌, length, ℕ, true, false, not, List, [], ◌∷◌, map, Some, Ok};
+ghost use Rattle.std.specs.Prelude.{◌≡◌, ◌==◌, ◌<◌, ◌≤◌, All, AllPairs, Contains, IsSomeAnd, length, ℕ, true, false, not, List, [], ◌∷◌, map, Some, Ok};
 ghost use Rattle.r9_geom.specs.declared.Point.{Point};
 ghost use Rattle.r9_geom.specs.declared.Rect.{Rect};
 ghost use Rattle.r9_geom.specs.Geometry.{holds};
 ghost use Rattle.r9_window.specs.declared.Window.{Window};
 ghost use Rattle.r9_event.specs.declared.rio.Note.TheVariants as note;
 ghost use Rattle.model_mouse.specs.declared.Mouse.{Mouse};
-ghost use Rattle.model_rio.specs.Table.{Table, Held, hold_of, is_host, topmost, opened, window_of, path_up, path_of, found};
+ghost use Rattle.model_rio.specs.Table.{Table, Held, hold_of, is_host, topmost, opened, window_of, path_up, path_of, found, serials_of};
 ghost use Rattle.model_rio.specs.Act.{Act};
 ghost use Rattle.model_rio.specs.Act as act;
 ghost use Rattle.model_rio.specs.Step.{Step, in_place};
@@ -50,6 +50,13 @@ pub fn paths_have_at_most_nine_numbers()
 pub fn paths_name_windows()
     ensures found { (table : Table) (serial : ℕ) (w : Window) → IsSound table → window_of table serial ≡ Some w → found table (path_of table serial) ≡ Some serial }
     ensures path { (table : Table) (path : List ℕ) (serial : ℕ) → IsSound table → found table path ≡ Some serial → path_of table serial ≡ path }
+{}
+
+/// The windows of a rio are listed in ascending serial, each of them once and no other.
+pub fn windows_are_listed_in_order()
+    ensures ascending { (table : Table) (host : ℕ) → IsSound table → AllPairs ◌<◌ (serials_of table host) }
+    ensures there { (table : Table) (host : ℕ) → IsSound table → All (λ serial. IsSomeAnd (window_of table serial) (λ w. w.host ≡ host)) (serials_of table host) }
+    ensures each { (table : Table) (host serial : ℕ) (w : Window) → IsSound table → window_of table serial ≡ Some w → w.host ≡ host → Contains (serials_of table host) serial }
 {}
 
 /// What an act tells one window stands in the order made, moved or resized, hidden, current, mouse, key, deleted.

@@ -1,7 +1,7 @@
 //! Acts, one after the other.
 
-ghost use Rattle.std.specs.Prelude.{◌≡◌, Ok, Err, IfOk, IfErr, OnOk, OnErr};
-ghost use Rattle.model_rio.specs.Table.{found, serials_of, below};
+ghost use Rattle.std.specs.Prelude.{◌≡◌, ◌≢◌, ◌<◌, ℕ, AllPairs, Ok, Err, IfOk, IfErr, IfSome, IfNone, IsSome, OnOk, OnErr};
+ghost use Rattle.model_rio.specs.Table.{found, serials_of, below, path_of, window_of};
 ghost use Rattle.model_rio.specs.Rio as model;
 ghost use Rattle.model_rio.specs.Step.{begun};
 ghost use Rattle.model_rio.specs.Sound.{IsSound};
@@ -114,7 +114,9 @@ impl Manager {
     /// The serial of the live window of a path, the numbers from the root rio inward. None exactly where there is none.
     #[tactic(auto, unfolding(model_rio::specs::Table::found))]
     pub fn find(&self, path: &[u32]) -> Option<u32>
-        ensures { result ≡ found self.now path.now }
+        ensures value { result ≡ found self.now path.now }
+        ensures window { IsSound self.now → IfSome result (λ serial. path_of self.now serial ≡ path.now) }
+        ensures none { IsSound self.now → IfNone result ((serial : ℕ) → IsSome (window_of self.now serial) → path_of self.now serial ≢ path.now) }
     {
         if path.is_empty() {
             return None;
@@ -129,7 +131,8 @@ impl Manager {
     /// The serials of the windows of a host's rio, in ascending order. 0 is the root rio.
     #[tactic(auto, unfolding(model_rio::specs::Table::serials_of))]
     pub fn windows(&self, rio: u32) -> Result<Numbers, Memory>
-        ensures { IfOk result (λ serials. serials ≡ serials_of self.now rio) }
+        ensures value { IfOk result (λ serials. serials ≡ serials_of self.now rio) }
+        ensures ascending { IfOk result (λ serials. IsSound self.now → AllPairs ◌<◌ serials) }
     {
         let windows = self.made_in(rio)?;
         let mut serials = Numbers::new(self.alloc);
