@@ -135,6 +135,21 @@ fn load(forest: &mut Forest, i: ImageNo, r: Rect, rows: &[u8]) -> Result<(), Fai
     Ok(())
 }
 
+// Writes one pixel in a rectangle of an image.
+fn fill(forest: &mut Forest, i: ImageNo, r: Rect, raw: u32) -> Result<(), Fail>
+    requires live { IsLive (world forest.old) i.0 }
+    requires near { IsRectNearBy (2 ^ 34) r }
+    requires ordered { IsOrdered r }
+    ensures kept { (j : ℕ) → IsLive (world forest.old) j → IsLive (world forest.new) j }
+{
+    let info = forest.info(i);
+    if !r.inside(&info.r) || u64::from(raw) >= 1 << info.chan.depth() {
+        return Err("pixel")?;
+    }
+    forest.fill(i, r, raw);
+    Ok(())
+}
+
 /// The rows of an image in a rectangle.
 pub(crate) fn rows(forest: &Forest, i: ImageNo, r: Rect) -> Result<Bytes, Fail>
     requires live { IsLive (world forest.now) i.0 }
@@ -379,5 +394,38 @@ fn a_drawing_goes_beside_windows_and_reads_through_them(rt: HostRuntime) -> Resu
     assert_eq!(rt; shown.as_slice(), [9, 2, 3].as_slice());
     let shown = rows(&forest, screen, all)?;
     assert_eq!(rt; shown.as_slice(), [9, 9, 3, 3, 3, 1].as_slice());
+    Ok(())
+}
+
+#[test]
+fn a_rectangle_is_filled_beside_windows(rt: HostRuntime) -> Result<(), Fail> {
+    let mut forest = Forest::new(rt.alloc());
+    let stage = staged(&mut forest)?;
+    let (screen, all) = (stage.screen, rect(0, 0, 6, 1));
+    fill(&mut forest, screen, rect(0, 0, 5, 1), 7)?;
+    let shown = rows(&forest, screen, all)?;
+    assert_eq!(rt; shown.as_slice(), [7, 2, 3, 3, 3, 1].as_slice());
+    // What a window covered shows its fill then.
+    move_to(&mut forest, stage.below, ORIGIN, Point { x: 5, y: 0 })?;
+    let shown = rows(&forest, screen, all)?;
+    assert_eq!(rt; shown.as_slice(), [7, 9, 3, 3, 3, 2].as_slice());
+    fill(&mut forest, screen, rect(1, 0, 1, 1), 8)?;
+    let shown = rows(&forest, screen, all)?;
+    assert_eq!(rt; shown.as_slice(), [7, 9, 3, 3, 3, 2].as_slice());
+    Ok(())
+}
+
+// Rows longer than are written at a time.
+#[test]
+fn long_rows_are_filled(rt: HostRuntime) -> Result<(), Fail> {
+    let mut forest = Forest::new(rt.alloc());
+    let field = made(&mut forest, rect(0, 0, 600, 3), "k8", 1)?;
+    fill(&mut forest, field, rect(1, 1, 599, 2), 7)?;
+    let shown = rows(&forest, field, rect(0, 0, 2, 3))?;
+    assert_eq!(rt; shown.as_slice(), [1, 1, 1, 7, 1, 1].as_slice());
+    let shown = rows(&forest, field, rect(256, 1, 259, 3))?;
+    assert_eq!(rt; shown.as_slice(), [7, 7, 7, 1, 1, 1].as_slice());
+    let shown = rows(&forest, field, rect(598, 0, 600, 3))?;
+    assert_eq!(rt; shown.as_slice(), [1, 1, 7, 1, 1, 1].as_slice());
     Ok(())
 }

@@ -6,6 +6,7 @@ ghost use Rattle.r9_stack.specs.Table.{world};
 use crate::shapes::rect;
 use r9_chan::Chan;
 use r9_geom::{Point, Rect};
+use r9_info::ImageNo;
 use r9_plane::row_bytes;
 use r9_stack::Images;
 use r9_text::Bytes;
@@ -78,6 +79,38 @@ fn replace(images: &mut Images, old: u32, r: Rect, corner: Point) -> Result<(), 
         return Err("no such window")?;
     }
     let Ok(_) = images.replace(old, r, corner, 0, true) else {
+        return Err("memory")?;
+    };
+    Ok(())
+}
+
+// Makes a window of a window's size on another image, topmost there, which shows what that one showed.
+fn replace_on(
+    images: &mut Images,
+    old: u32,
+    parent: u32,
+    fill: u32,
+    r: Rect,
+    corner: Point,
+) -> Result<(), Fail>
+    requires live { IsLive (world images.old) old }
+    requires parent { IsLive (world images.old) parent }
+    requires fill { IsLive (world images.old) fill }
+    requires near { IsRectNearBy (2 ^ 34) r }
+    requires ordered { IsOrdered r }
+    requires corner { IsNearBy (2 ^ 34) corner }
+    ensures kept { (j : ℕ) → IsLive (world images.old) j → IsLive (world images.new) j }
+{
+    images.keeps();
+    let info = images.info(old);
+    let own = info.r;
+    if info.parent.is_none() || r.width() != own.width() || r.height() != own.height() {
+        return Err("no such window")?;
+    }
+    if images.info(parent).chan.word() != info.chan.word() {
+        return Err("channels")?;
+    }
+    let Ok(_) = images.replace_on(old, parent, fill, r, corner, 0, true) else {
         return Err("memory")?;
     };
     Ok(())
@@ -177,5 +210,32 @@ fn a_window_in_the_place_of_another_shows_what_it_showed(rt: HostRuntime) -> Res
     replace(&mut images, old, rect(10, 0, 12, 1), Point { x: 3, y: 0 })?;
     let shown = rows(&images, line, rect(0, 0, 6, 1))?;
     assert_eq!(rt; shown.as_slice(), [1, 7, 7, 8, 9, 1].as_slice());
+    Ok(())
+}
+
+// A window of 5 and 6 stands on one of 2s, and comes over one of 4s on another image.
+#[test]
+fn a_window_comes_on_another_image_with_what_it_showed(rt: HostRuntime) -> Result<(), Fail> {
+    let mut images = Images::new(rt.alloc());
+    let all = rect(0, 0, 6, 1);
+    let line = made(&mut images, all, 1)?;
+    let fill = made(&mut images, all, 9)?;
+    let below = window(&mut images, line, fill, rect(0, 0, 4, 1), 2)?;
+    let inner = window(&mut images, below, fill, rect(1, 0, 3, 1), 0)?;
+    load(&mut images, inner, rect(1, 0, 3, 1), &[5, 6])?;
+    let shown = rows(&images, line, all)?;
+    assert_eq!(rt; shown.as_slice(), [2, 5, 6, 2, 1, 1].as_slice());
+    let other = made(&mut images, all, 3)?;
+    let _ = window(&mut images, other, fill, rect(2, 0, 4, 1), 4)?;
+    let (place, corner) = (rect(10, 0, 12, 1), Point { x: 3, y: 0 });
+    replace_on(&mut images, inner, other, fill, place, corner)?;
+    let shown = rows(&images, other, all)?;
+    assert_eq!(rt; shown.as_slice(), [3, 3, 4, 5, 6, 3].as_slice());
+    // The fill shows where it stood, and it stands outside with what it had.
+    let shown = rows(&images, line, all)?;
+    assert_eq!(rt; shown.as_slice(), [2, 9, 9, 2, 1, 1].as_slice());
+    let shown = rows(&images, inner, rect(1, 0, 3, 1))?;
+    assert_eq!(rt; shown.as_slice(), [5, 6].as_slice());
+    assert_eq!(rt; images.info(inner).parent, Some(ImageNo(below)));
     Ok(())
 }
