@@ -18,9 +18,9 @@ use Rattle.model_world.specs.Fids.{with_fid, Done, Left, left, beside, fid_of, v
 use Rattle.model_world.specs.Walking.{attach_answer, walk_answer, walk_ended, open_answer, opened, opened_new, is_built, is_taken, most_made}
 use Rattle.model_world.specs.Reading.{Given, node_read, read_answer, file_written, write_answer}
 use Rattle.model_world.specs.Answer.{asks_for_9p, agreed_on, version_answer, clunk_answer, stat_answer, denied, answer_to, answer_read, is_version, read_or_not, replied, answer}
-use Rattle.model_world.specs.Links.{IsLinked}
+use Rattle.model_world.specs.Links.{IsLinked, KeepsOthers}
 use Rattle.model_world.proofs.Connections.{numbers_of, read_data_kept, write_ctl_kept, written_kept}
-use Rattle.model_world.proofs.Links.{KeepsOthers, kept_linked, kept_others, cleared_linked, begun_linked, begun_others, same_linked, same_others, within_filter}
+use Rattle.model_world.proofs.Links.{kept_linked, kept_others, cleared_linked, begun_linked, begun_others, same_linked, same_others, within_filter}
 
 -- the device has the session's connections still, and those of the others
 pub record Holds (c : ℕ) (device : draw.World) (l : Left draw.World) : Type 0 where
@@ -254,6 +254,10 @@ read_or_not_holds : (c : ℕ) (session : Session) (device : draw.World) (mark : 
     → HoldsIf c device (read_or_not (device_for c) session device mark m)
 read_or_not_holds c session device mark None linked = tt
 read_or_not_holds c session device mark (Some m) linked = read_holds c session device mark m linked
+
+pub read_leaves : (c : ℕ) (session : Session) (device : draw.World) (mark : Option ℕ) (m : Option T) (l : Left draw.World) → IsLinked c session.made session.connections device
+    → read_or_not (device_for c) session device mark m ≡ Ok l → Holds c device l
+read_leaves c session device mark m l linked is = subst (λ (o : Outcome (Left draw.World)). HoldsIf c device o) is (read_or_not_holds c session device mark m linked)
 
 replied_holds : (c : ℕ) (session : Session) (device : draw.World) (tag : ℕ) (o : Outcome (Left draw.World)) → IsLinked c session.made session.connections device → HoldsIf c device o
     → Holds c device (replied session device tag o)

@@ -5,3 +5,4 @@ pub mod Answers
 pub mod Refused
 pub mod Steps
 pub mod Marks
+pub mod Wanting

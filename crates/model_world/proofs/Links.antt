@@ -15,12 +15,8 @@ use Rattle.model_map.proofs.Ascending.{without-here, ascend-and, ascend-without}
 use Rattle.model_images.specs.Release.{leave}
 use Rattle.model_draw.specs.World as draw
 use Rattle.model_world.specs.World.{client, device_for}
-use Rattle.model_world.specs.Links.{AreWithin, IsLinked, is_connected, is_among}
+use Rattle.model_world.specs.Links.{AreWithin, IsLinked, KeepsOthers, is_connected, is_among}
 use Rattle.model_world.proofs.Connections.{numbers_of, freed_kept}
-
--- no other session's connection is touched
-abbrev pub KeepsOthers : ℕ → (before after : draw.World) → Type 0
-KeepsOthers c before after = (k : ℕ) → ((n : ℕ) → n < 2 ^ 26 → k ≡ client c n → ⊥) → is_connected after k ≡ is_connected before k
 
 client_is : (c n m : ℕ) → client c n ≡ client c m → n ≡ m
 client_is c n m same = omega (arith, same)

@@ -1,5 +1,5 @@
 -- Each event leaves the draw device with the connections of the sessions that live.
-use Rattle.std.proofs.Common.{◌≡◌, ◌<◌, ◌^◌, ℕ, Bool, true, false, eqb, List, Option, Some, None, refl, sym, ap, subst, ◌∙◌, arith, lit<}
+use Rattle.std.proofs.Common.{◌≡◌, ◌<◌, ◌^◌, ℕ, Bool, true, false, eqb, List, [], Option, Some, None, refl, sym, ap, subst, ◌∙◌, arith, lit<}
 use Rattle.std.specs.Map.{keys_of}
 use Rattle.std.proofs.lemmas.Bool.{eqb-true, eqb-false}
 use Rattle.r9_event.specs.declared.event.Event.{Event}
@@ -16,9 +16,9 @@ use Rattle.model_world.specs.World.{World, client, device_for, opened}
 use Rattle.model_world.specs.Fids.{Left, cleared}
 use Rattle.model_world.specs.Answer.{answer}
 use Rattle.model_world.specs.Replay.{step, served, ended, marked}
-use Rattle.model_world.specs.Links.{AreCounted, AreKnown, AreLinked, IsLinked, IsNext, has_connection, is_connected}
+use Rattle.model_world.specs.Links.{AreCounted, AreKnown, AreLinked, IsLinked, IsNext, KeepsOthers, begun_after, has_connection, is_connected}
 use Rattle.model_world.proofs.Connections.{numbers_of}
-use Rattle.model_world.proofs.Links.{KeepsOthers, cleared_linked, kept_others}
+use Rattle.model_world.proofs.Links.{cleared_linked, kept_others}
 use Rattle.model_world.proofs.Answers.{Holds, answer_holds}
 
 client_of_another : (c d n m : ℕ) → n < 2 ^ 26 → m < 2 ^ 26 → client d n ≡ client c m → d ≡ c
@@ -125,6 +125,15 @@ step_linked world begun (Take c) next known linked = linked
 step_linked world begun (End c) next known linked = ended_linked world c (lookup world.sessions c) linked refl
 step_linked world begun Stop next known linked = linked
 
+-- the first device has no connection
+pub started_linked : (c : ℕ) (display : draw.Opening) → IsLinked c 0 [] (draw.started display)
+unfolding draw.started
+started_linked c display = record {
+  counted = record { few = lit< tt; within = tt; ascending = tt };
+  ordered = tt;
+  linked = λ n few. refl;
+}
+
 pub opened_linked : (opening : Opening) → AreLinked (opened opening).device (opened opening).sessions
 unfolding draw.started
 opened_linked opening = record {
@@ -155,23 +164,48 @@ ended_known : (world : World) (c begun : ℕ) (found : Option Session) → Ascen
 ended_known world c begun None ascend known = known
 ended_known world c begun (Some session) ascend known = λ d later. without_none world.sessions c d ascend (known d later) (eqb d c) refl
 
-pub step_known : (world : World) (roll : Roll) (event : Event) → IsNext roll.begun event → Ascend (keys_of world.sessions) → AreKnown roll.begun world.sessions
-    → AreKnown (roll_after roll event).begun (step world event).world.sessions
-step_known world roll (Begin c) next ascend known = λ d later. and-others world.sessions c d fresh (λ same. omega (arith, same)) ∙ known d (omega (arith, next))
-step_known world roll (Msg c bytes mark) next ascend known = served_known world c roll.begun bytes mark (lookup world.sessions c) known refl
-step_known world roll (Take c) next ascend known = known
-step_known world roll (End c) next ascend known = ended_known world c roll.begun (lookup world.sessions c) ascend known
-step_known world roll Stop next ascend known = known
+pub step_known : (world : World) (begun : ℕ) (event : Event) → IsNext begun event → Ascend (keys_of world.sessions) → AreKnown begun world.sessions
+    → AreKnown (begun_after begun event) (step world event).world.sessions
+step_known world begun (Begin c) next ascend known = λ d later. and-others world.sessions c d fresh (λ same. omega (arith, same)) ∙ known d (omega (arith, next))
+step_known world begun (Msg c bytes mark) next ascend known = served_known world c begun bytes mark (lookup world.sessions c) known refl
+step_known world begun (Take c) next ascend known = known
+step_known world begun (End c) next ascend known = ended_known world c begun (lookup world.sessions c) ascend known
+step_known world begun Stop next ascend known = known
 
--- an event that is allowed, with the mark with which it stands in the history
+-- ---- the session that begins
+
+pub begun_rolled : (roll : Roll) (event : Event) → (roll_after roll event).begun ≡ begun_after roll.begun event
+begun_rolled roll (Begin c) = refl
+begun_rolled roll (Msg c bytes mark) = refl
+begun_rolled roll (Take c) = refl
+begun_rolled roll (End c) = refl
+begun_rolled roll Stop = refl
+
+-- the mark of an event leaves which session begins
+pub begun_marked : (begun : ℕ) (event : Event) (short : Option ℕ) → begun_after begun (marked event short) ≡ begun_after begun event
+begun_marked begun event None = refl
+begun_marked begun (Begin c) (Some k) = refl
+begun_marked begun (Msg c bytes mark) (Some k) = refl
+begun_marked begun (Take c) (Some k) = refl
+begun_marked begun (End c) (Some k) = refl
+begun_marked begun Stop (Some k) = refl
+
+pub next_marked : (begun : ℕ) (event : Event) (short : Option ℕ) → IsNext begun event → IsNext begun (marked event short)
+next_marked begun event None next = next
+next_marked begun (Begin c) (Some k) next = next
+next_marked begun (Msg c bytes mark) (Some k) next = tt
+next_marked begun (Take c) (Some k) next = tt
+next_marked begun (End c) (Some k) next = tt
+next_marked begun Stop (Some k) next = tt
+
+-- an event that is allowed begins the next session, if it begins one
+pub next_of : (roll : Roll) (event : Event) → AllowedTo roll event → IsNext roll.begun event
+next_of roll (Begin c) allowed = allowed.0
+next_of roll (Msg c bytes mark) allowed = tt
+next_of roll (Take c) allowed = tt
+next_of roll (End c) allowed = tt
+next_of roll Stop allowed = tt
+
+-- and so it does with the mark with which it stands in the history
 pub next_allowed : (roll : Roll) (event : Event) (short : Option ℕ) → AllowedTo roll event → IsNext roll.begun (marked event short)
-next_allowed roll (Begin c) None allowed = allowed.0
-next_allowed roll (Begin c) (Some k) allowed = allowed.0
-next_allowed roll (Msg c bytes mark) None allowed = tt
-next_allowed roll (Msg c bytes mark) (Some k) allowed = tt
-next_allowed roll (Take c) None allowed = tt
-next_allowed roll (Take c) (Some k) allowed = tt
-next_allowed roll (End c) None allowed = tt
-next_allowed roll (End c) (Some k) allowed = tt
-next_allowed roll Stop None allowed = tt
-next_allowed roll Stop (Some k) allowed = tt
+next_allowed roll event short allowed = next_marked roll.begun event short (next_of roll event allowed)

@@ -51,3 +51,14 @@ pub record IsCutServed (world : World) (c : ℕ) (bytes : List ℕ) (mark : Opti
 abbrev pub IsCutEvent : World → Event → ℕ → Type 0
 IsCutEvent world (Msg c bytes mark) k = IsCutServed world c bytes mark k
 IsCutEvent world event k = ⊥
+
+-- The event, with the mark with which it stands in a history, is a message to a session that lives, and the reply to it is the
+-- refusal of want of memory.
+pub record IsWantingServed (world : World) (c : ℕ) (bytes : List ℕ) (mark : Option ℕ) : Type 0 where
+  pub session : Session
+  pub lives : lookup world.sessions c ≡ Some session
+  pub refused : Refuses no_memory (answer (device_for c) session world.device bytes mark).reply
+
+abbrev pub IsWantingEvent : World → Event → Type 0
+IsWantingEvent world (Msg c bytes mark) = IsWantingServed world c bytes mark
+IsWantingEvent world event = ⊥

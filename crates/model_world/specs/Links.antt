@@ -34,6 +34,10 @@ pub record IsLinked (c made : ℕ) (connections : List ℕ) (device : draw.World
   pub ordered : Ascend (keys_of device.clients)
   pub linked : (n : ℕ) → n < 2 ^ 26 → is_connected device (client c n) ≡ is_among connections n
 
+-- no other session's connection is touched
+abbrev pub KeepsOthers : ℕ → (before after : draw.World) → Type 0
+KeepsOthers c before after = (k : ℕ) → ((n : ℕ) → n < 2 ^ 26 → k ≡ client c n → ⊥) → is_connected after k ≡ is_connected before k
+
 -- what a session has; a session that does not live has no connection
 abbrev pub has_connection : Option Session → ℕ → Bool
 has_connection None n = false
@@ -49,6 +53,11 @@ pub record AreLinked (device : draw.World) (sessions : List (ℕ × Session)) : 
 -- no session lives that has not begun
 abbrev pub AreKnown : (begun : ℕ) → List (ℕ × Session) → Type 0
 AreKnown begun sessions = (c : ℕ) → begun < c → lookup sessions c ≡ None
+
+-- how many sessions have begun after an event
+abbrev pub begun_after : ℕ → Event → ℕ
+begun_after begun (Begin c) = c
+begun_after begun _ = begun
 
 -- the session that begins is the next one
 abbrev pub IsNext : (begun : ℕ) → Event → Type 0

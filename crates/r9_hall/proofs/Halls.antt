@@ -1,6 +1,6 @@
 -- A journal and one event more.
 use Rattle.std.proofs.Common.{◌≡◌, ℕ, ◌+◌, Bool, true, false, List, [], ◌∷◌, ◌++◌, length, refl, sym, ap, subst, ◌∙◌, arith}
-use Rattle.std.specs.Prelude.{map, IsFalse}
+use Rattle.std.specs.Prelude.{IsFalse}
 use Rattle.std.proofs.lemmas.List.{map-append, append-nil}
 use Rattle.r9_event.specs.declared.event.Event.{Event}
 use Rattle.r9_event.specs.declared.event.Event.TheVariants.{Stop}
@@ -16,8 +16,8 @@ use Rattle.model_world.proofs.Histories.{world_from-push, waiting_from-push, wor
 use Rattle.r9_hall.specs.HallView.{HallValue, Stands, entered}
 use Rattle.model_draw.specs.World.{started}
 use Rattle.model_world.specs.World.{display_of}
-use Rattle.model_world.specs.Links.{AreKnown, AreLinked, IsNext}
-use Rattle.model_world.proofs.Steps.{opened_linked, step_linked, step_known}
+use Rattle.model_world.specs.Links.{AreKnown, AreLinked, IsNext, begun_after}
+use Rattle.model_world.proofs.Steps.{begun_rolled, opened_linked, step_linked, step_known}
 use Rattle.r9_hall.specs.StateView.{State, IsAfter, state_world, waiting}
 
 pub events_of-push : (entries : List Entry) (entry : Entry) → events_of (entries ++ entry ∷ []) ≡ events_of entries ++ entry.event ∷ []
@@ -56,8 +56,8 @@ stands_after opening events event replies s after stands next is =
           ∙ ap (λ (r : List Reply). waiting_after c (waiting_from (opened opening) events c []) event r) given
           ∙ sym (waiting_from-push (opened opening) events event c []);
       linked = subst (λ (w : World). AreLinked w.device w.sessions) is.world (step_linked before (roll_of events).begun event next stands.known stands.linked);
-      known = subst (λ (r : Roll). AreKnown r.begun after.sessions) (sym (roll_next events event))
-          (subst (λ (w : World). AreKnown (roll_after (roll_of events) event).begun w.sessions) is.world (step_known before (roll_of events) event next stands.linked.ascending stands.known));
+      known = subst (λ (begun : ℕ). AreKnown begun after.sessions) (sym (ap (λ (r : Roll). r.begun) (roll_next events event) ∙ begun_rolled (roll_of events) event))
+          (subst (λ (w : World). AreKnown (begun_after (roll_of events).begun event) w.sessions) is.world (step_known before (roll_of events).begun event next stands.linked.ascending stands.known));
     }
 
 pub replies_after : (opening : Opening) (events : List Event) (event : Event) (replies : List Reply) (s after : State) → Stands (record { opening = opening; events = events }) s

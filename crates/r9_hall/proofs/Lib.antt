@@ -1,2 +1,3 @@
 mod States
 mod Halls
+mod Worlds

@@ -1,2 +1,3 @@
 pub mod StateView
 pub mod HallView
+pub mod WorldView

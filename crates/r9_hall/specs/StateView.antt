@@ -1,5 +1,5 @@
 -- The state of the server, and what an event makes of it.
-use Rattle.std.specs.Prelude.{◌≡◌, ◌≤◌, ℕ, Bool, true, false, List, [], length, Option, Some, None, IfSome}
+use Rattle.std.specs.Prelude.{◌≡◌, ◌≤◌, ℕ, Bool, true, false, List, [], length, Option, Some, None, IfSome, IsSome}
 use Rattle.std.specs.Option.{unwrap_or}
 use Rattle.r9_event.specs.declared.event.Event.{Event}
 use Rattle.r9_event.specs.declared.event.Event.TheVariants.{Msg}
@@ -8,10 +8,12 @@ use Rattle.r9_event.specs.declared.event.Reply.{Reply}
 use Rattle.model_text.specs.Map.{lookup, with}
 use Rattle.model_wire.specs.Spelling.{spelling_of_r}
 use Rattle.model_draw.specs.World as draw
+use Rattle.model_draw.specs.Act.{no_memory}
 use Rattle.model_world.specs.Session.{Session}
 use Rattle.model_world.specs.Fids.{cleared}
 use Rattle.model_world.specs.Answer.{answer}
 use Rattle.model_world.specs.Cut.{IsCutMessage}
+use Rattle.model_world.specs.Refusal.{Refuses}
 use Rattle.model_world.specs.World.{World, device_for}
 use Rattle.model_world.specs.Replay.{step, waiting_after}
 use Rattle.r9_draw.specs.World as device
@@ -19,7 +21,6 @@ use Rattle.r9_session.specs.Answers.{mark_after}
 use Rattle.r9_hall.specs.declared.sessions.Framed.{Framed}
 use Rattle.r9_hall.specs.declared.sessions.Sessions.{Sessions}
 use Rattle.r9_hall.specs.declared.state.State.{State as Kept}
-use Rattle.r9_hall.specs.declared.world.World.{World as Bare}
 
 -- the sessions that live, and what waits to be taken, by session; and the draw device
 pub record State : Type 0 where
@@ -41,6 +42,7 @@ pub record IsFramed (c : ℕ) (session : Session) (device : draw.World) (bytes :
   pub session_is : now ≡ (answer (device_for c) session device bytes (mark_after mark framed.short)).session
   pub left_is : left ≡ (answer (device_for c) session device bytes (mark_after mark framed.short)).rest
   pub cause : IfSome framed.short (λ k. IsCutMessage c session device bytes mark k)
+  pub told : Refuses no_memory (answer (device_for c) session device bytes (mark_after mark framed.short)).reply → IsSome framed.short
 
 -- there is no frame where the session does not live
 abbrev pub IsServed : (c : ℕ) → Option Session → (before : List (ℕ × Session)) (device : draw.World) (bytes : List ℕ) (mark : Option ℕ) (found : Option Framed) (after : List (ℕ × Session)) (left : draw.World) → Type 0
@@ -60,9 +62,6 @@ IsLeft c (Some session) device false left = ⊥
 -- the world of sessions and a draw device
 abbrev pub world_with : Opening → Sessions → World
 world_with opening s = record { opening = opening; device = device.world_of s.device; sessions = s.live.entries }
-
-abbrev pub world_value : Bare → World
-world_value w = world_with w.opening w.sessions
 
 abbrev pub state_world : Opening → State → World
 state_world opening s = record { opening = opening; device = s.device; sessions = s.sessions }

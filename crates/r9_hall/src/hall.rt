@@ -1,12 +1,12 @@
 //! The hall: a journal of events, and the state in which it ends.
 
-ghost use Rattle.std.specs.Prelude.{◌≡◌, ◌<◌, ◌≤◌, ◌+◌, ◌^◌, ◌++◌, ◌∷◌, ◌↔◌, ℕ, [], false, length, None, IsTrue, IfOk, IfSome, OnOk, OnErr, IsOk};
+ghost use Rattle.std.specs.Prelude.{◌≡◌, ◌<◌, ◌≤◌, ◌+◌, ◌^◌, ◌++◌, ◌∷◌, ◌↔◌, ℕ, [], false, length, None, IsTrue, IfOk, IfSome, OnOk, OnErr, IsOk, IsSome};
 ghost use Rattle.std.specs.Vec.{vec_len, vec_capacity};
 ghost use Rattle.r9_event.specs.declared.event.Event.{Event};
 ghost use Rattle.model_draw.specs.Files.{screen_file};
 ghost use Rattle.model_event.specs.Legal.{roll_after, IsLegal};
 ghost use Rattle.model_event.specs.Journal.{events_of, AreNumbered};
-ghost use Rattle.model_world.specs.Cut.{IsCutEvent};
+ghost use Rattle.model_world.specs.Cut.{IsCutEvent, IsWantingEvent};
 ghost use Rattle.model_world.specs.Replay.{marked, step, world_at, outbox};
 ghost use Rattle.r9_hall.specs.HallView.{AllowedNext, entered};
 
@@ -124,8 +124,8 @@ impl Hall {
     }
 
     /// Makes an event: adds its entry to the journal, and answers what it gave. A data write in which memory ran out has in the
-    /// journal the mark that the answer tells, with which it may come next as well. For want of memory elsewhere the journal stays as it was, and the hall is as before
-    /// or broken. A Stop takes no memory.
+    /// journal the mark that the answer tells, with which it may come next as well. For want of memory elsewhere the journal stays
+    /// as it was, and the hall is as before or broken. A Stop takes no memory.
     pub fn event(&mut self, event: Event) -> Result<Did, Memory>
         requires can { AllowedNext self.old event }
         requires room { length self.old.journal.events < 2 ^ 61 }
@@ -134,6 +134,8 @@ impl Hall {
         ensures replies { IfOk result (λ did. self.old.broken ≡ false → did.replies ≡ (step (world_at self.old.journal) (marked event did.short)).replies) }
         // A mark is told only of a write of an open `data` file, where its own mark took effect or the message may want memory.
         ensures short { IfOk result (λ did. self.old.broken ≡ false → IfSome did.short (λ k. IsCutEvent (world_at self.old.journal) event k)) }
+        // A reply that is the refusal of want of memory tells one.
+        ensures told { IfOk result (λ did. self.old.broken ≡ false → IsWantingEvent (world_at self.old.journal) (marked event did.short) → IsSome did.short) }
         ensures stop { event ≡ Event.Stop → IfOk result (λ did. (did.replies ≡ []) × (did.short ≡ None)) × IsOk result }
         ensures err { OnErr result (self.new.journal ≡ self.old.journal) }
     {

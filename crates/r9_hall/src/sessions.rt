@@ -1,10 +1,10 @@
 //! The sessions that live and the draw device, and what an event makes of them.
 
-ghost use Rattle.std.specs.Prelude.{◌≡◌, ◌≤◌, ℕ, [], length, None, Option, IfOk, OnOk, IfSome};
+ghost use Rattle.std.specs.Prelude.{◌≡◌, ◌≤◌, ℕ, [], length, None, Option, IfOk, OnOk, IfSome, IsSome};
 ghost use Rattle.model_text.specs.Map.{lookup};
 ghost use Rattle.model_draw.specs.Files.{screen_file};
 ghost use Rattle.model_draw.specs.World.{started};
-ghost use Rattle.model_world.specs.Cut.{IsCutEvent};
+ghost use Rattle.model_world.specs.Cut.{IsCutEvent, IsWantingEvent};
 ghost use Rattle.model_world.specs.Links.{AreLinked, IsLinked};
 ghost use Rattle.model_world.specs.Replay.{marked};
 ghost use Rattle.model_world.specs.World.{display_of, opened};
@@ -141,6 +141,7 @@ impl Sessions {
         requires linked { AreLinked (world_of self.old.device) self.old.live.entries }
         ensures turn { IfOk result (λ did. (opening : Opening) → IsTurn opening self.old (marked (Event.Msg session bytes.now mark) did.short) did.replies self.new) }
         ensures short { IfOk result (λ did. (opening : Opening) → IfSome did.short (λ k. IsCutEvent (world_with opening self.old) (Event.Msg session bytes.now mark) k)) }
+        ensures told { IfOk result (λ did. (opening : Opening) → IsWantingEvent (world_with opening self.old) (marked (Event.Msg session bytes.now mark) did.short) → IsSome did.short) }
     {
         let mut replies = Replies::new(alloc);
         let framed = frame(
@@ -191,6 +192,7 @@ impl Sessions {
         requires linked { AreLinked (world_of self.old.device) self.old.live.entries }
         ensures turn { IfOk result (λ did. (opening : Opening) → IsTurn opening self.old (marked event.now did.short) did.replies self.new) }
         ensures short { IfOk result (λ did. (opening : Opening) → IfSome did.short (λ k. IsCutEvent (world_with opening self.old) event.now k)) }
+        ensures told { IfOk result (λ did. (opening : Opening) → IsWantingEvent (world_with opening self.old) (marked event.now did.short) → IsSome did.short) }
     {
         match event {
             Event::Begin { session } => {

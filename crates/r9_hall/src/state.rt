@@ -1,10 +1,10 @@
 //! The state of the server: its sessions, the draw device, and what waits for sessions to be taken.
 
-ghost use Rattle.std.specs.Prelude.{◌≡◌, ◌==◌, ◌++◌, ℕ, [], if◌then◌else◌, IfOk, IfSome, OnOk};
+ghost use Rattle.std.specs.Prelude.{◌≡◌, ◌==◌, ◌++◌, ℕ, [], if◌then◌else◌, IfOk, IfSome, IsSome, OnOk};
 ghost use Rattle.r9_event.specs.declared.event.Opening.{Opening};
 ghost use Rattle.model_draw.specs.Files.{screen_file};
 ghost use Rattle.model_draw.specs.World.{started};
-ghost use Rattle.model_world.specs.Cut.{IsCutEvent};
+ghost use Rattle.model_world.specs.Cut.{IsCutEvent, IsWantingEvent};
 ghost use Rattle.model_world.specs.Links.{AreLinked};
 ghost use Rattle.model_world.specs.Replay.{bytes_for, marked, waiting_after};
 ghost use Rattle.model_world.specs.World.{display_of};
@@ -107,6 +107,7 @@ impl State {
         requires linked { AreLinked (state_of self.old).device (state_of self.old).sessions }
         ensures after { IfOk result (λ did. (opening : Opening) → IsAfter opening (state_of self.old) (marked event.now did.short) did.replies (state_of self.new)) }
         ensures short { IfOk result (λ did. (opening : Opening) → IfSome did.short (λ k. IsCutEvent (state_world opening (state_of self.old)) event.now k)) }
+        ensures told { IfOk result (λ did. (opening : Opening) → IsWantingEvent (state_world opening (state_of self.old)) (marked event.now did.short) → IsSome did.short) }
     {
         let did = self.sessions.step(alloc, event)?;
         post(alloc, &mut self.outboxes, event, did.replies.as_slice())?;

@@ -1,57 +1,95 @@
 //! The world, without the history that led to it.
 
-ghost use Rattle.std.specs.Prelude.{◌≡◌, IfOk, IfSome};
+ghost use Rattle.std.specs.Prelude.{◌≡◌, false, IfOk, IfSome, IsSome};
 ghost use Rattle.model_draw.specs.Files.{screen_file};
-ghost use Rattle.model_world.specs.Cut.{IsCutEvent};
-ghost use Rattle.model_world.specs.Links.{AreLinked};
-ghost use Rattle.model_world.specs.World.{opened};
+ghost use Rattle.model_world.specs.Cut.{IsCutEvent, IsWantingEvent};
+ghost use Rattle.model_world.specs.Links.{IsNext, begun_after};
 ghost use Rattle.model_world.specs.Replay.{marked, step};
-ghost use Rattle.r9_hall.specs.StateView.{world_value, IsWhole};
+ghost use Rattle.r9_hall.specs.StateView.{IsWhole};
+ghost use Rattle.r9_hall.specs.WorldView.{IsFirst, IsStepped, world_in};
 
 use crate::sessions::Sessions;
 use r9_event::{Did, Event, Opening};
 use r9_memory::Memory;
 use r9_text::Bytes;
 use std::alloc::Global;
+use std::marker::Model;
 
 /// What a history leads to, as a replay needs it: the opening, the sessions that live and the draw device. It keeps neither
-/// the events that were made nor the replies to them, so a long history takes no more memory than a short one.
+/// the events that were made nor the replies to them, so a long history takes no more memory than a short one. Contracts see it
+/// as the world, how many sessions have begun, and whether it is broken: once memory ran out in an event it takes no other.
 #[derive(Drop)]
 pub struct World {
     alloc: Global,
     opening: Opening,
     sessions: Sessions,
+    begun: u32,
+    broken: bool,
+}
+
+impl Model for World {
+    ghost use Rattle.r9_hall.specs.WorldView.{WorldValue, value_of, IsWorld};
+
+    ghost Value = { WorldValue };
+
+    ghost use Rattle.r9_hall.specs.contracts.sessions.Sessions as kept;
+    ghost use Rattle.std.specs.Coded.{codes};
+
+    ghost coded = { Prim.hlevel (codes, kept.the_row.coded) };
+
+    ghost view = { value_of };
+
+    ghost invariant = { IsWorld };
+}
+
+/// How many sessions have begun after an event.
+fn begun_after(begun: u32, event: &Event) -> u32
+    ensures { result ≡ begun_after begun event.now }
+{
+    match event {
+        Event::Begin { session } => *session,
+        _ => begun,
+    }
 }
 
 impl World {
     /// The world in which nothing has happened.
     pub fn start(alloc: Global, opening: Opening) -> Result<Self, Memory>
-        ensures { IfOk result (λ world. world_value world ≡ opened opening) }
+        ensures { IfOk result (λ world. IsFirst opening world) }
     {
         let sessions = Sessions::start(alloc, &opening)?;
         Ok(World {
             alloc,
             opening,
             sessions,
+            begun: 0,
+            broken: false,
         })
     }
 
-    /// Makes an event, and gives the replies to it, and the mark with which it stands in the history where that is not its own.
-    /// Nothing is said of the world where memory ran out.
+    /// Makes an event, and gives the replies to it, and the mark with which it stands in the history where that is not its own. A
+    /// session that begins is the next one. Where memory ran out the world is broken, and nothing else is said of it.
     pub fn step(&mut self, event: &Event) -> Result<Did, Memory>
         requires whole { IsWhole event.now }
-        requires linked { AreLinked (world_value self.old).device (world_value self.old).sessions }
-        ensures world { IfOk result (λ did. world_value self.new ≡ (step (world_value self.old) (marked event.now did.short)).world) }
-        ensures replies { IfOk result (λ did. did.replies ≡ (step (world_value self.old) (marked event.now did.short)).replies) }
+        requires next { IsNext self.old.begun event.now }
+        requires going { self.old.broken ≡ false }
+        ensures world { IfOk result (λ did. IsStepped self.old (marked event.now did.short) self.new) }
+        ensures replies { IfOk result (λ did. did.replies ≡ (step (world_in self.old) (marked event.now did.short)).replies) }
         // A mark is told only of a write of an open `data` file, where its own mark took effect or the message may want memory.
-        ensures short { IfOk result (λ did. IfSome did.short (λ k. IsCutEvent (world_value self.old) event.now k)) }
+        ensures short { IfOk result (λ did. IfSome did.short (λ k. IsCutEvent (world_in self.old) event.now k)) }
+        // A reply that is the refusal of want of memory tells one.
+        ensures told { IfOk result (λ did. IsWantingEvent (world_in self.old) (marked event.now did.short) → IsSome did.short) }
     {
-        self.sessions.step(self.alloc, event)
+        self.broken = true;
+        let did = self.sessions.step(self.alloc, event)?;
+        self.begun = begun_after(self.begun, event);
+        self.broken = false;
+        Ok(did)
     }
 
     /// The display as an image(6) file.
     pub fn screen(&self) -> Result<Bytes, Memory>
-        ensures { IfOk result (λ file. file ≡ screen_file (world_value self.now).device) }
+        ensures { IfOk result (λ file. file ≡ screen_file (world_in self.now).device) }
     {
         self.sessions.screen()
     }

@@ -1,5 +1,5 @@
 -- What a text gives that is run.
-use Rattle.std.specs.Prelude.{◌≡◌, ◌++◌, ℕ, Bool, List, [], if◌then◌else◌}
+use Rattle.std.specs.Prelude.{◌≡◌, ◌++◌, ℕ, Bool, false, List, [], if◌then◌else◌}
 use Rattle.r9_event.specs.declared.event.Event.{Event}
 use Rattle.r9_event.specs.declared.event.Opening.{Opening}
 use Rattle.r9_event.specs.declared.event.Reply.{Reply}
@@ -7,17 +7,17 @@ use Rattle.model_event.specs.Legal.{Roll, AllowedFrom}
 use Rattle.model_draw.specs.Files.{screen_file}
 use Rattle.model_record.specs.Line.{reply_lines}
 use Rattle.model_record.specs.Record.{IsRecord}
-use Rattle.model_world.specs.Links.{AreKnown, AreLinked}
 use Rattle.model_world.specs.Replay.{replay, replies}
 use Rattle.model_world.specs.World.{World}
+use Rattle.r9_hall.specs.WorldView.{WorldValue}
 use Rattle.r9_serve.specs.Run.{screen_lines}
 
 -- the world may go on with these events
-pub record MayRun (world : World) (events : List Event) : Type 0 where
+pub record MayRun (w : WorldValue) (events : List Event) : Type 0 where
   pub roll : Roll
   pub legal : AllowedFrom roll events
-  pub known : AreKnown roll.begun world.sessions
-  pub linked : AreLinked world.device world.sessions
+  pub begun : w.begun ≡ roll.begun
+  pub going : w.broken ≡ false
 
 -- these are the replies to the one history whose record the text is, and this is the world to which it led
 pub record AreRepliesTo (opening : Opening) (text : List ℕ) (given : List Reply) (world : World) : Type 0 where

@@ -1,6 +1,6 @@
 -- Fids that are bound and opened keep their connections alive.
 use Rattle.std.proofs.Common.{◌≡◌, ◌∙◌, ◌++◌, ◌&&◌, ◌||◌, ℕ, Bool, true, false, eqb, List, [], ◌∷◌, Option, Some, None, inl, inr, ⊎_elim, refl, sym, ap}
-use Rattle.std.specs.Prelude.{◌==◌, ◌⊎◌, is_some, option_map}
+use Rattle.std.specs.Prelude.{◌⊎◌, is_some, option_map}
 use Rattle.std.specs.List.{list_any}
 use Rattle.std.proofs.lemmas.Bool.{eqb-true}
 use Rattle.model_text.specs.Map.{lookup}

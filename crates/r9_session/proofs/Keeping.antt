@@ -1,5 +1,5 @@
 -- Fids that keep connections alive.
-use Rattle.std.proofs.Common.{◌≡◌, ◌∙◌, ◌<◌, ◌++◌, ◌&&◌, ◌||◌, ℕ, Bool, true, false, not, cond, eqb, List, [], ◌∷◌, Option, Some, None, Ordering, Less, Equal, Greater, nat_cmp, ⊎_elim, refl, sym, ap, subst, arith}
+use Rattle.std.proofs.Common.{◌≡◌, ◌∙◌, ◌<◌, ◌&&◌, ◌||◌, ℕ, Bool, true, false, not, cond, eqb, List, [], ◌∷◌, Some, None, Ordering, Less, Equal, Greater, nat_cmp, ⊎_elim, refl, sym, ap, subst, arith}
 use Rattle.std.specs.Prelude.{◌==◌, ◌⊎◌, filter, is_some}
 use Rattle.std.specs.List.{list_any}
 use Rattle.std.specs.Map.{keys_of}

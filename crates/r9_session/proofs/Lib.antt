@@ -5,3 +5,4 @@ mod Readings
 mod Begun
 mod Keeping
 mod Bound
+mod Told

@@ -1,6 +1,6 @@
 //! What a session answers to a message (intro(5), version(5), flush(5)).
 
-ghost use Rattle.std.specs.Prelude.{◌≡◌, ◌<◌, ◌≤◌, ◌^◌, ◌==◌, ℕ, Option, None, length, false, IsSome, IfOk, IfSome};
+ghost use Rattle.std.specs.Prelude.{◌≡◌, ◌<◌, ◌≤◌, ◌^◌, ◌==◌, ℕ, Option, None, length, false, IsSome, IfOk, IfSome, OnOk};
 ghost use Rattle.std.specs.List.{before_first};
 ghost use Rattle.model_wire.specs.Message.{tag_of_t, Rversion};
 ghost use Rattle.model_wire.specs.Spelling.{FitsR, FitsT};
@@ -9,7 +9,7 @@ ghost use Rattle.model_world.specs.Answer.{answer, answer_to, answer_read, asks_
 ghost use Rattle.model_draw.specs.Act.{no_memory};
 ghost use Rattle.model_world.specs.Refusal.{refusal, Refuses};
 ghost use Rattle.model_world.specs.Cut.{IsCut, IsCutMessage, IsCutSpelled};
-ghost use Rattle.model_world.specs.Links.{IsLinked};
+ghost use Rattle.model_world.specs.Links.{IsLinked, KeepsOthers};
 ghost use Rattle.model_world.specs.World.{device_for};
 ghost use Rattle.r9_draw.specs.World.{world_of};
 ghost use Rattle.r9_wire.specs.View.{r_of, t_of};
@@ -217,6 +217,7 @@ impl Session {
         ensures answer { IsReply mark self.old (world_of device.old) result self.new (world_of device.new) (λ k. answer_read (device_for number) self.old (world_of device.old) k (t_of m.now)) }
         ensures cause { IfOk result (λ a. IfSome a.short (λ k. IsCut number self.old (world_of device.old) mark k (t_of m.now))) }
         ensures refused { IfOk result (λ a. IsSome a.short → Refuses no_memory (r_of a.reply)) }
+        ensures told { IfOk result (λ a. Refuses no_memory (r_of a.reply) → IsSome a.short) }
     {
         self.check_begun(m)?;
         if let Tmsg::Write {
@@ -246,6 +247,7 @@ impl Session {
         ensures answer { IsReply mark self.old (world_of device.old) result self.new (world_of device.new) (λ k. read_or_not (device_for number) self.old (world_of device.old) k (message_of bytes.now)) }
         ensures cause { IfOk result (λ a. IfSome a.short (λ k. IsCutSpelled number self.old (world_of device.old) bytes.now mark k)) }
         ensures refused { IfOk result (λ a. IsSome a.short → Refuses no_memory (r_of a.reply)) }
+        ensures told { IfOk result (λ a. Refuses no_memory (r_of a.reply) → IsSome a.short) }
     {
         match read_t(alloc, bytes) {
             Ok(m) => self.answer_read(alloc, device, number, &m, mark),
@@ -255,8 +257,9 @@ impl Session {
     }
 
     /// Answers the bytes of a message of the session that has the number that is given. A mark tells that memory ran out in a
-    /// data write after so many draw messages; the answer tells the mark with which the message stands in the history, and then
-    /// is the refusal of want of memory. After an `Err` nothing is said of the session and the device: they are not to be used again.
+    /// data write after so many draw messages; the answer tells the mark with which the message stands in the history where the
+    /// reply is the refusal of want of memory, and only there. After an `Err` nothing is said of the session and the device: they
+    /// are not to be used again.
     #[tactic(auto, unfolding(model_world::specs::Answer::answer))]
     pub fn answer(
         &mut self,
@@ -271,6 +274,9 @@ impl Session {
         ensures answer { IfOk result (λ a. answer (device_for number) self.old (world_of device.old) bytes.now (mark_after mark a.short) ≡ record { session = self.new; rest = world_of device.new; reply = r_of a.reply }) }
         ensures fits { IfOk result (λ a. FitsR (r_of a.reply)) }
         ensures short { IfOk result (λ a. IfSome a.short (λ k. IsCutMessage number self.old (world_of device.old) bytes.now mark k)) }
+        ensures told { IfOk result (λ a. Refuses no_memory (r_of a.reply) → IsSome a.short) }
+        ensures linked { OnOk result (IsLinked number self.new.made self.new.connections (world_of device.new)) }
+        ensures others { OnOk result (KeepsOthers number (world_of device.old) (world_of device.new)) }
     {
         let tag = u16::from_le_bytes([bytes[5], bytes[6]]);
         if bytes.len() > self.msize as usize {

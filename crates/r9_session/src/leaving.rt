@@ -1,13 +1,13 @@
 //! Letting go of fids (clunk(5)), and ending connections to the draw device (draw(3)).
 
-ghost use Rattle.std.specs.Prelude.{◌≡◌, ◌==◌, ◌&&◌, filter, not, IfOk, IsSome, OnOk};
+ghost use Rattle.std.specs.Prelude.{◌≡◌, ◌==◌, ◌&&◌, [], filter, not, IfOk, IsSome, OnOk};
 ghost use Rattle.std.specs.List.{fold, list_any};
 ghost use Rattle.std.specs.Map.{keys_of};
 ghost use Rattle.model_map.specs.Ascending.{Ascend};
 ghost use Rattle.model_world.specs.Answer.{clunk_answer};
 ghost use Rattle.model_text.specs.Map.{lookup};
 ghost use Rattle.model_world.specs.Fids.{cleared, is_kept, keeps};
-ghost use Rattle.model_world.specs.Links.{IsLinked};
+ghost use Rattle.model_world.specs.Links.{IsLinked, KeepsOthers};
 ghost use Rattle.model_world.specs.World.{device_for};
 ghost use Rattle.model_wire.specs.Spelling.{FitsR};
 ghost use Rattle.r9_draw.specs.World.{world_of};
@@ -158,7 +158,9 @@ impl Session {
     #[tactic(auto, using(crate::proofs::Clients::all_may_leave))]
     pub fn leave(&self, device: &mut Draw, number: u32) -> Result<(), Memory>
         requires { IsLinked number self.now.made self.now.connections (world_of device.old) }
-        ensures { OnOk result (world_of device.new ≡ (cleared (device_for number) self.now (world_of device.old)).1) }
+        ensures device { OnOk result (world_of device.new ≡ (cleared (device_for number) self.now (world_of device.old)).1) }
+        ensures linked { OnOk result (IsLinked number self.now.made [] (world_of device.new)) }
+        ensures others { OnOk result (KeepsOthers number (world_of device.old) (world_of device.new)) }
     {
         leave_all(device, number, self.connections.as_slice())
     }

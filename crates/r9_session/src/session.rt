@@ -1,8 +1,10 @@
 //! What is kept of a session.
 
-ghost use Rattle.std.specs.Prelude.{◌≡◌, IfOk};
+ghost use Rattle.std.specs.Prelude.{◌≡◌, ℕ, [], IfOk};
+ghost use Rattle.model_draw.specs.World.{Opening, World, started};
 ghost use Rattle.model_world.specs.Session.{fresh};
 ghost use Rattle.model_world.specs.Fids as fids;
+ghost use Rattle.model_world.specs.Links.{IsLinked};
 ghost use Rattle.model_world.specs.World.{client};
 ghost use Rattle.r9_tree.specs.View.{view_of, IsView};
 
@@ -48,9 +50,11 @@ pub fn client(number: u32, connection: u32) -> u64
 }
 
 impl Session {
-    /// A session that has agreed on nothing.
+    /// A session that has agreed on nothing. It may begin at a device that has no connection of its number.
     pub fn fresh(alloc: Global) -> Self
-        ensures { result ≡ fresh }
+        ensures fresh { result ≡ fresh }
+        ensures linked { (number made : ℕ) (device : World) → IsLinked number made [] device → IsLinked number result.made result.connections device }
+        ensures first { (number : ℕ) (display : Opening) → IsLinked number result.made result.connections (started display) }
     {
         Session {
             msize: MAX_MSIZE,

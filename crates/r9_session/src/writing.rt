@@ -145,6 +145,7 @@ impl Session {
         ensures answer { IsReply mark self.now (world_of device.old) result self.now (world_of device.new) (λ m. write_answer (device_for number) self.now (world_of device.old) tag fid bytes.now m) }
         ensures cause { IfOk result (λ a. IfSome a.short (λ k. IsCutWrite number self.now (world_of device.old) fid bytes.now mark k)) }
         ensures refused { IfOk result (λ a. IsSome a.short → Refuses no_memory (r_of a.reply)) }
+        ensures told { IfOk result (λ a. Refuses no_memory (r_of a.reply) → IsSome a.short) }
     {
         let Some(found) = self.fids.get(fid) else {
             return Err(Fault::Refused(UNKNOWN_FID));

@@ -1,10 +1,10 @@
-use Rattle.std.proofs.Common.{rules, ◌≡◌, ℕ, List, Result, Ok, Err, OnOk, ap, ◌∙◌}
+use Rattle.std.proofs.Common.{rules, ◌≡◌, Result, Ok, Err, OnOk, ap, ◌∙◌}
 use Rattle.std.specs.Prelude.{[]}
 use Rattle.std.specs.Map.{set_value}
 use Rattle.std.specs.BTreeMap.{insert_entry}
 use Rattle.std.specs.Ordering.{nat_cmp}
 use Rattle.std.specs.Option.{unwrap_or}
-use Rattle.model_text.specs.Map.{is_key, lookup}
+use Rattle.model_text.specs.Map.{is_key}
 use Rattle.model_map.proofs.Maps.{with-others, and-others}
 use Rattle.r9_hall.specs.StateView.{waiting}
 use Rattle.r9_hall.proofs.state.keep.Goals as goal

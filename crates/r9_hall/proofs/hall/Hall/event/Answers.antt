@@ -1,16 +1,15 @@
-use Rattle.std.proofs.Common.{◌≡◌, ℕ, Bool, true, false, List, [], ◌∷◌, ◌++◌, Option, Some, None, IfSome, refl, sym, ap, subst, ◌∙◌, arith}
+use Rattle.std.proofs.Common.{◌≡◌, true, false, List, [], ◌∷◌, ◌++◌, IfSome, IsSome, sym, ap, subst, ◌∙◌, arith}
 use Rattle.r9_event.specs.declared.event.Event.{Event}
 use Rattle.r9_event.specs.declared.event.Entry.{Entry}
 use Rattle.model_event.specs.Journal.{events_of}
 use Rattle.model_event.specs.Legal.{Allowed, roll_after, roll_of}
-use Rattle.model_world.specs.Cut.{IsCutEvent}
-use Rattle.model_world.specs.Links.{IsNext}
+use Rattle.model_world.specs.Cut.{IsCutEvent, IsWantingEvent}
 use Rattle.model_world.specs.Replay.{marked, step, world_at}
 use Rattle.model_world.specs.World.{World}
 use Rattle.model_world.proofs.Marks.{marked_allowed}
 use Rattle.model_world.proofs.Steps.{next_allowed}
 use Rattle.r9_hall.specs.HallView.{AllowedNext, HallValue, entered}
-use Rattle.r9_hall.specs.StateView.{State, state_of, state_world, IsAfter}
+use Rattle.r9_hall.specs.StateView.{state_of, state_world, IsAfter}
 use Rattle.r9_hall.proofs.Halls.{legal_more, roll_entered, stop_after, stop_next, stopped_after, not_going, not_broken, value_entered, standing, stands_more, replies_after}
 use Rattle.r9_hall.proofs.hall.Hall.event.Goals as goal
 
@@ -78,6 +77,8 @@ returns c =
       );
       short = λ _. subst (λ (h : HallValue). IfSome c.in_ok-did.did.short (λ k. IsCutEvent (world_at h.journal) c.args.event k)) c.self.view_is
           (subst (λ (w : World). IfSome c.in_ok-did.did.short (λ k. IsCutEvent w c.args.event k)) (standing opening events _ stands) (c.in_ok-did.ensures.short opening));
+      told = λ _. subst (λ (h : HallValue). IsWantingEvent (world_at h.journal) event → IsSome c.in_ok-did.did.short) c.self.view_is
+          (subst (λ (w : World). IsWantingEvent w event → IsSome c.in_ok-did.did.short) (standing opening events _ stands) (c.in_ok-did.ensures.told opening));
       stop = λ is. absurd (c.in_default.not-Stop is);
       err = tt;
     }

@@ -1,6 +1,5 @@
 use Rattle.std.proofs.Common.{rules, ◌≡◌, List, [], sym, subst}
 use Rattle.r9_event.specs.declared.event.Event.{Event}
-use Rattle.r9_event.specs.declared.event.Entry.{Entry}
 use Rattle.model_event.specs.Journal.{events_of}
 use Rattle.model_event.specs.Legal.{IsLegal}
 use Rattle.r9_hall.proofs.Halls.{stands_first}

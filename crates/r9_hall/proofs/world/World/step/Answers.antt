@@ -1,5 +1,40 @@
-use Rattle.r9_hall.proofs.States.{ok_map}
+use Rattle.std.proofs.Common.{◌≡◌, false, IfSome, IsSome, refl, sym, ap, subst, ◌∙◌}
+use Rattle.model_world.specs.Cut.{IsCutEvent, IsWantingEvent}
+use Rattle.model_world.specs.Links.{IsNext, begun_after}
+use Rattle.model_world.specs.Replay.{marked, step}
+use Rattle.r9_hall.specs.WorldView.{WorldValue, world_in}
+use Rattle.r9_hall.proofs.Worlds.{turn_begun, turn_known, turn_linked}
 use Rattle.r9_hall.proofs.world.World.step.Goals as goal
 
-pub returns-clause-short : goal.returns-clause-short
-returns-clause-short c = ok_map _ _ (λ did told. told c.args.self.now.opening) c.step.result c.step.ensures.short
+pub step-requires-clause-linked : goal.step-requires-clause-linked
+step-requires-clause-linked c =
+    let whole : c.self.inside.broken ≡ false = ap (λ (w : WorldValue). w.broken) c.self.view_is ∙ c.requires.going in
+    c.self.invariant.linked whole
+
+pub invariant_of-self-2 : goal.invariant_of-self-2
+invariant_of-self-2 c =
+    let whole : c.self.inside.broken ≡ false = ap (λ (w : WorldValue). w.broken) c.self.view_is ∙ c.requires.going in
+    let next : IsNext c.self.inside.begun c.args.event.now = subst (λ (w : WorldValue). IsNext w.begun c.args.event.now) (sym c.self.view_is) c.requires.next in
+    let linked = c.self.invariant.linked whole in
+    let known = c.self.invariant.known whole in
+    let turn = c.in_ok-did.ensures.turn c.self.inside.opening in
+    record {
+      linked = λ _. turn_linked c.self.inside.opening c.self.inside.sessions c.step.new.self c.self.inside.begun c.args.event.now c.in_ok-did.did.short _ next linked known turn;
+      known = λ _. turn_known c.self.inside.opening c.self.inside.sessions c.step.new.self c.self.inside.begun c.begun_after-self-inside.result c.args.event.now c.in_ok-did.did.short _ next linked known c.begun_after-self-inside.ensures turn;
+    }
+
+pub returns : goal.returns
+returns c =
+    let opening = c.self.inside.opening in
+    let event = marked c.args.event.now c.in_ok-did.did.short in
+    let turn = c.in_ok-did.ensures.turn opening in
+    record {
+      world = record {
+        world = sym turn.world ∙ ap (λ (w : WorldValue). (step (world_in w) event).world) c.self.view_is;
+        begun = turn_begun _ _ c.args.event.now c.in_ok-did.did.short (c.begun_after-self-inside.ensures ∙ ap (λ (w : WorldValue). begun_after w.begun c.args.event.now) c.self.view_is);
+        going = refl;
+      };
+      replies = sym turn.replies_are ∙ ap (λ (w : WorldValue). (step (world_in w) event).replies) c.self.view_is;
+      short = subst (λ (w : WorldValue). IfSome c.in_ok-did.did.short (λ k. IsCutEvent (world_in w) c.args.event.now k)) c.self.view_is (c.in_ok-did.ensures.short opening);
+      told = subst (λ (w : WorldValue). IsWantingEvent (world_in w) event → IsSome c.in_ok-did.did.short) c.self.view_is (c.in_ok-did.ensures.told opening);
+    }

@@ -1,8 +1,10 @@
-use Rattle.std.proofs.Common.{◌≡◌, true, false, ◌∙◌}
+use Rattle.std.proofs.Common.{rules, ◌≡◌, true, false, ◌∙◌}
 use Rattle.model_world.specs.World.{device_for}
 use Rattle.r9_draw.specs.World.{world_of}
 use Rattle.r9_wire.specs.View.{t_of}
+use Rattle.r9_session.specs.Answers.{is_write}
 use Rattle.r9_session.proofs.Begun.{begun}
+use Rattle.r9_session.proofs.Told.{other_spares}
 use Rattle.r9_session.proofs.session.Session.answer_read.Goals as goal
 
 pub returns : goal.returns
@@ -13,4 +15,8 @@ returns c =
       answer = (begun (device_for c.args.number) c.args.self.now (world_of c.args.device.now) c.args.mark (t_of c.args.m.now) begins.0 begins.1 ∙ said.0, said.1);
       cause = tt;
       refused = λ told. (let both : false ≡ true = told in absurd cc);
+      told = λ wants. (
+          let other : is_write (t_of c.args.m.now) ≡ false = search rules in
+          absurd (other_spares c.args.number c.args.self.now (world_of c.args.device.now) c.args.mark (t_of c.args.m.now) _ other said.0 wants)
+          );
     }

@@ -1,4 +1,4 @@
-use Rattle.std.proofs.Common.{rules, ◌≡◌, ◌∙◌, ℕ, None, Some, sym, ap, subst}
+use Rattle.std.proofs.Common.{rules, ◌≡◌, ◌∙◌, Some, sym, ap, subst}
 use Rattle.model_text.specs.Map.{lookup}
 use Rattle.model_world.specs.Session.{Session}
 use Rattle.r9_session.specs.SessionView.{IsSession}

@@ -1,6 +1,5 @@
-use Rattle.std.proofs.Common.{rules, ◌≡◌, ◌∙◌, ℕ, Some, sym, ap, subst}
+use Rattle.std.proofs.Common.{rules, ◌≡◌, ◌∙◌, Some, sym, ap, subst}
 use Rattle.model_text.specs.Map.{lookup}
-use Rattle.model_world.specs.Session.{Session}
 use Rattle.r9_session.specs.SessionView.{IsSession}
 use Rattle.model_world.specs.Fids.{keeps}
 use Rattle.r9_session.proofs.Keeping.{kept_with, opened_keeps}

@@ -1,0 +1,44 @@
+-- The world that keeps no history.
+use Rattle.std.specs.Prelude.{◌≡◌, ℕ, Bool, false}
+use Rattle.r9_event.specs.declared.event.Event.{Event}
+use Rattle.r9_event.specs.declared.event.Opening.{Opening}
+use Rattle.model_world.specs.Links.{AreKnown, AreLinked, begun_after}
+use Rattle.model_world.specs.Replay.{step}
+use Rattle.model_world.specs.World.{World, opened}
+use Rattle.r9_draw.specs.World.{world_of}
+use Rattle.r9_hall.specs.declared.sessions.Sessions.{Sessions}
+use Rattle.r9_hall.specs.declared.world.World.TheInside as world
+use Rattle.r9_hall.specs.StateView.{world_with}
+
+-- the opening, the sessions with the draw device, how many sessions have begun, and whether the world is broken, which it is once
+-- memory ran out in an event
+pub record WorldValue : Type 0 where
+  pub opening : Opening
+  pub sessions : Sessions
+  pub begun : ℕ
+  pub broken : Bool
+
+-- what the history led to
+abbrev pub world_in : WorldValue → World
+world_in w = world_with w.opening w.sessions
+
+-- nothing has happened yet
+pub record IsFirst (opening : Opening) (w : WorldValue) : Type 0 where
+  pub world : world_in w ≡ opened opening
+  pub begun : w.begun ≡ 0
+  pub going : w.broken ≡ false
+
+-- an event has happened
+pub record IsStepped (before : WorldValue) (event : Event) (after : WorldValue) : Type 0 where
+  pub world : world_in after ≡ (step (world_in before) event).world
+  pub begun : after.begun ≡ begun_after before.begun event
+  pub going : after.broken ≡ false
+
+abbrev pub value_of : world.Inside → WorldValue
+value_of w = record { opening = w.opening; sessions = w.sessions; begun = w.begun; broken = w.broken }
+
+-- A world that is not broken has the draw device with the connections of the sessions that live, and no session that has not
+-- begun.
+pub record IsWorld (w : world.Inside) : Type 0 where
+  pub linked : w.broken ≡ false → AreLinked (world_of w.sessions.device) w.sessions.live.entries
+  pub known : w.broken ≡ false → AreKnown w.begun w.sessions.live.entries
