@@ -1,19 +1,20 @@
 -- What the window manager orders of the draw device (rio(4)). It is connection 0: the image of a window has the window's
 -- serial as its image id, and the screen of a rio has the serial of its host as its screen id, 0 for the root rio.
-use Rattle.std.specs.Prelude.{ℕ, ◌==◌, ◌^◌, pos, neg_ℤ, ◌+ℤ◌, ◌-ℤ◌, Bool, true, false, not, ◌&&◌, List, [], ◌∷◌, Some, if◌then◌else◌}
+use Rattle.std.specs.Prelude.{ℕ, ◌==◌, ◌^◌, pos, neg_ℤ, ◌+ℤ◌, ◌-ℤ◌, Bool, true, false, not, is_none, is_some, ◌&&◌, ◌||◌, List, [], ◌∷◌, Some, if◌then◌else◌}
 use Rattle.std.specs.List.{fold}
 use Rattle.std.specs.Option.{option_map_or}
+use Rattle.std.specs.Ordering.{int_eq}
 use Rattle.std.specs.Result.{result_unwrap_or}
 use Rattle.r9_geom.specs.declared.Point.{Point}
 use Rattle.r9_geom.specs.declared.Rect.{Rect}
-use Rattle.r9_geom.specs.Geometry.{at_min, holds}
+use Rattle.r9_geom.specs.Geometry.{at_min, holds, is_empty}
 use Rattle.r9_event.specs.declared.rio.Order.{Order}
 use Rattle.r9_event.specs.declared.rio.Order.TheVariants.{Make, Place, Replace, Raise, Lower, Drop, Host, Leave}
 use Rattle.model_pixel.specs.Channels.{colour_of, depth, pack}
 use Rattle.model_pixel.specs.Rows.{rows_of}
 use Rattle.model_imgfile.specs.ImageFile.{image_file}
 use Rattle.model_forest.specs.Paint.{paint}
-use Rattle.model_text.specs.Outcome.{◌>>=◌}
+use Rattle.model_text.specs.Map.{lookup}
 use Rattle.model_forest.specs.World.{World as Images, image_at}
 use Rattle.model_forest.specs.Draw.{after_fill, with_canvas}
 use Rattle.model_forest.specs.Stack.{after_lower, after_raise, after_window}
@@ -21,7 +22,7 @@ use Rattle.model_forest.specs.Steps.{after_image, after_origin, after_replace, a
 use Rattle.model_images.specs.Book.{Book, add_id, fill_of, image_id, image_of, new_screen, screen_id, screen_of, tie}
 use Rattle.model_images.specs.Release.{Freed, free_id, free_screen, nothing_freed}
 use Rattle.model_draw.specs.World.{World, after_freed, after_leave, at_number, background, next_image, with_book, with_images}
-use Rattle.model_draw.specs.Making.{with_made}
+use Rattle.model_draw.specs.Making.{farthest, is_near, is_near_rect, is_window, with_made}
 
 abbrev pub manager : ℕ
 manager = 0
@@ -90,11 +91,18 @@ with_root_rio world =
 
 -- ---- images that come and go
 
--- a new image gets the id and the name of a window, and stands on a screen
-abbrev pub with_window_id : World → (window i s : ℕ) → (name : List ℕ) → World
-with_window_id world window i s name =
-    with_book world
-    (result_unwrap_or (add_id world.book manager window i (Some s) >>= λ book. tie book manager window name) world.book)
+-- an image gets the id of a window, and stands on a screen
+abbrev pub with_window_id : Book → (window i s : ℕ) → Book
+with_window_id book window i s = result_unwrap_or (add_id book manager window i (Some s)) book
+
+-- and its name
+abbrev pub with_window_name : Book → (window : ℕ) → (name : List ℕ) → Book
+with_window_name book window name = result_unwrap_or (tie book manager window name) book
+
+-- a new image is that of a window
+abbrev pub with_window : World → (window i s : ℕ) → (name : List ℕ) → World
+with_window world window i s name =
+    with_book world (with_window_name (with_window_id world.book window i s) window name)
 
 -- what freeing the image id of a window leaves; the tie of its name ends
 abbrev pub image_freed : Book → (window : ℕ) → Freed
@@ -136,7 +144,7 @@ unfoldable pub make_window : World → (window host : ℕ) → Rect → (name : 
 make_window world window host r name hide =
     let s = rio_screen world host in
     let i = next_image world in
-    with_window_id (with_made world (bordered (new_white world s r hide) i) world.book) window i s name
+    with_window (with_made world (bordered (new_white world s r hide) i) world.book) window i s name
 
 -- A window has another image: the contents of the old one, or white with a border. The old one stays far outside, for who
 -- has an id for it.
@@ -146,7 +154,7 @@ replace_window world window host r name keep hidden =
     let i = next_image world in
     let images = next_white world (image_shown world window) s r keep hidden in
     let next = with_made world (if keep then images else bordered images i) world.book in
-    with_window_id (after_freed next (image_freed world.book window)) window i s name
+    with_window (after_freed next (image_freed world.book window)) window i s name
 
 unfoldable pub place_window : World → (window : ℕ) → Point → World
 place_window world window at =
@@ -172,16 +180,62 @@ host_rio world window fill =
     let root_fill = fill_of left.book (rio_screen left 0) in
     with_book left (result_unwrap_or (new_screen left.book manager window false i root_fill) left.book)
 
--- the device after an order
+-- ---- what fits
+
+-- there is a rio in a window, or the root's
+abbrev pub has_rio : World → (host : ℕ) → Bool
+has_rio world host = is_some (screen_id world.book manager host)
+
+-- there is a window, which stands on a screen
+abbrev pub has_window : World → (window : ℕ) → Bool
+has_window world window =
+    not (window == 0) && is_some (image_id world.book manager window) && is_window world (image_shown world window)
+
+-- a window may have the rectangle: it is near 0, and has an inside
+abbrev pub is_window_rect : Rect → Bool
+is_window_rect r = is_near_rect farthest r && not (is_empty (inside_border r))
+
+abbrev pub is_near_point : Point → Bool
+is_near_point p = is_near farthest p.x && is_near farthest p.y
+
+-- what the window shows can be kept in a rectangle on a screen
+abbrev pub can_keep : World → (window s : ℕ) → Rect → Bool
+can_keep world window s r =
+    let old = at_number world (image_shown world window) in
+    int_eq (r.max.x -ℤ r.min.x) (old.r.max.x -ℤ old.r.min.x) && int_eq (r.max.y -ℤ r.min.y) (old.r.max.y -ℤ old.r.min.y)
+    && (old.chan == (at_number world (image_of world.book s)).chan)
+
+-- The order is about windows and rios that are there, as each order of a step of the window manager is.
+abbrev pub fits : World → Order → Bool
+fits world (Make window host r name hide depth) =
+    has_rio world host && is_none (image_id world.book manager window) && is_window_rect r
+fits world (Place window at) = has_window world window && is_near_point at
+fits world (Replace window host r name keep hidden) =
+    has_window world window && has_rio world host && is_window_rect r
+    && (not keep || can_keep world window (rio_screen world host) r)
+fits world (Raise window) = has_window world window
+fits world (Lower window) = has_window world window
+fits world (Drop window) = has_window world window
+fits world (Host window fill) =
+    has_window world window && has_rio world 0 && is_window_rect (at_number world (image_shown world window)).r
+fits world (Leave client) = is_some (lookup world.clients client)
+
+-- ---- carrying out
+
+-- the device after an order that fits
+abbrev pub after_order : World → Order → World
+after_order world (Make window host r name hide depth) = make_window world window host r name hide
+after_order world (Place window at) = place_window world window at
+after_order world (Replace window host r name keep hidden) = replace_window world window host r name keep hidden
+after_order world (Raise window) = with_images world (after_raise world.images (image_shown world window ∷ []))
+after_order world (Lower window) = with_images world (after_lower world.images (image_shown world window ∷ []))
+after_order world (Drop window) = drop_window world window
+after_order world (Host window fill) = host_rio world window fill
+after_order world (Leave client) = after_leave world client
+
+-- An order that does not fit changes nothing.
 abbrev pub ordered : World → Order → World
-ordered world (Make window host r name hide depth) = make_window world window host r name hide
-ordered world (Place window at) = place_window world window at
-ordered world (Replace window host r name keep hidden) = replace_window world window host r name keep hidden
-ordered world (Raise window) = with_images world (after_raise world.images (image_shown world window ∷ []))
-ordered world (Lower window) = with_images world (after_lower world.images (image_shown world window ∷ []))
-ordered world (Drop window) = drop_window world window
-ordered world (Host window fill) = host_rio world window fill
-ordered world (Leave client) = after_leave world client
+ordered world order = if fits world order then after_order world order else world
 
 -- the device after orders, which are carried out one after the other
 abbrev pub carried_out : World → List Order → World

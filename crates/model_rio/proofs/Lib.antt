@@ -13,3 +13,4 @@ pub mod Listing
 pub mod Soundness
 mod Notes
 pub mod Turns
+pub mod Orders

@@ -13,6 +13,7 @@ ghost use Rattle.model_rio.specs.Act as act;
 ghost use Rattle.model_rio.specs.Step.{Step, in_place};
 ghost use Rattle.model_rio.specs.Sound.{IsSound};
 ghost use Rattle.model_rio.specs.Notes.{AreInTurn};
+ghost use Rattle.r9_event.specs.Orders.{EndNoConnection};
 ghost use Rattle.model_rio.specs.Rio.{rio};
 
 /// While a window holds the mouse and buttons stay pressed, it alone is told of each event, wherever the pointer is, and
@@ -62,4 +63,9 @@ pub fn windows_are_listed_in_order()
 /// What an act tells one window stands in the order made, moved or resized, hidden, current, mouse, key, deleted.
 pub fn notes_stand_in_turn()
     ensures { (table : Table) (a : Act) (step : Step) → IsSound table → rio table a ≡ Ok step → AreInTurn step.notes }
+{}
+
+/// What an act orders of the draw device ends no connection.
+pub fn acts_end_no_connection()
+    ensures { (table : Table) (a : Act) (step : Step) → rio table a ≡ Ok step → EndNoConnection step.orders }
 {}

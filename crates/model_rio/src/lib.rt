@@ -5,7 +5,7 @@
 mod laws;
 
 pub use laws::{
-    acts_keep_tables_sound, drag_goes_to_holder, notes_stand_in_turn, opening_is_sound,
-    paths_have_at_most_nine_numbers, paths_name_windows, replaced_windows_keep_their_places,
-    topmost_is_seen, windows_are_listed_in_order,
+    acts_end_no_connection, acts_keep_tables_sound, drag_goes_to_holder, notes_stand_in_turn,
+    opening_is_sound, paths_have_at_most_nine_numbers, paths_name_windows,
+    replaced_windows_keep_their_places, topmost_is_seen, windows_are_listed_in_order,
 };

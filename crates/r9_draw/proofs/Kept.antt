@@ -121,7 +121,7 @@ kept-load images book i r raws k live = kept-replaced images book i _ k live (ca
 
 -- ---- what comes
 
-any-window : (i s : ℕ) (screen : Option ℕ) (ws : List OnScreen) → list_any (λ w. w.screen == s) (with_window i screen ws) ≡ true → (screen ≡ Some s) ⊎ (list_any (λ w. w.screen == s) ws ≡ true)
+pub any-window : (i s : ℕ) (screen : Option ℕ) (ws : List OnScreen) → list_any (λ w. w.screen == s) (with_window i screen ws) ≡ true → (screen ≡ Some s) ⊎ (list_any (λ w. w.screen == s) ws ≡ true)
 any-window i s None ws h = inr h
 any-window i s (Some t) ws h = elim (either_true (list_any (λ w. w.screen == s) ws) _ (sym (list_any-append (λ w. w.screen == s) ws (record { image = i; screen = t } ∷ [])) ∙ h)) [
   | inl old ↦ inr old
@@ -137,7 +137,7 @@ or_none None = refl
 or_none (Some x) = refl
 
 -- the other windows stay on their screens
-find-window : (i n : ℕ) (screen : Option ℕ) (ws : List OnScreen) → (n == i) ≡ false → find (λ w. w.image == n) (with_window i screen ws) ≡ find (λ w. w.image == n) ws
+pub find-window : (i n : ℕ) (screen : Option ℕ) (ws : List OnScreen) → (n == i) ≡ false → find (λ w. w.image == n) (with_window i screen ws) ≡ find (λ w. w.image == n) ws
 find-window i n None ws e = refl
 find-window i n (Some s) ws e =
     let new : OnScreen = record { image = i; screen = s } in
@@ -145,7 +145,7 @@ find-window i n (Some s) ws e =
     ∙ ap (λ b. option_or (find (λ w. w.image == n) ws) (cond b (Some new) None)) (eqb_comm i n ∙ e) ∙ or_none (find (λ w. w.image == n) ws)
 
 -- and the new one is on its own
-find-new_window : (i : ℕ) (screen : Option ℕ) (ws : List OnScreen) → find (λ w. w.image == i) ws ≡ None → option_map (λ w. w.screen) (find (λ w. w.image == i) (with_window i screen ws)) ≡ screen
+pub find-new_window : (i : ℕ) (screen : Option ℕ) (ws : List OnScreen) → find (λ w. w.image == i) ws ≡ None → option_map (λ w. w.screen) (find (λ w. w.image == i) (with_window i screen ws)) ≡ screen
 find-new_window i None ws e = ap (λ (o : Option OnScreen). option_map (λ w. w.screen) o) e
 find-new_window i (Some s) ws e =
     let new : OnScreen = record { image = i; screen = s } in
@@ -167,7 +167,7 @@ pub record Grows (images next : World) (book : Book) (i : ℕ) (screen : Option 
   pub clip : IsRectNearBy (2 ^ 33) (image_at next i).clipr
 
 pub kept-added : (images next : World) (book added : Book) (k id i : ℕ) (screen : Option ℕ) → IsKept images book → Grows images next book i screen → add_id book k id i screen ≡ Ok added
-    → (k == 0) ≡ false → IfSome screen (λ s. is_some (screen_numbered book s) ≡ true) → IsKept next added
+    → ((k == 0) && (id == 0)) ≡ false → IfSome screen (λ s. is_some (screen_numbered book s) ≡ true) → IsKept next added
 unfolding add_id
 kept-added images next book added k id i screen kept g e own stands = by (is_image_id_taken book k id) refl e
   where
@@ -231,7 +231,7 @@ kept-added images next book added k id i screen kept g e own stands = by (is_ima
               | inr old ↦ kept.screens s (second_true (list_any (λ e. e.screen == s) book.screen_ids) _ old)
             ]
           ];
-          display = ap (λ (o : Option ImageId). option_map (λ e. e.image) o) (find-put (λ e. (e.client == 0) && (e.id == 0)) entry book.image_ids (and_false (k == 0) (id == 0) own)) ∙ kept.display;
+          display = ap (λ (o : Option ImageId). option_map (λ e. e.image) o) (find-put (λ e. (e.client == 0) && (e.id == 0)) entry book.image_ids own) ∙ kept.display;
           points = λ j h n. all_points j (j == i) refl h n;
           used = λ j h. entered j (j == i) refl h;
           screens_used = λ s h. elim (either_true (list_any (λ e. e.screen == s) book.screen_ids) _ (kept.screens_used s h)) [
@@ -284,7 +284,7 @@ screen-lost book freed n rest h =
     ap (λ (ws : List OnScreen). option_map (λ w. w.screen) (find (λ w. w.image == n) ws)) rest.windows ∙ ap (λ (o : Option OnScreen). option_map (λ w. w.screen) o) (find-lost n (goes_from freed) book.windows h)
 
 -- a screen that is used still has its image and its fill
-standing-kept : (book : Book) (freed : Freed) (s : ℕ) → KeepsRest book freed → IsFreed book freed → is_used freed.book (Screen s) ≡ true → standing_on freed.book s ≡ standing_on book s
+pub standing-kept : (book : Book) (freed : Freed) (s : ℕ) → KeepsRest book freed → IsFreed book freed → is_used freed.book (Screen s) ≡ true → standing_on freed.book s ≡ standing_on book s
 standing-kept book freed s rest f used =
     let here : has_gone freed (Screen s) ≡ false = not-true (has_gone freed (Screen s)) (λ g. not_both (is_used freed.book (Screen s)) used (f.gone_unused (Screen s) g)) in
     let numbered : screen_numbered freed.book s ≡ screen_numbered book s = rest.screens s ∙ ap (λ (b : Bool). if b then None else screen_numbered book s) here in
@@ -309,7 +309,7 @@ can-release images book freed k f order = record {
   order = order;
 }
 
-none-at : (images : World) (n : ℕ) → is_some (images n) ≡ false → image_at images n ≡ no_image
+pub none-at : (images : World) (n : ℕ) → is_some (images n) ≡ false → image_at images n ≡ no_image
 none-at images n h = by (images n) h
   where
     by : (o : Option Image) → is_some o ≡ false → unwrap_or o no_image ≡ no_image

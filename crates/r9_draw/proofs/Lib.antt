@@ -22,3 +22,11 @@ pub mod Raising
 pub mod Ties
 pub mod Named
 pub mod Strings
+pub mod Ordered
+pub mod Managed
+pub mod Pending
+pub mod Bordering
+pub mod Fitting
+pub mod Hosting
+pub mod Renewing
+pub mod Windows

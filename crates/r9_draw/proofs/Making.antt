@@ -24,7 +24,7 @@ use Rattle.r9_draw.specs.Kept.{IsKept, standing_on}
 use Rattle.r9_draw.specs.Plans.{CanHold, after_make, images_made, one_pixel}
 use Rattle.r9_draw.proofs.Allocating.{add_id-fresh}
 use Rattle.r9_draw.proofs.Going.{not-true, not_both}
-use Rattle.r9_draw.proofs.Kept.{Grows, kept-added, kept-same}
+use Rattle.r9_draw.proofs.Kept.{Grows, and_false, kept-added, kept-same}
 
 -- an id that is free is not refused
 pub never-refused : (f : BookFault) (book : Book) (k id i : ℕ) (s : Option ℕ) → IsRefusal f → IfRefused f (λ n. add_id book k id i s ≡ Err n) → is_image_id_taken book k id ≡ false → ⊥
@@ -34,7 +34,7 @@ never-refused fault.Memory book k id i s is e free = is
 
 -- ---- the images
 
-live_apart : (images : Images) (n i : ℕ) → is_some (images n) ≡ true → images i ≡ None → (n == i) ≡ false
+pub live_apart : (images : Images) (n i : ℕ) → is_some (images n) ≡ true → images i ≡ None → (n == i) ≡ false
 live_apart images n i live free = not-true (n == i) (λ e. not_both (is_some (images n)) live (ap (λ k. is_some (images k)) (eqb-true n i e) ∙ ap is_some free))
 
 -- Image i is one of one pixel, and the others stay.
@@ -94,7 +94,7 @@ pub kept-made : {A E : Type 0} (o : Result A E) (images next : Images) (book add
     → OnErr o (next ≡ images) → OnErr o (added ≡ book) → IsKept next added
 kept-made (Ok x) images next book added k n m kept points near clip own can free is e none same =
     kept-same _ next added
-    (kept-added images (images_made images book n m) book added k m.id n m.screen kept (grows-made images book n m free can points near clip) e own (screen_there images book m.chan m.screen can)) is
+    (kept-added images (images_made images book n m) book added k m.id n m.screen kept (grows-made images book n m free can points near clip) e (and_false (k == 0) (m.id == 0) own) (screen_there images book m.chan m.screen can)) is
 kept-made (Err x) images next book added k n m kept points near clip own can free is e none same =
     let P : Book → Type 0 = λ b. IsKept next b in subst P (sym same) (kept-same images next book kept none)
 

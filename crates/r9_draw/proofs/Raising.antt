@@ -47,7 +47,7 @@ some_parent book (Some s) h = refl
 some_parent book None h = absurd cc
 
 -- a window stands on an image
-stands : (images : Images) (book : Book) (i : ℕ) → IsKept images book → is_some (screen_of book i) ≡ true → IsSome (parent_of images i)
+pub stands : (images : Images) (book : Book) (i : ℕ) → IsKept images book → is_some (screen_of book i) ≡ true → IsSome (parent_of images i)
 stands images book i kept h =
     ap (λ (o : Option Standing). is_some (option_map (λ (s : Standing). s.parent) o)) (kept.placed i).stands ∙ some_parent book (screen_of book i) h
 

@@ -110,13 +110,13 @@ clamped-high x =
     let high = int_min_is x (pos (2 ^ 31) -ℤ pos 1) in
     omega (arith, ints)
 
-clamped-near : (r : Rect) → IsRectNearBy (2 ^ 33) (clamped_rect r)
+pub clamped-near : (r : Rect) → IsRectNearBy (2 ^ 33) (clamped_rect r)
 clamped-near r = record {
   min = record { left = clamped-low r.min.x; right = clamped-high r.min.x; top = clamped-low r.min.y; bottom = clamped-high r.min.y };
   max = record { left = clamped-low r.max.x; right = clamped-high r.max.x; top = clamped-low r.max.y; bottom = clamped-high r.max.y };
 }
 
-shifted_near : (r : Rect) (min : Point) → IsRectNearBy (2 ^ 32) (at_min r min) → IsRectNearBy (2 ^ 32) (carried_rect r r.min min)
+pub shifted_near : (r : Rect) (min : Point) → IsRectNearBy (2 ^ 32) (at_min r min) → IsRectNearBy (2 ^ 32) (carried_rect r r.min min)
 shifted_near r min h =
     let low = h.min in
     let left = low.left in
@@ -131,15 +131,15 @@ shifted_ordered r min h =
     let down = h.down in
     record { across = omega (arith, ints); down = omega (arith, ints) }
 
-shifted_points : (r : Rect) (min : Point) → HasPoints r → HasPoints (carried_rect r r.min min)
+pub shifted_points : (r : Rect) (min : Point) → HasPoints r → HasPoints (carried_rect r r.min min)
 shifted_points r min h =
     let across = h.across in
     let down = h.down in
     record { across = omega (arith, ints); down = omega (arith, ints) }
 
-pub kept-moved : (images : Images) (book : Book) (i : ℕ) (min corner : Point) → IsKept images book → is_some (images i) ≡ true → ((p : ℕ) → parent_of images i ≡ Some p → is_some (images p) ≡ true)
-    → stays_near (image_at images i).r min corner ≡ true → IsKept (after_origin images i min corner) book
-kept-moved images book i min corner kept live parents near = record {
+pub kept-shifted : (images : Images) (book : Book) (i : ℕ) (min corner : Point) → IsKept images book → is_some (images i) ≡ true → ((p : ℕ) → parent_of images i ≡ Some p → is_some (images p) ≡ true)
+    → IsRectNearBy (2 ^ 32) (at_min (image_at images i).r min) → IsKept (after_origin images i min corner) book
+kept-shifted images book i min corner kept live parents near = record {
   live = λ j h. still j (j == i) refl (kept.live j h);
   placed = λ j. placed j (j == i) refl;
   screens = kept.screens;
@@ -167,7 +167,7 @@ kept-moved images book i min corner kept live parents near = record {
         record {
           stands = p.stands;
           ordered = shifted_ordered (image_at images i).r min p.ordered;
-          near = shifted_near (image_at images i).r min (near-of (at_min (image_at images i).r min) (near-left (image_at images i).r min corner near));
+          near = shifted_near (image_at images i).r min near;
           clip = clamped-near (carried_rect (image_at images i).clipr (image_at images i).r.min min);
         }
 
@@ -185,6 +185,11 @@ kept-moved images book i min corner kept live parents near = record {
         let at : HasPoints (image_at images i).r = kept.points i live (ap (λ m. m == 0) (sym (eqb-true j i e)) ∙ n) in
         subst P (sym (eqb-true j i e)) (subst Q (sym (origin-at images i min corner)) (shifted_points (image_at images i).r min at))
     points j false e h n = subst HasPoints (sym (stays j e).frame.r) (kept.points j (sym (stays j e).live ∙ h) n)
+
+pub kept-moved : (images : Images) (book : Book) (i : ℕ) (min corner : Point) → IsKept images book → is_some (images i) ≡ true → ((p : ℕ) → parent_of images i ≡ Some p → is_some (images p) ≡ true)
+    → stays_near (image_at images i).r min corner ≡ true → IsKept (after_origin images i min corner) book
+kept-moved images book i min corner kept live parents near =
+    kept-shifted images book i min corner kept live parents (near-of (at_min (image_at images i).r min) (near-left (image_at images i).r min corner near))
 
 pub kept-origin : {A E : Type 0} (o : Result A E) (images next : Images) (book : Book) (i : ℕ) (min corner : Point) → IsKept images book → is_some (images i) ≡ true → ((p : ℕ) → parent_of images i ≡ Some p → is_some (images p) ≡ true)
     → stays_near (image_at images i).r min corner ≡ true → OnOk o (next ≡ after_origin images i min corner) → OnErr o (next ≡ images) → IsKept next book

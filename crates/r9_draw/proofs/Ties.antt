@@ -13,8 +13,8 @@ either : {A E : Type 0} (o : Result A E) (book next : Book) (made : Outcome Book
 either (Ok x) book next made ties follows ok err = follows next ok
 either (Err x) book next made ties follows ok err = subst HasTies (sym err) ties
 
-pub ties-started : (book : Book) → add_id empty_book 0 0 0 None ≡ Ok book → HasTies book
-ties-started book e = HasTies-add_id empty_book book 0 0 0 None HasTies-empty e
+pub ties-started : (first book : Book) (fill : ℕ) → add_id empty_book 0 0 0 None ≡ Ok first → new_screen first 0 0 false 0 fill ≡ Ok book → HasTies book
+ties-started first book fill e f = HasTies-new_screen first book 0 0 false 0 fill (HasTies-add_id empty_book first 0 0 0 None HasTies-empty e) f
 
 pub ties-made : {A E : Type 0} (o : Result A E) (book next : Book) (k id i : ℕ) (s : Option ℕ) → HasTies book → OnOk o (add_id book k id i s ≡ Ok next) → OnErr o (next ≡ book) → HasTies next
 ties-made o book next k id i s ties ok err = either o book next (add_id book k id i s) ties (λ b e. HasTies-add_id book b k id i s ties e) ok err

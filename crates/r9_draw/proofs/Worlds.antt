@@ -1,5 +1,5 @@
 -- The world after a release, by its parts.
-use Rattle.std.proofs.Common.{◌≡◌, ℕ, List, [], ◌∷◌, Ok, refl, sym, ap, subst, ◌∙◌}
+use Rattle.std.proofs.Common.{◌≡◌, ℕ, List, [], ◌∷◌, Ok, Err, refl, sym, ap, subst, ◌∙◌}
 use Rattle.std.specs.List.{fold}
 use Rattle.std.specs.Result.{result_unwrap_or}
 use Rattle.model_text.specs.Map.{with, without}
@@ -11,6 +11,7 @@ use Rattle.model_images.specs.Book.{Book, image_id}
 use Rattle.model_images.specs.Release.{Freed, IsFreed, IsInOrder, KeepsRest, free_id, free_screen, leave, nothing_freed}
 use Rattle.model_draw.specs.World.{World, after_freed, after_leave, client_of, with_book, with_client, without_thing}
 use Rattle.model_draw.specs.Making.{forget_id}
+use Rattle.model_draw.specs.Orders.{image_freed, screen_freed}
 use Rattle.r9_draw.specs.Gone.{images_without, numbers_without}
 use Rattle.r9_draw.specs.Kept.{IsKept}
 use Rattle.r9_draw.specs.Plans.{after_free, after_free_screen}
@@ -54,3 +55,20 @@ pub kept-after : (images next : Images) (book : Book) (f : Freed) → IsKept ima
     → image_id f.book 0 0 ≡ image_id book 0 0 → next ≡ fold images_without images f.gone → IsKept next f.book
 kept-after images next book f k forest is none order rest shown e =
     let P : Images → Type 0 = λ w. IsKept w f.book in subst P (sym e) (kept-freed images book f k forest.parents is none order rest shown)
+
+-- ---- by the window manager
+
+pub image-freed-world : (w : World) (window : ℕ) (f : Freed) → free_id w.book 0 window ≡ Ok f → after_freed w (image_freed w.book window) ≡ released_world w f
+image-freed-world w window f e =
+    ap (λ (g : Outcome Freed). after_freed w (result_unwrap_or g (nothing_freed w.book))) e ∙ fold-things f.gone (with_book w f.book)
+
+pub screen-closed-world : (w : World) (host : ℕ) (f : Freed) → free_screen w.book 0 host ≡ Ok f → after_freed w (screen_freed w.book host) ≡ released_world w f
+screen-closed-world w host f e =
+    ap (λ (g : Outcome Freed). after_freed w (result_unwrap_or g (nothing_freed w.book))) e ∙ fold-things f.gone (with_book w f.book)
+
+-- nothing goes where there is no such id
+pub image-unknown-world : (w : World) (window n : ℕ) → free_id w.book 0 window ≡ Err n → after_freed w (image_freed w.book window) ≡ w
+image-unknown-world w window n e = ap (λ (g : Outcome Freed). after_freed w (result_unwrap_or g (nothing_freed w.book))) e
+
+pub screen-unknown-world : (w : World) (host n : ℕ) → free_screen w.book 0 host ≡ Err n → after_freed w (screen_freed w.book host) ≡ w
+screen-unknown-world w host n e = ap (λ (g : Outcome Freed). after_freed w (result_unwrap_or g (nothing_freed w.book))) e

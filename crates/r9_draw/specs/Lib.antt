@@ -9,3 +9,4 @@ pub mod Gone
 pub mod Steps
 pub mod Described
 pub mod Restacking
+pub mod Ordering

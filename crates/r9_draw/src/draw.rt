@@ -1,13 +1,17 @@
 //! The device, and the connections that begin and end.
 
-ghost use Rattle.std.specs.Prelude.{ℕ, true, Ok, is_some, ◌≡◌, ◌≤◌, ◌<◌, ◌^◌, ◌<ℤ◌, pos, None, Some, IfOk, OnOk, OnErr, IsSome};
+ghost use Rattle.std.specs.Prelude.{ℕ, true, false, Ok, is_some, ◌≡◌, ◌≤◌, ◌<◌, ◌^◌, ◌<ℤ◌, pos, None, Some, IfOk, OnOk, OnErr, IsSome};
 ghost use Rattle.r9_geom.specs.Geometry.{area_of, IsOrdered};
 ghost use Rattle.r9_layers.specs.Forest.{numbers, room, world};
 ghost use Rattle.std.specs.List.{fold};
 ghost use Rattle.model_text.specs.Map.{lookup};
 ghost use Rattle.model_draw.specs.Sound.{IsAllUsed};
+ghost use Rattle.model_draw.specs.Orders.{dot, everywhere, with_root_rio};
 ghost use Rattle.model_draw.specs.World.{started, after_connect, after_leave};
-ghost use Rattle.model_images.specs.Book.{add_id, empty_book, Book as Ids};
+ghost use Rattle.model_forest.specs.Numbers.{next_number, taken};
+ghost use Rattle.model_forest.specs.Steps.{after_image, after_set};
+ghost use Rattle.model_images.specs.Book.{add_id, empty_book, new_screen, Book as Ids};
+ghost use Rattle.model_pixel.specs.Channels as channels;
 ghost use Rattle.model_images.specs.Ties.{HasTies};
 ghost use Rattle.r9_draw.specs.Kept.{IsKept};
 ghost use Rattle.r9_draw.specs.Spare.{AreSpare};
@@ -16,7 +20,7 @@ ghost use Rattle.r9_draw.specs.Gone.{images_without, numbers_without, CanRelease
 use model_images::leave_frees;
 use r9_chan::{Chan, Colour};
 use r9_client::{Client, Clients, lives, remove};
-use r9_geom::Rect;
+use r9_geom::{Point, Rect};
 use r9_images::{Book, Thing};
 use r9_layers::{Forest, ImageNo};
 use r9_memory::Memory;
@@ -61,6 +65,47 @@ fn add_display(book: &mut Book, display: ImageNo) -> Result<(), Memory>
     }
 }
 
+// How far the clip rectangle of a rio's fill reaches.
+const EVERYWHERE: i64 = 1 << 33;
+
+// The fill of each rio: the display's grey, at every point.
+fn root_fill(forest: &mut Forest, chan: Chan, grey: u32) -> Result<ImageNo, Memory>
+    requires { grey < 2 ^ channels.depth chan }
+    ensures number { IfOk result (λ i. i.0 ≡ next_number (numbers forest.old)) }
+    ensures free { IfOk result (λ i. world forest.old i.0 ≡ None) }
+    ensures made { IfOk result (λ i. world forest.new ≡ after_set (after_image (world forest.old) i.0 dot chan grey) i.0 true everywhere) }
+    ensures taken { OnOk result (numbers forest.new ≡ taken (numbers forest.old)) }
+    ensures room { room forest.old ≤ room forest.new }
+{
+    let dot = Rect {
+        min: Point { x: 0, y: 0 },
+        max: Point { x: 1, y: 1 },
+    };
+    let everywhere = Rect {
+        min: Point {
+            x: -EVERYWHERE,
+            y: -EVERYWHERE,
+        },
+        max: Point {
+            x: EVERYWHERE,
+            y: EVERYWHERE,
+        },
+    };
+    let fill = forest.image(dot, chan, grey)?;
+    forest.set(fill, true, everywhere);
+    Ok(fill)
+}
+
+// The root rio's screen on the display has screen id 0 of the window manager.
+fn add_root(book: &mut Book, display: ImageNo, fill: ImageNo) -> Result<(), Memory>
+    ensures { OnOk result (new_screen book.old.book 0 0 false display.0 fill.0 ≡ Ok book.new.book) }
+{
+    match book.new_screen(0, 0, false, display.0, fill.0) {
+        Ok(_) => Ok(()),
+        Err(_) => Err(Memory),
+    }
+}
+
 /// The images among the things that have gone go, one after the other, and their numbers come back.
 pub(crate) fn release(forest: &mut Forest, gone: &[Thing])
     requires { (book : Ids) × CanRelease (world forest.old) book gone.now }
@@ -80,21 +125,23 @@ pub(crate) fn release(forest: &mut Forest, gone: &[Thing])
 impl Draw {
     ghost use Rattle.r9_draw.specs.World.{world_of};
 
-    /// A device with its display alone, all of it the grey of the background.
+    /// A device with its display, all of it the grey of the background, and the root rio's screen on it.
     pub fn start(alloc: Global, r: Rect, chan: Chan) -> Result<Self, Memory>
         requires left { r.min.x ≡ pos 0 }
         requires top { r.min.y ≡ pos 0 }
         requires ordered { IsOrdered r }
         requires width { r.max.x <ℤ pos (2 ^ 32) }
         requires height { r.max.y <ℤ pos (2 ^ 32) }
-        ensures { IfOk result (λ device. world_of device ≡ started (record { r = r; chan = chan })) }
+        ensures { IfOk result (λ device. world_of device ≡ with_root_rio (started (record { r = r; chan = chan }))) }
     {
         let mut forest = Forest::new(alloc);
         let background = chan.pack(Colour::of_word(0x7777_77ff));
         let display = forest.image(r, chan, background)?;
+        let fill = root_fill(&mut forest, chan, background)?;
         forest.room(r.width() * r.height())?;
         let mut book = Book::new(alloc);
         add_display(&mut book, display)?;
+        add_root(&mut book, display, fill)?;
         Ok(Draw {
             alloc,
             opening: Opening { r, chan },

@@ -9,6 +9,7 @@ ghost use Rattle.model_imgfile.specs.ImageFile.{file_part};
 ghost use Rattle.model_draw.specs.World.{at_number};
 ghost use Rattle.r9_draw.specs.Described.{fields_of};
 ghost use Rattle.model_draw.specs.Files.{read_data, read_ctl, write_ctl, screen_file};
+ghost use Rattle.model_draw.specs.Orders.{picture_of};
 ghost use Rattle.r9_draw.specs.Refused.{IfRefused};
 ghost use Rattle.r9_draw.specs.World.{world_of};
 
@@ -89,7 +90,7 @@ impl Draw {
     }
 
     // What an image tells of itself.
-    fn info(&self, image: ImageNo) -> Info
+    pub(crate) fn info(&self, image: ImageNo) -> Info
         requires { is_some ((world_of self.now).images image.0) ≡ true }
         ensures told { result ≡ info_of (at_number (world_of self.now) image.0) }
         ensures near { IsRectNearBy (2 ^ 33) result.r }
@@ -134,11 +135,19 @@ impl Draw {
         ensures part { IfOk result (λ bytes. bytes ≡ file_part (screen_file (world_of self.now)) offset count) }
         ensures short { IfOk result (λ bytes. length bytes ≤ count) }
     {
-        let display = ImageNo(0);
-        let info = self.info(display);
+        self.picture_part(0, offset, count)
+    }
+
+    /// The same of what a window shows, named by its serial: the display where there is none.
+    pub fn picture_part(&self, window: u32, offset: u64, count: u32) -> Result<Bytes, Memory>
+        ensures part { IfOk result (λ bytes. bytes ≡ file_part (picture_of (world_of self.now) window) offset count) }
+        ensures short { IfOk result (λ bytes. length bytes ≤ count) }
+    {
+        let image = self.image_shown(window);
+        let info = self.info(image);
         let rows = self
             .forest
-            .unload(display, touched_rows(&info, offset, count))?;
+            .unload(image, touched_rows(&info, offset, count))?;
         part(self.alloc, &info, rows.as_slice(), offset, count)
     }
 }

@@ -10,6 +10,7 @@ mod listed;
 mod lookup;
 mod message;
 mod naming;
+mod orders;
 mod pixels;
 mod plan;
 mod screen;

@@ -40,7 +40,7 @@ pub(crate) fn is_near_rect(r: &Rect) -> bool
     is_near(r.min.x) && is_near(r.min.y) && is_near(r.max.x) && is_near(r.max.y)
 }
 
-fn is_near_point(p: &Point) -> bool
+pub(crate) fn is_near_point(p: &Point) -> bool
     ensures { result ≡ (is_near farthest p.now.x && is_near farthest p.now.y) }
 {
     is_near(p.x) && is_near(p.y)

@@ -1,6 +1,6 @@
 //! Events and what they give.
 
-use crate::lists::Replies;
+use crate::lists::{Notes, Replies};
 use r9_chan::Chan;
 use r9_text::Bytes;
 
@@ -48,6 +48,8 @@ pub struct Reply {
 pub struct Did {
     /// The replies, in order.
     pub replies: Replies,
+    /// What the windows were told, in order, each note with the serial of its window.
+    pub notes: Notes,
     /// Where memory ran out in a data write: how many of its draw messages were done. The event stands in the history with
     /// this mark.
     pub short: Option<u32>,

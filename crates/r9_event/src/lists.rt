@@ -128,6 +128,16 @@ impl Notes {
         Ok(())
     }
 
+    /// Adds other notes at the end, in their order.
+    pub fn append(&mut self, notes: Notes) -> Result<(), Memory>
+        ensures ok { OnOk result (self.new ≡ self.old ++ notes) }
+        ensures err { OnErr result (self.new ≡ self.old) }
+    {
+        let mut items = notes.items;
+        self.items.append(&mut items)?;
+        Ok(())
+    }
+
     /// The notes in order.
     pub fn as_slice(&self) -> &[(u32, Note)]
         ensures { result.now ≡ self.now }

@@ -83,6 +83,16 @@ impl Book {
         Ok(e.image)
     }
 
+    /// The image of an id that the connection knows, also where a name made it whose tie has ended.
+    pub fn shown(&self, client: u64, id: u32) -> Option<u32>
+        ensures { result ≡ option_map (λ e. e.image) (model.image_id self.now.book client id) }
+    {
+        match self.image_id(client, id) {
+            Some(e) => Some(e.image),
+            None => None,
+        }
+    }
+
     /// The screen of an id. Refused by 5 exactly where the connection does not know it.
     #[tactic(auto, unfolding(model_images::specs::Book::screen))]
     pub fn screen(&self, client: u64, id: u32) -> Result<u32, u8>

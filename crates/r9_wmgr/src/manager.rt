@@ -92,7 +92,8 @@ impl Manager {
         }
     }
 
-    pub(crate) fn is_host(&self, serial: u32) -> bool
+    /// Whether a rio runs in a window; the root rio's host is 0.
+    pub fn is_host(&self, serial: u32) -> bool
         ensures { result ≡ model.is_host self.now serial }
     {
         self.rio_of(serial).is_some()
@@ -113,7 +114,8 @@ impl Manager {
         }
     }
 
-    pub(crate) fn window_of(&self, serial: u32) -> Option<Window>
+    /// The live window with a serial.
+    pub fn window_of(&self, serial: u32) -> Option<Window>
         ensures { result ≡ model.window_of self.now serial }
     {
         find_window(&self.windows, serial)
@@ -142,11 +144,18 @@ impl Manager {
         bottom_up(self.alloc, &self.windows, host)
     }
 
-    /// The windows of the rio of a host in ascending serial.
-    pub(crate) fn made_in(&self, host: u32) -> Result<Vec<Window>, Memory>
+    /// The windows of the rio of a host in ascending serial. 0 is the root rio.
+    pub fn made_in(&self, host: u32) -> Result<Vec<Window>, Memory>
         ensures { IfOk result (λ ws. ws.items ≡ model.made_in self.now host) }
     {
         made_in(self.alloc, &self.windows, host)
+    }
+
+    /// The serial that was given last, 0 where there was no window yet.
+    pub fn last_serial(&self) -> u32
+        ensures { result ≡ self.now.serials }
+    {
+        self.serials
     }
 
     pub(crate) fn numbered(&self, host: u32, number: u32) -> Option<u32>
