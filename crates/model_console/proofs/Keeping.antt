@@ -69,7 +69,7 @@ after_read-alike count c = alike.same
     alike : Alike (after_read count (remembered c)) (after_read count c)
     alike = choice (eqb count 0) _ _ _ _ (unchanged c.line c.ended c.raw c.written) (unchanged c.line (rest count c.ended) c.raw c.written)
 
-step : (now : Happening) (c : Console) → remembered (happened (remembered c) now) ≡ remembered (happened c now)
+pub step : (now : Happening) (c : Console) → remembered (happened (remembered c) now) ≡ remembered (happened c now)
 step (Key key) c = keyed-alike key c
 step (Raw raw) c = with_raw-alike raw c
 step (Written bytes) c = let alike : Alike (with_text bytes (remembered c)) (with_text bytes c) = added c.line c.ended c.raw c.written bytes in alike.same

@@ -1,4 +1,4 @@
 pub mod Bounds
 pub mod Ends
-mod Keeping
+pub mod Keeping
 mod Rows

@@ -73,18 +73,25 @@ impl MouseQueue {
         self.resized = true;
     }
 
-    /// What a read gives, which then no longer waits: `r` where the window has a new image since the last answer, else
-    /// `m`, and the oldest click, else the move, else with a new image the last event again. None where it waits.
+    /// What a read gives, which waits on: `r` where the window has a new image since the last answer, else `m`, and the
+    /// oldest click, else the move, else with a new image the last event again. None where it waits.
     #[tactic(auto, unfolding(model_mouse::specs::Queue::answer))]
+    pub fn peek(&self) -> Option<(u8, Mouse)>
+        ensures { result ≡ answer self.now }
+    {
+        let event = self.next()?;
+        Some((self.letter(), event))
+    }
+
+    /// What a read gives, which then no longer waits, as `peek` tells it. None where it waits.
     pub fn answer(&mut self) -> Option<(u8, Mouse)>
         ensures given { result ≡ answer self.old }
         ensures taken { IfSome result (λ _. self.new ≡ answered self.old) }
         ensures waits { IfNone result (self.new ≡ self.old) }
     {
-        let event = self.next()?;
-        let letter = self.letter();
+        let given = self.peek()?;
         self.take_next();
-        Some((letter, event))
+        Some(given)
     }
 
     /// The event that a read gives.

@@ -1,4 +1,5 @@
-//! Tests of the mouse file, the console the window commands and the window manager, through their public calls.
+//! Tests of the mouse file, the console, what is kept of a window, the window commands and the window manager, through
+//! their public calls.
 #![tactic(auto)]
 
 #[cfg(test)]
@@ -9,3 +10,5 @@ mod console;
 mod manager;
 #[cfg(test)]
 mod mouse;
+#[cfg(test)]
+mod pane;
