@@ -15,4 +15,4 @@ pub record IsKept (k : kept.Inside) : Type 0 where
   pub in_range : k.next + length (concat (drop k.given k.stats.items)) < 2 ^ 64
 
 abbrev pub fid_of : fid.Inside → model.Fid
-fid_of f = record { node = node_of f.node; mode = f.mode; kept = f.kept }
+fid_of f = record { node = node_of f.node; mode = f.mode; kept = f.kept; told = f.told }

@@ -58,8 +58,17 @@ pub const TOO_MANY_BLOCKED_READS: u8 = 45;
 /// The number of the refusal "read too short".
 pub const READ_TOO_SHORT: u8 = 46;
 
+/// The number of the refusal "bad wctl command".
+pub const BAD_WCTL_COMMAND: u8 = 47;
+
 /// The number of the refusal "msize too small".
 pub const MSIZE_TOO_SMALL: u8 = 48;
+
+/// The number of the refusal "too many windows".
+pub const TOO_MANY_WINDOWS: u8 = 49;
+
+/// The number of the refusal "nested too deep".
+pub const NESTED_TOO_DEEP: u8 = 50;
 
 /// Why there is no answer.
 #[derive(Clone, Copy, Debug, PartialEq, Eq)]
@@ -152,7 +161,10 @@ fn file_text(number: u8) -> &'static str
         TOO_MANY_FIDS => "too many fids",
         TOO_MANY_BLOCKED_READS => "too many blocked reads",
         READ_TOO_SHORT => "read too short",
+        BAD_WCTL_COMMAND => "bad wctl command",
         MSIZE_TOO_SMALL => "msize too small",
+        TOO_MANY_WINDOWS => "too many windows",
+        NESTED_TOO_DEEP => "nested too deep",
         _ => "",
     }
 }

@@ -1,6 +1,7 @@
 //! A fid: a file that a client names, and how it is open.
 
 ghost use Rattle.std.specs.Prelude.{◌≡◌, ◌≤◌, IsTrue, IfOk, OnErr, None, Some, length};
+ghost use Rattle.std.specs.Option.{option_map};
 ghost use Rattle.model_tree.specs.Node.{is_directory};
 ghost use Rattle.model_tree.specs.Listing.{stats};
 ghost use Rattle.model_world.specs.Session.{fid_at};
@@ -19,12 +20,13 @@ use r9_tree::{Kind, Node, TreeView, listing};
 use std::alloc::Global;
 use std::marker::Model;
 
-/// A fid: its file, the mode that it is open with, and what it keeps of a listing.
+/// A fid: its file, the mode that it is open with, what it keeps of a listing, and the text of `wctl` that it gave last.
 #[derive(Debug, Drop)]
 pub struct Fid {
     node: Node,
     mode: Option<u8>,
     kept: Option<Kept>,
+    told: Option<Bytes>,
     ghost is_node: { IsNode node },
 }
 
@@ -69,6 +71,7 @@ impl Fid {
             node,
             mode: None,
             kept: None,
+            told: None,
         }
     }
 
@@ -118,6 +121,23 @@ impl Fid {
             && (self.is_open_on(Kind::Ctl)
                 || self.is_open_on(Kind::Data)
                 || self.is_open_on(Kind::Refresh))
+    }
+
+    /// The text of `wctl` that it gave last: None where it has given none.
+    pub fn told(&self) -> Option<&[u8]>
+        ensures { option_map (λ text. text.now) result ≡ self.now.told }
+    {
+        match &self.told {
+            Some(text) => Some(text.as_slice()),
+            None => None,
+        }
+    }
+
+    /// Notes the text of `wctl` that it gives.
+    pub fn tell(&mut self, text: Bytes)
+        ensures { self.new ≡ record self.old { told = Some text } }
+    {
+        self.told = Some(text);
     }
 
     /// Reads from the front of the listing of the directory that it stands for.

@@ -1,2 +1,3 @@
 pub mod View
 pub mod Stats
+pub mod Attached

@@ -1,4 +1,4 @@
-//! The served tree of files: walks, qids, stats, listings and permissions (draw(3), rio(4)).
+//! The served tree of files: attach names, walks, qids, stats, listings and permissions (draw(3), rio(4)).
 #![tactic(auto)]
 
 ghost use Rattle.std.specs.Prelude.{◌≡◌, ◌++◌, List, ℕ, length};
@@ -7,11 +7,13 @@ ghost use Rattle.model_tree.specs.Node.{Node as ModelNode};
 ghost use Rattle.model_tree.specs.Tree.{View as ModelView};
 ghost use Rattle.model_tree.specs.Listing.{stats, IsSized, first_length};
 
+mod attach;
 mod node;
 mod rows;
 mod stats;
 mod walking;
 
+pub use attach::{Attach, read_attach};
 pub use model_tree::Kind;
 pub use node::{Node, TreeView};
 pub use rows::{kind_of, may, qid};

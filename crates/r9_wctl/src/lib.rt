@@ -17,3 +17,4 @@ pub use model_wctl::{Amount, Choice};
 pub use options::Options;
 pub use reading::read_wctl;
 pub use rectangle::apply;
+pub use setting::read_path;

@@ -34,9 +34,10 @@ fn split_path<'a>(alloc: Global, word: &'a [u8]) -> Result<Vec<&'a [u8]>, AllocE
     word.split(|byte| *byte == b'/').collect(alloc)
 }
 
-/// The path of a window.
-fn read_path(alloc: Global, word: &[u8]) -> Result<Option<Numbers>, Memory>
-    ensures { IfOk result (λ numbers. numbers ≡ path word.now) }
+/// The path of a window that a word spells: numbers of 1 to 9 digits, joined by slashes, from the root rio inward. None
+/// exactly where it spells none.
+pub fn read_path(alloc: Global, word: &[u8]) -> Result<Option<Numbers>, Memory>
+    ensures path { IfOk result (λ numbers. numbers ≡ path word.now) }
 {
     let parts = split_path(alloc, word)?;
     let mut path = Numbers::new(alloc);
