@@ -1,65 +1,67 @@
 -- What a session answers leaves the draw device with its connections.
 use Rattle.std.proofs.Common.{◌≡◌, ◌<◌, ◌+◌, ◌&&◌, ◌||◌, ℕ, Bool, true, false, not, List, [], ◌∷◌, Option, Some, None, Ok, Err, refl, sym, ap, subst, ◌∙◌, arith}
-use Rattle.std.specs.Prelude.{filter, is_some, nat_le, nat_lt, min, length, codes, IfOk, if◌then◌else◌, ◌==◌}
+use Rattle.std.specs.Prelude.{◌-◌, filter, map, is_none, is_some, nat_le, nat_lt, min, length, codes, IfOk, if◌then◌else◌, ◌==◌}
+use Rattle.std.specs.List.{fold}
 use Rattle.std.proofs.lemmas.Grind.{common_steps}
 use Rattle.std.proofs.lemmas.Bool.Decides.{nat_tests}
 use Rattle.model_text.specs.Outcome.{Outcome, ◌>>=◌, refuse_if}
 use Rattle.model_text.specs.Map.{without}
-use Rattle.model_wire.specs.Message.{T, Rversion, Ropen, Rclunk, Tversion, Tauth, Tattach, Tflush, Twalk, Topen, Tcreate, Tread, Twrite, Tclunk, Tremove, Tstat, Twstat, R, no_tag, tag_of_t}
+use Rattle.model_wire.specs.Message.{T, Rversion, Ropen, Rclunk, Tversion, Tauth, Tattach, Tflush, Twalk, Topen, Tcreate, Tread, Twrite, Tclunk, Tremove, Tstat, Twstat, R, no_fid, no_tag, tag_of_t}
 use Rattle.model_wire.specs.Reading.{message_of, tag_of}
 use Rattle.model_tree.specs.declared.Kind.TheVariants.{New}
-use Rattle.model_tree.specs.Node.{Node, qid, may}
+use Rattle.model_tree.specs.Attach.{attach_of}
+use Rattle.model_tree.specs.Node.{Node, qid, may, reads, writes}
 use Rattle.model_tree.specs.Tree.{check_live}
 use Rattle.model_draw.specs.World as draw
 use Rattle.model_world.specs.Session.{Fid, Session, max_msize}
-use Rattle.model_world.specs.World.{device_for}
+use Rattle.model_world.specs.Desktop.{Desktop}
+use Rattle.model_world.specs.Whole.{attached, desktop_for, left_one}
 use Rattle.model_world.specs.Refusal.{refusal}
-use Rattle.model_world.specs.Fids.{with_fid, Done, Left, left, beside, fid_of, view_of, is_kind, is_kept, settled, clunked, cleared}
-use Rattle.model_world.specs.Walking.{attach_answer, walk_answer, walk_ended, open_answer, opened, opened_new, is_built, is_taken, most_made}
-use Rattle.model_world.specs.Reading.{Given, node_read, read_answer, file_written, write_answer}
+use Rattle.model_world.specs.Fids.{with_fid, Done, Left, left, beside, fid_of, fids_gone, is_bound, is_full, is_kind, is_kept, left_by, settled, cleared}
+use Rattle.model_world.specs.Walking.{attach_answer, walk_answer, walk_ended, open_answer, opened, opened_new, is_input, is_taken, most_made}
+use Rattle.model_world.specs.Reading.{is_open_for, node_read, read_answer}
+use Rattle.model_world.specs.Writing.{file_written, write_answer}
 use Rattle.model_world.specs.Answer.{asks_for_9p, agreed_on, version_answer, clunk_answer, stat_answer, denied, answer_to, answer_read, is_version, read_or_not, replied, answer}
 use Rattle.model_world.specs.Links.{IsLinked, KeepsOthers}
-use Rattle.model_world.proofs.Connections.{numbers_of, read_data_kept, write_ctl_kept, written_kept}
-use Rattle.model_world.proofs.Links.{kept_linked, kept_others, cleared_linked, begun_linked, begun_others, same_linked, same_others, within_filter}
+use Rattle.model_world.proofs.Others.{after_known, after_step}
+use Rattle.model_world.proofs.Connections.{numbers_of}
+use Rattle.model_world.proofs.Links.{begun_linked, begun_others, device_left, filter_none, kept_linked, kept_others, same_linked, same_others, within_filter}
+use Rattle.model_world.proofs.Desktops.{IsMadeSame, attached_same, left_same}
+use Rattle.model_world.proofs.Files.{IsAfterSame, IsGivenSame, file_written_same, node_read_same}
 
 -- the device has the session's connections still, and those of the others
-pub record Holds (c : ℕ) (device : draw.World) (l : Left draw.World) : Type 0 where
-  pub linked : IsLinked c l.session.made l.session.connections l.rest
-  pub others : KeepsOthers c device l.rest
+pub record Holds (c : ℕ) (desktop : Desktop) (l : Left Desktop) : Type 0 where
+  pub linked : IsLinked c l.session.made l.session.connections l.rest.device
+  pub others : KeepsOthers c desktop.device l.rest.device
 
-abbrev pub HoldsIf : ℕ → draw.World → Outcome (Left draw.World) → Type 0
-HoldsIf c device (Ok l) = Holds c device l
-HoldsIf c device (Err n) = Unit {0}
+abbrev pub HoldsIf : ℕ → Desktop → Outcome (Left Desktop) → Type 0
+HoldsIf c desktop o = IfOk o (λ l. Holds c desktop l)
 
 -- the session has the same connections, and the device too
-abbrev Stays : Session → draw.World → Session → draw.World → Type 0
-Stays session device after rest = (after.made ≡ session.made) × (after.connections ≡ session.connections) × (numbers_of rest ≡ numbers_of device)
+abbrev Stays : Session → Desktop → Left Desktop → Type 0
+Stays session desktop l =
+    (l.session.made ≡ session.made) × (l.session.connections ≡ session.connections) × (numbers_of l.rest.device ≡ numbers_of desktop.device)
 
-abbrev StaysIf : Session → draw.World → Outcome (Left draw.World) → Type 0
-StaysIf session device (Ok l) = Stays session device l.session l.rest
-StaysIf session device (Err n) = Unit {0}
+abbrev StaysIf : Session → Desktop → Outcome (Left Desktop) → Type 0
+StaysIf session desktop o = IfOk o (λ l. Stays session desktop l)
 
 abbrev StaysAlone : Session → Outcome Done → Type 0
 StaysAlone session (Ok d) = (d.session.made ≡ session.made) × (d.session.connections ≡ session.connections)
 StaysAlone session (Err n) = Unit {0}
 
-stayed : (c : ℕ) (session : Session) (device : draw.World) (o : Outcome (Left draw.World)) → IsLinked c session.made session.connections device → StaysIf session device o → HoldsIf c device o
-stayed c session device (Ok l) linked stays = record {
-  linked = subst (λ (made : ℕ). IsLinked c made l.session.connections l.rest) (sym stays.0)
-      (subst (λ (connections : List ℕ). IsLinked c session.made connections l.rest) (sym stays.1) (same_linked c session.made session.connections device l.rest stays.2 linked));
-  others = same_others c device l.rest stays.2;
+stayed : (c : ℕ) (session : Session) (desktop : Desktop) (o : Outcome (Left Desktop)) → IsLinked c session.made session.connections desktop.device → StaysIf session desktop o → HoldsIf c desktop o
+stayed c session desktop (Ok l) linked stays = record {
+  linked = subst (λ (made : ℕ). IsLinked c made l.session.connections l.rest.device) (sym stays.0)
+      (subst (λ (connections : List ℕ). IsLinked c session.made connections l.rest.device) (sym stays.1) (same_linked c session.made session.connections desktop.device l.rest.device stays.2 linked));
+  others = same_others c desktop.device l.rest.device stays.2;
 }
-stayed c session device (Err n) linked stays = tt
+stayed c session desktop (Err n) linked stays = tt
 
-beside_stays : (session : Session) (device : draw.World) (o : Outcome Done) → StaysAlone session o → StaysIf session device (beside device o)
-beside_stays session device (Ok d) stays = (stays.0, stays.1, refl)
-beside_stays session device (Err n) stays = tt
+beside_stays : (session : Session) (desktop : Desktop) (o : Outcome Done) → StaysAlone session o → StaysIf session desktop (beside desktop o)
+beside_stays session desktop (Ok d) stays = (stays.0, stays.1, refl)
+beside_stays session desktop (Err n) stays = tt
 
 -- ---- messages that stay within their session
-
-attach_stays : (session : Session) (tag fid afid : ℕ) (aname : List ℕ) → StaysAlone session (attach_answer session tag fid afid aname)
-unfolding attach_answer
-attach_stays session tag fid afid aname = grind (arith, common_steps)
 
 ended_stays : (session : Session) (tag fid newfid : ℕ) (node : Node) (o : List Node × Option ℕ) → StaysAlone session (walk_ended session tag fid newfid node o)
 ended_stays session tag fid newfid node (nodes, None) =
@@ -67,209 +69,220 @@ ended_stays session tag fid newfid node (nodes, None) =
 ended_stays session tag fid newfid node ([], Some n) = tt
 ended_stays session tag fid newfid node (next ∷ nodes, Some n) = (refl, refl)
 
-walk_stays : (session : Session) (tag fid newfid : ℕ) (names : List (List ℕ)) → StaysAlone session (walk_answer session tag fid newfid names)
+walk_stays : (c : ℕ) (session : Session) (desktop : Desktop) (tag fid newfid : ℕ) (names : List (List ℕ)) → StaysAlone session (walk_answer (desktop_for c) session desktop tag fid newfid names)
 unfolding walk_answer
-walk_stays session tag fid newfid names = grind (arith, common_steps, ended_stays)
+walk_stays c session desktop tag fid newfid names = grind (arith, common_steps, ended_stays)
 
-stat_stays : (session : Session) (tag fid : ℕ) → StaysAlone session (stat_answer session tag fid)
-stat_stays session tag fid = grind (arith, common_steps)
+stat_stays : (c : ℕ) (session : Session) (desktop : Desktop) (tag fid : ℕ) → StaysAlone session (stat_answer (desktop_for c) session desktop tag fid)
+unfolding stat_answer
+stat_stays c session desktop tag fid = grind (arith, common_steps)
 
 denied_stays : (session : Session) (fid : ℕ) → StaysAlone session (denied session fid)
 denied_stays session fid = grind (arith, common_steps)
 
--- ---- reads and writes
+-- ---- attaches, reads and writes
 
-abbrev KeepsGiven : Session → draw.World → Outcome (Given draw.World) → Type 0
-KeepsGiven session device (Ok got) = Stays session device got.session got.rest
-KeepsGiven session device (Err n) = Unit {0}
+attach_stays : (c : ℕ) (session : Session) (desktop : Desktop) (tag fid afid : ℕ) (aname : List ℕ) → StaysIf session desktop (attach_answer (desktop_for c) session desktop tag fid afid aname)
+unfolding attach_answer
+attach_stays c session desktop tag fid afid aname =
+    after_step _ (refuse_if (not (afid == no_fid)) 40) _ (λ _ _.
+    after_step _ (refuse_if (is_bound session fid) 33) _ (λ _ _.
+    after_step _ (refuse_if (is_full session) 44) _ (λ _ _.
+    after_known _ (IsMadeSame desktop) (attached c desktop (attach_of aname)) _ (attached_same c desktop (attach_of aname)) (λ root same. (refl, refl, same)))))
 
-node_read_kept : (c : ℕ) (session : Session) (device : draw.World) (number : ℕ) (fid : Fid) (offset count : ℕ) → KeepsGiven session device (node_read (device_for c) session device number fid offset count)
-node_read_kept c session device number fid offset count = grind (arith, common_steps, read_data_kept)
-
-read_stays : (c : ℕ) (session : Session) (device : draw.World) (tag fid offset count : ℕ) → StaysIf session device (read_answer (device_for c) session device tag fid offset count)
+read_stays : (c : ℕ) (session : Session) (desktop : Desktop) (tag number offset count : ℕ) → StaysIf session desktop (read_answer (desktop_for c) session desktop tag number offset count)
 unfolding read_answer
-read_stays c session device tag fid offset count = grind (arith, common_steps, node_read_kept)
+read_stays c session desktop tag number offset count =
+    after_step _ (fid_of session number) _ (λ fid _.
+    after_step _ (refuse_if (is_none fid.mode) 37) _ (λ _ _.
+    after_step _ (refuse_if (not (is_open_for reads fid)) 38) _ (λ _ _.
+    after_step _ (check_live ((desktop_for c).view desktop session.connections fid.node) fid.node) _ (λ _ _.
+    after_known _ (IsGivenSame desktop) (node_read (desktop_for c) session.connections desktop fid offset (min count (session.msize - 11))) _
+    (node_read_same c session.connections desktop fid offset (min count (session.msize - 11))) (λ got same. (refl, refl, same))))))
 
-abbrev KeepsAfter : draw.World → Outcome (draw.World × Option ℕ) → Type 0
-KeepsAfter device (Ok after) = numbers_of after.0 ≡ numbers_of device
-KeepsAfter device (Err n) = Unit {0}
-
-file_written_kept : (c : ℕ) (device : draw.World) (node : Node) (bytes : List ℕ) (mark : Option ℕ) → KeepsAfter device (file_written (device_for c) device node bytes mark)
-file_written_kept c device node bytes mark = grind (arith, common_steps, write_ctl_kept, written_kept)
-
-write_stays : (c : ℕ) (session : Session) (device : draw.World) (tag fid : ℕ) (bytes : List ℕ) (mark : Option ℕ) → StaysIf session device (write_answer (device_for c) session device tag fid bytes mark)
+write_stays : (c : ℕ) (session : Session) (desktop : Desktop) (tag number offset : ℕ) (bytes : List ℕ) (mark : Option ℕ)
+    → StaysIf session desktop (write_answer (desktop_for c) session desktop tag number offset bytes mark)
 unfolding write_answer
-write_stays c session device tag fid bytes mark = grind (arith, common_steps, file_written_kept)
+write_stays c session desktop tag number offset bytes mark =
+    after_step _ (fid_of session number) _ (λ fid _.
+    after_step _ (refuse_if (is_none fid.mode) 37) _ (λ _ _.
+    after_step _ (refuse_if (not (is_open_for writes fid)) 38) _ (λ _ _.
+    after_step _ (check_live ((desktop_for c).view desktop session.connections fid.node) fid.node) _ (λ _ _.
+    after_known _ (IsAfterSame desktop) (file_written (desktop_for c) desktop fid.node offset bytes mark fid.node.kind) _
+    (file_written_same c desktop fid.node offset bytes mark fid.node.kind) (λ after same. (refl, refl, same))))))
 
--- ---- a fid goes
+-- ---- fids go
 
-settled_holds : (c : ℕ) (session : Session) (device : draw.World) (made : ℕ) (connections : List ℕ) → session.made ≡ made → session.connections ≡ connections → IsLinked c made connections device
-    → IsLinked c (settled (device_for c) session device).0.made (settled (device_for c) session device).0.connections (settled (device_for c) session device).1
-    × KeepsOthers c device (settled (device_for c) session device).1
+-- the device has the connections that a session still has, and those of the others
+abbrev pub AreLeft : ℕ → Desktop → Session × Desktop → Type 0
+AreLeft c desktop after = IsLinked c after.0.made after.0.connections after.1.device × KeepsOthers c desktop.device after.1.device
+
+pub settled_holds : (c : ℕ) (session : Session) (desktop : Desktop) → IsLinked c session.made session.connections desktop.device → AreLeft c desktop (settled (desktop_for c) session desktop)
 unfolding settled
-settled_holds c session device made connections m n linked =
-    let own : IsLinked c session.made session.connections device =
-    subst (λ (k : ℕ). IsLinked c k session.connections device) (sym m) (subst (λ (l : List ℕ). IsLinked c made l device) (sym n) linked) in (
-      kept_linked c session.made session.connections device (is_kept session) own,
-      kept_others c session.made session.connections (filter (λ k. not (is_kept session k)) session.connections) device own
-          (within_filter (λ k. not (is_kept session k)) session.made session.connections own.counted.within),
+settled_holds c session desktop linked =
+    let gone = filter (λ k. not (is_kept session k)) session.connections in
+    let is = sym (device_left c gone desktop) in (
+      subst (λ (device : draw.World). IsLinked c session.made (filter (is_kept session) session.connections) device) is
+          (kept_linked c session.made session.connections desktop.device (is_kept session) linked),
+      subst (λ (device : draw.World). KeepsOthers c desktop.device device) is
+          (kept_others c session.made session.connections gone desktop.device linked (within_filter (λ k. not (is_kept session k)) session.made session.connections linked.counted.within)),
     )
 
-clunked_holds : (c : ℕ) (session : Session) (device : draw.World) (number : ℕ) (reply : R) → IsLinked c session.made session.connections device
-    → Holds c device (left (clunked (device_for c) session device number) reply)
-clunked_holds c session device number reply linked =
-    let holds = settled_holds c (record session { fids = without session.fids number }) device session.made session.connections refl refl linked in
-    record { linked = holds.0; others = holds.1 }
+pub gone_holds : (c : ℕ) (session : Session) (desktop : Desktop) (gone : List Fid) → IsLinked c session.made session.connections desktop.device
+    → AreLeft c desktop (fids_gone (desktop_for c) session desktop gone)
+unfolding fids_gone
+gone_holds c session desktop gone linked =
+    let ended = settled (desktop_for c) session desktop in
+    let holds = settled_holds c session desktop linked in
+    let windows = left_by ended.0 gone in
+    let after : Desktop = fold (left_one c) ended.1 windows in
+    let same = left_same c windows ended.1 in (
+      same_linked c ended.0.made ended.0.connections ended.1.device after.device same holds.0,
+      λ k other. same_others c ended.1.device after.device same k other ∙ holds.1 k other,
+    )
 
-clunk_holds : (c : ℕ) (session : Session) (device : draw.World) (number : ℕ) (reply : R) → IsLinked c session.made session.connections device
-    → HoldsIf c device (clunk_answer (device_for c) session device number reply)
+clunk_holds : (c : ℕ) (session : Session) (desktop : Desktop) (number : ℕ) (reply : R) → IsLinked c session.made session.connections desktop.device
+    → HoldsIf c desktop (clunk_answer (desktop_for c) session desktop number reply)
 unfolding clunk_answer
-clunk_holds c session device number reply linked =
-    elim (fid_of session number) as (λ o. HoldsIf c device (o >>= λ fid. Ok (left (clunked (device_for c) session device number) reply))) [
-      | Ok fid ↦ clunked_holds c session device number reply linked
-      | Err n ↦ tt
-    ]
+clunk_holds c session desktop number reply linked =
+    after_step _ (fid_of session number) _ (λ fid _.
+    let holds = gone_holds c (record session { fids = without session.fids number }) desktop (fid ∷ []) linked in record { linked = holds.0; others = holds.1 })
 
--- ---- a version
+-- ---- all fids go
 
-agreed_holds : (c tag msize : ℕ) (version : List ℕ) (session : Session) (device : draw.World) → IsLinked c session.made session.connections device
-    → Holds c device (agreed_on tag msize version (cleared (device_for c) session device))
-agreed_holds c tag msize version session device linked =
-    let gone = cleared_linked c session.made session.connections device linked in
-    let others = kept_others c session.made session.connections session.connections device linked linked.counted.within in
-    elim (asks_for_9p version) as (λ b. Holds c device (
+none_kept : (session : Session) (desktop : Desktop) (c : ℕ) → (cleared (desktop_for c) session desktop).0.connections ≡ []
+unfolding fids_gone settled
+none_kept session desktop c = filter_none session.connections
+
+made_still : (session : Session) (desktop : Desktop) (c : ℕ) → (cleared (desktop_for c) session desktop).0.made ≡ session.made
+unfolding fids_gone settled
+made_still session desktop c = refl
+
+-- the device has no connection of the session any more
+pub cleared_left : (c : ℕ) (session : Session) (desktop : Desktop) → IsLinked c session.made session.connections desktop.device
+    → IsLinked c session.made [] (cleared (desktop_for c) session desktop).1.device × KeepsOthers c desktop.device (cleared (desktop_for c) session desktop).1.device
+cleared_left c session desktop linked =
+    let after = cleared (desktop_for c) session desktop in
+    let holds = gone_holds c (record session { fids = [] }) desktop (map (λ entry. entry.1) session.fids) linked in (
+      subst (λ (connections : List ℕ). IsLinked c session.made connections after.1.device) (none_kept session desktop c)
+          (subst (λ (made : ℕ). IsLinked c made after.0.connections after.1.device) (made_still session desktop c) holds.0),
+      holds.1,
+    )
+
+agreed_holds : (c tag msize : ℕ) (version : List ℕ) (desktop : Desktop) (after : Session × Desktop) → AreLeft c desktop after → Holds c desktop (agreed_on tag msize version after)
+agreed_holds c tag msize version desktop after holds =
+    elim (asks_for_9p version) as (λ b. Holds c desktop (
     if b
-    then left (record (cleared (device_for c) session device).0 { msize = min msize max_msize; agreed = true }, (cleared (device_for c) session device).1) (Rversion tag (min msize max_msize) (codes "9P2000"))
-    else left (record (cleared (device_for c) session device).0 { msize = max_msize; agreed = false }, (cleared (device_for c) session device).1) (Rversion tag (min msize max_msize) (codes "unknown"))
+    then left (record after.0 { msize = min msize max_msize; agreed = true }, after.1) (Rversion tag (min msize max_msize) (codes "9P2000"))
+    else left (record after.0 { msize = max_msize; agreed = false }, after.1) (Rversion tag (min msize max_msize) (codes "unknown"))
     )) [
-      | true ↦ record { linked = gone; others = others }
-      | false ↦ record { linked = gone; others = others }
+      | true ↦ record { linked = holds.0; others = holds.1 }
+      | false ↦ record { linked = holds.0; others = holds.1 }
     ]
 
-version_holds : (c : ℕ) (session : Session) (device : draw.World) (tag msize : ℕ) (version : List ℕ) → IsLinked c session.made session.connections device
-    → HoldsIf c device (version_answer (device_for c) session device tag msize version)
+version_holds : (c : ℕ) (session : Session) (desktop : Desktop) (tag msize : ℕ) (version : List ℕ) → IsLinked c session.made session.connections desktop.device
+    → HoldsIf c desktop (version_answer (desktop_for c) session desktop tag msize version)
 unfolding version_answer
-version_holds c session device tag msize version linked =
-    elim (refuse_if (nat_lt msize 256) 48) as (λ o. HoldsIf c device (o >>= λ _. Ok (agreed_on tag msize version (cleared (device_for c) session device)))) [
-      | Ok _ ↦ agreed_holds c tag msize version session device linked
-      | Err n ↦ tt
-    ]
+version_holds c session desktop tag msize version linked =
+    after_step _ (refuse_if (nat_lt msize 256) 48) _ (λ _ _.
+    agreed_holds c tag msize version desktop (cleared (desktop_for c) session desktop)
+    (gone_holds c (record session { fids = [] }) desktop (map (λ entry. entry.1) session.fids) linked))
 
 -- ---- an open
 
-opened_holds : (c : ℕ) (session : Session) (device : draw.World) (tag number mode : ℕ) (fid : Fid) → IsLinked c session.made session.connections device
-    → (is_kind New fid.node.kind && nat_le most_made session.made) ≡ false → Holds c device (opened (device_for c) session device tag number mode fid)
-opened_holds c session device tag number mode fid linked room = by (is_kind New fid.node.kind) refl
+opened_holds : (c : ℕ) (session : Session) (desktop : Desktop) (tag number mode : ℕ) (fid : Fid) → IsLinked c session.made session.connections desktop.device
+    → (is_kind New fid.node.kind && nat_le most_made session.made) ≡ false → Holds c desktop (opened (desktop_for c) session desktop tag number mode fid)
+opened_holds c session desktop tag number mode fid linked room = by (is_kind New fid.node.kind) refl
   where
-    by : (b : Bool) → is_kind New fid.node.kind ≡ b → Holds c device (
-        if b then opened_new (device_for c) session device tag number mode fid
-        else left (with_fid session number (record fid { mode = Some mode }), device) (Ropen tag (qid fid.node) 0)
+    by : (b : Bool) → is_kind New fid.node.kind ≡ b → Holds c desktop (
+        if b then opened_new (desktop_for c) session desktop tag number mode fid
+        else left (with_fid session number (record fid { mode = Some mode }), desktop) (Ropen tag (qid fid.node) 0)
         )
     by true at =
         let more : nat_le most_made session.made ≡ false = ap (λ (b : Bool). b && nat_le most_made session.made) (sym at) ∙ room in
         let few : session.made < most_made = grind (arith, nat_tests) in
         record {
-          linked = begun_linked c session.made session.connections device (omega arith) linked;
-          others = begun_others c (session.made + 1) device (omega arith);
+          linked = begun_linked c session.made session.connections desktop.device (omega arith) linked;
+          others = begun_others c (session.made + 1) desktop.device (omega arith);
         }
     by false at = record { linked = linked; others = λ k other. refl }
 
--- the last of five refusals did not come
-behind_guards : {S : Type 0} (P : S → Type 0) (a b c d : Outcome (Unit {0})) (last : Bool) (x : S) → (last ≡ false → P x)
-    → IfOk (a >>= λ _. b >>= λ _. c >>= λ _. d >>= λ _. refuse_if last 44 >>= λ _. Ok x) P
-behind_guards P (Ok _) (Ok _) (Ok _) (Ok _) true x holds = tt
-behind_guards P (Ok _) (Ok _) (Ok _) (Ok _) false x holds = holds refl
-behind_guards P (Ok _) (Ok _) (Ok _) (Err n) last x holds = tt
-behind_guards P (Ok _) (Ok _) (Err n) d last x holds = tt
-behind_guards P (Ok _) (Err n) c d last x holds = tt
-behind_guards P (Err n) b c d last x holds = tt
+not_refused : (b : Bool) → refuse_if b 44 ≡ Ok tt → b ≡ false
+not_refused true e = absurd (cc e)
+not_refused false e = refl
 
-if_ok : (c : ℕ) (device : draw.World) (o : Outcome (Left draw.World)) → IfOk o (λ l. Holds c device l) → HoldsIf c device o
-if_ok c device (Ok l) holds = holds
-if_ok c device (Err n) holds = tt
-
-open_holds : (c : ℕ) (session : Session) (device : draw.World) (tag number mode : ℕ) → IsLinked c session.made session.connections device
-    → HoldsIf c device (open_answer (device_for c) session device tag number mode)
+open_holds : (c : ℕ) (session : Session) (desktop : Desktop) (tag number mode : ℕ) → IsLinked c session.made session.connections desktop.device
+    → HoldsIf c desktop (open_answer (desktop_for c) session desktop tag number mode)
 unfolding open_answer
-open_holds c session device tag number mode linked =
-    elim (fid_of session number) as (λ o. HoldsIf c device (o >>= λ fid.
-    refuse_if (is_some fid.mode) 36 >>= λ _.
-    check_live (view_of session) fid.node >>= λ _.
-    refuse_if (not (may fid.node mode) || not (is_built fid.node)) 38 >>= λ _.
-    refuse_if (is_taken session fid.node) 43 >>= λ _.
-    refuse_if (is_kind New fid.node.kind && nat_le most_made session.made) 44 >>= λ _.
-    Ok (opened (device_for c) session device tag number mode fid))) [
-      | Ok fid ↦ if_ok c device _ (behind_guards (λ l. Holds c device l)
-          (refuse_if (is_some fid.mode) 36)
-          (check_live (view_of session) fid.node)
-          (refuse_if (not (may fid.node mode) || not (is_built fid.node)) 38)
-          (refuse_if (is_taken session fid.node) 43)
-          (is_kind New fid.node.kind && nat_le most_made session.made)
-          (opened (device_for c) session device tag number mode fid)
-          (λ room. opened_holds c session device tag number mode fid linked room))
-      | Err n ↦ tt
-    ]
+open_holds c session desktop tag number mode linked =
+    after_step _ (fid_of session number) _ (λ fid _.
+    after_step _ (refuse_if (is_some fid.mode) 36) _ (λ _ _.
+    after_step _ (check_live ((desktop_for c).view desktop session.connections fid.node) fid.node) _ (λ _ _.
+    after_step _ (refuse_if (not (may fid.node mode) || is_input fid.node.kind) 38) _ (λ _ _.
+    after_step _ (refuse_if (is_taken session fid.node) 43) _ (λ _ _.
+    after_step _ (refuse_if (is_kind New fid.node.kind && nat_le most_made session.made) 44) _ (λ _ at.
+    opened_holds c session desktop tag number mode fid linked (not_refused _ at)))))))
 
 -- ---- each message
 
-answer_to_holds : (c : ℕ) (session : Session) (device : draw.World) (mark : Option ℕ) (m : T) → IsLinked c session.made session.connections device
-    → HoldsIf c device (answer_to (device_for c) session device mark m)
-answer_to_holds c session device mark (Tversion tag msize version) linked = version_holds c session device tag msize version linked
-answer_to_holds c session device mark (Tauth tag afid uname aname) linked = tt
-answer_to_holds c session device mark (Tattach tag fid afid uname aname) linked =
-    stayed c session device (beside device (attach_answer session tag fid afid aname)) linked (beside_stays session device (attach_answer session tag fid afid aname) (attach_stays session tag fid afid aname))
-answer_to_holds c session device mark (Tflush tag oldtag) linked = record { linked = linked; others = λ k other. refl }
-answer_to_holds c session device mark (Twalk tag fid newfid names) linked =
-    stayed c session device (beside device (walk_answer session tag fid newfid names)) linked (beside_stays session device (walk_answer session tag fid newfid names) (walk_stays session tag fid newfid names))
-answer_to_holds c session device mark (Topen tag fid mode) linked = open_holds c session device tag fid mode linked
-answer_to_holds c session device mark (Tcreate tag fid name perm mode) linked =
-    stayed c session device (beside device (denied session fid)) linked (beside_stays session device (denied session fid) (denied_stays session fid))
-answer_to_holds c session device mark (Tread tag fid offset count) linked =
-    stayed c session device (read_answer (device_for c) session device tag fid offset count) linked (read_stays c session device tag fid offset count)
-answer_to_holds c session device mark (Twrite tag fid offset bytes) linked =
-    stayed c session device (write_answer (device_for c) session device tag fid bytes mark) linked (write_stays c session device tag fid bytes mark)
-answer_to_holds c session device mark (Tclunk tag fid) linked = clunk_holds c session device fid (Rclunk tag) linked
-answer_to_holds c session device mark (Tremove tag fid) linked = clunk_holds c session device fid (refusal tag 38) linked
-answer_to_holds c session device mark (Tstat tag fid) linked =
-    stayed c session device (beside device (stat_answer session tag fid)) linked (beside_stays session device (stat_answer session tag fid) (stat_stays session tag fid))
-answer_to_holds c session device mark (Twstat tag fid stat) linked =
-    stayed c session device (beside device (denied session fid)) linked (beside_stays session device (denied session fid) (denied_stays session fid))
+answer_to_holds : (c : ℕ) (session : Session) (desktop : Desktop) (mark : Option ℕ) (m : T) → IsLinked c session.made session.connections desktop.device
+    → HoldsIf c desktop (answer_to (desktop_for c) session desktop mark m)
+answer_to_holds c session desktop mark (Tversion tag msize version) linked = version_holds c session desktop tag msize version linked
+answer_to_holds c session desktop mark (Tauth tag afid uname aname) linked = tt
+answer_to_holds c session desktop mark (Tattach tag fid afid uname aname) linked =
+    stayed c session desktop (attach_answer (desktop_for c) session desktop tag fid afid aname) linked (attach_stays c session desktop tag fid afid aname)
+answer_to_holds c session desktop mark (Tflush tag oldtag) linked = record { linked = linked; others = λ k other. refl }
+answer_to_holds c session desktop mark (Twalk tag fid newfid names) linked =
+    stayed c session desktop (beside desktop (walk_answer (desktop_for c) session desktop tag fid newfid names)) linked (beside_stays session desktop (walk_answer (desktop_for c) session desktop tag fid newfid names) (walk_stays c session desktop tag fid newfid names))
+answer_to_holds c session desktop mark (Topen tag fid mode) linked = open_holds c session desktop tag fid mode linked
+answer_to_holds c session desktop mark (Tcreate tag fid name perm mode) linked =
+    stayed c session desktop (beside desktop (denied session fid)) linked (beside_stays session desktop (denied session fid) (denied_stays session fid))
+answer_to_holds c session desktop mark (Tread tag fid offset count) linked =
+    stayed c session desktop (read_answer (desktop_for c) session desktop tag fid offset count) linked (read_stays c session desktop tag fid offset count)
+answer_to_holds c session desktop mark (Twrite tag fid offset bytes) linked =
+    stayed c session desktop (write_answer (desktop_for c) session desktop tag fid offset bytes mark) linked (write_stays c session desktop tag fid offset bytes mark)
+answer_to_holds c session desktop mark (Tclunk tag fid) linked = clunk_holds c session desktop fid (Rclunk tag) linked
+answer_to_holds c session desktop mark (Tremove tag fid) linked = clunk_holds c session desktop fid (refusal tag 38) linked
+answer_to_holds c session desktop mark (Tstat tag fid) linked =
+    stayed c session desktop (beside desktop (stat_answer (desktop_for c) session desktop tag fid)) linked (beside_stays session desktop (stat_answer (desktop_for c) session desktop tag fid) (stat_stays c session desktop tag fid))
+answer_to_holds c session desktop mark (Twstat tag fid stat) linked =
+    stayed c session desktop (beside desktop (denied session fid)) linked (beside_stays session desktop (denied session fid) (denied_stays session fid))
 
-guarded : (c : ℕ) (device : draw.World) (a b : Outcome (Unit {0})) (o : Outcome (Left draw.World)) → HoldsIf c device o → HoldsIf c device (a >>= λ _. b >>= λ _. o)
-guarded c device (Ok _) (Ok _) o holds = holds
-guarded c device (Ok _) (Err n) o holds = tt
-guarded c device (Err n) b o holds = tt
+guarded : (c : ℕ) (desktop : Desktop) (a b : Outcome (Unit {0})) (o : Outcome (Left Desktop)) → HoldsIf c desktop o → HoldsIf c desktop (a >>= λ _. b >>= λ _. o)
+guarded c desktop (Ok _) (Ok _) o holds = holds
+guarded c desktop (Ok _) (Err n) o holds = tt
+guarded c desktop (Err n) b o holds = tt
 
-read_holds : (c : ℕ) (session : Session) (device : draw.World) (mark : Option ℕ) (m : T) → IsLinked c session.made session.connections device
-    → HoldsIf c device (answer_read (device_for c) session device mark m)
+read_holds : (c : ℕ) (session : Session) (desktop : Desktop) (mark : Option ℕ) (m : T) → IsLinked c session.made session.connections desktop.device
+    → HoldsIf c desktop (answer_read (desktop_for c) session desktop mark m)
 unfolding answer_read
-read_holds c session device mark m linked =
-    guarded c device
+read_holds c session desktop mark m linked =
+    guarded c desktop
     (refuse_if (not (is_version m) && (tag_of_t m == no_tag)) 30)
     (refuse_if (not (is_version m) && not session.agreed) 31)
-    (answer_to (device_for c) session device mark m)
-    (answer_to_holds c session device mark m linked)
+    (answer_to (desktop_for c) session desktop mark m)
+    (answer_to_holds c session desktop mark m linked)
 
-read_or_not_holds : (c : ℕ) (session : Session) (device : draw.World) (mark : Option ℕ) (m : Option T) → IsLinked c session.made session.connections device
-    → HoldsIf c device (read_or_not (device_for c) session device mark m)
-read_or_not_holds c session device mark None linked = tt
-read_or_not_holds c session device mark (Some m) linked = read_holds c session device mark m linked
+read_or_not_holds : (c : ℕ) (session : Session) (desktop : Desktop) (mark : Option ℕ) (m : Option T) → IsLinked c session.made session.connections desktop.device
+    → HoldsIf c desktop (read_or_not (desktop_for c) session desktop mark m)
+read_or_not_holds c session desktop mark None linked = tt
+read_or_not_holds c session desktop mark (Some m) linked = read_holds c session desktop mark m linked
 
-pub read_leaves : (c : ℕ) (session : Session) (device : draw.World) (mark : Option ℕ) (m : Option T) (l : Left draw.World) → IsLinked c session.made session.connections device
-    → read_or_not (device_for c) session device mark m ≡ Ok l → Holds c device l
-read_leaves c session device mark m l linked is = subst (λ (o : Outcome (Left draw.World)). HoldsIf c device o) is (read_or_not_holds c session device mark m linked)
+pub read_leaves : (c : ℕ) (session : Session) (desktop : Desktop) (mark : Option ℕ) (m : Option T) (l : Left Desktop) → IsLinked c session.made session.connections desktop.device
+    → read_or_not (desktop_for c) session desktop mark m ≡ Ok l → Holds c desktop l
+read_leaves c session desktop mark m l linked is = subst (λ (o : Outcome (Left Desktop)). HoldsIf c desktop o) is (read_or_not_holds c session desktop mark m linked)
 
-replied_holds : (c : ℕ) (session : Session) (device : draw.World) (tag : ℕ) (o : Outcome (Left draw.World)) → IsLinked c session.made session.connections device → HoldsIf c device o
-    → Holds c device (replied session device tag o)
-replied_holds c session device tag (Ok l) linked holds = holds
-replied_holds c session device tag (Err n) linked holds = record { linked = linked; others = λ k other. refl }
+replied_holds : (c : ℕ) (session : Session) (desktop : Desktop) (tag : ℕ) (o : Outcome (Left Desktop)) → IsLinked c session.made session.connections desktop.device → HoldsIf c desktop o
+    → Holds c desktop (replied session desktop tag o)
+replied_holds c session desktop tag (Ok l) linked holds = holds
+replied_holds c session desktop tag (Err n) linked holds = record { linked = linked; others = λ k other. refl }
 
-pub answer_holds : (c : ℕ) (session : Session) (device : draw.World) (bytes : List ℕ) (mark : Option ℕ) → IsLinked c session.made session.connections device
-    → Holds c device (answer (device_for c) session device bytes mark)
+pub answer_holds : (c : ℕ) (session : Session) (desktop : Desktop) (bytes : List ℕ) (mark : Option ℕ) → IsLinked c session.made session.connections desktop.device
+    → Holds c desktop (answer (desktop_for c) session desktop bytes mark)
 unfolding answer
-answer_holds c session device bytes mark linked =
-    replied_holds c session device (tag_of bytes) _ linked
-    (elim (nat_lt session.msize (length bytes)) as (λ b. HoldsIf c device (if b then Err 30 else read_or_not (device_for c) session device mark (message_of bytes))) [
+answer_holds c session desktop bytes mark linked =
+    replied_holds c session desktop (tag_of bytes) _ linked
+    (elim (nat_lt session.msize (length bytes)) as (λ b. HoldsIf c desktop (if b then Err 30 else read_or_not (desktop_for c) session desktop mark (message_of bytes))) [
       | true ↦ tt
-      | false ↦ read_or_not_holds c session device mark (message_of bytes) linked
+      | false ↦ read_or_not_holds c session desktop mark (message_of bytes) linked
     ])

@@ -1,8 +1,9 @@
 -- Which connections a draw device has, before and after each thing that a session does with it.
-use Rattle.std.proofs.Common.{◌≡◌, ℕ, zero, suc, ◌+◌, Bool, false, List, [], ◌∷◌, Option, Some, None, Ok, Err, refl, ◌∙◌, arith}
-use Rattle.std.specs.Prelude.{ℤ, not, ◌||◌, nat_lt}
+use Rattle.std.proofs.Common.{◌≡◌, ℕ, zero, suc, ◌+◌, Bool, true, false, List, [], ◌∷◌, Option, Some, None, Ok, Err, refl, ◌∙◌, arith}
+use Rattle.std.specs.Prelude.{ℤ, not, ◌||◌, nat_lt, if◌then◌else◌}
 use Rattle.std.specs.Option.{option_map_or}
-use Rattle.std.specs.List.{fold}
+use Rattle.std.specs.List.{fold, list_any}
+use Rattle.std.proofs.lemmas.Bool.{cond_both}
 use Rattle.std.specs.Map.{keys_of}
 use Rattle.std.proofs.lemmas.Map.{keys-set_value}
 use Rattle.std.proofs.lemmas.Grind.{common_steps}
@@ -18,7 +19,7 @@ use Rattle.model_imgfile.specs.ImageFile.{rows_len}
 use Rattle.r9_geom.specs.Geometry.{is_empty}
 use Rattle.model_images.specs.Book.{Book, is_image_id_taken, add_id}
 use Rattle.model_images.specs.Release.{Freed}
-use Rattle.model_draw.specs.World.{World, Client, next_image, client_of, with_client, without_thing, after_freed}
+use Rattle.model_draw.specs.World.{World, Client, next_image, at_number, client_of, with_client, with_images, without_thing, after_freed}
 use Rattle.model_draw.specs.Making.{allocate, clashes, make_screen, share_screen, set_clip, free_image, free_screen_id, flag, farthest, fill_raw, is_near_rect, is_too_large, screen_named, with_made, with_new_image, with_size}
 use Rattle.model_draw.specs.Moving.{look_window, move_window, restack}
 use Rattle.model_draw.specs.Drawing.{draw, set_operator, read_pixels, write_pixels}
@@ -26,6 +27,13 @@ use Rattle.model_draw.specs.Naming.{name_image, use_name}
 use Rattle.model_draw.specs.Writing.{make_font, load_cell, write_string}
 use Rattle.model_draw.specs.Act.{act, one_message, written, written_within, Written}
 use Rattle.model_draw.specs.Files.{read_data, write_ctl}
+use Rattle.r9_event.specs.declared.rio.Order.{Order}
+use Rattle.r9_event.specs.declared.rio.Order.TheVariants as order
+use Rattle.model_pixel.specs.Channels.{colour_of, pack}
+use Rattle.model_forest.specs.Draw.{after_fill}
+use Rattle.model_forest.specs.Steps.{outside}
+use Rattle.model_draw.specs.Orders.{after_order, bordered, carried_out, drop_window, fits, host_rio, image_freed, image_shown, inside_border, make_window, next_white, ordered, place_window, replace_window, rio_screen, screen_freed}
+use Rattle.model_world.proofs.Orders.{EndNone, ends}
 
 -- the numbers of a device's connections
 abbrev pub numbers_of : World → List ℕ
@@ -189,14 +197,14 @@ unfolding one_message
 one_message_kept k world mark done bytes = grind (arith, common_steps, act_kept)
 
 -- what is left once the first message of a write was done or refused
-abbrev left_by : (then : World → List ℕ → Written) → World → ℕ → Outcome (World × List ℕ) → Written
-left_by then world done (Ok next) = then next.0 next.1
-left_by then world done (Err refusal) = record { world = world; done = done; refusal = Some refusal }
+abbrev left_by : (go_on : World → List ℕ → Written) → World → ℕ → Outcome (World × List ℕ) → Written
+left_by go_on world done (Ok next) = go_on next.0 next.1
+left_by go_on world done (Err refusal) = record { world = world; done = done; refusal = Some refusal }
 
-left_kept : (then : World → List ℕ → Written) (world : World) (done : ℕ) (o : Outcome (World × List ℕ))
-    → ((next : World) (rest : List ℕ) → numbers_of (then next rest).world ≡ numbers_of next) → KeepsBeside world o → numbers_of (left_by then world done o).world ≡ numbers_of world
-left_kept then world done (Ok next) further kept = further next.0 next.1 ∙ kept
-left_kept then world done (Err refusal) further kept = refl
+left_kept : (go_on : World → List ℕ → Written) (world : World) (done : ℕ) (o : Outcome (World × List ℕ))
+    → ((next : World) (rest : List ℕ) → numbers_of (go_on next rest).world ≡ numbers_of next) → KeepsBeside world o → numbers_of (left_by go_on world done o).world ≡ numbers_of world
+left_kept go_on world done (Ok next) further kept = further next.0 next.1 ∙ kept
+left_kept go_on world done (Err refusal) further kept = refl
 
 within_kept : (steps k : ℕ) (world : World) (mark : Option ℕ) (done : ℕ) (bytes : List ℕ) → numbers_of (written_within steps k world mark done bytes).world ≡ numbers_of world
 within_kept zero k world mark done bytes = refl
@@ -223,3 +231,41 @@ read_data_kept k world most = grind (arith, common_steps, keys-set_value)
 pub write_ctl_kept : (k : ℕ) (world : World) (bytes : List ℕ) → Keeps world (write_ctl k world bytes)
 unfolding write_ctl
 write_ctl_kept k world bytes = grind (arith, common_steps, keys-set_value)
+
+-- ---- the orders of the window manager
+
+-- what an order that ends no connection leaves, where it fits
+after_kept : (world : World) (o : Order) → ends o ≡ false → (after_order world o).clients ≡ world.clients
+unfolding make_window place_window replace_window drop_window host_rio
+after_kept world (order.Make window host r name hide depth) none = refl
+after_kept world (order.Place window at) none = refl
+after_kept world (order.Replace window host r name keep hidden) none =
+    let images = next_white world (image_shown world window) (rio_screen world host) r keep hidden in
+    let next = with_made world (if keep then images else bordered images (next_image world)) world.book in
+    freed_kept next (image_freed world.book window)
+after_kept world (order.Raise window) none = refl
+after_kept world (order.Lower window) none = refl
+after_kept world (order.Drop window) none =
+    let left = place_window world window outside in
+    let closed = after_freed left (screen_freed left.book window) in
+    freed_kept closed (image_freed closed.book window) ∙ freed_kept left (screen_freed left.book window)
+after_kept world (order.Host window fill) none =
+    let i = image_shown world window in
+    let image = at_number world i in
+    let filled = if fill then after_fill world.images i (inside_border image.r) (pack image.chan (colour_of 0x777777ff)) else world.images in
+    freed_kept (with_images world filled) (screen_freed world.book window)
+after_kept world (order.Leave client) none = absurd (cc none)
+
+ordered_kept : (world : World) (o : Order) → ends o ≡ false → (ordered world o).clients ≡ world.clients
+ordered_kept world o none = cond_both (fits world o) (after_order world o) world (λ (w : World). w.clients ≡ world.clients) (λ _. after_kept world o none) (λ _. refl)
+
+none_first : (a b : Bool) → (a || b) ≡ false → (a ≡ false) × (b ≡ false)
+none_first true b e = absurd (cc e)
+none_first false b e = (refl, e)
+
+-- orders that end no connection keep all connections
+pub carried_out_kept : (world : World) (orders : List Order) → EndNone orders → (carried_out world orders).clients ≡ world.clients
+carried_out_kept world [] none = refl
+carried_out_kept world (o ∷ os) none =
+    let each = none_first (ends o) (list_any ends os) none in
+    carried_out_kept (ordered world o) os each.1 ∙ ordered_kept world o each.0

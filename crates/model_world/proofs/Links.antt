@@ -1,6 +1,6 @@
 -- Each turn of the server leaves the draw device with the connections of the sessions.
 use Rattle.std.proofs.Common.{◌≡◌, ◌<◌, ◌≤◌, ◌+◌, ◌^◌, ◌&&◌, ◌||◌, ℕ, Bool, true, false, not, cond, eqb, List, [], ◌∷◌, ◌++◌, Option, refl, sym, ap, subst, ◌∙◌, arith}
-use Rattle.std.specs.Prelude.{filter, is_some}
+use Rattle.std.specs.Prelude.{filter, is_some, map}
 use Rattle.std.specs.List.{fold, list_any}
 use Rattle.std.specs.Map.{keys_of}
 use Rattle.std.proofs.lemmas.Bool.{eqb-true, eqb-false}
@@ -14,7 +14,11 @@ use Rattle.model_map.proofs.Maps.{and-here, and-others, without-others}
 use Rattle.model_map.proofs.Ascending.{without-here, ascend-and, ascend-without}
 use Rattle.model_images.specs.Release.{leave}
 use Rattle.model_draw.specs.World as draw
-use Rattle.model_world.specs.World.{client, device_for}
+use Rattle.model_world.specs.Session.{Session}
+use Rattle.model_world.specs.Outside.{Outside}
+use Rattle.model_world.specs.Fids.{cleared, fids_gone, left_by, settled}
+use Rattle.model_world.specs.Desktop.{Desktop}
+use Rattle.model_world.specs.Whole.{client, desktop_for}
 use Rattle.model_world.specs.Links.{AreWithin, IsLinked, KeepsOthers, is_connected, is_among}
 use Rattle.model_world.proofs.Connections.{numbers_of, freed_kept}
 
@@ -49,7 +53,16 @@ left_ordered device k ordered =
 
 -- ---- some connections of a session end
 
-pub all_ordered : (c : ℕ) (gone : List ℕ) (device : draw.World) → Ascend (numbers_of device) → Ascend (numbers_of (fold (device_for c).leave device gone))
+-- one of a session's connections ends
+abbrev pub leaves : (c : ℕ) → draw.World → (n : ℕ) → draw.World
+leaves c device n = draw.after_leave device (client c n)
+
+-- and the same of all that sessions share
+pub device_left : (c : ℕ) (gone : List ℕ) (desktop : Desktop) → (fold (desktop_for c).leave desktop gone).device ≡ fold (leaves c) desktop.device gone
+device_left c [] desktop = refl
+device_left c (n ∷ ns) desktop = device_left c ns (record desktop { device = leaves c desktop.device n })
+
+pub all_ordered : (c : ℕ) (gone : List ℕ) (device : draw.World) → Ascend (numbers_of device) → Ascend (numbers_of (fold (leaves c) device gone))
 all_ordered c [] device ordered = ordered
 all_ordered c (n ∷ ns) device ordered = all_ordered c ns (draw.after_leave device (client c n)) (left_ordered device (client c n) ordered)
 
@@ -72,7 +85,7 @@ one_left c n k ns device ordered false at =
     ap (λ (b : Bool). b && not (list_any (λ m. eqb (client c m) k) ns)) (left_others device (client c n) k (λ is. eqb-false (client c n) k at (sym is)))
 
 pub all_left : (c : ℕ) (gone : List ℕ) (device : draw.World) (k : ℕ) → Ascend (numbers_of device)
-    → is_connected (fold (device_for c).leave device gone) k ≡ (is_connected device k && not (list_any (λ n. eqb (client c n) k) gone))
+    → is_connected (fold (leaves c) device gone) k ≡ (is_connected device k && not (list_any (λ n. eqb (client c n) k) gone))
 all_left c [] device k ordered = and_true (is_connected device k)
 all_left c (n ∷ ns) device k ordered =
     all_left c ns (draw.after_leave device (client c n)) k (left_ordered device (client c n) ordered) ∙ one_left c n k ns device ordered (eqb (client c n) k) refl
@@ -123,7 +136,7 @@ kept_or_left false false = refl
 
 -- those that pass a test stay, and the others end
 pub kept_linked : (c made : ℕ) (connections : List ℕ) (device : draw.World) (p : ℕ → Bool) → IsLinked c made connections device
-    → IsLinked c made (filter p connections) (fold (device_for c).leave device (filter (λ n. not (p n)) connections))
+    → IsLinked c made (filter p connections) (fold (leaves c) device (filter (λ n. not (p n)) connections))
 kept_linked c made connections device p linked = record {
   counted = record {
     few = linked.counted.few;
@@ -139,13 +152,13 @@ kept_linked c made connections device p linked = record {
 }
 
 pub kept_others : (c made : ℕ) (connections gone : List ℕ) (device : draw.World) → IsLinked c made connections device → AreWithin made gone
-    → KeepsOthers c device (fold (device_for c).leave device gone)
+    → KeepsOthers c device (fold (leaves c) device gone)
 kept_others c made connections gone device linked within = λ k other.
     all_left c gone device k linked.ordered
     ∙ ap (λ (b : Bool). is_connected device k && not b) (none_among c made k gone linked.counted.few within other)
     ∙ sym (and_true (is_connected device k))
 
-filter_none : (ns : List ℕ) → filter (λ _. false) ns ≡ []
+pub filter_none : (ns : List ℕ) → filter (λ _. false) ns ≡ []
 filter_none [] = refl
 filter_none (n ∷ ns) = filter_none ns
 
@@ -154,10 +167,20 @@ filter_all [] = refl
 filter_all (n ∷ ns) = ap (λ (l : List ℕ). n ∷ l) (filter_all ns)
 
 -- all end
-pub cleared_linked : (c made : ℕ) (connections : List ℕ) (device : draw.World) → IsLinked c made connections device → IsLinked c made [] (fold (device_for c).leave device connections)
+pub cleared_linked : (c made : ℕ) (connections : List ℕ) (device : draw.World) → IsLinked c made connections device → IsLinked c made [] (fold (leaves c) device connections)
 cleared_linked c made connections device linked =
-    subst (λ (l : List ℕ). IsLinked c made l (fold (device_for c).leave device connections)) (filter_none connections)
-    (subst (λ (l : List ℕ). IsLinked c made (filter (λ _. false) connections) (fold (device_for c).leave device l)) (filter_all connections) (kept_linked c made connections device (λ _. false) linked))
+    subst (λ (l : List ℕ). IsLinked c made l (fold (leaves c) device connections)) (filter_none connections)
+    (subst (λ (l : List ℕ). IsLinked c made (filter (λ _. false) connections) (fold (leaves c) device l)) (filter_all connections) (kept_linked c made connections device (λ _. false) linked))
+
+-- what a session leaves all of whose fids go
+pub cleared_is : {S : Type 0} (outside : Outside S) (session : Session) (rest : S)
+    → cleared outside session rest
+    ≡ (record session { fids = []; connections = [] }, outside.left (fold outside.leave rest session.connections) (left_by (record session { fids = [] }) (map (λ entry. entry.1) session.fids)))
+unfolding fids_gone settled
+cleared_is outside session rest = λ i. (
+  record session { fids = []; connections = filter_none session.connections i },
+  outside.left (fold outside.leave rest (filter_all session.connections i)) (left_by (record session { fids = [] }) (map (λ entry. entry.1) session.fids)),
+)
 
 -- ---- a connection begins
 

@@ -18,7 +18,9 @@ use Rattle.model_draw.specs.Act.{act, behind, is_marked, no_memory, one_message,
 use Rattle.model_draw.specs.Memory.{MayRunOut, reached, takes_no_memory}
 use Rattle.model_event.specs.Legal.{Roll, Allowed, IsMessage as IsWhole}
 use Rattle.model_world.specs.Session.{Session}
-use Rattle.model_world.specs.World.{World, client}
+use Rattle.model_world.specs.Desktop.{Desktop}
+use Rattle.model_world.specs.Whole.{client}
+use Rattle.model_world.specs.World.{World}
 use Rattle.model_world.specs.Cut.{IsCut, IsCutEvent, IsCutWrite}
 use Rattle.model_world.specs.Replay.{marked}
 
@@ -106,27 +108,27 @@ write_len : (tag fid offset : ℕ) (bytes : List ℕ) → length (spelling_of_t 
 unfolding message
 write_len tag fid offset bytes = omega arith
 
-told_mark : (c : ℕ) (session : Session) (device : draw.World) (fid : ℕ) (bytes : List ℕ) (mark : Option ℕ) (k : ℕ) → length bytes ≤ 65537 → IfSome mark (λ n. n ≤ 65535)
-    → IsCutWrite c session device fid bytes mark k → k ≤ 65535
-told_mark c session device fid bytes mark k short fits cut = elim cut.cause [
+told_mark : (c : ℕ) (session : Session) (desktop : Desktop) (fid : ℕ) (bytes : List ℕ) (mark : Option ℕ) (k : ℕ) → length bytes ≤ 65537 → IfSome mark (λ n. n ≤ 65535)
+    → IsCutWrite c session desktop fid bytes mark k → k ≤ 65535
+told_mark c session desktop fid bytes mark k short fits cut = elim cut.cause [
   | inl own ↦ (let P : Option ℕ → Type 0 = λ o. IfSome o (λ n. n ≤ 65535) in subst P own fits)
-  | inr out ↦ omega (arith, runs_out_early (client c cut.fid.node.connection) device bytes k out, short)
+  | inr out ↦ omega (arith, runs_out_early (client c cut.fid.node.connection) desktop.device bytes k out, short)
 ]
 
-cut_mark : (c : ℕ) (session : Session) (device : draw.World) (frame : List ℕ) (mark : Option ℕ) (k : ℕ) (m : T) → IsWhole frame → message_of frame ≡ Some m → IfSome mark (λ n. n ≤ 65535)
-    → IsCut c session device mark k m → k ≤ 65535
-cut_mark c session device frame mark k (Twrite tag fid offset bytes) whole is fits cut =
+cut_mark : (c : ℕ) (session : Session) (desktop : Desktop) (frame : List ℕ) (mark : Option ℕ) (k : ℕ) (m : T) → IsWhole frame → message_of frame ≡ Some m → IfSome mark (λ n. n ≤ 65535)
+    → IsCut c session desktop mark k m → k ≤ 65535
+cut_mark c session desktop frame mark k (Twrite tag fid offset bytes) whole is fits cut =
     let spells = t_takes frame (Twrite tag fid offset bytes) whole.are_bytes is in
     let len = write_len tag fid offset bytes in
-    told_mark c session device fid bytes mark k (omega (arith, whole.short, ap length spells.spelled, len)) fits cut
-cut_mark c session device frame mark k _ whole is fits cut = absurd cut
+    told_mark c session desktop fid bytes mark k (omega (arith, whole.short, ap length spells.spelled, len)) fits cut
+cut_mark c session desktop frame mark k _ whole is fits cut = absurd cut
 
 -- an event that is allowed is allowed with the mark with which it stands in the history
 pub marked_allowed : (world : World) (roll : Roll) (event : Event) (short : Option ℕ) → Allowed roll event → IfSome short (λ k. IsCutEvent world event k) → Allowed roll (marked event short)
 marked_allowed world roll event None allowed told = allowed
 marked_allowed world roll (Begin c) (Some k) allowed told = allowed
 marked_allowed world roll (Msg c bytes mark) (Some k) allowed told =
-    (allowed.0, (allowed.1.0, allowed.1.1, cut_mark c told.session world.device bytes mark k told.cut.spells.m allowed.1.1 told.cut.spells.spelled allowed.1.2 told.cut.spells.cut))
+    (allowed.0, (allowed.1.0, allowed.1.1, cut_mark c told.session world.desktop bytes mark k told.cut.spells.m allowed.1.1 told.cut.spells.spelled allowed.1.2 told.cut.spells.cut))
 marked_allowed world roll (Take c) (Some k) allowed told = allowed
 marked_allowed world roll (End c) (Some k) allowed told = allowed
 marked_allowed world roll Stop (Some k) allowed told = allowed

@@ -6,16 +6,21 @@ use Rattle.model_text.specs.Outcome.{Outcome, ◌>>=◌, refuse_if, value_or_ref
 use Rattle.model_text.specs.Map.{lookup}
 use Rattle.model_wire.specs.Message.{T, Tversion, Tauth, Tattach, Tflush, Twalk, Topen, Tcreate, Tread, Twrite, Tclunk, Tremove, Tstat, Twstat, R, no_fid, no_tag, tag_of_t}
 use Rattle.model_wire.specs.Reading.{message_of, tag_of}
-use Rattle.model_tree.specs.declared.Kind.TheVariants.{Ctl, Data, New}
-use Rattle.model_tree.specs.Node.{Node, may, reads, writes}
+use Rattle.model_tree.specs.declared.Kind.{Kind}
+use Rattle.model_tree.specs.declared.Kind.TheVariants.{New}
+use Rattle.model_tree.specs.declared.Kind.TheVariants as kind
+use Rattle.model_tree.specs.Attach.{attach_of}
+use Rattle.model_tree.specs.Node.{Node, may, reads, row, writes}
 use Rattle.model_tree.specs.Tree.{check_live}
 use Rattle.model_world.specs.Session.{Fid, Session}
 use Rattle.model_world.specs.Outside.{Outside}
-use Rattle.model_world.specs.Fids.{Done, Left, left, beside, fid_of, is_bound, is_full, is_kind, view_of}
-use Rattle.model_world.specs.Walking.{attach_answer, is_built, is_taken, most_made, open_answer, walk_answer, walk_ended, walked}
-use Rattle.model_world.specs.Reading.{file_written, is_open_for, node_read, read_answer, write_answer, write_reply}
+use Rattle.model_world.specs.Fids.{Done, Left, left, beside, fid_of, is_bound, is_full, is_kind}
+use Rattle.model_world.specs.Walking.{attach_answer, is_input, is_taken, most_made, open_answer, walk_answer, walk_ended, walked}
+use Rattle.model_world.specs.Reading.{is_open_for, node_read, read_answer}
+use Rattle.model_world.specs.Writing.{file_written, snarf_written, whole_or_refused, write_answer, write_reply}
 use Rattle.model_world.specs.Answer.{answer, answer_read, answer_to, asks_for_9p, clunk_answer, denied, is_version, read_or_not, replied, stat_answer, version_answer}
 use Rattle.model_world.specs.Refused.{is_error, may_leave, may_leave_of}
+use Rattle.model_world.proofs.Others.{after_step}
 
 -- what is not refused is answered by no error
 abbrev IsPlain : {S : Type 0} → Outcome (Left S) → Type 0
@@ -23,11 +28,6 @@ IsPlain o = IfOk o (λ after. is_error after.reply ≡ false)
 
 abbrev IsPlainDone : Outcome Done → Type 0
 IsPlainDone o = IfOk o (λ d. is_error d.reply ≡ false)
-
--- what comes behind steps that may be refused
-after-step : {A B : Type 0} (P : B → Type 0) (o : Outcome A) (next : A → Outcome B) → ((x : A) → o ≡ Ok x → IfOk (next x) P) → IfOk (o >>= next) P
-after-step P (Ok x) next h = h x refl
-after-step P (Err n) next h = tt
 
 plain-beside : {S : Type 0} (rest : S) (o : Outcome Done) → IsPlainDone o → IsPlain (beside rest o)
 plain-beside rest (Ok d) h = h
@@ -44,57 +44,61 @@ plain-walk session tag fid newfid node (next ∷ nodes) (Some n) = refl
 
 plain-version : {S : Type 0} (outside : Outside S) (session : Session) (rest : S) (tag msize : ℕ) (version : List ℕ) → IsPlain (version_answer outside session rest tag msize version)
 unfolding version_answer
-plain-version outside session rest tag msize version = after-step _ (refuse_if (nat_lt msize 256) 48) _ (λ _ _. plain-if (asks_for_9p version) _ _ refl refl)
+plain-version outside session rest tag msize version = after_step _ (refuse_if (nat_lt msize 256) 48) _ (λ _ _. plain-if (asks_for_9p version) _ _ refl refl)
 
-plain-attach : (session : Session) (tag fid afid : ℕ) (aname : List ℕ) → IsPlainDone (attach_answer session tag fid afid aname)
+plain-attach : {S : Type 0} (outside : Outside S) (session : Session) (rest : S) (tag fid afid : ℕ) (aname : List ℕ) → IsPlain (attach_answer outside session rest tag fid afid aname)
 unfolding attach_answer
-plain-attach session tag fid afid aname =
-    after-step _ (refuse_if (not (afid == no_fid)) 40) _ (λ _ _.
-    after-step _ (refuse_if (is_bound session fid) 33) _ (λ _ _.
-    after-step _ (refuse_if (is_full session) 44) _ (λ _ _.
-    after-step _ (refuse_if (not (length aname == 0)) 41) _ (λ _ _. refl))))
+plain-attach outside session rest tag fid afid aname =
+    after_step _ (refuse_if (not (afid == no_fid)) 40) _ (λ _ _.
+    after_step _ (refuse_if (is_bound session fid) 33) _ (λ _ _.
+    after_step _ (refuse_if (is_full session) 44) _ (λ _ _.
+    after_step _ (outside.attached rest (attach_of aname)) _ (λ _ _. refl))))
 
-plain-walked : (session : Session) (tag fid newfid : ℕ) (names : List (List ℕ)) → IsPlainDone (walk_answer session tag fid newfid names)
+plain-walked : {S : Type 0} (outside : Outside S) (session : Session) (rest : S) (tag fid newfid : ℕ) (names : List (List ℕ)) → IsPlainDone (walk_answer outside session rest tag fid newfid names)
 unfolding walk_answer
-plain-walked session tag fid newfid names =
-    after-step _ (fid_of session fid) _ (λ from _.
-    after-step _ (refuse_if (is_some from.mode) 36) _ (λ _ _.
-    after-step _ (refuse_if (not (newfid == fid) && is_bound session newfid) 33) _ (λ _ _.
-    after-step _ (refuse_if (not (newfid == fid) && is_full session) 44) _ (λ _ _. plain-walk session tag fid newfid from.node (walked (view_of session) from.node names).0 (walked (view_of session) from.node names).1))))
+plain-walked outside session rest tag fid newfid names =
+    after_step _ (fid_of session fid) _ (λ from _.
+    after_step _ (refuse_if (is_some from.mode) 36) _ (λ _ _.
+    after_step _ (refuse_if (not (newfid == fid) && is_bound session newfid) 33) _ (λ _ _.
+    after_step _ (refuse_if (not (newfid == fid) && is_full session) 44) _ (λ _ _. plain-walk session tag fid newfid from.node (walked (outside.view rest session.connections) from.node names).0 (walked (outside.view rest session.connections) from.node names).1))))
 
 plain-opened : {S : Type 0} (outside : Outside S) (session : Session) (rest : S) (tag number mode : ℕ) → IsPlain (open_answer outside session rest tag number mode)
 unfolding open_answer
 plain-opened outside session rest tag number mode =
-    after-step _ (fid_of session number) _ (λ fid _.
-    after-step _ (refuse_if (is_some fid.mode) 36) _ (λ _ _.
-    after-step _ (check_live (view_of session) fid.node) _ (λ _ _.
-    after-step _ (refuse_if (not (may fid.node mode) || not (is_built fid.node)) 38) _ (λ _ _.
-    after-step _ (refuse_if (is_taken session fid.node) 43) _ (λ _ _.
-    after-step _ (refuse_if (is_kind New fid.node.kind && nat_le most_made session.made) 44) _ (λ _ _. plain-if (is_kind New fid.node.kind) _ _ refl refl))))))
+    after_step _ (fid_of session number) _ (λ fid _.
+    after_step _ (refuse_if (is_some fid.mode) 36) _ (λ _ _.
+    after_step _ (check_live (outside.view rest session.connections fid.node) fid.node) _ (λ _ _.
+    after_step _ (refuse_if (not (may fid.node mode) || is_input fid.node.kind) 38) _ (λ _ _.
+    after_step _ (refuse_if (is_taken session fid.node) 43) _ (λ _ _.
+    after_step _ (refuse_if (is_kind New fid.node.kind && nat_le most_made session.made) 44) _ (λ _ _. plain-if (is_kind New fid.node.kind) _ _ refl refl))))))
 
 plain-read : {S : Type 0} (outside : Outside S) (session : Session) (rest : S) (tag number offset count : ℕ) → IsPlain (read_answer outside session rest tag number offset count)
 unfolding read_answer
 plain-read outside session rest tag number offset count =
-    after-step _ (fid_of session number) _ (λ fid _.
-    after-step _ (refuse_if (is_none fid.mode) 37) _ (λ _ _.
-    after-step _ (refuse_if (not (is_open_for reads fid)) 38) _ (λ _ _.
-    after-step _ (check_live (view_of session) fid.node) _ (λ _ _.
-    after-step _ (node_read outside session rest number fid offset (min count (session.msize - 11))) _ (λ got _. refl)))))
+    after_step _ (fid_of session number) _ (λ fid _.
+    after_step _ (refuse_if (is_none fid.mode) 37) _ (λ _ _.
+    after_step _ (refuse_if (not (is_open_for reads fid)) 38) _ (λ _ _.
+    after_step _ (check_live (outside.view rest session.connections fid.node) fid.node) _ (λ _ _.
+    after_step _ (node_read outside session.connections rest fid offset (min count (session.msize - 11))) _ (λ got _. refl)))))
 
 -- only a write to data leaves something that it refuses
-plain-file : {S : Type 0} (outside : Outside S) (session : Session) (rest : S) (tag : ℕ) (node : Node) (bytes : List ℕ) (mark : Option ℕ) → is_kind Data node.kind ≡ false
-    → IsPlain (file_written outside rest node bytes mark >>= λ after. Ok (left (session, after.0) (write_reply tag (length bytes) after.1)))
-plain-file {S = S} outside session rest tag node bytes mark other = by (is_kind Ctl node.kind) (is_kind Data node.kind) other
+plain-file : {S : Type 0} (outside : Outside S) (session : Session) (rest : S) (tag : ℕ) (node : Node) (offset : ℕ) (bytes : List ℕ) (mark : Option ℕ) (k : Kind) → is_kind kind.Data k ≡ false
+    → IsPlain (file_written outside rest node offset bytes mark k >>= λ after. Ok (left (session, after.0) (write_reply tag (length bytes) after.1)))
+unfolding row
+plain-file {S = S} outside session rest tag node offset bytes mark k other = by k other
   where
-    by : (a b : Bool) → b ≡ false → IsPlain ((if a then (outside.write_ctl rest node.connection bytes >>= λ next. Ok (next, None)) else if b then Ok (outside.write_data rest node.connection bytes mark) else Err 38)
-        >>= λ (after : S × Option ℕ). Ok (left (session, after.0) (write_reply tag (length bytes) after.1)))
-    by true b e = written (outside.write_ctl rest node.connection bytes)
-      where
-        written : (o : Outcome S) → IsPlain ((o >>= λ next. Ok (next, None)) >>= λ (after : S × Option ℕ). Ok (left (session, after.0) (write_reply tag (length bytes) after.1)))
-        written (Ok next) = refl
-        written (Err n) = tt
-    by false true e = absurd cc
-    by false false e = tt
+    whole : (o : Outcome S) → IsPlain (whole_or_refused o >>= λ (after : S × Option ℕ). Ok (left (session, after.0) (write_reply tag (length bytes) after.1)))
+    whole (Ok next) = refl
+    whole (Err n) = tt
+
+    by : (k : Kind) → is_kind kind.Data k ≡ false → IsPlain (file_written outside rest node offset bytes mark k >>= λ after. Ok (left (session, after.0) (write_reply tag (length bytes) after.1)))
+    by kind.Ctl other = whole (outside.write_ctl rest node.connection bytes)
+    by kind.Data other = absurd (cc other)
+    by kind.Snarf other = whole (snarf_written (outside.snarf rest node.serial) offset bytes >>= λ new. Ok (outside.with_snarf rest node.serial new))
+    by kind.DeviceWctl other = whole (outside.device_command rest bytes)
+    by kind.Label other = refl
+    by kind.Wctl other = whole (outside.command rest node.serial bytes)
+    by _ other = tt
 
 found : (session : Session) (number : ℕ) (fid : Fid) → fid_of session number ≡ Ok fid → lookup session.fids number ≡ Some fid
 found session number fid e = by (lookup session.fids number) e
@@ -103,53 +107,54 @@ found session number fid e = by (lookup session.fids number) e
     by None e = absurd cc
     by (Some x) e = cc
 
-plain-write : {S : Type 0} (outside : Outside S) (session : Session) (rest : S) (tag number : ℕ) (bytes : List ℕ) (mark : Option ℕ)
-    → option_map_or (λ (f : Fid). is_kind Data f.node.kind) (lookup session.fids number) false ≡ false → IsPlain (write_answer outside session rest tag number bytes mark)
+plain-write : {S : Type 0} (outside : Outside S) (session : Session) (rest : S) (tag number offset : ℕ) (bytes : List ℕ) (mark : Option ℕ)
+    → option_map_or (λ (f : Fid). is_kind kind.Data f.node.kind) (lookup session.fids number) false ≡ false → IsPlain (write_answer outside session rest tag number offset bytes mark)
 unfolding write_answer
-plain-write outside session rest tag number bytes mark other =
-    after-step _ (fid_of session number) _ (λ fid at.
-    after-step _ (refuse_if (is_none fid.mode) 37) _ (λ _ _.
-    after-step _ (refuse_if (not (is_open_for writes fid)) 38) _ (λ _ _.
-    after-step _ (check_live (view_of session) fid.node) _ (λ _ _.
-    plain-file outside session rest tag fid.node bytes mark (ap (λ (o : Option Fid). option_map_or (λ (f : Fid). is_kind Data f.node.kind) o false) (sym (found session number fid at)) ∙ other)))))
+plain-write outside session rest tag number offset bytes mark other =
+    after_step _ (fid_of session number) _ (λ fid at.
+    after_step _ (refuse_if (is_none fid.mode) 37) _ (λ _ _.
+    after_step _ (refuse_if (not (is_open_for writes fid)) 38) _ (λ _ _.
+    after_step _ (check_live (outside.view rest session.connections fid.node) fid.node) _ (λ _ _.
+    plain-file outside session rest tag fid.node offset bytes mark fid.node.kind (ap (λ (o : Option Fid). option_map_or (λ (f : Fid). is_kind kind.Data f.node.kind) o false) (sym (found session number fid at)) ∙ other)))))
 
 plain-clunk : {S : Type 0} (outside : Outside S) (session : Session) (rest : S) (number : ℕ) (reply : R) → is_error reply ≡ false → IsPlain (clunk_answer outside session rest number reply)
 unfolding clunk_answer
-plain-clunk outside session rest number reply h = after-step _ (fid_of session number) _ (λ _ _. h)
+plain-clunk outside session rest number reply h = after_step _ (fid_of session number) _ (λ _ _. h)
 
 -- a remove of a fid that is not bound is refused
 plain-remove : {S : Type 0} (outside : Outside S) (session : Session) (rest : S) (number : ℕ) (reply : R) → is_some (lookup session.fids number) ≡ false → IsPlain (clunk_answer outside session rest number reply)
 unfolding clunk_answer
-plain-remove outside session rest number reply none = after-step _ (fid_of session number) _ (λ fid at. let there = ap is_some (found session number fid at) in absurd cc)
+plain-remove outside session rest number reply none = after_step _ (fid_of session number) _ (λ fid at. let there = ap is_some (found session number fid at) in absurd cc)
 
-plain-stat : (session : Session) (tag number : ℕ) → IsPlainDone (stat_answer session tag number)
-plain-stat session tag number =
-    after-step _ (fid_of session number) _ (λ fid _.
-    after-step _ (check_live (view_of session) fid.node) _ (λ _ _. refl))
+plain-stat : {S : Type 0} (outside : Outside S) (session : Session) (rest : S) (tag number : ℕ) → IsPlainDone (stat_answer outside session rest tag number)
+unfolding stat_answer
+plain-stat outside session rest tag number =
+    after_step _ (fid_of session number) _ (λ fid _.
+    after_step _ (check_live (outside.view rest session.connections fid.node) fid.node) _ (λ _ _. refl))
 
 plain-denied : (session : Session) (number : ℕ) → IsPlainDone (denied session number)
-plain-denied session number = after-step _ (fid_of session number) _ (λ _ _. tt)
+plain-denied session number = after_step _ (fid_of session number) _ (λ _ _. tt)
 
 plain-answer : {S : Type 0} (outside : Outside S) (session : Session) (rest : S) (mark : Option ℕ) (m : T) → may_leave session m ≡ false → IsPlain (answer_to outside session rest mark m)
 plain-answer outside session rest mark (Tversion tag msize version) h = plain-version outside session rest tag msize version
 plain-answer outside session rest mark (Tauth tag afid uname aname) h = tt
-plain-answer outside session rest mark (Tattach tag fid afid uname aname) h = plain-beside rest _ (plain-attach session tag fid afid aname)
+plain-answer outside session rest mark (Tattach tag fid afid uname aname) h = plain-attach outside session rest tag fid afid aname
 plain-answer outside session rest mark (Tflush tag oldtag) h = refl
-plain-answer outside session rest mark (Twalk tag fid newfid names) h = plain-beside rest _ (plain-walked session tag fid newfid names)
+plain-answer outside session rest mark (Twalk tag fid newfid names) h = plain-beside rest _ (plain-walked outside session rest tag fid newfid names)
 plain-answer outside session rest mark (Topen tag fid mode) h = plain-opened outside session rest tag fid mode
 plain-answer outside session rest mark (Tcreate tag fid name perm mode) h = plain-beside rest _ (plain-denied session fid)
 plain-answer outside session rest mark (Tread tag fid offset count) h = plain-read outside session rest tag fid offset count
-plain-answer outside session rest mark (Twrite tag fid offset bytes) h = plain-write outside session rest tag fid bytes mark h
+plain-answer outside session rest mark (Twrite tag fid offset bytes) h = plain-write outside session rest tag fid offset bytes mark h
 plain-answer outside session rest mark (Tclunk tag fid) h = plain-clunk outside session rest fid _ refl
 plain-answer outside session rest mark (Tremove tag fid) h = plain-remove outside session rest fid _ h
-plain-answer outside session rest mark (Tstat tag fid) h = plain-beside rest _ (plain-stat session tag fid)
+plain-answer outside session rest mark (Tstat tag fid) h = plain-beside rest _ (plain-stat outside session rest tag fid)
 plain-answer outside session rest mark (Twstat tag fid stat) h = plain-beside rest _ (plain-denied session fid)
 
 plain-read_answer : {S : Type 0} (outside : Outside S) (session : Session) (rest : S) (mark : Option ℕ) (m : T) → may_leave session m ≡ false → IsPlain (answer_read outside session rest mark m)
 unfolding answer_read
 plain-read_answer outside session rest mark m h =
-    after-step _ (refuse_if (not (is_version m) && (tag_of_t m == no_tag)) 30) _ (λ _ _.
-    after-step _ (refuse_if (not (is_version m) && not session.agreed) 31) _ (λ _ _. plain-answer outside session rest mark m h))
+    after_step _ (refuse_if (not (is_version m) && (tag_of_t m == no_tag)) 30) _ (λ _ _.
+    after_step _ (refuse_if (not (is_version m) && not session.agreed) 31) _ (λ _ _. plain-answer outside session rest mark m h))
 
 plain-or_not : {S : Type 0} (outside : Outside S) (session : Session) (rest : S) (mark : Option ℕ) (o : Option T) → option_map_or (may_leave session) o false ≡ false → IsPlain (read_or_not outside session rest mark o)
 plain-or_not outside session rest mark None h = tt
@@ -174,20 +179,20 @@ refusal-leaves {S = S} outside session rest bytes mark h e = replied-same sessio
 abbrev KeepsSession : {S : Type 0} → Session → Outcome (Left S) → Type 0
 KeepsSession session o = IfOk o (λ after. after.session ≡ session)
 
-keeps-write : {S : Type 0} (outside : Outside S) (session : Session) (rest : S) (tag number : ℕ) (bytes : List ℕ) (mark : Option ℕ) → KeepsSession session (write_answer outside session rest tag number bytes mark)
+keeps-write : {S : Type 0} (outside : Outside S) (session : Session) (rest : S) (tag number offset : ℕ) (bytes : List ℕ) (mark : Option ℕ) → KeepsSession session (write_answer outside session rest tag number offset bytes mark)
 unfolding write_answer
-keeps-write outside session rest tag number bytes mark =
-    after-step _ (fid_of session number) _ (λ fid _.
-    after-step _ (refuse_if (is_none fid.mode) 37) _ (λ _ _.
-    after-step _ (refuse_if (not (is_open_for writes fid)) 38) _ (λ _ _.
-    after-step _ (check_live (view_of session) fid.node) _ (λ _ _.
-    after-step _ (file_written outside rest fid.node bytes mark) _ (λ _ _. refl)))))
+keeps-write outside session rest tag number offset bytes mark =
+    after_step _ (fid_of session number) _ (λ fid _.
+    after_step _ (refuse_if (is_none fid.mode) 37) _ (λ _ _.
+    after_step _ (refuse_if (not (is_open_for writes fid)) 38) _ (λ _ _.
+    after_step _ (check_live (outside.view rest session.connections fid.node) fid.node) _ (λ _ _.
+    after_step _ (file_written outside rest fid.node offset bytes mark fid.node.kind) _ (λ _ _. refl)))))
 
 keeps-read : {S : Type 0} (outside : Outside S) (session : Session) (rest : S) (mark : Option ℕ) (tag number offset : ℕ) (bytes : List ℕ) → KeepsSession session (answer_read outside session rest mark (Twrite tag number offset bytes))
 unfolding answer_read
 keeps-read outside session rest mark tag number offset bytes =
-    after-step _ (refuse_if (not (is_version (Twrite tag number offset bytes)) && (tag == no_tag)) 30) _ (λ _ _.
-    after-step _ (refuse_if (not (is_version (Twrite tag number offset bytes)) && not session.agreed) 31) _ (λ _ _. keeps-write outside session rest tag number bytes mark))
+    after_step _ (refuse_if (not (is_version (Twrite tag number offset bytes)) && (tag == no_tag)) 30) _ (λ _ _.
+    after_step _ (refuse_if (not (is_version (Twrite tag number offset bytes)) && not session.agreed) 31) _ (λ _ _. keeps-write outside session rest tag number offset bytes mark))
 
 replied-keeps : {S : Type 0} (session : Session) (rest : S) (tag : ℕ) (o : Outcome (Left S)) → KeepsSession session o → (replied session rest tag o).session ≡ session
 replied-keeps session rest tag (Err n) h = refl

@@ -11,15 +11,17 @@ use Rattle.model_map.proofs.Maps.{and-here, and-others, with-here, with-others, 
 use Rattle.model_map.proofs.Ascending.{without-here, ascend-and, ascend-with, ascend-without}
 use Rattle.model_event.specs.Legal.{Roll, AllowedTo, roll_after}
 use Rattle.model_draw.specs.World as draw
+use Rattle.model_draw.specs.Orders.{with_root_rio}
 use Rattle.model_world.specs.Session.{Session, fresh}
-use Rattle.model_world.specs.World.{World, client, device_for, opened}
+use Rattle.model_world.specs.Desktop.{Desktop, first_desktop}
+use Rattle.model_world.specs.Whole.{client, desktop_for}
+use Rattle.model_world.specs.World.{World, opened}
 use Rattle.model_world.specs.Fids.{Left, cleared}
 use Rattle.model_world.specs.Answer.{answer}
 use Rattle.model_world.specs.Replay.{step, served, ended, marked}
 use Rattle.model_world.specs.Links.{AreCounted, AreKnown, AreLinked, IsLinked, IsNext, KeepsOthers, begun_after, has_connection, is_connected}
 use Rattle.model_world.proofs.Connections.{numbers_of}
-use Rattle.model_world.proofs.Links.{cleared_linked, kept_others}
-use Rattle.model_world.proofs.Answers.{Holds, answer_holds}
+use Rattle.model_world.proofs.Answers.{Holds, answer_holds, cleared_left}
 
 client_of_another : (c d n m : ℕ) → n < 2 ^ 26 → m < 2 ^ 26 → client d n ≡ client c m → d ≡ c
 client_of_another c d n m below few same = omega (arith, same)
@@ -40,9 +42,9 @@ pub record Changed (world : World) (c : ℕ) (device : draw.World) (sessions : L
   pub counted : (session : Session) → now ≡ Some session → AreCounted session.made session.connections
   pub ordered : Ascend (numbers_of device)
   pub linked : (n : ℕ) → n < 2 ^ 26 → is_connected device (client c n) ≡ has_connection now n
-  pub kept : KeepsOthers c world.device device
+  pub kept : KeepsOthers c world.desktop.device device
 
-changed_linked : (world : World) (c : ℕ) (device : draw.World) (sessions : List (ℕ × Session)) (now : Option Session) → AreLinked world.device world.sessions → Changed world c device sessions now
+changed_linked : (world : World) (c : ℕ) (device : draw.World) (sessions : List (ℕ × Session)) (now : Option Session) → AreLinked world.desktop.device world.sessions → Changed world c device sessions now
     → AreLinked device sessions
 changed_linked world c device sessions now linked changed = record {
   counted = λ d session at. counted_by d session at (eqb d c) refl;
@@ -73,8 +75,8 @@ some_is x y e = cc
 counted_as : (s t : Session) → s ≡ t → AreCounted s.made s.connections → AreCounted t.made t.connections
 counted_as s t same counted = subst (λ (x : Session). AreCounted x.made x.connections) same counted
 
-begun_linked : (world : World) (c : ℕ) → AreLinked world.device world.sessions → lookup world.sessions c ≡ None → AreLinked world.device (and world.sessions c fresh)
-begun_linked world c linked none = changed_linked world c world.device (and world.sessions c fresh) (Some fresh) linked (record {
+begun_linked : (world : World) (c : ℕ) → AreLinked world.desktop.device world.sessions → lookup world.sessions c ≡ None → AreLinked world.desktop.device (and world.sessions c fresh)
+begun_linked world c linked none = changed_linked world c world.desktop.device (and world.sessions c fresh) (Some fresh) linked (record {
   here = and-here world.sessions c fresh;
   others = λ d apart. and-others world.sessions c d fresh apart;
   ascending = ascend-and world.sessions c fresh linked.ascending;
@@ -84,9 +86,9 @@ begun_linked world c linked none = changed_linked world c world.device (and worl
   kept = λ k other. refl;
 })
 
-replied_linked : (world : World) (c : ℕ) (session : Session) (l : Left draw.World) → AreLinked world.device world.sessions → lookup world.sessions c ≡ Some session → Holds c world.device l
-    → AreLinked l.rest (with world.sessions c l.session)
-replied_linked world c session l linked at holds = changed_linked world c l.rest (with world.sessions c l.session) (Some l.session) linked (record {
+replied_linked : (world : World) (c : ℕ) (session : Session) (l : Left Desktop) → AreLinked world.desktop.device world.sessions → lookup world.sessions c ≡ Some session → Holds c world.desktop l
+    → AreLinked l.rest.device (with world.sessions c l.session)
+replied_linked world c session l linked at holds = changed_linked world c l.rest.device (with world.sessions c l.session) (Some l.session) linked (record {
   here = with-here world.sessions c session l.session at;
   others = λ d apart. with-others world.sessions c d l.session apart;
   ascending = ascend-with world.sessions c l.session linked.ascending;
@@ -96,29 +98,28 @@ replied_linked world c session l linked at holds = changed_linked world c l.rest
   kept = holds.others;
 })
 
-served_linked : (world : World) (c : ℕ) (bytes : List ℕ) (mark : Option ℕ) (found : Option Session) → AreLinked world.device world.sessions → lookup world.sessions c ≡ found
-    → AreLinked (served world c bytes mark found).world.device (served world c bytes mark found).world.sessions
+served_linked : (world : World) (c : ℕ) (bytes : List ℕ) (mark : Option ℕ) (found : Option Session) → AreLinked world.desktop.device world.sessions → lookup world.sessions c ≡ found
+    → AreLinked (served world c bytes mark found).world.desktop.device (served world c bytes mark found).world.sessions
 served_linked world c bytes mark None linked at = linked
 served_linked world c bytes mark (Some session) linked at =
-    replied_linked world c session (answer (device_for c) session world.device bytes mark) linked at (answer_holds c session world.device bytes mark (linked_of world.device world.sessions c session linked at))
+    replied_linked world c session (answer (desktop_for c) session world.desktop bytes mark) linked at (answer_holds c session world.desktop bytes mark (linked_of world.desktop.device world.sessions c session linked at))
 
-ended_linked : (world : World) (c : ℕ) (found : Option Session) → AreLinked world.device world.sessions → lookup world.sessions c ≡ found → AreLinked (ended world c found).device (ended world c found).sessions
+ended_linked : (world : World) (c : ℕ) (found : Option Session) → AreLinked world.desktop.device world.sessions → lookup world.sessions c ≡ found → AreLinked (ended world c found).desktop.device (ended world c found).sessions
 ended_linked world c None linked at = linked
 ended_linked world c (Some session) linked at =
-    let own = linked_of world.device world.sessions c session linked at in
-    let gone = cleared_linked c session.made session.connections world.device own in
-    changed_linked world c (cleared (device_for c) session world.device).1 (without world.sessions c) None linked (record {
+    let gone = cleared_left c session world.desktop (linked_of world.desktop.device world.sessions c session linked at) in
+    changed_linked world c (cleared (desktop_for c) session world.desktop).1.device (without world.sessions c) None linked (record {
       here = without-here world.sessions c linked.ascending;
       others = λ d apart. without-others world.sessions c d apart;
       ascending = ascend-without world.sessions c linked.ascending;
       counted = λ s is. absurd (cc is);
-      ordered = gone.ordered;
-      linked = gone.linked;
-      kept = kept_others c session.made session.connections session.connections world.device own own.counted.within;
+      ordered = gone.0.ordered;
+      linked = gone.0.linked;
+      kept = gone.1;
     })
 
-pub step_linked : (world : World) (begun : ℕ) (event : Event) → IsNext begun event → AreKnown begun world.sessions → AreLinked world.device world.sessions
-    → AreLinked (step world event).world.device (step world event).world.sessions
+pub step_linked : (world : World) (begun : ℕ) (event : Event) → IsNext begun event → AreKnown begun world.sessions → AreLinked world.desktop.device world.sessions
+    → AreLinked (step world event).world.desktop.device (step world event).world.sessions
 step_linked world begun (Begin c) next known linked = begun_linked world c linked (known c (omega (arith, next)))
 step_linked world begun (Msg c bytes mark) next known linked = served_linked world c bytes mark (lookup world.sessions c) linked refl
 step_linked world begun (Take c) next known linked = linked
@@ -134,8 +135,17 @@ started_linked c display = record {
   linked = λ n few. refl;
 }
 
-pub opened_linked : (opening : Opening) → AreLinked (opened opening).device (opened opening).sessions
-unfolding draw.started
+-- and so that of the first desktop
+pub first_linked : (c : ℕ) (display : draw.Opening) → IsLinked c 0 [] (first_desktop display).device
+unfolding draw.started with_root_rio
+first_linked c display = record {
+  counted = record { few = lit< tt; within = tt; ascending = tt };
+  ordered = tt;
+  linked = λ n few. refl;
+}
+
+pub opened_linked : (opening : Opening) → AreLinked (opened opening).desktop.device (opened opening).sessions
+unfolding draw.started with_root_rio
 opened_linked opening = record {
   counted = λ c session at. absurd (cc at);
   ordered = tt;

@@ -9,9 +9,10 @@ use Rattle.model_tree.specs.Tree.{check_live, stat}
 use Rattle.model_world.specs.Session.{Session, max_msize}
 use Rattle.model_world.specs.Outside.{Outside}
 use Rattle.model_world.specs.Refusal.{refusal}
-use Rattle.model_world.specs.Fids.{Done, done, Left, left, beside, fid_of, view_of, clunked, cleared}
+use Rattle.model_world.specs.Fids.{Done, done, Left, left, beside, fid_of, clunked, cleared}
 use Rattle.model_world.specs.Walking.{attach_answer, walk_answer, open_answer}
-use Rattle.model_world.specs.Reading.{read_answer, write_answer}
+use Rattle.model_world.specs.Reading.{read_answer}
+use Rattle.model_world.specs.Writing.{write_answer}
 
 -- Whether a text asks for this protocol: what stands before the first period counts.
 abbrev pub asks_for_9p : List ℕ → Bool
@@ -34,13 +35,13 @@ version_answer outside session rest tag msize version = do
 unfoldable pub clunk_answer : {S : Type 0} → Outside S → Session → S → ℕ → R → Outcome (Left S)
 clunk_answer outside session rest number reply = do
   fid ← fid_of session number
-  Ok (left (clunked outside session rest number) reply)
+  Ok (left (clunked outside session rest number fid) reply)
 
-abbrev pub stat_answer : Session → (tag fid : ℕ) → Outcome Done
-stat_answer session tag number = do
+unfoldable pub stat_answer : {S : Type 0} → Outside S → Session → S → (tag fid : ℕ) → Outcome Done
+stat_answer outside session rest tag number = do
   fid ← fid_of session number
-  _ ← check_live (view_of session) fid.node
-  Ok (done session (Rstat tag (stat (view_of session) fid.node)))
+  _ ← check_live (outside.view rest session.connections fid.node) fid.node
+  Ok (done session (Rstat tag (stat (outside.view rest session.connections fid.node) fid.node)))
 
 -- creating files and changing stats is refused
 abbrev pub denied : Session → ℕ → Outcome Done
@@ -50,16 +51,16 @@ denied session number = fid_of session number >>= λ _. Err 38
 abbrev pub answer_to : {S : Type 0} → Outside S → Session → S → Option ℕ → T → Outcome (Left S)
 answer_to outside session rest mark (Tversion tag msize version) = version_answer outside session rest tag msize version
 answer_to outside session rest mark (Tauth tag afid uname aname) = Err 40
-answer_to outside session rest mark (Tattach tag fid afid uname aname) = beside rest (attach_answer session tag fid afid aname)
+answer_to outside session rest mark (Tattach tag fid afid uname aname) = attach_answer outside session rest tag fid afid aname
 answer_to outside session rest mark (Tflush tag oldtag) = beside rest (Ok (done session (Rflush tag)))
-answer_to outside session rest mark (Twalk tag fid newfid names) = beside rest (walk_answer session tag fid newfid names)
+answer_to outside session rest mark (Twalk tag fid newfid names) = beside rest (walk_answer outside session rest tag fid newfid names)
 answer_to outside session rest mark (Topen tag fid mode) = open_answer outside session rest tag fid mode
 answer_to outside session rest mark (Tcreate tag fid name perm mode) = beside rest (denied session fid)
 answer_to outside session rest mark (Tread tag fid offset count) = read_answer outside session rest tag fid offset count
-answer_to outside session rest mark (Twrite tag fid offset bytes) = write_answer outside session rest tag fid bytes mark
+answer_to outside session rest mark (Twrite tag fid offset bytes) = write_answer outside session rest tag fid offset bytes mark
 answer_to outside session rest mark (Tclunk tag fid) = clunk_answer outside session rest fid (Rclunk tag)
 answer_to outside session rest mark (Tremove tag fid) = clunk_answer outside session rest fid (refusal tag 38)
-answer_to outside session rest mark (Tstat tag fid) = beside rest (stat_answer session tag fid)
+answer_to outside session rest mark (Tstat tag fid) = beside rest (stat_answer outside session rest tag fid)
 answer_to outside session rest mark (Twstat tag fid stat) = beside rest (denied session fid)
 
 abbrev pub is_version : T → Bool

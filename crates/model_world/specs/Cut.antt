@@ -7,7 +7,6 @@ use Rattle.model_wire.specs.Message.{T, Twrite}
 use Rattle.model_wire.specs.Reading.{message_of}
 use Rattle.model_tree.specs.declared.Kind.TheVariants.{Data}
 use Rattle.model_tree.specs.Node.{writes}
-use Rattle.model_draw.specs.World as draw
 use Rattle.model_draw.specs.Act.{no_memory}
 use Rattle.model_draw.specs.Memory.{MayRunOut}
 use Rattle.model_world.specs.Session.{Fid, Session}
@@ -15,38 +14,40 @@ use Rattle.model_world.specs.Fids.{is_kind}
 use Rattle.model_world.specs.Reading.{is_open_for}
 use Rattle.model_world.specs.Answer.{answer}
 use Rattle.model_world.specs.Refusal.{Refuses}
-use Rattle.model_world.specs.World.{World, client, device_for}
+use Rattle.model_world.specs.Desktop.{Desktop}
+use Rattle.model_world.specs.Whole.{client, desktop_for}
+use Rattle.model_world.specs.World.{World}
 
 -- A write of an open `data` file may stop after k of its draw messages: its mark says so, or the message behind them may want
 -- memory.
-pub record IsCutWrite (c : ℕ) (session : Session) (device : draw.World) (number : ℕ) (bytes : List ℕ) (mark : Option ℕ) (k : ℕ) : Type 0 where
+pub record IsCutWrite (c : ℕ) (session : Session) (desktop : Desktop) (number : ℕ) (bytes : List ℕ) (mark : Option ℕ) (k : ℕ) : Type 0 where
   pub fid : Fid
   pub bound : lookup session.fids number ≡ Some fid
   pub opened : is_open_for writes fid ≡ true
   pub is_data : is_kind Data fid.node.kind ≡ true
-  pub cause : (mark ≡ Some k) ⊎ MayRunOut (client c fid.node.connection) device bytes k
+  pub cause : (mark ≡ Some k) ⊎ MayRunOut (client c fid.node.connection) desktop.device bytes k
 
 -- the message is such a write
-abbrev pub IsCut : (c : ℕ) → Session → draw.World → (mark : Option ℕ) → (k : ℕ) → T → Type 0
-IsCut c session device mark k (Twrite tag fid offset bytes) = IsCutWrite c session device fid bytes mark k
-IsCut c session device mark k _ = ⊥
+abbrev pub IsCut : (c : ℕ) → Session → Desktop → (mark : Option ℕ) → (k : ℕ) → T → Type 0
+IsCut c session desktop mark k (Twrite tag fid offset bytes) = IsCutWrite c session desktop fid bytes mark k
+IsCut c session desktop mark k _ = ⊥
 
 -- the bytes of a message spell such a write
-pub record IsCutSpelled (c : ℕ) (session : Session) (device : draw.World) (bytes : List ℕ) (mark : Option ℕ) (k : ℕ) : Type 0 where
+pub record IsCutSpelled (c : ℕ) (session : Session) (desktop : Desktop) (bytes : List ℕ) (mark : Option ℕ) (k : ℕ) : Type 0 where
   pub m : T
   pub spelled : message_of bytes ≡ Some m
-  pub cut : IsCut c session device mark k m
+  pub cut : IsCut c session desktop mark k m
 
 -- and with the mark k the reply to it is the refusal of want of memory
-pub record IsCutMessage (c : ℕ) (session : Session) (device : draw.World) (bytes : List ℕ) (mark : Option ℕ) (k : ℕ) : Type 0 where
-  pub spells : IsCutSpelled c session device bytes mark k
-  pub refused : Refuses no_memory (answer (device_for c) session device bytes (Some k)).reply
+pub record IsCutMessage (c : ℕ) (session : Session) (desktop : Desktop) (bytes : List ℕ) (mark : Option ℕ) (k : ℕ) : Type 0 where
+  pub spells : IsCutSpelled c session desktop bytes mark k
+  pub refused : Refuses no_memory (answer (desktop_for c) session desktop bytes (Some k)).reply
 
 -- the event is such a message to a session that lives
 pub record IsCutServed (world : World) (c : ℕ) (bytes : List ℕ) (mark : Option ℕ) (k : ℕ) : Type 0 where
   pub session : Session
   pub lives : lookup world.sessions c ≡ Some session
-  pub cut : IsCutMessage c session world.device bytes mark k
+  pub cut : IsCutMessage c session world.desktop bytes mark k
 
 abbrev pub IsCutEvent : World → Event → ℕ → Type 0
 IsCutEvent world (Msg c bytes mark) k = IsCutServed world c bytes mark k
@@ -57,7 +58,7 @@ IsCutEvent world event k = ⊥
 pub record IsWantingServed (world : World) (c : ℕ) (bytes : List ℕ) (mark : Option ℕ) : Type 0 where
   pub session : Session
   pub lives : lookup world.sessions c ≡ Some session
-  pub refused : Refuses no_memory (answer (device_for c) session world.device bytes mark).reply
+  pub refused : Refuses no_memory (answer (desktop_for c) session world.desktop bytes mark).reply
 
 abbrev pub IsWantingEvent : World → Event → Type 0
 IsWantingEvent world (Msg c bytes mark) = IsWantingServed world c bytes mark

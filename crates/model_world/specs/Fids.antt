@@ -1,5 +1,5 @@
 -- A session's fids, what a message leaves, and what goes with a fid (intro(5), clunk(5)).
-use Rattle.std.specs.Prelude.{ℕ, ◌==◌, ◌&&◌, ◌||◌, Bool, false, not, is_some, nat_le, [], length, filter, Ok, Err}
+use Rattle.std.specs.Prelude.{ℕ, ◌==◌, ◌&&◌, ◌||◌, Bool, not, is_some, nat_le, nat_lt, List, [], ◌∷◌, length, filter, map, Ok, Err, if◌then◌else◌}
 use Rattle.std.specs.List.{fold, list_any}
 use Rattle.model_text.specs.Outcome.{Outcome, value_or_refuse}
 use Rattle.model_text.specs.Map.{lookup, with, and, without}
@@ -7,7 +7,6 @@ use Rattle.model_wire.specs.Message.{R, no_fid}
 use Rattle.model_tree.specs.declared.Kind.{Kind}
 use Rattle.model_tree.specs.declared.Kind.TheVariants.{Ctl, Data, Refresh}
 use Rattle.model_tree.specs.Node.{row}
-use Rattle.model_tree.specs.Tree.{View}
 use Rattle.model_world.specs.Session.{Fid, Session}
 use Rattle.model_world.specs.Outside.{Outside}
 
@@ -52,10 +51,6 @@ is_bound session n = (n == no_fid) || is_some (lookup session.fids n)
 abbrev pub is_full : Session → Bool
 is_full session = nat_le 1024 (length session.fids)
 
--- what walks and listings depend on: the session's connections; there are no windows yet
-abbrev pub view_of : Session → View
-view_of session = record { connections = session.connections; host = 0; windows = []; live = false }
-
 -- ---- connections, which live while a fid is open on one of their files
 
 abbrev pub is_kind : Kind → Kind → Bool
@@ -81,11 +76,35 @@ settled outside session rest = (
   fold outside.leave rest (filter (λ n. not (is_kept session n)) session.connections),
 )
 
--- a fid goes, and with it the connection that it alone kept alive
-abbrev pub clunked : {S : Type 0} → Outside S → Session → S → ℕ → Session × S
-clunked outside session rest n = settled outside (record session { fids = without session.fids n }) rest
+-- ---- windows, which live while an attach that named them has a fid
 
--- all fids go, and all connections end
+-- a number in an ascending list, once
+abbrev pub put : ℕ → List ℕ → List ℕ
+put n [] = n ∷ []
+put n (m ∷ ms) = if n == m then m ∷ ms else if nat_lt n m then n ∷ m ∷ ms else m ∷ put n ms
+
+-- some fid of the session has a window as the root of its attach
+abbrev pub has_root : Session → (window : ℕ) → Bool
+has_root session window = list_any (λ entry. entry.1.node.root == window) session.fids
+
+-- the windows at the roots of these fids, in ascending serial, but for those that the session still has
+abbrev pub left_by : Session → (gone : List Fid) → List ℕ
+left_by session gone =
+    filter (λ window. not (window == 0) && not (has_root session window))
+    (fold (λ windows (fid : Fid). put fid.node.root windows) [] gone)
+
+-- What goes with fids that have gone from a session: the connections that they alone kept alive, and then the session's use of
+-- the windows at their roots.
+unfoldable pub fids_gone : {S : Type 0} → Outside S → Session → S → (gone : List Fid) → Session × S
+fids_gone outside session rest gone =
+    let ended = settled outside session rest in (ended.0, outside.left ended.1 (left_by ended.0 gone))
+
+-- a fid goes
+abbrev pub clunked : {S : Type 0} → Outside S → Session → S → ℕ → Fid → Session × S
+clunked outside session rest n fid =
+    fids_gone outside (record session { fids = without session.fids n }) rest (fid ∷ [])
+
+-- all fids go, and with them all connections
 abbrev pub cleared : {S : Type 0} → Outside S → Session → S → Session × S
 cleared outside session rest =
-    (record session { fids = []; connections = [] }, fold outside.leave rest session.connections)
+    fids_gone outside (record session { fids = [] }) rest (map (λ entry. entry.1) session.fids)

@@ -2,8 +2,11 @@ pub mod Session
 pub mod Outside
 pub mod Refusal
 pub mod Fids
+pub mod Desktop
+pub mod Whole
 pub mod Walking
 pub mod Reading
+pub mod Writing
 pub mod Answer
 pub mod Refused
 pub mod World

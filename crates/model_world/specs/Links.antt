@@ -8,7 +8,7 @@ use Rattle.model_text.specs.Map.{lookup}
 use Rattle.model_map.specs.Ascending.{Ascend}
 use Rattle.model_draw.specs.World as draw
 use Rattle.model_world.specs.Session.{Session}
-use Rattle.model_world.specs.World.{client}
+use Rattle.model_world.specs.Whole.{client}
 
 -- none of the numbers is above
 abbrev pub AreWithin : ℕ → List ℕ → Type 0

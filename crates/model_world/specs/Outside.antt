@@ -1,11 +1,33 @@
--- What a session finds outside itself: the draw device, and later windows. A whole server is such an outside, and what a
--- session does is defined once, over any.
+-- What a session finds outside itself: the draw device and the windows. A whole server is such an outside, and what a session
+-- does is defined once, over any.
 use Rattle.std.specs.Prelude.{ℕ, List, Option}
 use Rattle.model_text.specs.Outcome.{Outcome}
+use Rattle.model_tree.specs.Attach.{Attach}
+use Rattle.model_tree.specs.Node.{Node}
+use Rattle.model_tree.specs.Tree.{View}
+use Rattle.model_window.specs.Heard.{Heard}
+use Rattle.model_window.specs.Pane.{Pane}
 
--- Over states of the outside. The connections are those of one session, by their numbers in it. A refusal in place of a new
--- state changes nothing.
+-- Over states of the outside. The connections are those of one session, by their numbers in it; windows are named by their
+-- serials. A refusal in place of a new state changes nothing.
 pub record Outside (S : Type 0) : Type 0 where
+  -- what the walks and listings of a file depend on, where the session has these connections
+  pub view : S → (connections : List ℕ) → Node → View
+  -- the window that the name of an attach asks for, 0 for the device tree
+  pub attached : S → Attach → Outcome (S × ℕ)
+  -- the session has no fid any more whose attach named one of these windows
+  pub left : S → (windows : List ℕ) → S
+  -- what a window's files have after all that happened at it, and one thing more that happens
+  pub pane : S → (window : ℕ) → Pane
+  pub hear : S → (window : ℕ) → Heard → S
+  -- a command that is written to a window's `wctl`, and to the device tree's
+  pub command : S → (window : ℕ) → List ℕ → Outcome S
+  pub device_command : S → List ℕ → Outcome S
+  -- the image file of a window, and for 0 of the display
+  pub picture : S → (window : ℕ) → List ℕ
+  -- what was cut last in the rio of a host, and other such text
+  pub snarf : S → (host : ℕ) → List ℕ
+  pub with_snarf : S → (host : ℕ) → List ℕ → S
   -- a connection begins, and ends
   pub connect : S → ℕ → S
   pub leave : S → ℕ → S
@@ -16,5 +38,3 @@ pub record Outside (S : Type 0) : Type 0 where
   -- what ctl tells of a connection, and the choice of the image id that it describes
   pub read_ctl : S → ℕ → Outcome (List ℕ)
   pub write_ctl : S → ℕ → List ℕ → Outcome S
-  -- the file of the screen
-  pub screen : S → List ℕ

@@ -1,18 +1,19 @@
--- Reading and writing what is open (read(5), write(5)).
-use Rattle.std.specs.Prelude.{ℕ, ◌+◌, ◌-◌, ◌==◌, ◌&&◌, Bool, false, not, min, nat_lt, is_none, List, [], length, drop, Option, Some, None, Ok, Err, if◌then◌else◌}
+-- Reading what is open (read(5), draw(3), rio(4)).
+use Rattle.std.specs.Prelude.{ℕ, ◌+◌, ◌-◌, ◌==◌, ◌&&◌, Bool, false, not, min, nat_lt, is_none, List, [], length, take, drop, Option, Some, None, Ok, Err, if◌then◌else◌}
 use Rattle.std.specs.List.{concat}
 use Rattle.std.specs.Option.{option_map_or}
 use Rattle.model_imgfile.specs.ImageFile.{file_part}
-use Rattle.model_text.specs.Outcome.{Outcome, ◌>>=◌, refuse_if}
-use Rattle.model_wire.specs.Message.{R, Rread, Rwrite}
-use Rattle.model_tree.specs.declared.Kind.TheVariants.{Ctl, Data, Screen}
-use Rattle.model_tree.specs.Node.{Node, reads, writes, is_directory}
+use Rattle.model_text.specs.Outcome.{Outcome, ◌>>=◌, refuse_if, value_or_refuse}
+use Rattle.model_wire.specs.Message.{Rread}
+use Rattle.model_window.specs.Heard.{wctl_answer, wctl_text, winid_text}
+use Rattle.model_tree.specs.declared.Kind.{Kind}
+use Rattle.model_tree.specs.declared.Kind.TheVariants as kind
+use Rattle.model_tree.specs.Node.{Node, reads, is_directory}
 use Rattle.model_tree.specs.Tree.{check_live}
 use Rattle.model_tree.specs.Listing.{stats, fitting}
 use Rattle.model_world.specs.Session.{Kept, Fid, Session}
 use Rattle.model_world.specs.Outside.{Outside}
-use Rattle.model_world.specs.Refusal.{refusal}
-use Rattle.model_world.specs.Fids.{Left, left, fid_of, with_fid, view_of, is_kind}
+use Rattle.model_world.specs.Fids.{Left, left, fid_of, with_fid}
 
 -- only the read that follows the last one goes on
 abbrev pub goes_on : Option Kept → (offset : ℕ) → Outcome Kept
@@ -57,30 +58,57 @@ ctl_read outside rest node offset count =
     if not (offset == 0) then Ok []
     else refuse_if (nat_lt count ctl_len) 25 >>= λ _. outside.read_ctl rest node.connection
 
--- What a file gives, and what is left outside. The screen is told anew by each read. A read of refresh would wait, and no read
--- may wait yet.
-abbrev pub file_read : {S : Type 0} → Outside S → S → Node → (offset count : ℕ) → Outcome (List ℕ × S)
-file_read outside rest node offset count =
-    if is_kind Ctl node.kind then (ctl_read outside rest node offset count >>= λ bytes. Ok (bytes, rest))
-    else if is_kind Data node.kind then outside.read_data rest node.connection count
-    else if is_kind Screen node.kind then Ok (file_part (outside.screen rest) offset count, rest)
-    else Err 45
+-- the bytes of what a file has, from an offset on
+abbrev pub at_offset : (contents : List ℕ) → (offset count : ℕ) → List ℕ
+at_offset contents offset count = take count (drop offset contents)
 
--- what a read leaves of the session and outside, and the bytes that it gives
+-- what a read leaves of its fid and outside, and the bytes that it gives
 pub record Given (S : Type 0) : Type 0 where
-  pub session : Session
+  pub fid : Fid
   pub rest : S
   pub bytes : List ℕ
 
-abbrev pub given_by : {S : Type 0} → Session → S → List ℕ → Given S
-given_by session rest bytes = record { session = session; rest = rest; bytes = bytes }
+abbrev pub given_by : {S : Type 0} → Fid → S → List ℕ → Given S
+given_by fid rest bytes = record { fid = fid; rest = rest; bytes = bytes }
+
+-- so many bytes hold what wctl tells
+abbrev pub wctl_len : ℕ
+wctl_len = 72
+
+-- The text of a window's wctl. A read that would give the text again would wait, and no read may wait yet: that is 45.
+unfoldable pub wctl_read : {S : Type 0} → Outside S → S → Fid → (count : ℕ) → Outcome (Given S)
+wctl_read outside rest fid count = do
+  _ ← refuse_if (nat_lt count wctl_len) 46
+  text ← value_or_refuse (wctl_answer fid.told (wctl_text (outside.pane rest fid.node.serial).known)) 45
+  Ok (given_by (record fid { told = Some text }) rest text)
+
+-- What a file gives, told anew by each read. A read of refresh would wait.
+abbrev pub file_read : {S : Type 0} → Outside S → S → Fid → (offset count : ℕ) → Kind → Outcome (Given S)
+file_read outside rest fid offset count kind.Ctl =
+    ctl_read outside rest fid.node offset count >>= λ bytes. Ok (given_by fid rest bytes)
+file_read outside rest fid offset count kind.Data =
+    outside.read_data rest fid.node.connection count >>= λ got. Ok (given_by fid got.1 got.0)
+file_read outside rest fid offset count kind.Screen =
+    Ok (given_by fid rest (file_part (outside.picture rest fid.node.serial) offset count))
+file_read outside rest fid offset count kind.Snarf =
+    Ok (given_by fid rest (at_offset (outside.snarf rest fid.node.serial) offset count))
+file_read outside rest fid offset count kind.Label =
+    Ok (given_by fid rest (at_offset (outside.pane rest fid.node.serial).label offset count))
+file_read outside rest fid offset count kind.Wctl = wctl_read outside rest fid count
+file_read outside rest fid offset count kind.Winid =
+    Ok (given_by fid rest (at_offset (winid_text (outside.pane rest fid.node.serial).known) offset count))
+file_read outside rest fid offset count kind.Winname =
+    Ok (given_by fid rest (at_offset (outside.pane rest fid.node.serial).known.name offset count))
+file_read outside rest fid offset count kind.Picture =
+    Ok (given_by fid rest (file_part (outside.picture rest fid.node.serial) offset count))
+file_read outside rest fid offset count _ = Err 45
 
 -- a directory gives of its listing, and the fid keeps the rest of it
-abbrev pub node_read : {S : Type 0} → Outside S → Session → S → (number : ℕ) → Fid → (offset count : ℕ) → Outcome (Given S)
-node_read outside session rest number fid offset count =
+abbrev pub node_read : {S : Type 0} → Outside S → (connections : List ℕ) → S → Fid → (offset count : ℕ) → Outcome (Given S)
+node_read outside connections rest fid offset count =
     if is_directory fid.node
-    then (directory_read (stats (view_of session) fid.node) fid offset count >>= λ got. Ok (given_by (with_fid session number got.0) rest got.1))
-    else file_read outside rest fid.node offset count >>= λ got. Ok (given_by session got.1 got.0)
+    then (directory_read (stats (outside.view rest connections fid.node) fid.node) fid offset count >>= λ got. Ok (given_by got.0 rest got.1))
+    else file_read outside rest fid offset count fid.node.kind
 
 -- A read is answered by at most what a message holds.
 unfoldable pub read_answer : {S : Type 0} → Outside S → Session → S → (tag fid offset count : ℕ) → Outcome (Left S)
@@ -88,27 +116,6 @@ read_answer outside session rest tag number offset count = do
   fid ← fid_of session number
   _ ← refuse_if (is_none fid.mode) 37
   _ ← refuse_if (not (is_open_for reads fid)) 38
-  _ ← check_live (view_of session) fid.node
-  got ← node_read outside session rest number fid offset (min count (session.msize - 11))
-  Ok (left (got.session, got.rest) (Rread tag got.bytes))
-
--- What a write leaves outside, and the refusal of one that may leave something all the same. What opens for writing is ctl and
--- data.
-abbrev pub file_written : {S : Type 0} → Outside S → S → Node → List ℕ → Option ℕ → Outcome (S × Option ℕ)
-file_written outside rest node bytes mark =
-    if is_kind Ctl node.kind then (outside.write_ctl rest node.connection bytes >>= λ next. Ok (next, None))
-    else if is_kind Data node.kind then Ok (outside.write_data rest node.connection bytes mark)
-    else Err 38
-
-abbrev pub write_reply : (tag count : ℕ) → Option ℕ → R
-write_reply tag count None = Rwrite tag count
-write_reply tag count (Some n) = refusal tag n
-
-unfoldable pub write_answer : {S : Type 0} → Outside S → Session → S → (tag fid : ℕ) → List ℕ → Option ℕ → Outcome (Left S)
-write_answer outside session rest tag number bytes mark = do
-  fid ← fid_of session number
-  _ ← refuse_if (is_none fid.mode) 37
-  _ ← refuse_if (not (is_open_for writes fid)) 38
-  _ ← check_live (view_of session) fid.node
-  after ← file_written outside rest fid.node bytes mark
-  Ok (left (session, after.0) (write_reply tag (length bytes) after.1))
+  _ ← check_live (outside.view rest session.connections fid.node) fid.node
+  got ← node_read outside session.connections rest fid offset (min count (session.msize - 11))
+  Ok (left (with_fid session number got.fid, got.rest) (Rread tag got.bytes))

@@ -29,7 +29,8 @@ file_texts =
     ∷ (37, codes "fid not open") ∷ (38, codes "permission denied") ∷ (39, codes "bad offset")
     ∷ (40, codes "no authentication") ∷ (41, codes "unknown id in attach") ∷ (42, codes "window deleted")
     ∷ (43, codes "file in use") ∷ (44, codes "too many fids") ∷ (45, codes "too many blocked reads")
-    ∷ (46, codes "read too short") ∷ (48, codes "msize too small") ∷ []
+    ∷ (46, codes "read too short") ∷ (47, codes "bad wctl command") ∷ (48, codes "msize too small")
+    ∷ (49, codes "too many windows") ∷ (50, codes "nested too deep") ∷ []
 
 unfoldable pub refusal_text : ℕ → List ℕ
 refusal_text n = if nat_lt n 30 then text_in draw_texts n else text_in file_texts n

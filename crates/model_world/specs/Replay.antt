@@ -5,39 +5,49 @@ use Rattle.r9_event.specs.declared.event.Event.{Event}
 use Rattle.r9_event.specs.declared.event.Event.TheVariants.{Begin, Msg, Take, End, Stop}
 use Rattle.r9_event.specs.declared.event.Opening.{Opening}
 use Rattle.r9_event.specs.declared.event.Reply.{Reply}
+use Rattle.r9_event.specs.declared.rio.Note.{Note}
 use Rattle.model_wire.specs.Spelling.{spelling_of_r}
 use Rattle.model_event.specs.Journal.{Journal}
 use Rattle.model_text.specs.Map.{lookup, with, and, without}
 use Rattle.model_world.specs.Session.{Session, fresh}
-use Rattle.model_draw.specs.World as draw
 use Rattle.model_world.specs.Fids.{Left, cleared}
 use Rattle.model_world.specs.Answer.{answer}
-use Rattle.model_world.specs.World.{World, opened, device_for}
+use Rattle.model_world.specs.Desktop.{Desktop}
+use Rattle.model_world.specs.Whole.{desktop_for}
+use Rattle.model_world.specs.World.{World, opened}
 
--- the world after an event, and the replies to it in their order
+-- the world after an event, the replies to it in their order, and what the windows were told
 pub record Turn : Type 0 where
   pub world : World
   pub replies : List Reply
+  pub notes : List (ℕ × Note)
+
+-- the turn ends: what was told in it is told
+abbrev pub turned : World → List Reply → Turn
+turned world replies = record {
+  world = record world { desktop = record world.desktop { notes = [] } };
+  replies = replies;
+  notes = world.desktop.notes;
+}
 
 abbrev pub silent : World → Turn
-silent world = record { world = world; replies = [] }
+silent world = turned world []
 
-abbrev pub replied_by : World → ℕ → Left draw.World → Turn
-replied_by world c after = record {
-  world = record world { device = after.rest; sessions = with world.sessions c after.session };
-  replies = record { session = c; bytes = spelling_of_r after.reply } ∷ [];
-}
+abbrev pub replied_by : World → ℕ → Left Desktop → Turn
+replied_by world c after =
+    turned (record world { desktop = after.rest; sessions = with world.sessions c after.session })
+    (record { session = c; bytes = spelling_of_r after.reply } ∷ [])
 
 -- a message is answered by its session, if it lives
 abbrev pub served : World → ℕ → List ℕ → Option ℕ → Option Session → Turn
 served world c bytes mark None = silent world
-served world c bytes mark (Some session) = replied_by world c (answer (device_for c) session world.device bytes mark)
+served world c bytes mark (Some session) = replied_by world c (answer (desktop_for c) session world.desktop bytes mark)
 
--- a session ends, and its connections with it
+-- a session ends, and all that goes with its fids
 abbrev pub ended : World → ℕ → Option Session → World
 ended world c None = world
 ended world c (Some session) = record world {
-  device = (cleared (device_for c) session world.device).1;
+  desktop = (cleared (desktop_for c) session world.desktop).1;
   sessions = without world.sessions c;
 }
 

@@ -7,15 +7,16 @@ pub record Kept : Type 0 where
   pub left : List (List ℕ)
   pub next : ℕ
 
--- a fid: its file, the mode that it is open with, and what it keeps of a listing
+-- a fid: its file, the mode that it is open with, what it keeps of a listing, and the text of `wctl` that it gave last
 pub record Fid : Type 0 where
   pub node : Node
   pub mode : Option ℕ
   pub kept : Option Kept
+  pub told : Option (List ℕ)
 
 -- a fid that stands for a file and is not open
 abbrev pub fid_at : Node → Fid
-fid_at node = record { node = node; mode = None; kept = None }
+fid_at node = record { node = node; mode = None; kept = None; told = None }
 
 -- The greatest size of a message; whether a version is agreed; the fids; the connections to the draw device that live, in
 -- ascending order; and how many it ever made, whose numbers are from 1 to that.

@@ -1,26 +1,28 @@
 -- Attaching, walking and opening (attach(5), walk(5), open(5)).
-use Rattle.std.specs.Prelude.{ℕ, ◌+◌, ◌==◌, ◌&&◌, ◌||◌, Bool, not, is_some, nat_le, List, [], ◌∷◌, ◌++◌, length, map, Option, Some, None, Ok, Err, if◌then◌else◌}
+use Rattle.std.specs.Prelude.{ℕ, ◌+◌, ◌==◌, ◌&&◌, ◌||◌, Bool, true, false, not, is_some, nat_le, List, [], ◌∷◌, ◌++◌, length, map, Option, Some, None, Ok, Err, if◌then◌else◌}
 use Rattle.std.specs.List.{list_any}
 use Rattle.model_text.specs.Outcome.{Outcome, ◌>>=◌, refuse_if}
 use Rattle.model_wire.specs.Message.{Rattach, Rwalk, Ropen, no_fid}
-use Rattle.model_tree.specs.Node.{Node, qid, may, is_directory}
-use Rattle.model_tree.specs.declared.Kind.TheVariants.{New, Ctl, Data, Refresh, Screen}
+use Rattle.model_tree.specs.Node.{Node, qid, may}
+use Rattle.model_tree.specs.Attach.{attach_of}
+use Rattle.model_tree.specs.declared.Kind.{Kind}
+use Rattle.model_tree.specs.declared.Kind.TheVariants.{New, Ctl, Mousein, Kbdin, Cons, Consctl, Mouse, Text}
 use Rattle.model_tree.specs.Tree.{View, root_of, check_live, walk}
 use Rattle.model_world.specs.Session.{Fid, Session, fid_at}
 use Rattle.model_text.specs.Map.{with}
 use Rattle.model_world.specs.Outside.{Outside}
-use Rattle.model_world.specs.Fids.{Done, done, Left, left, fid_of, with_fid, and_fid, is_bound, is_full, view_of, is_kind, is_open_on}
+use Rattle.model_world.specs.Fids.{Done, done, Left, left, fid_of, with_fid, and_fid, is_bound, is_full, is_kind, is_open_on}
 
 -- ---- attach
 
--- Authentication is not served. The one name of a tree is the empty one, the device tree's.
-unfoldable pub attach_answer : Session → (tag fid afid : ℕ) → List ℕ → Outcome Done
-attach_answer session tag fid afid aname = do
+-- Authentication is not served. The name asks for the device tree, for a window's, or for that of a new window.
+unfoldable pub attach_answer : {S : Type 0} → Outside S → Session → S → (tag fid afid : ℕ) → List ℕ → Outcome (Left S)
+attach_answer outside session rest tag fid afid aname = do
   _ ← refuse_if (not (afid == no_fid)) 40
   _ ← refuse_if (is_bound session fid) 33
   _ ← refuse_if (is_full session) 44
-  _ ← refuse_if (not (length aname == 0)) 41
-  Ok (done (and_fid session fid (fid_at (root_of 0))) (Rattach tag (qid (root_of 0))))
+  root ← outside.attached rest (attach_of aname)
+  Ok (left (and_fid session fid (fid_at (root_of root.1)), root.0) (Rattach tag (qid (root_of root.1))))
 
 -- ---- walk
 
@@ -32,9 +34,9 @@ walk_on (Err n) further = ([], Some n)
 walk_on (Ok next) further = after_node next (further next)
 
 -- the nodes of a walk of several names, as far as it goes, and the refusal of the name that it stops at
-abbrev pub walked : View → Node → List (List ℕ) → List Node × Option ℕ
+abbrev pub walked : (Node → View) → Node → List (List ℕ) → List Node × Option ℕ
 walked view node [] = ([], None)
-walked view node (name ∷ names) = walk_on (walk view node name) (λ next. walked view next names)
+walked view node (name ∷ names) = walk_on (walk (view node) node name) (λ next. walked view next names)
 
 abbrev pub last : Node → List Node → Node
 last node [] = node
@@ -52,20 +54,25 @@ walk_ended session tag fid newfid node (nodes, None) = Ok (done (rebound session
 walk_ended session tag fid newfid node ([], Some n) = Err n
 walk_ended session tag fid newfid node (next ∷ nodes, Some n) = Ok (done session (Rwalk tag (map qid (next ∷ nodes))))
 
-unfoldable pub walk_answer : Session → (tag fid newfid : ℕ) → List (List ℕ) → Outcome Done
-walk_answer session tag fid newfid names = do
+unfoldable pub walk_answer : {S : Type 0} → Outside S → Session → S → (tag fid newfid : ℕ) → List (List ℕ) → Outcome Done
+walk_answer outside session rest tag fid newfid names = do
   from ← fid_of session fid
   _ ← refuse_if (is_some from.mode) 36
   _ ← refuse_if (not (newfid == fid) && is_bound session newfid) 33
   _ ← refuse_if (not (newfid == fid) && is_full session) 44
-  walk_ended session tag fid newfid from.node (walked (view_of session) from.node names)
+  walk_ended session tag fid newfid from.node (walked (outside.view rest session.connections) from.node names)
 
 -- ---- open
 
--- the files that open today: directories, those of the draw device, and the screen
-abbrev pub is_built : Node → Bool
-is_built node =
-    is_directory node || is_kind New node.kind || is_kind Ctl node.kind || is_kind Data node.kind || is_kind Refresh node.kind || is_kind Screen node.kind
+-- the files that do not open yet: those of the mouse, of the keyboard and of the console
+abbrev pub is_input : Kind → Bool
+is_input Mousein = true
+is_input Kbdin = true
+is_input Cons = true
+is_input Consctl = true
+is_input Mouse = true
+is_input Text = true
+is_input _ = false
 
 -- so many connections of a session live at once at most, and so many may be made
 abbrev pub most_at_once : ℕ
@@ -110,8 +117,8 @@ unfoldable pub open_answer : {S : Type 0} → Outside S → Session → S → (t
 open_answer outside session rest tag number mode = do
   fid ← fid_of session number
   _ ← refuse_if (is_some fid.mode) 36
-  _ ← check_live (view_of session) fid.node
-  _ ← refuse_if (not (may fid.node mode) || not (is_built fid.node)) 38
+  _ ← check_live (outside.view rest session.connections fid.node) fid.node
+  _ ← refuse_if (not (may fid.node mode) || is_input fid.node.kind) 38
   _ ← refuse_if (is_taken session fid.node) 43
   _ ← refuse_if (is_kind New fid.node.kind && nat_le most_made session.made) 44
   Ok (opened outside session rest tag number mode fid)

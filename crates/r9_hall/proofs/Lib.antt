@@ -1,3 +1,4 @@
 mod States
 mod Halls
 mod Worlds
+mod Cuts

@@ -10,26 +10,39 @@ use Rattle.r9_event.specs.declared.event.Did.{Did}
 use Rattle.model_text.specs.Map.{lookup, without}
 use Rattle.model_map.proofs.Maps.{without-others}
 use Rattle.model_world.specs.Session.{Session}
-use Rattle.model_world.specs.Replay.{bytes_for, ended, marked, waiting_after}
-use Rattle.r9_draw.specs.World.{world_of}
-use Rattle.r9_hall.specs.StateView.{IsLeft, IsTurn, waiting, world_with}
+use Rattle.model_world.specs.Replay.{Turn, bytes_for, ended, marked, silent, turned, waiting_after}
+use Rattle.r9_desktop.specs.World.{desktop_of}
+use Rattle.r9_hall.specs.StateView.{IsLeft, IsMade, IsTurn, waiting, world_with}
+use Rattle.r9_hall.specs.declared.sessions.Made.{Made}
 use Rattle.r9_hall.specs.declared.sessions.Sessions.{Sessions}
 
--- an event that is no message gives nothing
-pub silent_turn : (opening : Opening) (before after : Sessions) (event same : Event) (did : Did) → event ≡ same → did ≡ record { replies = []; short = None } → IsTurn opening before same [] after
-    → IsTurn opening before (marked event did.short) did.replies after
-silent_turn opening before after event same did e silent is =
-    subst (λ (d : Did). IsTurn opening before (marked event d.short) d.replies after) (sym silent) (subst (λ (x : Event). IsTurn opening before x [] after) (sym e) is)
+-- ---- what is made of an event
 
--- a session ends whose connections have ended
-pub ended_turn : (opening : Opening) (before after : Sessions) (c : ℕ) (found : Option Session) (lived : Bool) → lookup before.live.entries c ≡ found → lived ≡ true
-    → IsLeft c found (world_of before.device) lived (world_of after.device) → after.live.entries ≡ without before.live.entries c → IsTurn opening before (End c) [] after
-ended_turn opening before after c None true at lives left gone = absurd left
-ended_turn opening before after c None false at lives left gone = absurd cc
-ended_turn opening before after c (Some session) false at lives left gone = absurd left
-ended_turn opening before after c (Some session) true at lives left gone = record {
-  world = (ap (λ found. ended (world_with opening before) c found) at ∙ λ j. record { opening = opening; device = sym left j; sessions = sym gone j });
-  replies_are = refl;
+-- an event that is no message gives nothing
+pub silent_made : (opening : Opening) (before after : Sessions) (event same : Event) (made : Made) → event ≡ same → made ≡ record { replies = []; short = None } → IsMade opening before same [] after
+    → IsMade opening before (marked event made.short) made.replies after
+silent_made opening before after event same made e none is =
+    subst (λ (m : Made). IsMade opening before (marked event m.short) m.replies after) (sym none) (subst (λ (x : Event). IsMade opening before x [] after) (sym e) is)
+
+-- a session ends, and all that goes with its fids has gone
+pub ended_made : (opening : Opening) (before after : Sessions) (c : ℕ) (found : Option Session) (lived : Bool) → lookup before.live.entries c ≡ found → lived ≡ true
+    → IsLeft c found (desktop_of before.desktop) lived (desktop_of after.desktop) → after.live.entries ≡ without before.live.entries c → IsMade opening before (End c) [] after
+ended_made opening before after c None true at lives left gone = absurd left
+ended_made opening before after c None false at lives left gone = absurd cc
+ended_made opening before after c (Some session) false at lives left gone = absurd left
+ended_made opening before after c (Some session) true at lives left gone = record {
+  step_is =
+      ap (λ (o : Option Session). silent (ended (world_with opening before) c o)) at
+      ∙ λ i. turned (record { opening = opening; desktop = sym left i; sessions = sym gone i }) [];
+}
+
+-- the turn ends, and what the windows were told is taken
+pub turn_of : (opening : Opening) (before made after : Sessions) (event : Event) (did : Did) → IsMade opening before event did.replies made → did.notes ≡ (desktop_of made.desktop).notes
+    → desktop_of after.desktop ≡ record (desktop_of made.desktop) { notes = [] } → after.live.entries ≡ made.live.entries → IsTurn opening before event did after
+turn_of opening before made after event did is told left live = record {
+  world = ap (λ (t : Turn). t.world) is.step_is ∙ λ i. record { opening = opening; desktop = sym left i; sessions = sym live i };
+  replies_are = ap (λ (t : Turn). t.replies) is.step_is;
+  notes_are = ap (λ (t : Turn). t.notes) is.step_is ∙ sym told;
 }
 
 -- ---- what waits

@@ -1,36 +1,36 @@
 -- A world and one event more.
-use Rattle.std.proofs.Common.{◌≡◌, ℕ, List, Option, refl, sym, subst, ◌∙◌}
+use Rattle.std.proofs.Common.{◌≡◌, ℕ, Option, refl, sym, subst, ◌∙◌}
 use Rattle.r9_event.specs.declared.event.Event.{Event}
 use Rattle.r9_event.specs.declared.event.Opening.{Opening}
-use Rattle.r9_event.specs.declared.event.Reply.{Reply}
+use Rattle.r9_event.specs.declared.event.Did.{Did}
 use Rattle.model_world.specs.Links.{AreKnown, AreLinked, IsNext, begun_after}
 use Rattle.model_world.specs.Replay.{marked}
 use Rattle.model_world.specs.World.{World, opened}
 use Rattle.model_world.proofs.Steps.{begun_marked, next_marked, opened_linked, step_known, step_linked}
-use Rattle.r9_draw.specs.World.{world_of}
+use Rattle.r9_desktop.specs.World.{desktop_of}
 use Rattle.r9_hall.specs.StateView.{IsTurn, world_with}
 use Rattle.r9_hall.specs.declared.sessions.Sessions.{Sessions}
 
 -- the first world
-pub first_linked : (opening : Opening) (sessions : Sessions) → world_with opening sessions ≡ opened opening → AreLinked (world_of sessions.device) sessions.live.entries
-first_linked opening sessions is = subst (λ (w : World). AreLinked w.device w.sessions) (sym is) (opened_linked opening)
+pub first_linked : (opening : Opening) (sessions : Sessions) → world_with opening sessions ≡ opened opening → AreLinked (desktop_of sessions.desktop).device sessions.live.entries
+first_linked opening sessions is = subst (λ (w : World). AreLinked w.desktop.device w.sessions) (sym is) (opened_linked opening)
 
 pub first_known : (opening : Opening) (sessions : Sessions) → world_with opening sessions ≡ opened opening → AreKnown 0 sessions.live.entries
 first_known opening sessions is = subst (λ (w : World). AreKnown 0 w.sessions) (sym is) (λ c later. refl)
 
 -- ---- an event
 
-pub turn_linked : (opening : Opening) (before after : Sessions) (begun : ℕ) (event : Event) (short : Option ℕ) (replies : List Reply) → IsNext begun event
-    → AreLinked (world_of before.device) before.live.entries → AreKnown begun before.live.entries → IsTurn opening before (marked event short) replies after
-    → AreLinked (world_of after.device) after.live.entries
-turn_linked opening before after begun event short replies next linked known turn =
-    subst (λ (w : World). AreLinked w.device w.sessions) turn.world
+pub turn_linked : (opening : Opening) (before after : Sessions) (begun : ℕ) (event : Event) (short : Option ℕ) (did : Did) → IsNext begun event
+    → AreLinked (desktop_of before.desktop).device before.live.entries → AreKnown begun before.live.entries → IsTurn opening before (marked event short) did after
+    → AreLinked (desktop_of after.desktop).device after.live.entries
+turn_linked opening before after begun event short did next linked known turn =
+    subst (λ (w : World). AreLinked w.desktop.device w.sessions) turn.world
     (step_linked (world_with opening before) begun (marked event short) (next_marked begun event short next) known linked)
 
-pub turn_known : (opening : Opening) (before after : Sessions) (begun now : ℕ) (event : Event) (short : Option ℕ) (replies : List Reply) → IsNext begun event
-    → AreLinked (world_of before.device) before.live.entries → AreKnown begun before.live.entries → now ≡ begun_after begun event → IsTurn opening before (marked event short) replies after
+pub turn_known : (opening : Opening) (before after : Sessions) (begun now : ℕ) (event : Event) (short : Option ℕ) (did : Did) → IsNext begun event
+    → AreLinked (desktop_of before.desktop).device before.live.entries → AreKnown begun before.live.entries → now ≡ begun_after begun event → IsTurn opening before (marked event short) did after
     → AreKnown now after.live.entries
-turn_known opening before after begun now event short replies next linked known is turn =
+turn_known opening before after begun now event short did next linked known is turn =
     subst (λ (n : ℕ). AreKnown n after.live.entries) (begun_marked begun event short ∙ sym is)
     (subst (λ (w : World). AreKnown (begun_after begun (marked event short)) w.sessions) turn.world
     (step_known (world_with opening before) begun (marked event short) (next_marked begun event short next) linked.ascending known))

@@ -29,9 +29,9 @@ value_of h = record { journal = record { opening = h.opening; events = events_of
 -- the state is the one in which the journal ends, and the draw device has the connections of the sessions that live
 pub record Stands (journal : Journal) (s : State) : Type 0 where
   pub sessions : s.sessions ≡ (world_at journal).sessions
-  pub device : s.device ≡ (world_at journal).device
+  pub desktop : s.desktop ≡ (world_at journal).desktop
   pub outboxes : (c : ℕ) → waiting s.outboxes c ≡ outbox journal c
-  pub linked : AreLinked s.device s.sessions
+  pub linked : AreLinked s.desktop.device s.sessions
   pub known : AreKnown (roll_of journal.events).begun s.sessions
 
 -- The entries are numbered, and the roll is theirs. Each was allowed where it stands. There is room for a Stop until it comes. A hall that is not broken

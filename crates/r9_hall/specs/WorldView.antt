@@ -5,12 +5,12 @@ use Rattle.r9_event.specs.declared.event.Opening.{Opening}
 use Rattle.model_world.specs.Links.{AreKnown, AreLinked, begun_after}
 use Rattle.model_world.specs.Replay.{step}
 use Rattle.model_world.specs.World.{World, opened}
-use Rattle.r9_draw.specs.World.{world_of}
+use Rattle.r9_desktop.specs.World.{desktop_of}
 use Rattle.r9_hall.specs.declared.sessions.Sessions.{Sessions}
 use Rattle.r9_hall.specs.declared.world.World.TheInside as world
 use Rattle.r9_hall.specs.StateView.{world_with}
 
--- the opening, the sessions with the draw device, how many sessions have begun, and whether the world is broken, which it is once
+-- the opening, the sessions with what they share, how many sessions have begun, and whether the world is broken, which it is once
 -- memory ran out in an event
 pub record WorldValue : Type 0 where
   pub opening : Opening
@@ -40,5 +40,5 @@ value_of w = record { opening = w.opening; sessions = w.sessions; begun = w.begu
 -- A world that is not broken has the draw device with the connections of the sessions that live, and no session that has not
 -- begun.
 pub record IsWorld (w : world.Inside) : Type 0 where
-  pub linked : w.broken ≡ false → AreLinked (world_of w.sessions.device) w.sessions.live.entries
+  pub linked : w.broken ≡ false → AreLinked (desktop_of w.sessions.desktop).device w.sessions.live.entries
   pub known : w.broken ≡ false → AreKnown w.begun w.sessions.live.entries

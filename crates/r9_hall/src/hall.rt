@@ -11,7 +11,7 @@ ghost use Rattle.model_world.specs.Replay.{marked, step, world_at, outbox};
 ghost use Rattle.r9_hall.specs.HallView.{AllowedNext, entered};
 
 use crate::state::State;
-use r9_event::{Did, Entry, Event, Opening, Replies};
+use r9_event::{Did, Entry, Event, Notes, Opening, Replies};
 use r9_journal::Roll;
 use r9_memory::Memory;
 use r9_text::Bytes;
@@ -111,7 +111,7 @@ impl Hall {
 
     /// The display as an image(6) file. Nothing is said of that of a broken hall.
     pub fn screen(&self) -> Result<Bytes, Memory>
-        ensures { IfOk result (λ file. self.now.broken ≡ false → file ≡ screen_file (world_at self.now.journal).device) }
+        ensures { IfOk result (λ file. self.now.broken ≡ false → file ≡ screen_file (world_at self.now.journal).desktop.device) }
     {
         self.state.screen()
     }
@@ -132,17 +132,19 @@ impl Hall {
         ensures entered { IfOk result (λ did. self.new ≡ entered self.old (marked event did.short)) }
         ensures allowed { IfOk result (λ did. AllowedNext self.old (marked event did.short)) }
         ensures replies { IfOk result (λ did. self.old.broken ≡ false → did.replies ≡ (step (world_at self.old.journal) (marked event did.short)).replies) }
+        ensures notes { IfOk result (λ did. self.old.broken ≡ false → did.notes ≡ (step (world_at self.old.journal) (marked event did.short)).notes) }
         // A mark is told only of a write of an open `data` file, where its own mark took effect or the message may want memory.
         ensures short { IfOk result (λ did. self.old.broken ≡ false → IfSome did.short (λ k. IsCutEvent (world_at self.old.journal) event k)) }
         // A reply that is the refusal of want of memory tells one.
         ensures told { IfOk result (λ did. self.old.broken ≡ false → IsWantingEvent (world_at self.old.journal) (marked event did.short) → IsSome did.short) }
-        ensures stop { event ≡ Event.Stop → IfOk result (λ did. (did.replies ≡ []) × (did.short ≡ None)) × IsOk result }
+        ensures stop { event ≡ Event.Stop → IfOk result (λ did. (did.replies ≡ []) × (did.notes ≡ []) × (did.short ≡ None)) × IsOk result }
         ensures err { OnErr result (self.new.journal ≡ self.old.journal) }
     {
         if let Event::Stop = event {
             enter(&mut self.roll, &mut self.entries, event)?;
             return Ok(Did {
                 replies: Replies::new(self.alloc),
+                notes: Notes::new(self.alloc),
                 short: None,
             });
         }

@@ -1,10 +1,10 @@
-//! The state of the server: its sessions, the draw device, and what waits for sessions to be taken.
+//! The state of the server: its sessions, what they share, and what waits for sessions to be taken.
 
 ghost use Rattle.std.specs.Prelude.{◌≡◌, ◌==◌, ◌++◌, ℕ, [], if◌then◌else◌, IfOk, IfSome, IsSome, OnOk};
 ghost use Rattle.r9_event.specs.declared.event.Opening.{Opening};
 ghost use Rattle.model_draw.specs.Files.{screen_file};
-ghost use Rattle.model_draw.specs.World.{started};
 ghost use Rattle.model_world.specs.Cut.{IsCutEvent, IsWantingEvent};
+ghost use Rattle.model_world.specs.Desktop.{first_desktop};
 ghost use Rattle.model_world.specs.Links.{AreLinked};
 ghost use Rattle.model_world.specs.Replay.{bytes_for, marked, waiting_after};
 ghost use Rattle.model_world.specs.World.{display_of};
@@ -17,7 +17,7 @@ use r9_text::Bytes;
 use std::alloc::Global;
 use std::collections::BTreeMap;
 
-/// The live sessions with the draw device, and the bytes that wait for each session to be taken.
+/// The live sessions with what they share, and the bytes that wait for each session to be taken.
 #[derive(Drop)]
 pub struct State {
     sessions: Sessions,
@@ -80,9 +80,9 @@ fn post(
 }
 
 impl State {
-    /// The state of an opening: no sessions, and a draw device with its display alone.
+    /// The state of an opening: no sessions and no windows, and a draw device with its display alone.
     pub fn start(alloc: Global, opening: &Opening) -> Result<Self, Memory>
-        ensures { IfOk result (λ state. state_of state ≡ record { sessions = []; outboxes = []; device = started (display_of opening.now) }) }
+        ensures { IfOk result (λ state. state_of state ≡ record { sessions = []; outboxes = []; desktop = first_desktop (display_of opening.now) }) }
     {
         Ok(State {
             sessions: Sessions::start(alloc, opening)?,
@@ -100,12 +100,12 @@ impl State {
         }
     }
 
-    /// Carries out an event, and gives the replies to it, and the mark with which it stands in the history where that is not its
+    /// Carries out an event, and gives the replies to it, what the windows were told, and the mark with which it stands in the history where that is not its
     /// own. Nothing is said of the state where memory ran out.
     pub fn carry_out(&mut self, alloc: Global, event: &Event) -> Result<Did, Memory>
         requires whole { IsWhole event.now }
-        requires linked { AreLinked (state_of self.old).device (state_of self.old).sessions }
-        ensures after { IfOk result (λ did. (opening : Opening) → IsAfter opening (state_of self.old) (marked event.now did.short) did.replies (state_of self.new)) }
+        requires linked { AreLinked (state_of self.old).desktop.device (state_of self.old).sessions }
+        ensures after { IfOk result (λ did. (opening : Opening) → IsAfter opening (state_of self.old) (marked event.now did.short) did (state_of self.new)) }
         ensures short { IfOk result (λ did. (opening : Opening) → IfSome did.short (λ k. IsCutEvent (state_world opening (state_of self.old)) event.now k)) }
         ensures told { IfOk result (λ did. (opening : Opening) → IsWantingEvent (state_world opening (state_of self.old)) (marked event.now did.short) → IsSome did.short) }
     {
@@ -116,7 +116,7 @@ impl State {
 
     /// The display as an image(6) file.
     pub fn screen(&self) -> Result<Bytes, Memory>
-        ensures { IfOk result (λ file. file ≡ screen_file (state_of self.now).device) }
+        ensures { IfOk result (λ file. file ≡ screen_file (state_of self.now).desktop.device) }
     {
         self.sessions.screen()
     }

@@ -15,7 +15,7 @@ use r9_text::Bytes;
 use std::alloc::Global;
 use std::marker::Model;
 
-/// What a history leads to, as a replay needs it: the opening, the sessions that live and the draw device. It keeps neither
+/// What a history leads to, as a replay needs it: the opening, the sessions that live and what they share. It keeps neither
 /// the events that were made nor the replies to them, so a long history takes no more memory than a short one. Contracts see it
 /// as the world, how many sessions have begun, and whether it is broken: once memory ran out in an event it takes no other.
 #[derive(Drop)]
@@ -67,7 +67,7 @@ impl World {
         })
     }
 
-    /// Makes an event, and gives the replies to it, and the mark with which it stands in the history where that is not its own. A
+    /// Makes an event, and gives the replies to it, what the windows were told, and the mark with which it stands in the history where that is not its own. A
     /// session that begins is the next one. Where memory ran out the world is broken, and nothing else is said of it.
     pub fn step(&mut self, event: &Event) -> Result<Did, Memory>
         requires whole { IsWhole event.now }
@@ -75,6 +75,7 @@ impl World {
         requires going { self.old.broken ≡ false }
         ensures world { IfOk result (λ did. IsStepped self.old (marked event.now did.short) self.new) }
         ensures replies { IfOk result (λ did. did.replies ≡ (step (world_in self.old) (marked event.now did.short)).replies) }
+        ensures notes { IfOk result (λ did. did.notes ≡ (step (world_in self.old) (marked event.now did.short)).notes) }
         // A mark is told only of a write of an open `data` file, where its own mark took effect or the message may want memory.
         ensures short { IfOk result (λ did. IfSome did.short (λ k. IsCutEvent (world_in self.old) event.now k)) }
         // A reply that is the refusal of want of memory tells one.
@@ -89,7 +90,7 @@ impl World {
 
     /// The display as an image(6) file.
     pub fn screen(&self) -> Result<Bytes, Memory>
-        ensures { IfOk result (λ file. file ≡ screen_file (world_in self.now).device) }
+        ensures { IfOk result (λ file. file ≡ screen_file (world_in self.now).desktop.device) }
     {
         self.sessions.screen()
     }

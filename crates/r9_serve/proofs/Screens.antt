@@ -28,7 +28,7 @@ file_part before mid after last file text shown same is appended part end =
 
 -- the reply lines were put, and a front of the screen
 pub output_part : (before mid after : Option (List ℕ)) (screen : Bool) (given : List Reply) (world : World) → screen ≡ true → Appends before (reply_lines given) mid
-    → AppendsPart mid (screen_lines (screen_file world.device)) after → AppendsPart before (output screen given world) after
+    → AppendsPart mid (screen_lines (screen_file world.desktop.device)) after → AppendsPart before (output screen given world) after
 output_part before mid after screen given world is appended part =
     subst (λ (b : Bool). AppendsPart before (output b given world) after) (sym is)
-    (second_part before (reply_lines given) (screen_lines (screen_file world.device)) mid after appended part)
+    (second_part before (reply_lines given) (screen_lines (screen_file world.desktop.device)) mid after appended part)

@@ -29,4 +29,4 @@ pub record AreRepliesTo (opening : Opening) (text : List ℕ) (given : List Repl
 
 -- what is put out: a line for each reply, and then the screen of the world where that is asked for
 abbrev pub output : (screen : Bool) → List Reply → World → List ℕ
-output screen given world = reply_lines given ++ (if screen then screen_lines (screen_file world.device) else [])
+output screen given world = reply_lines given ++ (if screen then screen_lines (screen_file world.desktop.device) else [])

@@ -46,8 +46,8 @@ fn put_file<O: Sink>(alloc: Global, file: &[u8], out: &mut O) -> Result<(), Sink
 /// Puts the screen of a world, and sends it on: a line with its length in bytes, and its file. After an `Err` only a front of
 /// them was put, which may be empty.
 pub fn put_screen<O: Sink>(alloc: Global, world: &World, out: &mut O) -> Result<(), SinkFault>
-    ensures ok { OnOk result (Appends (O.held out.old) (screen_lines (screen_file (world_in world.now).device)) (O.held out.new) × (O.unflushed out.new ≡ false)) }
-    ensures part { AppendsPart (O.held out.old) (screen_lines (screen_file (world_in world.now).device)) (O.held out.new) }
+    ensures ok { OnOk result (Appends (O.held out.old) (screen_lines (screen_file (world_in world.now).desktop.device)) (O.held out.new) × (O.unflushed out.new ≡ false)) }
+    ensures part { AppendsPart (O.held out.old) (screen_lines (screen_file (world_in world.now).desktop.device)) (O.held out.new) }
     ensures failed { IsErrOf result SinkFault.Failed → Rose (O.faults out.old) (O.faults out.new) }
 {
     let Ok(file) = world.screen() else {

@@ -1,8 +1,8 @@
 -- A session's connections as the draw device's.
-use Rattle.std.proofs.Common.{◌≡◌, ◌<◌, ◌≤◌, ◌+◌, ◌^◌, ◌&&◌, ◌||◌, ℕ, zero, suc, Bool, true, false, not, cond, eqb, List, [], ◌∷◌, length, get_or, Option, Some, None, Ok, IsSome, refl, ap, ◌∙◌, arith, All}
+use Rattle.std.proofs.Common.{◌≡◌, ◌<◌, ◌≤◌, ◌+◌, ◌^◌, ◌&&◌, ◌||◌, ℕ, zero, suc, Bool, true, false, not, cond, eqb, List, [], ◌∷◌, length, get_or, Option, Some, None, Ok, Err, IsSome, refl, ap, ◌∙◌, arith, All}
 use Rattle.std.specs.Prelude.{is_some, filter, nat_lt, ◌==◌, ◌++◌}
 use Rattle.std.proofs.lemmas.Bool.{eqb-true}
-use Rattle.model_text.specs.Outcome.{◌>>=◌, refuse_if}
+use Rattle.model_text.specs.Outcome.{Outcome, ◌>>=◌, refuse_if}
 use Rattle.model_text.specs.Map.{lookup}
 use Rattle.model_map.specs.Ascending.{AreAbove, Ascend}
 use Rattle.model_map.proofs.Keys.{eqb-same}
@@ -12,8 +12,8 @@ use Rattle.model_draw.specs.World.{World, after_leave, client_of, with_client}
 use Rattle.model_draw.specs.Files.{read_data}
 use Rattle.std.proofs.lemmas.Bool.Decides.{nat_tests}
 use Rattle.model_world.specs.Session.{Session}
-use Rattle.model_world.specs.World.{client}
-use Rattle.model_world.specs.Fids.{view_of}
+use Rattle.model_world.specs.Whole.{client, data_read, view_of, with_device}
+use Rattle.model_world.specs.Desktop.{Desktop}
 use Rattle.model_world.specs.Links.{AreWithin, IsLinked, is_among, is_connected}
 use Rattle.model_world.proofs.Links.{among_none, left_others, ascend_filter}
 use Rattle.r9_session.specs.Clients.{MayLeave}
@@ -59,13 +59,14 @@ not_ended true true of e = refl
 not_ended true false of e = cc e
 not_ended false b of e = cc of
 
-pub live_client : (c : ℕ) (session : Session) (device : World) (node : Node) → IsLinked c session.made session.connections device → is_of_connection node.kind ≡ true
-    → check_live (view_of session) node ≡ Ok tt → node.connection < 2 ^ 26 → IsSome (lookup device.clients (client c node.connection))
-unfolding check_live
-live_client c session device node linked of live few =
-    let ended : is_ended (view_of session) node ≡ false = ended_from (is_gone (view_of session) node) (is_ended (view_of session) node) live in
+pub live_client : (c : ℕ) (session : Session) (desktop : Desktop) (node : Node) → IsLinked c session.made session.connections desktop.device → is_of_connection node.kind ≡ true
+    → check_live (view_of desktop.table session.connections node) node ≡ Ok tt → node.connection < 2 ^ 26 → IsSome (lookup desktop.device.clients (client c node.connection))
+unfolding check_live view_of
+live_client c session desktop node linked of live few =
+    let view = view_of desktop.table session.connections node in
+    let ended : is_ended view node ≡ false = ended_from (is_gone view node) (is_ended view node) live in
     let among : is_among session.connections node.connection ≡ true = not_ended (is_of_connection node.kind) (is_among session.connections node.connection) of ended in
-    some_from (lookup device.clients (client c node.connection)) (linked.linked node.connection few ∙ among)
+    some_from (lookup desktop.device.clients (client c node.connection)) (linked.linked node.connection few ∙ among)
 
 -- ---- connections that end
 
@@ -146,6 +147,28 @@ read_short k most before after bytes e =
     let fits : nat_lt most (length (client_of before k).pending) ≡ false = got.0 in
     let few : length (client_of before k).pending ≤ most = grind (arith, nat_tests) in
     omega (arith, ap length same)
+
+abbrev read_left : List ℕ → Desktop → List ℕ × Desktop
+read_left bytes after = (bytes, after)
+
+bytes_in : Outcome (List ℕ × Desktop) → List ℕ
+bytes_in (Ok got) = got.0
+bytes_in (Err n) = []
+
+same_bytes : (x bytes : List ℕ) (rest after : Desktop) → ◌≡◌ {A = Outcome (List ℕ × Desktop)} (Ok (read_left x rest)) (Ok (read_left bytes after)) → x ≡ bytes
+unfolding bytes_in
+same_bytes x bytes rest after e = ap bytes_in e
+
+short_by : (k most : ℕ) (before after : Desktop) (bytes : List ℕ) (o : Outcome (List ℕ × World)) → read_data k before.device most ≡ o
+    → (o >>= λ got. Ok (read_left got.0 (with_device before got.1))) ≡ Ok (read_left bytes after) → length bytes ≤ most
+short_by k most before after bytes (Ok got) is e =
+    let few : length got.0 ≤ most = read_short k most before.device got.1 got.0 is in
+    omega (arith, few, ap length (same_bytes got.0 bytes (with_device before got.1) after e))
+short_by k most before after bytes (Err n) is e = absurd (cc e)
+
+pub data_short : (k most : ℕ) (before after : Desktop) (bytes : List ℕ) → data_read k before most ≡ Ok (read_left bytes after) → length bytes ≤ most
+unfolding data_read
+data_short k most before after bytes e = short_by k most before after bytes (read_data k before.device most) refl e
 
 -- ---- numbers that fit
 

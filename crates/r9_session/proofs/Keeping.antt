@@ -51,7 +51,7 @@ pub any_and : (test : Fid → Bool) (entries : List (ℕ × Fid)) (key : ℕ) (v
 any_and test [] key value free some = cc some
 any_and test (e ∷ es) key value free some = and_by test e es key value (nat_cmp key e.0) refl free some (any_and test es key value)
 
-some_same : (x y : Fid) → Some x ≡ Some y → x ≡ y
+pub some_same : (x y : Fid) → Some x ≡ Some y → x ≡ y
 some_same x y e = cc
 
 -- another value, which passes where the old one did
@@ -196,11 +196,11 @@ one_goes session key fid found kept gone n among = by_cases (n == fid.node.conne
     by_cases false apart = stays session key n fid found kept among (others_fail n fid apart)
     by_cases true at = ap (is_kept (let_go session key)) (eqb-true n fid.node.connection at) ∙ gone
 
-all_pass : (ns : List ℕ) → filter (λ n. true) ns ≡ ns
+pub all_pass : (ns : List ℕ) → filter (λ n. true) ns ≡ ns
 all_pass [] = refl
 all_pass (n ∷ ns) = ap (λ rest. n ∷ rest) (all_pass ns)
 
-none_pass : (ns : List ℕ) → filter (λ n. false) ns ≡ []
+pub none_pass : (ns : List ℕ) → filter (λ n. false) ns ≡ []
 none_pass [] = refl
 none_pass (n ∷ ns) = none_pass ns
 

@@ -1,8 +1,10 @@
-mod SameKinds
 mod Clients
 mod Walks
 mod Readings
 mod Begun
 mod Keeping
 mod Bound
+mod Gone
+mod Done
 mod Told
+mod Opened

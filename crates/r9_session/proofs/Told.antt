@@ -4,10 +4,10 @@ use Rattle.std.specs.Prelude.{◌↔◌}
 use Rattle.model_text.specs.Outcome.{Outcome}
 use Rattle.model_wire.specs.Message.{T, Twrite, R}
 use Rattle.model_wire.specs.Spelling.{FitsR}
-use Rattle.model_draw.specs.World.{World}
 use Rattle.model_draw.specs.Act.{no_memory}
 use Rattle.model_world.specs.Session.{Session}
-use Rattle.model_world.specs.World.{device_for}
+use Rattle.model_world.specs.Desktop.{Desktop}
+use Rattle.model_world.specs.Whole.{desktop_for}
 use Rattle.model_world.specs.Fids.{Left}
 use Rattle.model_world.specs.Answer.{answer_to}
 use Rattle.model_world.specs.Refusal.{Refuses, refusal}
@@ -28,12 +28,12 @@ pub write_tells : (tag number : ℕ) (reply : R) (refused short : Option ℕ) �
 write_tells tag number reply refused short is stopped told wants =
     told.1 (stopped ∙ ap (λ (n : ℕ). Some n) (only_wanting number (subst (λ (r : R). Refuses no_memory r) is wants)))
 
-spared : (m : T) (after : Left World) → is_write m ≡ false → SparesOf m after → Spares after
+spared : (m : T) (after : Left Desktop) → is_write m ≡ false → SparesOf m after → Spares after
 spared (Twrite tag fid offset bytes) after other spares = absurd (let both : true ≡ false = other in cc both)
 spared m after other spares = spares
 
 -- the reply to what is no write is another
-pub other_spares : (c : ℕ) (session : Session) (device : World) (mark : Option ℕ) (m : T) (after : Left World) → is_write m ≡ false → answer_to (device_for c) session device mark m ≡ Ok after
+pub other_spares : (c : ℕ) (session : Session) (desktop : Desktop) (mark : Option ℕ) (m : T) (after : Left Desktop) → is_write m ≡ false → answer_to (desktop_for c) session desktop mark m ≡ Ok after
     → Refuses no_memory after.reply → ⊥
-other_spares c session device mark m after other is =
-    spared m after other (subst (λ (o : Outcome (Left World)). IsOther (SparesOf m) o) is (answer_spares c session device mark m))
+other_spares c session desktop mark m after other is =
+    spared m after other (subst (λ (o : Outcome (Left Desktop)). IsOther (SparesOf m) o) is (answer_spares c session desktop mark m))

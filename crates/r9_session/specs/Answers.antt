@@ -4,14 +4,15 @@ use Rattle.model_text.specs.Map.{lookup}
 use Rattle.model_text.specs.Outcome.{Outcome}
 use Rattle.model_wire.specs.Message.{T, Twrite, no_tag, tag_of_t}
 use Rattle.model_wire.specs.Spelling.{FitsR}
-use Rattle.model_draw.specs.World.{World}
 use Rattle.model_world.specs.Session.{Session}
+use Rattle.model_world.specs.Desktop.{Desktop}
 use Rattle.model_world.specs.Answer.{is_version}
 use Rattle.model_world.specs.Fids.{Done, Left, is_bound, is_full}
 use Rattle.r9_wire.specs.declared.message.Rmsg.{Rmsg}
 use Rattle.r9_wire.specs.View.{r_of}
 use Rattle.r9_files.specs.declared.fault.Fault.{Fault}
 use Rattle.r9_files.specs.declared.fault.Fault.TheVariants as fault
+use Rattle.r9_desktop.specs.Words.{mark_after}
 use Rattle.r9_session.specs.declared.writing.Answered.{Answered}
 
 -- What is answered is what is defined: the session after it and a reply that can be written, or a refusal, which leaves
@@ -21,20 +22,15 @@ IsAnswer old (Ok reply) new defined = (defined ≡ Ok (record { session = new; r
 IsAnswer old (Err (fault.Refused n)) new defined = (defined ≡ Err n) × (new ≡ old)
 IsAnswer old (Err fault.Memory) new defined = Unit {0}
 
--- the same of a message that reaches the draw device
-abbrev pub IsReach : (old : Session) (before : World) (found : Result Rmsg Fault) (new : Session) (after : World) → Outcome (Left World) → Type 0
+-- the same of a message that reaches the draw device or the windows
+abbrev pub IsReach : (old : Session) (before : Desktop) (found : Result Rmsg Fault) (new : Session) (after : Desktop) → Outcome (Left Desktop) → Type 0
 IsReach old before (Ok reply) new after defined = (defined ≡ Ok (record { session = new; rest = after; reply = r_of reply })) × FitsR (r_of reply)
 IsReach old before (Err (fault.Refused n)) new after defined = (defined ≡ Err n) × (new ≡ old) × (after ≡ before)
 IsReach old before (Err fault.Memory) new after defined = Unit {0}
 
--- the mark with which a message stands in the history
-abbrev pub mark_after : (mark short : Option ℕ) → Option ℕ
-mark_after mark None = mark
-mark_after mark (Some k) = Some k
-
 -- the same of one that may be a data write: what is defined has the mark with which it stands in the history
-abbrev pub IsReply : (mark : Option ℕ) (old : Session) (before : World) (found : Result Answered Fault) (new : Session) (after : World)
-    → (Option ℕ → Outcome (Left World)) → Type 0
+abbrev pub IsReply : (mark : Option ℕ) (old : Session) (before : Desktop) (found : Result Answered Fault) (new : Session) (after : Desktop)
+    → (Option ℕ → Outcome (Left Desktop)) → Type 0
 IsReply mark old before (Ok a) new after defined = (defined (mark_after mark a.short) ≡ Ok (record { session = new; rest = after; reply = r_of a.reply })) × FitsR (r_of a.reply)
 IsReply mark old before (Err (fault.Refused n)) new after defined = (defined mark ≡ Err n) × (new ≡ old) × (after ≡ before)
 IsReply mark old before (Err fault.Memory) new after defined = Unit {0}

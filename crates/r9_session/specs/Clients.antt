@@ -3,7 +3,7 @@ use Rattle.std.specs.Prelude.{ℕ, List, [], ◌∷◌, IsSome}
 use Rattle.model_text.specs.Map.{lookup, without}
 use Rattle.model_draw.specs.World.{World, after_leave}
 use Rattle.model_world.specs.Session.{Session}
-use Rattle.model_world.specs.World.{client}
+use Rattle.model_world.specs.Whole.{client}
 
 -- these connections of a session may end, one after the other
 abbrev pub MayLeave : ℕ → List ℕ → World → Type 0

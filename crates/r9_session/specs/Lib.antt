@@ -2,4 +2,5 @@ pub mod SessionView
 pub mod Reads
 pub mod Answers
 pub mod Clients
+pub mod Roots
 pub mod Writes

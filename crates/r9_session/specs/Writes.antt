@@ -1,22 +1,31 @@
 -- What a write of a fid promises.
-use Rattle.std.specs.Prelude.{◌≡◌, ℕ, Option, None, Result, Ok, Err}
+use Rattle.std.specs.Prelude.{◌≡◌, ℕ, List, Option, Result, Ok, Err}
 use Rattle.model_text.specs.Outcome.{Outcome, ◌>>=◌}
-use Rattle.model_draw.specs.World.{World}
-use Rattle.r9_session.specs.Answers.{mark_after}
+use Rattle.model_world.specs.Desktop.{Desktop}
+use Rattle.model_world.specs.Whole.{desktop_for}
+use Rattle.model_world.specs.Writing.{snarf_written}
+use Rattle.r9_desktop.specs.Words.{mark_after}
 use Rattle.r9_files.specs.declared.fault.Fault.{Fault}
 use Rattle.r9_files.specs.declared.fault.Fault.TheVariants as fault
-use Rattle.r9_session.specs.declared.writing.Written.{Written}
+use Rattle.r9_desktop.specs.declared.connections.Wrote.{Wrote}
 
--- what a write leaves of the device, and the refusal of one that may leave something all the same
-abbrev pub left_with : World → Option ℕ → World × Option ℕ
+-- what a write leaves outside, and the refusal of one that may leave something all the same
+abbrev pub left_with : Desktop → Option ℕ → Desktop × Option ℕ
 left_with after refusal = (after, refusal)
 
--- a write of ctl leaves nothing that was refused
-abbrev pub chosen : Outcome World → Outcome (World × Option ℕ)
-chosen defined = defined >>= λ after. Ok (left_with after None)
-
 -- what is left is what is defined, with the mark with which the write stands in the history
-abbrev pub IsWritten : (mark : Option ℕ) (before : World) (found : Result Written Fault) (after : World) → (Option ℕ → Outcome (World × Option ℕ)) → Type 0
+abbrev pub IsWritten : (mark : Option ℕ) (before : Desktop) (found : Result Wrote Fault) (after : Desktop) → (Option ℕ → Outcome (Desktop × Option ℕ)) → Type 0
 IsWritten mark before (Ok w) after defined = defined (mark_after mark w.short) ≡ Ok (left_with after w.refusal)
 IsWritten mark before (Err (fault.Refused n)) after defined = (defined mark ≡ Err n) × (after ≡ before)
 IsWritten mark before (Err fault.Memory) after defined = Unit {0}
+
+-- the same of what leaves nothing where it is refused
+abbrev pub IsDone : (before : Desktop) (found : Result (Unit {0}) Fault) (after : Desktop) → Outcome Desktop → Type 0
+IsDone before (Ok _) after defined = defined ≡ Ok after
+IsDone before (Err (fault.Refused n)) after defined = (defined ≡ Err n) × (after ≡ before)
+IsDone before (Err fault.Memory) after defined = Unit {0}
+
+-- what a write of the snarf of a rio leaves
+abbrev pub snarf_left : (session : ℕ) → Desktop → (host offset : ℕ) → List ℕ → Outcome Desktop
+snarf_left session desktop host offset bytes =
+    snarf_written ((desktop_for session).snarf desktop host) offset bytes >>= λ new. Ok ((desktop_for session).with_snarf desktop host new)

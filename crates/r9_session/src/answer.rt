@@ -10,14 +10,15 @@ ghost use Rattle.model_draw.specs.Act.{no_memory};
 ghost use Rattle.model_world.specs.Refusal.{refusal, Refuses};
 ghost use Rattle.model_world.specs.Cut.{IsCut, IsCutMessage, IsCutSpelled};
 ghost use Rattle.model_world.specs.Links.{IsLinked, KeepsOthers};
-ghost use Rattle.model_world.specs.World.{device_for};
-ghost use Rattle.r9_draw.specs.World.{world_of};
+ghost use Rattle.model_world.specs.Whole.{desktop_for};
+ghost use Rattle.r9_desktop.specs.World.{desktop_of};
 ghost use Rattle.r9_wire.specs.View.{r_of, t_of};
-ghost use Rattle.r9_session.specs.Answers.{IsBegun, IsReach, IsReply, is_write, mark_after};
+ghost use Rattle.r9_session.specs.Answers.{IsBegun, IsReach, IsReply, is_write};
+ghost use Rattle.r9_desktop.specs.Words.{mark_after};
 
 use crate::session::{MAX_MSIZE, Session};
 use crate::writing::Answered;
-use r9_draw::Draw;
+use r9_desktop::Desktop;
 use r9_files::{
     BAD_MESSAGE, Fault, MSIZE_TOO_SMALL, NO_AUTHENTICATION, PERMISSION_DENIED, VERSION_FIRST,
     refusal,
@@ -102,24 +103,24 @@ fn refuse(alloc: Global, tag: u16, number: u8) -> Result<Answered, Memory>
 }
 
 impl Session {
-    /// Begins the session anew, with a version agreed or not. Its connections end.
-    #[tactic(auto, unfolding(model_world::specs::Answer::version_answer))]
+    /// Begins the session anew, with a version agreed or not. Its fids go, and all that goes with them.
+    #[tactic(auto, unfolding(model_world::specs::Answer::version_answer), using(crate::proofs::Gone::version_is))]
     fn version(
         &mut self,
         alloc: Global,
-        device: &mut Draw,
+        desktop: &mut Desktop,
         number: u32,
         tag: u16,
         msize: u32,
         version: &[u8],
     ) -> Result<Rmsg, Fault>
-        requires { IsLinked number self.old.made self.old.connections (world_of device.old) }
-        ensures { IsReach self.old (world_of device.old) result self.new (world_of device.new) (version_answer (device_for number) self.old (world_of device.old) tag msize version.now) }
+        requires { IsLinked number self.old.made self.old.connections (desktop_of desktop.old).device }
+        ensures { IsReach self.old (desktop_of desktop.old) result self.new (desktop_of desktop.new) (version_answer (desktop_for number) self.old (desktop_of desktop.old) tag msize version.now) }
     {
         if msize < MIN_MSIZE {
             return Err(Fault::Refused(MSIZE_TOO_SMALL));
         }
-        self.leave(device, number)?;
+        self.leave(alloc, desktop, number)?;
         let msize = msize.min(MAX_MSIZE);
         self.fids.clear();
         self.connections.clear();
@@ -137,21 +138,21 @@ impl Session {
     fn answer_other(
         &mut self,
         alloc: Global,
-        device: &mut Draw,
+        desktop: &mut Desktop,
         number: u32,
         m: &Tmsg,
     ) -> Result<Rmsg, Fault>
         requires fits { FitsT (t_of m.now) }
-        requires linked { IsLinked number self.old.made self.old.connections (world_of device.old) }
+        requires linked { IsLinked number self.old.made self.old.connections (desktop_of desktop.old).device }
         requires other { is_write (t_of m.now) ≡ false }
-        ensures { (mark : Option ℕ) → IsReach self.old (world_of device.old) result self.new (world_of device.new) (answer_to (device_for number) self.old (world_of device.old) mark (t_of m.now)) }
+        ensures { (mark : Option ℕ) → IsReach self.old (desktop_of desktop.old) result self.new (desktop_of desktop.new) (answer_to (desktop_for number) self.old (desktop_of desktop.old) mark (t_of m.now)) }
     {
         match m {
             Tmsg::Version {
                 tag,
                 msize,
                 version,
-            } => self.version(alloc, device, number, *tag, *msize, version.as_slice()),
+            } => self.version(alloc, desktop, number, *tag, *msize, version.as_slice()),
             Tmsg::Auth { .. } => Err(Fault::Refused(NO_AUTHENTICATION)),
             Tmsg::Attach {
                 tag,
@@ -159,15 +160,15 @@ impl Session {
                 afid,
                 aname,
                 ..
-            } => self.attach(*tag, *fid, *afid, aname.as_slice()),
+            } => self.attach(alloc, desktop, number, *tag, *fid, *afid, aname.as_slice()),
             Tmsg::Flush { tag, .. } => Ok(Rmsg::Flush { tag: *tag }),
             Tmsg::Walk {
                 tag,
                 fid,
                 newfid,
                 names,
-            } => self.walk(alloc, *tag, *fid, *newfid, names),
-            Tmsg::Open { tag, fid, mode } => self.open(alloc, *tag, *fid, *mode, device, number),
+            } => self.walk(alloc, desktop, *tag, *fid, *newfid, names),
+            Tmsg::Open { tag, fid, mode } => self.open(desktop, number, *tag, *fid, *mode),
             Tmsg::Create { fid, .. } | Tmsg::Wstat { fid, .. } | Tmsg::Write { fid, .. } => {
                 self.deny(*fid)
             }
@@ -176,15 +177,15 @@ impl Session {
                 fid,
                 offset,
                 count,
-            } => self.read(alloc, device, number, *tag, *fid, *offset, *count),
+            } => self.read(alloc, desktop, number, *tag, *fid, *offset, *count),
             Tmsg::Clunk { tag, fid } => {
-                self.clunk(alloc, device, number, *fid, Rmsg::Clunk { tag: *tag })
+                self.clunk(alloc, desktop, number, *fid, Rmsg::Clunk { tag: *tag })
             }
             Tmsg::Remove { tag, fid } => {
                 let reply = refusal(alloc, *tag, PERMISSION_DENIED)?;
-                self.clunk(alloc, device, number, *fid, reply)
+                self.clunk(alloc, desktop, number, *fid, reply)
             }
-            Tmsg::Stat { tag, fid } => self.stat(alloc, *tag, *fid),
+            Tmsg::Stat { tag, fid } => self.stat(alloc, desktop, *tag, *fid),
         }
     }
 
@@ -207,15 +208,15 @@ impl Session {
     fn answer_read(
         &mut self,
         alloc: Global,
-        device: &mut Draw,
+        desktop: &mut Desktop,
         number: u32,
         m: &Tmsg,
         mark: Option<u32>,
     ) -> Result<Answered, Fault>
         requires fits { FitsT (t_of m.now) }
-        requires linked { IsLinked number self.old.made self.old.connections (world_of device.old) }
-        ensures answer { IsReply mark self.old (world_of device.old) result self.new (world_of device.new) (λ k. answer_read (device_for number) self.old (world_of device.old) k (t_of m.now)) }
-        ensures cause { IfOk result (λ a. IfSome a.short (λ k. IsCut number self.old (world_of device.old) mark k (t_of m.now))) }
+        requires linked { IsLinked number self.old.made self.old.connections (desktop_of desktop.old).device }
+        ensures answer { IsReply mark self.old (desktop_of desktop.old) result self.new (desktop_of desktop.new) (λ k. answer_read (desktop_for number) self.old (desktop_of desktop.old) k (t_of m.now)) }
+        ensures cause { IfOk result (λ a. IfSome a.short (λ k. IsCut number self.old (desktop_of desktop.old) mark k (t_of m.now))) }
         ensures refused { IfOk result (λ a. IsSome a.short → Refuses no_memory (r_of a.reply)) }
         ensures told { IfOk result (λ a. Refuses no_memory (r_of a.reply) → IsSome a.short) }
     {
@@ -223,13 +224,14 @@ impl Session {
         if let Tmsg::Write {
             tag,
             fid,
+            offset,
             bytes,
-            ..
         } = m
         {
-            return self.write(alloc, device, number, *tag, *fid, bytes.as_slice(), mark);
+            let bytes = bytes.as_slice();
+            return self.write(alloc, desktop, number, *tag, *fid, *offset, bytes, mark);
         }
-        let reply = self.answer_other(alloc, device, number, m)?;
+        let reply = self.answer_other(alloc, desktop, number, m)?;
         Ok(Answered { reply, short: None })
     }
 
@@ -237,20 +239,20 @@ impl Session {
     fn read_and_answer(
         &mut self,
         alloc: Global,
-        device: &mut Draw,
+        desktop: &mut Desktop,
         number: u32,
         bytes: &[u8],
         mark: Option<u32>,
     ) -> Result<Answered, Fault>
         requires long { 7 ≤ length bytes.now }
-        requires linked { IsLinked number self.old.made self.old.connections (world_of device.old) }
-        ensures answer { IsReply mark self.old (world_of device.old) result self.new (world_of device.new) (λ k. read_or_not (device_for number) self.old (world_of device.old) k (message_of bytes.now)) }
-        ensures cause { IfOk result (λ a. IfSome a.short (λ k. IsCutSpelled number self.old (world_of device.old) bytes.now mark k)) }
+        requires linked { IsLinked number self.old.made self.old.connections (desktop_of desktop.old).device }
+        ensures answer { IsReply mark self.old (desktop_of desktop.old) result self.new (desktop_of desktop.new) (λ k. read_or_not (desktop_for number) self.old (desktop_of desktop.old) k (message_of bytes.now)) }
+        ensures cause { IfOk result (λ a. IfSome a.short (λ k. IsCutSpelled number self.old (desktop_of desktop.old) bytes.now mark k)) }
         ensures refused { IfOk result (λ a. IsSome a.short → Refuses no_memory (r_of a.reply)) }
         ensures told { IfOk result (λ a. Refuses no_memory (r_of a.reply) → IsSome a.short) }
     {
         match read_t(alloc, bytes) {
-            Ok(m) => self.answer_read(alloc, device, number, &m, mark),
+            Ok(m) => self.answer_read(alloc, desktop, number, &m, mark),
             Err(WireFault::Malformed(_)) => Err(Fault::Refused(BAD_MESSAGE)),
             Err(WireFault::Memory) => Err(Fault::Memory),
         }
@@ -258,31 +260,31 @@ impl Session {
 
     /// Answers the bytes of a message of the session that has the number that is given. A mark tells that memory ran out in a
     /// data write after so many draw messages; the answer tells the mark with which the message stands in the history where the
-    /// reply is the refusal of want of memory, and only there. After an `Err` nothing is said of the session and the device: they
+    /// reply is the refusal of want of memory, and only there. After an `Err` nothing is said of the session and the desktop: they
     /// are not to be used again.
     #[tactic(auto, unfolding(model_world::specs::Answer::answer))]
     pub fn answer(
         &mut self,
         alloc: Global,
-        device: &mut Draw,
+        desktop: &mut Desktop,
         number: u32,
         bytes: &[u8],
         mark: Option<u32>,
     ) -> Result<Answered, Memory>
         requires long { 7 ≤ length bytes.now }
-        requires linked { IsLinked number self.old.made self.old.connections (world_of device.old) }
-        ensures answer { IfOk result (λ a. answer (device_for number) self.old (world_of device.old) bytes.now (mark_after mark a.short) ≡ record { session = self.new; rest = world_of device.new; reply = r_of a.reply }) }
+        requires linked { IsLinked number self.old.made self.old.connections (desktop_of desktop.old).device }
+        ensures answer { IfOk result (λ a. answer (desktop_for number) self.old (desktop_of desktop.old) bytes.now (mark_after mark a.short) ≡ record { session = self.new; rest = desktop_of desktop.new; reply = r_of a.reply }) }
         ensures fits { IfOk result (λ a. FitsR (r_of a.reply)) }
-        ensures short { IfOk result (λ a. IfSome a.short (λ k. IsCutMessage number self.old (world_of device.old) bytes.now mark k)) }
+        ensures short { IfOk result (λ a. IfSome a.short (λ k. IsCutMessage number self.old (desktop_of desktop.old) bytes.now mark k)) }
         ensures told { IfOk result (λ a. Refuses no_memory (r_of a.reply) → IsSome a.short) }
-        ensures linked { OnOk result (IsLinked number self.new.made self.new.connections (world_of device.new)) }
-        ensures others { OnOk result (KeepsOthers number (world_of device.old) (world_of device.new)) }
+        ensures linked { OnOk result (IsLinked number self.new.made self.new.connections (desktop_of desktop.new).device) }
+        ensures others { OnOk result (KeepsOthers number (desktop_of desktop.old).device (desktop_of desktop.new).device) }
     {
         let tag = u16::from_le_bytes([bytes[5], bytes[6]]);
         if bytes.len() > self.msize as usize {
             return refuse(alloc, tag, BAD_MESSAGE);
         }
-        match self.read_and_answer(alloc, device, number, bytes, mark) {
+        match self.read_and_answer(alloc, desktop, number, bytes, mark) {
             Ok(answered) => Ok(answered),
             Err(Fault::Refused(number)) => refuse(alloc, tag, number),
             Err(Fault::Memory) => Err(Memory),

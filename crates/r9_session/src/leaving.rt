@@ -1,22 +1,25 @@
-//! Letting go of fids (clunk(5)), and ending connections to the draw device (draw(3)).
+//! Letting go of fids (clunk(5)), and what goes with them: connections to the draw device (draw(3)), and the use of windows
+//! (rio(4)).
 
-ghost use Rattle.std.specs.Prelude.{◌≡◌, ◌==◌, ◌&&◌, [], filter, not, IfOk, IsSome, OnOk};
-ghost use Rattle.std.specs.List.{fold, list_any};
+ghost use Rattle.std.specs.Prelude.{◌≡◌, ◌≤◌, ◌==◌, ◌&&◌, [], ◌∷◌, filter, length, map, nat_le, not, IfOk, IsSome, OnOk};
+ghost use Rattle.std.specs.List.{fold, list_any, position_or_len};
 ghost use Rattle.std.specs.Map.{keys_of};
 ghost use Rattle.model_map.specs.Ascending.{Ascend};
 ghost use Rattle.model_world.specs.Answer.{clunk_answer};
 ghost use Rattle.model_text.specs.Map.{lookup};
-ghost use Rattle.model_world.specs.Fids.{cleared, is_kept, keeps};
+ghost use Rattle.model_world.specs.Session as model;
+ghost use Rattle.model_world.specs.Fids.{cleared, has_root, is_kept, keeps, left_by, put};
 ghost use Rattle.model_world.specs.Links.{IsLinked, KeepsOthers};
-ghost use Rattle.model_world.specs.World.{device_for};
+ghost use Rattle.model_world.specs.Whole.{desktop_for};
 ghost use Rattle.model_wire.specs.Spelling.{FitsR};
-ghost use Rattle.r9_draw.specs.World.{world_of};
+ghost use Rattle.r9_desktop.specs.World.{desktop_of};
 ghost use Rattle.r9_wire.specs.View.{r_of};
 ghost use Rattle.r9_session.specs.Answers.{IsReach};
 ghost use Rattle.r9_session.specs.Clients.{MayLeave, let_go};
+ghost use Rattle.r9_session.specs.Roots.{roots_of, without_fids};
 
-use crate::session::{Session, client};
-use r9_draw::Draw;
+use crate::session::Session;
+use r9_desktop::Desktop;
 use r9_files::{Fault, Fid, UNKNOWN_FID};
 use r9_memory::Memory;
 use r9_text::Numbers;
@@ -24,15 +27,49 @@ use r9_wire::Rmsg;
 use std::alloc::Global;
 
 /// Ends connections of a session, one after the other.
-fn leave_all(device: &mut Draw, number: u32, connections: &[u32]) -> Result<(), Memory>
-    requires { MayLeave number connections.now (world_of device.old) }
-    ensures { OnOk result (world_of device.new ≡ fold (device_for number).leave (world_of device.old) connections.now) }
+fn leave_all(desktop: &mut Desktop, number: u32, connections: &[u32]) -> Result<(), Memory>
+    requires { MayLeave number connections.now (desktop_of desktop.old).device }
+    ensures { OnOk result ((desktop_of desktop.new) ≡ fold (desktop_for number).leave (desktop_of desktop.old) connections.now) }
 {
     let [first, others @ ..] = connections else {
         return Ok(());
     };
-    device.leave(client(number, *first))?;
-    leave_all(device, number, others)
+    desktop.leave(number, *first)?;
+    leave_all(desktop, number, others)
+}
+
+/// Where a number stands in an ascending list, or belongs.
+fn place_of(numbers: &[u32], number: u32) -> usize
+    ensures place { result ≡ position_or_len (λ other. nat_le number other) numbers.now }
+    ensures within { result ≤ length numbers.now }
+{
+    numbers
+        .iter()
+        .position(|other| number <= *other)
+        .unwrap_or(numbers.len())
+}
+
+/// Puts a number into an ascending list, where it is not there yet.
+fn put(numbers: &mut Vec<u32>, number: u32) -> Result<(), Memory>
+    ensures { OnOk result (numbers.new.items ≡ put number numbers.old.items) }
+{
+    let place = place_of(numbers, number);
+    if place < numbers.len() && numbers[place] == number {
+        return Ok(());
+    }
+    numbers.insert(place, number)?;
+    Ok(())
+}
+
+/// Puts numbers into an ascending list, one after the other.
+fn put_all(ordered: &mut Vec<u32>, numbers: &[u32]) -> Result<(), Memory>
+    ensures { OnOk result (ordered.new.items ≡ fold (λ others number. put number others) ordered.old.items numbers.now) }
+{
+    let [first, others @ ..] = numbers else {
+        return Ok(());
+    };
+    put(ordered, *first)?;
+    put_all(ordered, others)
 }
 
 /// Whether a number is another than that of a fid, and its fid keeps a connection alive.
@@ -90,17 +127,17 @@ impl Session {
     fn end(
         &mut self,
         alloc: Global,
-        device: &mut Draw,
+        desktop: &mut Desktop,
         number: u32,
         connection: u32,
     ) -> Result<(), Memory>
-        requires { IsLinked number self.old.made self.old.connections (world_of device.old) }
+        requires { IsLinked number self.old.made self.old.connections (desktop_of desktop.old).device }
         ensures session { OnOk result (self.new ≡ record self.old { connections = filter (λ n. not (n == connection)) self.old.connections }) }
-        ensures device { OnOk result (world_of device.new ≡ fold (device_for number).leave (world_of device.old) (filter (λ n. n == connection) self.old.connections)) }
+        ensures desktop { OnOk result ((desktop_of desktop.new) ≡ fold (desktop_for number).leave (desktop_of desktop.old) (filter (λ n. n == connection) self.old.connections)) }
     {
         let others = self.others(alloc, connection)?;
         let ended = self.only(alloc, connection)?;
-        leave_all(device, number, ended.as_slice())?;
+        leave_all(desktop, number, ended.as_slice())?;
         self.connections = others;
         Ok(())
     }
@@ -109,14 +146,14 @@ impl Session {
     fn settle(
         &mut self,
         alloc: Global,
-        device: &mut Draw,
+        desktop: &mut Desktop,
         number: u32,
         fid: u32,
     ) -> Result<(), Memory>
-        requires linked { IsLinked number self.old.made self.old.connections (world_of device.old) }
+        requires linked { IsLinked number self.old.made self.old.connections (desktop_of desktop.old).device }
         requires bound { IsSome (lookup self.old.fids fid) }
         ensures session { OnOk result (self.new ≡ record self.old { connections = filter (is_kept (let_go self.old fid)) self.old.connections }) }
-        ensures device { OnOk result (world_of device.new ≡ fold (device_for number).leave (world_of device.old) (filter (λ n. not (is_kept (let_go self.old fid) n)) self.old.connections)) }
+        ensures desktop { OnOk result ((desktop_of desktop.new) ≡ fold (desktop_for number).leave (desktop_of desktop.old) (filter (λ n. not (is_kept (let_go self.old fid) n)) self.old.connections)) }
     {
         let Some(found) = self.fids.get(fid) else {
             return Ok(());
@@ -128,40 +165,98 @@ impl Session {
         if self.is_kept_beside(fid, connection) {
             return Ok(());
         }
-        self.end(alloc, device, number, connection)
+        self.end(alloc, desktop, number, connection)
     }
 
-    /// Lets a fid go, ends the connection that it alone kept alive, and answers by the reply that is given.
-    #[tactic(auto, unfolding(model_world::specs::Answer::clunk_answer, model_world::specs::Fids::settled))]
+    /// Whether some fid has a window as the root of its attach.
+    fn has_root(&self, window: u32) -> bool
+        ensures { result ≡ has_root self.now window }
+    {
+        self.fids.iter().any(|entry| entry.1.node().root == window)
+    }
+
+    /// A fid whose attach named a window has gone: without another one the session uses that window no longer.
+    fn leave_root(
+        &self,
+        alloc: Global,
+        desktop: &mut Desktop,
+        number: u32,
+        root: u32,
+    ) -> Result<(), Memory>
+        ensures { (gone : model.Fid) → gone.node.root ≡ root → OnOk result ((desktop_of desktop.new) ≡ (desktop_for number).left (desktop_of desktop.old) (left_by self.now (gone ∷ []))) }
+    {
+        if root == 0 || self.has_root(root) {
+            return Ok(());
+        }
+        let windows = Numbers::from_slice(alloc, &[root])?;
+        desktop.left(number, &windows)
+    }
+
+    /// Lets a fid go, ends the connection that it alone kept alive, leaves the window that it alone had as its root, and answers
+    /// by the reply that is given.
+    #[tactic(auto, unfolding(model_world::specs::Answer::clunk_answer, model_world::specs::Fids::settled, model_world::specs::Fids::fids_gone))]
     pub(crate) fn clunk(
         &mut self,
         alloc: Global,
-        device: &mut Draw,
+        desktop: &mut Desktop,
         number: u32,
         fid: u32,
         reply: Rmsg,
     ) -> Result<Rmsg, Fault>
-        requires linked { IsLinked number self.old.made self.old.connections (world_of device.old) }
+        requires linked { IsLinked number self.old.made self.old.connections (desktop_of desktop.old).device }
         requires fits { FitsR (r_of reply) }
-        ensures { IsReach self.old (world_of device.old) result self.new (world_of device.new) (clunk_answer (device_for number) self.old (world_of device.old) fid (r_of reply)) }
+        ensures { IsReach self.old (desktop_of desktop.old) result self.new (desktop_of desktop.new) (clunk_answer (desktop_for number) self.old (desktop_of desktop.old) fid (r_of reply)) }
     {
-        if self.fids.get(fid).is_none() {
+        let Some(found) = self.fids.get(fid) else {
             return Err(Fault::Refused(UNKNOWN_FID));
-        }
-        self.settle(alloc, device, number, fid)?;
+        };
+        let root = found.node().root;
+        self.settle(alloc, desktop, number, fid)?;
         self.fids.clunk(fid);
+        self.leave_root(alloc, desktop, number, root)?;
         Ok(reply)
     }
 
-    /// Ends all connections of the session, which has the number that is given. Nothing is said of the device where memory ran
-    /// out.
-    #[tactic(auto, using(crate::proofs::Clients::all_may_leave))]
-    pub fn leave(&self, device: &mut Draw, number: u32) -> Result<(), Memory>
-        requires { IsLinked number self.now.made self.now.connections (world_of device.old) }
-        ensures device { OnOk result (world_of device.new ≡ (cleared (device_for number) self.now (world_of device.old)).1) }
-        ensures linked { OnOk result (IsLinked number self.now.made [] (world_of device.new)) }
-        ensures others { OnOk result (KeepsOthers number (world_of device.old) (world_of device.new)) }
+    /// The root of the attach of each fid.
+    fn roots(&self, alloc: Global) -> Result<Vec<u32>, Memory>
+        ensures { IfOk result (λ roots. roots.items ≡ map (λ entry. entry.1.node.root) self.now.fids) }
     {
-        leave_all(device, number, self.connections.as_slice())
+        let fids = self.fids.iter();
+        Ok(fids.map(|entry| entry.1.node().root).collect(alloc)?)
+    }
+
+    /// The windows at the roots of all fids, in ascending serial; 0 among them where a fid has the device tree's.
+    #[tactic(auto, using(crate::proofs::Gone::roots_are))]
+    fn distinct_roots(&self, alloc: Global) -> Result<Vec<u32>, Memory>
+        ensures { IfOk result (λ roots. roots.items ≡ roots_of self.now.fids) }
+    {
+        let roots = self.roots(alloc)?;
+        let mut distinct = Vec::new(alloc);
+        put_all(&mut distinct, &roots)?;
+        Ok(distinct)
+    }
+
+    /// The windows that the session uses no longer where all fids go.
+    fn windows(&self, alloc: Global) -> Result<Numbers, Memory>
+        ensures { IfOk result (λ windows. windows ≡ left_by (without_fids self.now) (map (λ entry. entry.1) self.now.fids)) }
+    {
+        let roots = self.distinct_roots(alloc)?;
+        let windows = roots.iter().copied();
+        let windows: Vec<u32> = windows.filter(|window| *window != 0).collect(alloc)?;
+        Ok(Numbers::from(windows))
+    }
+
+    /// Ends all connections of the session, which has the number that is given, and its use of windows. Nothing is said of the
+    /// desktop where memory ran out.
+    #[tactic(auto, using(crate::proofs::Clients::all_may_leave))]
+    pub fn leave(&self, alloc: Global, desktop: &mut Desktop, number: u32) -> Result<(), Memory>
+        requires { IsLinked number self.now.made self.now.connections (desktop_of desktop.old).device }
+        ensures desktop { OnOk result ((desktop_of desktop.new) ≡ (cleared (desktop_for number) self.now (desktop_of desktop.old)).1) }
+        ensures linked { OnOk result (IsLinked number self.now.made [] (desktop_of desktop.new).device) }
+        ensures others { OnOk result (KeepsOthers number (desktop_of desktop.old).device (desktop_of desktop.new).device) }
+    {
+        let windows = self.windows(alloc)?;
+        leave_all(desktop, number, self.connections.as_slice())?;
+        desktop.left(number, &windows)
     }
 }

@@ -8,23 +8,21 @@ ghost use Rattle.model_tree.specs.Node as model;
 ghost use Rattle.model_world.specs.Session.{Fid};
 ghost use Rattle.model_world.specs.Fids.{with_fid, is_open_on};
 ghost use Rattle.model_world.specs.Links.{IsLinked};
-ghost use Rattle.model_world.specs.Walking.{ctl_of, is_built, is_taken, most_made, open_answer, opened_new};
-ghost use Rattle.model_world.specs.World.{device_for};
-ghost use Rattle.r9_draw.specs.World.{world_of};
+ghost use Rattle.model_world.specs.Walking.{ctl_of, is_input, is_taken, most_made, open_answer, opened_new};
+ghost use Rattle.model_world.specs.Whole.{desktop_for};
+ghost use Rattle.r9_desktop.specs.World.{desktop_of};
 ghost use Rattle.r9_tree.specs.View.{node_of, IsNode};
 ghost use Rattle.r9_wire.specs.View.{r_of};
 ghost use Rattle.r9_session.specs.Answers.{IsClosed, IsReach};
 
-use crate::session::{Session, client};
-use r9_draw::Draw;
+use crate::session::Session;
+use r9_desktop::Desktop;
 use r9_files::{
-    FID_IS_OPEN, FILE_IN_USE, Fault, PERMISSION_DENIED, TOO_MANY_FIDS, UNKNOWN_FID, is_directory,
-    is_kind,
+    FID_IS_OPEN, FILE_IN_USE, Fault, PERMISSION_DENIED, TOO_MANY_FIDS, UNKNOWN_FID, is_kind,
 };
 use r9_memory::Memory;
-use r9_tree::{Kind, Node, check_live, may, qid};
+use r9_tree::{Kind, Node, check_live, kind_of, may, qid};
 use r9_wire::Rmsg;
-use std::alloc::Global;
 
 /// So many connections of a session live at once at most.
 const MOST_AT_ONCE: usize = 4;
@@ -32,17 +30,14 @@ const MOST_AT_ONCE: usize = 4;
 /// So many connections may be made in a session.
 const MOST_MADE: u32 = 67_108_863;
 
-/// Whether a file opens today: directories do, the files of the draw device, and the screen.
-fn is_built(node: &Node) -> bool
-    requires { IsNode node.now }
-    ensures { result ≡ is_built (node_of node.now) }
+/// Whether a file does not open yet: those of the mouse, of the keyboard and of the console.
+fn is_input(kind: Kind) -> bool
+    ensures { result ≡ is_input kind }
 {
-    is_directory(node)
-        || is_kind(node, Kind::New)
-        || is_kind(node, Kind::Ctl)
-        || is_kind(node, Kind::Data)
-        || is_kind(node, Kind::Refresh)
-        || is_kind(node, Kind::Screen)
+    matches!(
+        kind,
+        Kind::Mousein | Kind::Kbdin | Kind::Cons | Kind::Consctl | Kind::Mouse | Kind::Text
+    )
 }
 
 /// The ctl of a connection, which an open of `new` becomes.
@@ -102,22 +97,22 @@ impl Session {
     #[tactic(auto, using(crate::proofs::Clients::free_client))]
     fn open_new(
         &mut self,
-        device: &mut Draw,
+        desktop: &mut Desktop,
         number: u32,
         tag: u16,
         fid: u32,
         node: &Node,
         mode: u8,
     ) -> Result<Rmsg, Memory>
-        requires linked { IsLinked number self.old.made self.old.connections (world_of device.old) }
+        requires linked { IsLinked number self.old.made self.old.connections (desktop_of desktop.old).device }
         requires room { self.old.made < most_made }
         requires closed { IsClosed self.old fid }
         ensures opened { IfOk result (λ reply. (found : Fid) → lookup self.old.fids fid ≡ Some found → node_of node.now ≡ found.node →
-            opened_new (device_for number) self.old (world_of device.old) tag fid mode found ≡ record { session = self.new; rest = world_of device.new; reply = r_of reply }) }
+            opened_new (desktop_for number) self.old (desktop_of desktop.old) tag fid mode found ≡ record { session = self.new; rest = desktop_of desktop.new; reply = r_of reply }) }
         ensures fits { IfOk result (λ reply. FitsR (r_of reply)) }
     {
         let connection = self.made + 1;
-        device.connect(client(number, connection))?;
+        desktop.connect(number, connection)?;
         let ctl = ctl_of(node, connection);
         self.open_as(fid, ctl, mode);
         self.connections.push(connection)?;
@@ -134,15 +129,14 @@ impl Session {
     #[tactic(auto, unfolding(model_world::specs::Walking::open_answer))]
     pub fn open(
         &mut self,
-        alloc: Global,
+        desktop: &mut Desktop,
+        number: u32,
         tag: u16,
         fid: u32,
         mode: u8,
-        device: &mut Draw,
-        number: u32,
     ) -> Result<Rmsg, Fault>
-        requires { IsLinked number self.old.made self.old.connections (world_of device.old) }
-        ensures { IsReach self.old (world_of device.old) result self.new (world_of device.new) (open_answer (device_for number) self.old (world_of device.old) tag fid mode) }
+        requires { IsLinked number self.old.made self.old.connections (desktop_of desktop.old).device }
+        ensures { IsReach self.old (desktop_of desktop.old) result self.new (desktop_of desktop.new) (open_answer (desktop_for number) self.old (desktop_of desktop.old) tag fid mode) }
     {
         let Some(found) = self.fids.get(fid) else {
             return Err(Fault::Refused(UNKNOWN_FID));
@@ -151,9 +145,9 @@ impl Session {
             return Err(Fault::Refused(FID_IS_OPEN));
         }
         let node = found.node();
-        let view = self.view(alloc)?;
+        let view = self.view(desktop, &node)?;
         check_live(&node, &view)?;
-        if !may(&node, mode) || !is_built(&node) {
+        if !may(&node, mode) || is_input(kind_of(node.kind)) {
             return Err(Fault::Refused(PERMISSION_DENIED));
         }
         if self.is_taken(&node) {
@@ -163,7 +157,7 @@ impl Session {
             if self.made >= MOST_MADE {
                 return Err(Fault::Refused(TOO_MANY_FIDS));
             }
-            return Ok(self.open_new(device, number, tag, fid, &node, mode)?);
+            return Ok(self.open_new(desktop, number, tag, fid, &node, mode)?);
         }
         self.set_mode(fid, mode);
         Ok(Rmsg::Open {

@@ -1,29 +1,31 @@
 //! Reading what is open (read(5)).
 
-ghost use Rattle.std.specs.Prelude.{◌≡◌, ◌≤◌, ◌<◌, ◌^◌, length, Ok, true, IsSome, IsTrue, IfOk, IfSome};
-ghost use Rattle.model_tree.specs.Node.{is_directory, reads};
+ghost use Rattle.std.specs.Prelude.{◌≡◌, ◌≤◌, ◌<◌, ◌^◌, ℕ, length, max, is_none, Ok, Some, true, IsSome, IsTrue, IfOk, IfSome};
+ghost use Rattle.model_tree.specs.Node.{is_directory, kind_numbered, reads};
 ghost use Rattle.model_tree.specs.Tree.{check_live, is_of_connection};
 ghost use Rattle.model_tree.specs.Listing.{stats};
+ghost use Rattle.std.specs.Option.{option_map};
 ghost use Rattle.model_text.specs.Map.{lookup};
-ghost use Rattle.model_world.specs.Fids as fids;
+ghost use Rattle.model_window.specs.Heard.{wctl_answer};
+ghost use Rattle.model_world.specs.Session.{Fid};
 ghost use Rattle.model_world.specs.Links.{IsLinked};
-ghost use Rattle.model_world.specs.Reading.{ctl_read, directory_read, file_read, read_answer};
-ghost use Rattle.model_world.specs.World.{client, device_for};
-ghost use Rattle.model_draw.specs.Files.{read_data};
-ghost use Rattle.r9_draw.specs.World.{world_of};
-ghost use Rattle.r9_tree.specs.View.{node_of, view_of, IsNode, IsView};
+ghost use Rattle.model_world.specs.Reading.{ctl_read, directory_read, at_offset, file_read, read_answer, wctl_read};
+ghost use Rattle.model_world.specs.Whole.{client, data_read, desktop_for, view_of};
+ghost use Rattle.r9_desktop.specs.World.{desktop_of};
+ghost use Rattle.r9_tree.specs.View.{node_of, IsNode, IsView};
+ghost use Rattle.r9_tree.specs.View as tree;
 ghost use Rattle.r9_session.specs.Answers.{IsReach};
-ghost use Rattle.r9_session.specs.Reads.{IsGiven, IsReadOf, IsTold};
+ghost use Rattle.r9_session.specs.Reads.{IsGiven, IsListed, IsReadOf, IsTold};
 
-use crate::session::{Session, client};
-use r9_draw::{Draw, DrawFault};
+use crate::session::Session;
+use crate::windows::{label, wctl, winid, winname};
+use r9_desktop::Desktop;
 use r9_files::{
-    DRAW_READ_TOO_SHORT, FID_NOT_OPEN, Fault, PERMISSION_DENIED, TOO_MANY_BLOCKED_READS,
-    UNKNOWN_FID, is_directory, is_kind,
+    DRAW_READ_TOO_SHORT, FID_NOT_OPEN, Fault, PERMISSION_DENIED, READ_TOO_SHORT,
+    TOO_MANY_BLOCKED_READS, UNKNOWN_FID, at_offset, is_directory,
 };
-use r9_memory::Memory;
 use r9_text::Bytes;
-use r9_tree::{Kind, Node, TreeView, check_live};
+use r9_tree::{Kind, Node, TreeView, check_live, kind_of};
 use r9_wire::Rmsg;
 use std::alloc::Global;
 
@@ -33,11 +35,32 @@ const READ_HEAD: u32 = 11;
 /// So many bytes tell what ctl describes.
 const CTL_LEN: u32 = 144;
 
+/// So many bytes hold what wctl tells.
+const WCTL_LEN: u32 = 72;
+
 /// Whether a mode is for reading (open(5)).
 fn reads(mode: u8) -> bool
     ensures { result ≡ reads mode }
 {
     mode % 16 == 0 || mode % 16 == 2
+}
+
+/// What a read gives of a file's contents.
+fn part(alloc: Global, contents: &[u8], offset: u64, count: u32) -> Result<Bytes, Fault>
+    ensures read { IsTold result (Ok (at_offset contents.now offset count)) }
+    ensures short { IfOk result (λ bytes. length bytes ≤ count) }
+{
+    Ok(Bytes::from_slice(alloc, at_offset(contents, offset, count))?)
+}
+
+/// Whether a text of wctl is the one that was given last.
+fn is_told(told: Option<&[u8]>, text: &[u8]) -> bool
+    ensures { result ≡ is_none (wctl_answer (option_map (λ last. last.now) told.entry) text.now) }
+{
+    match told {
+        Some(last) => last == text,
+        None => false,
+    }
 }
 
 impl Session {
@@ -52,7 +75,7 @@ impl Session {
     ) -> Result<Bytes, Fault>
         requires view { IsView view.now }
         requires directory { IfSome (lookup self.old.fids fid) (λ found. IsTrue (is_directory found.node)) }
-        ensures read { IfSome (lookup self.old.fids fid) (λ found. IsReadOf self.old fid result self.new (directory_read (stats (view_of view.now) found.node) found offset count)) }
+        ensures read { IfSome (lookup self.old.fids fid) (λ found. IsListed self.old fid result self.new (directory_read (stats (tree.view_of view.now) found.node) found offset count)) }
         ensures short { IfOk result (λ bytes. length bytes ≤ count) }
     {
         if let Some(found) = self.fids.get_mut(fid) {
@@ -61,35 +84,31 @@ impl Session {
         Err(Fault::Refused(UNKNOWN_FID))
     }
 
-    /// The draw device's number of the connection that a file belongs to, which lives.
-    #[tactic(auto, using(crate::proofs::Clients::live_client))]
-    pub(crate) fn client_of(&self, device: &Draw, number: u32, node: &Node) -> u64
-        requires linked { IsLinked number self.now.made self.now.connections (world_of device.now) }
+    /// The connection that a file belongs to lives: nothing is done.
+    pub(crate) fn has_connection(&self, desktop: &Desktop, number: u32, node: &Node)
+        requires linked { IsLinked number self.now.made self.now.connections (desktop_of desktop.now).device }
         requires node { IsNode node.now }
         requires of { is_of_connection (node_of node.now).kind ≡ true }
-        requires live { check_live (fids.view_of self.now) (node_of node.now) ≡ Ok tt }
-        ensures client { result ≡ client number (node_of node.now).connection }
-        ensures live { IsSome (lookup (world_of device.now).clients result) }
-    {
-        client(number, node.connection)
-    }
+        requires live { check_live (view_of (desktop_of desktop.now).table self.now.connections (node_of node.now)) (node_of node.now) ≡ Ok tt }
+        ensures { IsSome (lookup (desktop_of desktop.now).device.clients (client number (node_of node.now).connection)) }
+    {}
 
     /// Reads what the ctl of a connection tells: all at its front, and nothing behind it.
     #[tactic(auto, unfolding(model_world::specs::Reading::ctl_read))]
     fn read_ctl(
         &self,
         alloc: Global,
-        device: &Draw,
+        desktop: &Desktop,
         number: u32,
         node: &Node,
         offset: u64,
         count: u32,
     ) -> Result<Bytes, Fault>
-        requires linked { IsLinked number self.now.made self.now.connections (world_of device.now) }
+        requires linked { IsLinked number self.now.made self.now.connections (desktop_of desktop.now).device }
         requires node { IsNode node.now }
         requires of { is_of_connection (node_of node.now).kind ≡ true }
-        requires live { check_live (fids.view_of self.now) (node_of node.now) ≡ Ok tt }
-        ensures read { IsTold result (ctl_read (device_for number) (world_of device.now) (node_of node.now) offset count) }
+        requires live { check_live (view_of (desktop_of desktop.now).table self.now.connections (node_of node.now)) (node_of node.now) ≡ Ok tt }
+        ensures read { IsTold result (ctl_read (desktop_for number) (desktop_of desktop.now) (node_of node.now) offset count) }
         ensures short { IfOk result (λ bytes. length bytes ≤ count) }
     {
         if offset != 0 {
@@ -98,11 +117,11 @@ impl Session {
         if count < CTL_LEN {
             return Err(Fault::Refused(DRAW_READ_TOO_SHORT));
         }
-        let client = self.client_of(device, number, node);
-        match device.read_ctl(client, node.connection) {
+        self.has_connection(desktop, number, node);
+        match desktop.read_ctl(number, node.connection) {
             Ok(bytes) => Ok(bytes),
-            Err(DrawFault::Refused(refusal)) => Err(Fault::Refused(refusal)),
-            Err(DrawFault::Memory) => Err(Fault::Memory),
+            Err(Fault::Refused(refusal)) => Err(Fault::Refused(refusal)),
+            Err(Fault::Memory) => Err(Fault::Memory),
         }
     }
 
@@ -110,53 +129,103 @@ impl Session {
     #[tactic(auto, using(crate::proofs::Clients::read_short))]
     fn read_data(
         &self,
-        device: &mut Draw,
+        desktop: &mut Desktop,
         number: u32,
         node: &Node,
         count: u32,
     ) -> Result<Bytes, Fault>
-        requires linked { IsLinked number self.now.made self.now.connections (world_of device.old) }
+        requires linked { IsLinked number self.now.made self.now.connections (desktop_of desktop.old).device }
         requires node { IsNode node.now }
         requires of { is_of_connection (node_of node.now).kind ≡ true }
-        requires live { check_live (fids.view_of self.now) (node_of node.now) ≡ Ok tt }
-        ensures read { IsGiven (world_of device.old) result (world_of device.new) (read_data (client number (node_of node.now).connection) (world_of device.old) count) }
+        requires live { check_live (view_of (desktop_of desktop.old).table self.now.connections (node_of node.now)) (node_of node.now) ≡ Ok tt }
+        ensures read { IsGiven (desktop_of desktop.old) result (desktop_of desktop.new) (data_read (client number (node_of node.now).connection) (desktop_of desktop.old) count) }
         ensures short { IfOk result (λ bytes. length bytes ≤ count) }
     {
-        let client = self.client_of(device, number, node);
-        match device.read_data(client, count) {
+        self.has_connection(desktop, number, node);
+        match desktop.read_data(number, node.connection, count) {
             Ok(bytes) => Ok(bytes),
-            Err(DrawFault::Refused(refusal)) => Err(Fault::Refused(refusal)),
-            Err(DrawFault::Memory) => Err(Fault::Memory),
+            Err(Fault::Refused(refusal)) => Err(Fault::Refused(refusal)),
+            Err(Fault::Memory) => Err(Fault::Memory),
         }
     }
 
-    /// Reads a file that is no directory. Of the screen each read makes the rows anew that it gives something of. A read of `refresh`
-    /// would wait, and no read may wait yet.
-    fn read_file(
-        &self,
+    /// Reads the text of a window's wctl. A read that would give the text again would wait, and no read may wait yet.
+    #[tactic(auto, unfolding(model_world::specs::Reading::wctl_read))]
+    fn read_wctl(
+        &mut self,
         alloc: Global,
-        device: &mut Draw,
+        desktop: &Desktop,
+        fid: u32,
+        window: u32,
+        count: u32,
+    ) -> Result<Bytes, Fault>
+        ensures read { (number : ℕ) (found : Fid) → lookup self.old.fids fid ≡ Some found → found.node.serial ≡ window → IsReadOf self.old (desktop_of desktop.now) fid result self.new (desktop_of desktop.now) (wctl_read (desktop_for number) (desktop_of desktop.now) found count) }
+        ensures short { IfOk result (λ bytes. length bytes ≤ 128) }
+    {
+        if count < WCTL_LEN {
+            return Err(Fault::Refused(READ_TOO_SHORT));
+        }
+        let text = wctl(alloc, desktop, window)?;
+        let kept = text.try_clone(alloc)?;
+        let Some(found) = self.fids.get_mut(fid) else {
+            return Err(Fault::Refused(UNKNOWN_FID));
+        };
+        if is_told(found.told(), text.as_slice()) {
+            return Err(Fault::Refused(TOO_MANY_BLOCKED_READS));
+        }
+        found.tell(kept);
+        Ok(text)
+    }
+
+    /// Reads a file that is no directory, told anew by each read. Of a picture each read makes the rows that it gives something of.
+    /// A read of `refresh` would wait, and no read may wait yet.
+    fn read_file(
+        &mut self,
+        alloc: Global,
+        desktop: &mut Desktop,
         number: u32,
+        fid: u32,
         node: &Node,
+        kind: Kind,
         offset: u64,
         count: u32,
     ) -> Result<Bytes, Fault>
-        requires linked { IsLinked number self.now.made self.now.connections (world_of device.old) }
+        requires linked { IsLinked number self.old.made self.old.connections (desktop_of desktop.old).device }
         requires node { IsNode node.now }
-        requires live { check_live (fids.view_of self.now) (node_of node.now) ≡ Ok tt }
-        ensures read { IsGiven (world_of device.old) result (world_of device.new) (file_read (device_for number) (world_of device.old) (node_of node.now) offset count) }
-        ensures short { IfOk result (λ bytes. length bytes ≤ count) }
+        requires kind { kind_numbered node.now.kind ≡ kind }
+        requires live { check_live (view_of (desktop_of desktop.old).table self.old.connections (node_of node.now)) (node_of node.now) ≡ Ok tt }
+        ensures read { (found : Fid) → lookup self.old.fids fid ≡ Some found → found.node ≡ node_of node.now → IsReadOf self.old (desktop_of desktop.old) fid result self.new (desktop_of desktop.new) (file_read (desktop_for number) (desktop_of desktop.old) found offset count kind) }
+        ensures short { IfOk result (λ bytes. length bytes ≤ max count 128) }
     {
-        if is_kind(node, Kind::Ctl) {
-            return self.read_ctl(alloc, device, number, node, offset, count);
+        let window = node.serial;
+        match kind {
+            Kind::Ctl => self.read_ctl(alloc, desktop, number, node, offset, count),
+            Kind::Data => self.read_data(desktop, number, node, count),
+            Kind::Screen | Kind::Picture => Ok(desktop.picture_part(window, offset, count)?),
+            Kind::Snarf => part(alloc, desktop.snarf(window), offset, count),
+            Kind::Label => part(alloc, label(desktop, window), offset, count),
+            Kind::Wctl => self.read_wctl(alloc, desktop, fid, window, count),
+            Kind::Winid => {
+                let text = winid(alloc, desktop, window)?;
+                part(alloc, text.as_slice(), offset, count)
+            }
+            Kind::Winname => part(alloc, winname(desktop, window), offset, count),
+            Kind::Device
+            | Kind::Draw
+            | Kind::New
+            | Kind::Connection
+            | Kind::Refresh
+            | Kind::Mousein
+            | Kind::Kbdin
+            | Kind::DeviceWctl
+            | Kind::Wsys
+            | Kind::Window
+            | Kind::Cons
+            | Kind::Consctl
+            | Kind::Mouse
+            | Kind::Text
+            | Kind::Listed => Err(Fault::Refused(TOO_MANY_BLOCKED_READS)),
         }
-        if is_kind(node, Kind::Data) {
-            return self.read_data(device, number, node, count);
-        }
-        if is_kind(node, Kind::Screen) {
-            return Ok(device.screen_part(offset, count)?);
-        }
-        Err(Fault::Refused(TOO_MANY_BLOCKED_READS))
     }
 
     /// Reads an open file, at most what a message holds.
@@ -164,15 +233,15 @@ impl Session {
     pub fn read(
         &mut self,
         alloc: Global,
-        device: &mut Draw,
+        desktop: &mut Desktop,
         number: u32,
         tag: u16,
         fid: u32,
         offset: u64,
         count: u32,
     ) -> Result<Rmsg, Fault>
-        requires { IsLinked number self.old.made self.old.connections (world_of device.old) }
-        ensures { IsReach self.old (world_of device.old) result self.new (world_of device.new) (read_answer (device_for number) self.old (world_of device.old) tag fid offset count) }
+        requires { IsLinked number self.old.made self.old.connections (desktop_of desktop.old).device }
+        ensures { IsReach self.old (desktop_of desktop.old) result self.new (desktop_of desktop.new) (read_answer (desktop_for number) self.old (desktop_of desktop.old) tag fid offset count) }
     {
         let Some(found) = self.fids.get(fid) else {
             return Err(Fault::Refused(UNKNOWN_FID));
@@ -184,14 +253,15 @@ impl Session {
         if !reads(mode) {
             return Err(Fault::Refused(PERMISSION_DENIED));
         }
-        let view = self.view(alloc)?;
+        let view = self.view(desktop, &node)?;
         check_live(&node, &view)?;
         let most = count.min(self.msize.saturating_sub(READ_HEAD));
-        if is_directory(&node) {
-            let bytes = self.read_listing(alloc, fid, &view, offset, most)?;
-            return Ok(Rmsg::Read { tag, bytes });
-        }
-        let bytes = self.read_file(alloc, device, number, &node, offset, most)?;
+        let bytes = if is_directory(&node) {
+            self.read_listing(alloc, fid, &view, offset, most)?
+        } else {
+            let kind = kind_of(node.kind);
+            self.read_file(alloc, desktop, number, fid, &node, kind, offset, most)?
+        };
         Ok(Rmsg::Read { tag, bytes })
     }
 }

@@ -1,18 +1,20 @@
 //! What is kept of a session.
 
 ghost use Rattle.std.specs.Prelude.{◌≡◌, ℕ, [], IfOk};
-ghost use Rattle.model_draw.specs.World.{Opening, World, started};
+ghost use Rattle.model_draw.specs.World.{Opening, World};
 ghost use Rattle.model_world.specs.Session.{fresh};
-ghost use Rattle.model_world.specs.Fids as fids;
+ghost use Rattle.model_world.specs.Desktop.{first_desktop};
 ghost use Rattle.model_world.specs.Links.{IsLinked};
-ghost use Rattle.model_world.specs.World.{client};
-ghost use Rattle.r9_tree.specs.View.{view_of, IsView};
+ghost use Rattle.model_world.specs.Whole as whole;
+ghost use Rattle.r9_desktop.specs.World.{desktop_of};
+ghost use Rattle.r9_tree.specs.View.{node_of, view_of, IsNode, IsView};
 
+use r9_desktop::Desktop;
 use r9_fids::FidTable;
 use r9_files::Fid;
 use r9_memory::Memory;
 use r9_text::Numbers;
-use r9_tree::TreeView;
+use r9_tree::{Node, TreeView};
 use std::alloc::Global;
 use std::marker::Model;
 
@@ -42,19 +44,12 @@ impl Model for Session {
     ghost invariant = { IsSession };
 }
 
-/// The draw device's number of a session's connection: each session has 2^26 of its own.
-pub fn client(number: u32, connection: u32) -> u64
-    ensures { result ≡ client number connection }
-{
-    0x400_0000 * u64::from(number) + u64::from(connection)
-}
-
 impl Session {
-    /// A session that has agreed on nothing. It may begin at a device that has no connection of its number.
+    /// A session that has agreed on nothing. It may begin at a desktop whose draw device has no connection of its number.
     pub fn fresh(alloc: Global) -> Self
         ensures fresh { result ≡ fresh }
         ensures linked { (number made : ℕ) (device : World) → IsLinked number made [] device → IsLinked number result.made result.connections device }
-        ensures first { (number : ℕ) (display : Opening) → IsLinked number result.made result.connections (started display) }
+        ensures first { (number : ℕ) (display : Opening) → IsLinked number result.made result.connections (first_desktop display).device }
     {
         Session {
             msize: MAX_MSIZE,
@@ -65,18 +60,13 @@ impl Session {
         }
     }
 
-    /// What walks and listings depend on: the session's connections. There are no windows yet.
+    /// What the walks and listings of a file depend on.
     #[tactic(auto, using(crate::proofs::Clients::all_from_within))]
-    pub(crate) fn view(&self, alloc: Global) -> Result<TreeView, Memory>
-        ensures is { IfOk result (λ view. view_of view ≡ fids.view_of self.now) }
+    pub(crate) fn view(&self, desktop: &Desktop, node: &Node) -> Result<TreeView, Memory>
+        requires { IsNode node.now }
+        ensures is { IfOk result (λ view. view_of view ≡ whole.view_of (desktop_of desktop.now).table self.now.connections (node_of node.now)) }
         ensures view { IfOk result IsView }
     {
-        Ok(TreeView {
-            connections: self.connections.try_clone(alloc)?,
-            host: 0,
-            numbers: Numbers::new(alloc),
-            serials: Numbers::new(alloc),
-            live: false,
-        })
+        desktop.view(&self.connections, node)
     }
 }

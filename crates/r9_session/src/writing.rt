@@ -1,31 +1,28 @@
 //! Writing what is open (write(5)).
 
-ghost use Rattle.std.specs.Prelude.{◌≡◌, ◌<◌, ◌^◌, ◌⊎◌, ◌↔◌, ℕ, Option, length, None, Some, Ok, true, IsSome, IfOk, IfSome};
-ghost use Rattle.model_text.specs.Map.{lookup};
-ghost use Rattle.model_draw.specs.Files.{write_ctl};
+ghost use Rattle.std.specs.Prelude.{◌≡◌, ◌<◌, ◌^◌, ◌⊎◌, ◌↔◌, ℕ, Option, length, None, Some, Ok, true, IsSome, IfOk, IfSome, IsErrOf};
+ghost use Rattle.model_text.specs.Outcome.{Outcome};
 ghost use Rattle.model_draw.specs.Act.{no_memory};
 ghost use Rattle.model_draw.specs.Memory.{MayRunOut};
-ghost use Rattle.model_tree.specs.Node.{writes};
+ghost use Rattle.model_tree.specs.Node.{kind_numbered, writes};
 ghost use Rattle.model_tree.specs.Tree.{check_live, is_of_connection};
 ghost use Rattle.model_world.specs.Cut.{IsCutWrite};
-ghost use Rattle.model_world.specs.Fids as fids;
+ghost use Rattle.model_world.specs.Desktop as model;
 ghost use Rattle.model_world.specs.Links.{IsLinked};
-ghost use Rattle.model_world.specs.Reading.{file_written, write_answer};
 ghost use Rattle.model_world.specs.Refusal.{Refuses};
-ghost use Rattle.model_world.specs.World.{client, device_for, written_data};
-ghost use Rattle.r9_draw.specs.World.{world_of};
+ghost use Rattle.model_world.specs.Whole.{client, ctl_written, desktop_for, view_of, written_data};
+ghost use Rattle.model_world.specs.Writing.{file_written, whole_or_refused, write_answer};
+ghost use Rattle.r9_desktop.specs.World.{desktop_of};
 ghost use Rattle.r9_tree.specs.View.{node_of, IsNode};
-ghost use Rattle.r9_session.specs.Answers.{mark_after};
+ghost use Rattle.r9_desktop.specs.Words.{mark_after};
 ghost use Rattle.r9_wire.specs.View.{r_of};
-ghost use Rattle.r9_session.specs.Writes.{IsWritten, chosen, left_with};
+ghost use Rattle.r9_session.specs.Writes.{IsDone, IsWritten, left_with};
 
 use crate::session::Session;
-use r9_draw::{Draw, DrawFault};
-use r9_files::{
-    FID_NOT_OPEN, Fault, NO_IMAGE_MEMORY, PERMISSION_DENIED, UNKNOWN_FID, is_kind, refusal,
-};
-use r9_memory::Memory;
-use r9_tree::{Kind, Node, check_live};
+use crate::windows::write_snarf;
+use r9_desktop::{Desktop, Wrote};
+use r9_files::{FID_NOT_OPEN, Fault, PERMISSION_DENIED, UNKNOWN_FID, refusal};
+use r9_tree::{Kind, Node, check_live, kind_of};
 use r9_wire::Rmsg;
 use std::alloc::Global;
 
@@ -37,13 +34,6 @@ pub struct Answered {
     pub short: Option<u32>,
 }
 
-/// How a write of a file ended: the refusal that stopped it, and where memory ran out, how many draw messages were done.
-#[derive(Clone, Copy)]
-pub struct Written {
-    refusal: Option<u8>,
-    short: Option<u32>,
-}
-
 /// Whether a mode is for writing (open(5)).
 fn writes(mode: u8) -> bool
     ensures { result ≡ writes mode }
@@ -51,99 +41,131 @@ fn writes(mode: u8) -> bool
     mode % 16 == 1 || mode % 16 == 2
 }
 
-/// Writes messages of a connection to the draw device.
-fn write_data(
-    device: &mut Draw,
-    client: u64,
-    bytes: &[u8],
-    mark: Option<u32>,
-) -> Result<Written, Memory>
-    requires live { IsSome (lookup (world_of device.old).clients client) }
-    requires few { length bytes.now < 2 ^ 32 }
-    ensures written { IfOk result (λ w. written_data client (world_of device.old) bytes.now (mark_after mark w.short) ≡ left_with (world_of device.new) w.refusal) }
-    ensures cause { IfOk result (λ w. IfSome w.short (λ k. (mark ≡ Some k) ⊎ MayRunOut client (world_of device.old) bytes.now k)) }
-    ensures refused { IfOk result (λ w. IsSome w.short ↔ (w.refusal ≡ Some no_memory)) }
+/// A write that left nothing undone, or its refusal, which leaves nothing.
+fn whole(done: Result<(), Fault>) -> Result<Wrote, Fault>
+    ensures written { (mark : Option ℕ) (before after : model.Desktop) (defined : Outcome model.Desktop) → IsDone before done after defined → IsWritten mark before result after (λ m. whole_or_refused defined) }
+    ensures whole { IfOk result (λ w. (w.short ≡ None) × (w.refusal ≡ None)) }
 {
-    let wrote = device.write(client, bytes, mark)?;
-    if wrote.short {
-        return Ok(Written {
-            refusal: Some(NO_IMAGE_MEMORY),
-            short: Some(wrote.done),
-        });
-    }
-    Ok(Written {
-        refusal: wrote.refusal,
+    done?;
+    Ok(Wrote {
+        refusal: None,
         short: None,
     })
 }
 
-/// Chooses the image id that a connection's ctl describes.
-fn write_ctl(device: &mut Draw, client: u64, bytes: &[u8]) -> Result<Written, Fault>
-    requires { IsSome (lookup (world_of device.old).clients client) }
-    ensures written { (mark : Option ℕ) → IsWritten mark (world_of device.old) result (world_of device.new) (λ m. chosen (write_ctl client (world_of device.old) bytes.now)) }
-    ensures whole { IfOk result (λ w. (w.short ≡ None) × (w.refusal ≡ None)) }
-{
-    match device.write_ctl(client, bytes) {
-        Ok(()) => Ok(Written {
-            refusal: None,
-            short: None,
-        }),
-        Err(DrawFault::Refused(refusal)) => Err(Fault::Refused(refusal)),
-        Err(DrawFault::Memory) => Err(Fault::Memory),
-    }
-}
-
 impl Session {
     ghost use Rattle.model_tree.specs.declared.Kind.TheVariants.{Data};
-    ghost use Rattle.model_world.specs.Fids.{is_kind};
     ghost use Rattle.r9_session.specs.Answers.{IsReply};
 
-    /// Writes a file. What opens for writing is ctl and data.
-    fn write_file(
+    /// Writes messages of a connection to the draw device.
+    fn write_data(
         &self,
-        device: &mut Draw,
+        desktop: &mut Desktop,
         number: u32,
         node: &Node,
         bytes: &[u8],
         mark: Option<u32>,
-    ) -> Result<Written, Fault>
-        requires linked { IsLinked number self.now.made self.now.connections (world_of device.old) }
+    ) -> Result<Wrote, Fault>
+        requires linked { IsLinked number self.now.made self.now.connections (desktop_of desktop.old).device }
         requires node { IsNode node.now }
-        requires live { check_live (fids.view_of self.now) (node_of node.now) ≡ Ok tt }
+        requires of { is_of_connection (node_of node.now).kind ≡ true }
+        requires live { check_live (view_of (desktop_of desktop.old).table self.now.connections (node_of node.now)) (node_of node.now) ≡ Ok tt }
         requires few { length bytes.now < 2 ^ 32 }
-        ensures written { IsWritten mark (world_of device.old) result (world_of device.new) (λ m. file_written (device_for number) (world_of device.old) (node_of node.now) bytes.now m) }
-        ensures cause { IfOk result (λ w. IfSome w.short (λ k. (is_kind Kind.Data (node_of node.now).kind ≡ true)
-            × ((mark ≡ Some k) ⊎ MayRunOut (client number (node_of node.now).connection) (world_of device.old) bytes.now k))) }
+        ensures written { IfOk result (λ w. written_data (client number (node_of node.now).connection) (desktop_of desktop.old) bytes.now (mark_after mark w.short) ≡ left_with (desktop_of desktop.new) w.refusal) }
+        ensures cause { IfOk result (λ w. IfSome w.short (λ k. (mark ≡ Some k) ⊎ MayRunOut (client number (node_of node.now).connection) (desktop_of desktop.old).device bytes.now k)) }
+        ensures refused { IfOk result (λ w. IsSome w.short ↔ (w.refusal ≡ Some no_memory)) }
+        ensures memory { (n : ℕ) → IsErrOf result (Fault.Refused n) → ⊥ }
+    {
+        self.has_connection(desktop, number, node);
+        Ok(desktop.write_data(number, node.connection, bytes, mark)?)
+    }
+
+    /// Chooses the image id that a connection's ctl describes.
+    fn write_ctl(
+        &self,
+        desktop: &mut Desktop,
+        number: u32,
+        node: &Node,
+        bytes: &[u8],
+    ) -> Result<(), Fault>
+        requires linked { IsLinked number self.now.made self.now.connections (desktop_of desktop.old).device }
+        requires node { IsNode node.now }
+        requires of { is_of_connection (node_of node.now).kind ≡ true }
+        requires live { check_live (view_of (desktop_of desktop.old).table self.now.connections (node_of node.now)) (node_of node.now) ≡ Ok tt }
+        ensures { IsDone (desktop_of desktop.old) result (desktop_of desktop.new) (ctl_written (client number (node_of node.now).connection) (desktop_of desktop.old) bytes.now) }
+    {
+        self.has_connection(desktop, number, node);
+        desktop.write_ctl(number, node.connection, bytes)
+    }
+
+    /// Writes a file. No other files open for writing.
+    fn write_file(
+        &self,
+        alloc: Global,
+        desktop: &mut Desktop,
+        number: u32,
+        node: &Node,
+        kind: Kind,
+        offset: u64,
+        bytes: &[u8],
+        mark: Option<u32>,
+    ) -> Result<Wrote, Fault>
+        requires linked { IsLinked number self.now.made self.now.connections (desktop_of desktop.old).device }
+        requires node { IsNode node.now }
+        requires kind { kind_numbered node.now.kind ≡ kind }
+        requires live { check_live (view_of (desktop_of desktop.old).table self.now.connections (node_of node.now)) (node_of node.now) ≡ Ok tt }
+        requires few { length bytes.now < 2 ^ 32 }
+        ensures written { IsWritten mark (desktop_of desktop.old) result (desktop_of desktop.new) (λ m. file_written (desktop_for number) (desktop_of desktop.old) (node_of node.now) offset bytes.now m kind) }
+        ensures cause { IfOk result (λ w. IfSome w.short (λ k. (kind ≡ Data) × ((mark ≡ Some k) ⊎ MayRunOut (client number (node_of node.now).connection) (desktop_of desktop.old).device bytes.now k))) }
         ensures refused { IfOk result (λ w. IsSome w.short ↔ (w.refusal ≡ Some no_memory)) }
     {
-        if is_kind(node, Kind::Ctl) {
-            let client = self.client_of(device, number, node);
-            return write_ctl(device, client, bytes);
+        let window = node.serial;
+        match kind {
+            Kind::Ctl => whole(self.write_ctl(desktop, number, node, bytes)),
+            Kind::Data => self.write_data(desktop, number, node, bytes, mark),
+            Kind::Snarf => whole(write_snarf(alloc, desktop, window, offset, bytes)),
+            Kind::DeviceWctl => whole(desktop.device_command(bytes)),
+            Kind::Label => whole(Ok(desktop.set_label(window, bytes)?)),
+            Kind::Wctl => whole(desktop.command(window, bytes)),
+            Kind::Device
+            | Kind::Draw
+            | Kind::New
+            | Kind::Connection
+            | Kind::Refresh
+            | Kind::Mousein
+            | Kind::Kbdin
+            | Kind::Screen
+            | Kind::Wsys
+            | Kind::Window
+            | Kind::Cons
+            | Kind::Consctl
+            | Kind::Mouse
+            | Kind::Text
+            | Kind::Winid
+            | Kind::Winname
+            | Kind::Picture
+            | Kind::Listed => Err(Fault::Refused(PERMISSION_DENIED)),
         }
-        if is_kind(node, Kind::Data) {
-            let client = self.client_of(device, number, node);
-            return Ok(write_data(device, client, bytes, mark)?);
-        }
-        Err(Fault::Refused(PERMISSION_DENIED))
     }
 
     /// Writes an open file. Where memory ran out in a data write, or its mark took effect, the messages before it stand and the
     /// reply refuses it.
-    #[tactic(auto, unfolding(model_world::specs::Reading::write_answer))]
+    #[tactic(auto, unfolding(model_world::specs::Writing::write_answer))]
     pub fn write(
         &self,
         alloc: Global,
-        device: &mut Draw,
+        desktop: &mut Desktop,
         number: u32,
         tag: u16,
         fid: u32,
+        offset: u64,
         bytes: &[u8],
         mark: Option<u32>,
     ) -> Result<Answered, Fault>
-        requires linked { IsLinked number self.now.made self.now.connections (world_of device.old) }
+        requires linked { IsLinked number self.now.made self.now.connections (desktop_of desktop.old).device }
         requires few { length bytes.now < 2 ^ 32 }
-        ensures answer { IsReply mark self.now (world_of device.old) result self.now (world_of device.new) (λ m. write_answer (device_for number) self.now (world_of device.old) tag fid bytes.now m) }
-        ensures cause { IfOk result (λ a. IfSome a.short (λ k. IsCutWrite number self.now (world_of device.old) fid bytes.now mark k)) }
+        ensures answer { IsReply mark self.now (desktop_of desktop.old) result self.now (desktop_of desktop.new) (λ m. write_answer (desktop_for number) self.now (desktop_of desktop.old) tag fid offset bytes.now m) }
+        ensures cause { IfOk result (λ a. IfSome a.short (λ k. IsCutWrite number self.now (desktop_of desktop.old) fid bytes.now mark k)) }
         ensures refused { IfOk result (λ a. IsSome a.short → Refuses no_memory (r_of a.reply)) }
         ensures told { IfOk result (λ a. Refuses no_memory (r_of a.reply) → IsSome a.short) }
     {
@@ -157,9 +179,10 @@ impl Session {
         if !writes(mode) {
             return Err(Fault::Refused(PERMISSION_DENIED));
         }
-        let view = self.view(alloc)?;
+        let view = self.view(desktop, &node)?;
         check_live(&node, &view)?;
-        let written = self.write_file(device, number, &node, bytes, mark)?;
+        let kind = kind_of(node.kind);
+        let written = self.write_file(alloc, desktop, number, &node, kind, offset, bytes, mark)?;
         let reply = match written.refusal {
             Some(number) => refusal(alloc, tag, number)?,
             None => Rmsg::Write {

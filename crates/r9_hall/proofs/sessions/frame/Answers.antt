@@ -4,19 +4,19 @@ use Rattle.model_text.specs.Map.{lookup, with}
 use Rattle.model_map.proofs.Keys.{lookup_at, with-written}
 use Rattle.model_world.specs.Session.{Session}
 use Rattle.model_world.proofs.Steps.{linked_of}
-use Rattle.r9_draw.specs.World.{world_of}
+use Rattle.r9_desktop.specs.World.{desktop_of}
 use Rattle.r9_hall.specs.StateView.{IsServed}
 use Rattle.r9_hall.proofs.sessions.frame.Goals as goal
 
 pub answer-requires-clause-linked : goal.answer-requires-clause-linked
 answer-requires-clause-linked c =
     let at : lookup c.args.sessions.now.entries c.args.session ≡ Some c.in-Some.found.now = search rules in
-    linked_of (world_of c.args.device.now) c.args.sessions.now.entries c.args.session c.in-Some.found.now c.requires.linked at
+    linked_of (desktop_of c.args.desktop.now).device c.args.sessions.now.entries c.args.session c.in-Some.found.now c.requires.linked at
 
 pub returns-in_ok-framed-in-Some : goal.returns-in_ok-framed-in-Some
 returns-in_ok-framed-in-Some c =
     let before = c.args.sessions.now.entries in
     let at : lookup before c.args.session ≡ Some c.in-Some.found.now = sym (lookup_at before c.args.session) ∙ sym c.get_mut.ensures.value ∙ ap option_copied_mut c.in-Some.is in
     let written : (c.get_mut.follows.lender c.answer.new.found).entries ≡ with before c.args.session c.answer.new.found = with-written before _ c.args.session c.answer.new.found (c.get_mut.follows.holds c.answer.new.found).0 in
-    subst (λ (found : Option Session). IsServed c.args.session found before (world_of c.args.device.now) c.args.bytes.now c.args.mark (Some c.in_ok-framed-in-Some.framed) (c.get_mut.follows.lender c.answer.new.found).entries (world_of c.answer.new.device)) (sym at)
+    subst (λ (found : Option Session). IsServed c.args.session found before (desktop_of c.args.desktop.now) c.args.bytes.now c.args.mark (Some c.in_ok-framed-in-Some.framed) (c.get_mut.follows.lender c.answer.new.found).entries (desktop_of c.answer.new.desktop)) (sym at)
     (c.answer.new.found, written, c.in_ok-framed-in-Some.ensures)

@@ -10,7 +10,7 @@ use Rattle.model_world.proofs.Marks.{marked_allowed}
 use Rattle.model_world.proofs.Steps.{next_allowed}
 use Rattle.r9_hall.specs.HallView.{AllowedNext, HallValue, entered}
 use Rattle.r9_hall.specs.StateView.{state_of, state_world, IsAfter}
-use Rattle.r9_hall.proofs.Halls.{legal_more, roll_entered, stop_after, stop_next, stopped_after, not_going, not_broken, value_entered, standing, stands_more, replies_after}
+use Rattle.r9_hall.proofs.Halls.{legal_more, notes_after, nothing_done, roll_entered, stop_after, stop_next, stop_told, stopped_after, not_going, not_broken, value_entered, standing, stands_more, replies_after}
 use Rattle.r9_hall.proofs.hall.Hall.event.Goals as goal
 
 pub carry_out-requires-clause-linked : goal.carry_out-requires-clause-linked
@@ -28,8 +28,8 @@ invariant_of-self-in-Stop c =
       rolled = roll_entered _ _ _ _ _ before.rolled after.roll after.events;
       legal = legal_more _ _ _ before.legal allowed after.events;
       spare = λ going. absurd (not_going _ (stopped_after _ _ _ c.in-Stop.is after.roll) going);
-      stands = λ whole. stands_more _ _ _ _ [] _ _ (before.stands whole) (stop_next _ _ c.in-Stop.is)
-          (subst (λ (e : Event). IsAfter opening state e [] state) (sym c.in-Stop.is) (stop_after opening state)) after.events;
+      stands = λ whole. stands_more _ _ _ _ nothing_done _ _ (before.stands whole) (stop_next _ _ c.in-Stop.is)
+          (subst (λ (e : Event). IsAfter opening state e nothing_done state) (sym c.in-Stop.is) (stop_after opening _ state (before.stands whole))) after.events;
     }
 
 pub invariant_of-self-2 : goal.invariant_of-self-2
@@ -70,6 +70,8 @@ returns c =
       entered = value_entered opening events _ event c.self.inside.broken false whole pushed ∙ ap (λ (h : HallValue). entered h event) c.self.view_is;
       replies = λ _. replies_after opening events event _ _ _ stands (c.in_ok-did.ensures.after opening)
           ∙ ap (λ (h : HallValue). (step (world_at h.journal) event).replies) c.self.view_is;
+      notes = λ _. notes_after opening events event _ _ _ stands (c.in_ok-did.ensures.after opening)
+          ∙ ap (λ (h : HallValue). (step (world_at h.journal) event).notes) c.self.view_is;
       allowed = subst (λ (h : HallValue). AllowedNext h event) c.self.view_is (
         marked_allowed (state_world opening (state_of c.self.inside.state)) (roll_of events) c.args.event c.in_ok-did.did.short
             (subst (λ (h : HallValue). Allowed (roll_of h.journal.events) c.args.event) (sym c.self.view_is) c.requires.can.0) (c.in_ok-did.ensures.short opening),
@@ -82,3 +84,6 @@ returns c =
       stop = λ is. absurd (c.in_default.not-Stop is);
       err = tt;
     }
+
+pub returns-in-Stop-clause-notes : goal.returns-in-Stop-clause-notes
+returns-in-Stop-clause-notes c = λ _. c.new-in-Stop.ensures ∙ sym (stop_told c.args.self.now.journal c.args.event c.in-Stop.is)

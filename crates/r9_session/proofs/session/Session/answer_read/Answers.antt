@@ -1,7 +1,7 @@
 use Rattle.std.proofs.Common.{rules, ◌≡◌, true, false, ◌∙◌}
-use Rattle.model_world.specs.World.{device_for}
-use Rattle.r9_draw.specs.World.{world_of}
+use Rattle.model_world.specs.Whole.{desktop_for}
 use Rattle.r9_wire.specs.View.{t_of}
+use Rattle.r9_desktop.specs.World.{desktop_of}
 use Rattle.r9_session.specs.Answers.{is_write}
 use Rattle.r9_session.proofs.Begun.{begun}
 use Rattle.r9_session.proofs.Told.{other_spares}
@@ -12,11 +12,11 @@ returns c =
     let begins = c.in_ok-check_begun.ensures in
     let said = c.in_ok-reply.ensures c.args.mark in
     record {
-      answer = (begun (device_for c.args.number) c.args.self.now (world_of c.args.device.now) c.args.mark (t_of c.args.m.now) begins.0 begins.1 ∙ said.0, said.1);
+      answer = (begun (desktop_for c.args.number) c.args.self.now (desktop_of c.args.desktop.now) c.args.mark (t_of c.args.m.now) begins.0 begins.1 ∙ said.0, said.1);
       cause = tt;
       refused = λ told. (let both : false ≡ true = told in absurd cc);
       told = λ wants. (
           let other : is_write (t_of c.args.m.now) ≡ false = search rules in
-          absurd (other_spares c.args.number c.args.self.now (world_of c.args.device.now) c.args.mark (t_of c.args.m.now) _ other said.0 wants)
+          absurd (other_spares c.args.number c.args.self.now (desktop_of c.args.desktop.now) c.args.mark (t_of c.args.m.now) _ other said.0 wants)
           );
     }

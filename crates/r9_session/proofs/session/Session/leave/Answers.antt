@@ -1,27 +1,35 @@
-use Rattle.std.proofs.Common.{rules, ◌≡◌, [], OnOk, sym, subst}
+use Rattle.std.proofs.Common.{◌≡◌, ◌∙◌, ℕ, List, [], sym, ap, subst}
 use Rattle.std.specs.List.{fold}
 use Rattle.std.proofs.lemmas.Result.{on_ok_weaker}
-use Rattle.model_draw.specs.World.{World}
-use Rattle.model_world.specs.World.{device_for}
+use Rattle.model_world.specs.Desktop.{Desktop}
+use Rattle.model_world.specs.Session.{Session}
+use Rattle.model_world.specs.Whole.{desktop_for, left_one}
 use Rattle.model_world.specs.Links.{IsLinked, KeepsOthers}
-use Rattle.model_world.proofs.Links.{cleared_linked, kept_others}
-use Rattle.r9_draw.specs.World.{world_of}
+use Rattle.model_world.proofs.Answers.{cleared_left}
+use Rattle.model_world.proofs.Links.{cleared_is}
+use Rattle.r9_desktop.specs.World.{desktop_of}
 use Rattle.r9_session.proofs.session.Session.leave.Goals as goal
+
+pub returns-clause-desktop : goal.returns-clause-desktop
+returns-clause-desktop c =
+    let session = c.args.self.now in
+    let before = desktop_of c.args.desktop.now in
+    let own : c.as_slice.result.now ≡ session.connections = c.as_slice.ensures ∙ ap (λ (s : Session). s.connections) c.self.view_is in
+    let ended : desktop_of c.leave_all.new.desktop ≡ fold (desktop_for c.args.number).leave before session.connections =
+    c.in_ok-leave_all.ensures ∙ ap (λ (ns : List ℕ). fold (desktop_for c.args.number).leave before ns) own in
+    on_ok_weaker c.left.result
+    (λ (is : desktop_of c.left.new.self ≡ fold (left_one c.args.number) (desktop_of c.leave_all.new.desktop) c.in_ok-windows.windows).
+    is ∙ (λ j. fold (left_one c.args.number) (ended j) (c.in_ok-windows.ensures j)) ∙ sym (ap (λ (after : Session × Desktop). after.1) (cleared_is (desktop_for c.args.number) session before)))
+    c.left.ensures.left
 
 pub returns-clause-linked : goal.returns-clause-linked
 returns-clause-linked c =
-    let session = c.args.self.now in
-    let before = world_of c.args.device.now in
-    let gone : OnOk c.leave_all.result (world_of c.leave_all.new.device ≡ fold (device_for c.args.number).leave before session.connections) = search rules in
-    on_ok_weaker c.leave_all.result
-    (λ is. subst (λ (device : World). IsLinked c.args.number session.made [] device) (sym is) (cleared_linked c.args.number session.made session.connections before c.requires))
-    gone
+    on_ok_weaker c.left.result
+    (λ is. subst (λ (desktop : Desktop). IsLinked c.args.number c.args.self.now.made [] desktop.device) (sym is) (cleared_left c.args.number c.args.self.now (desktop_of c.args.desktop.now) c.requires).0)
+    (returns-clause-desktop c)
 
 pub returns-clause-others : goal.returns-clause-others
 returns-clause-others c =
-    let session = c.args.self.now in
-    let before = world_of c.args.device.now in
-    let gone : OnOk c.leave_all.result (world_of c.leave_all.new.device ≡ fold (device_for c.args.number).leave before session.connections) = search rules in
-    on_ok_weaker c.leave_all.result
-    (λ is. subst (λ (device : World). KeepsOthers c.args.number before device) (sym is) (kept_others c.args.number session.made session.connections session.connections before c.requires c.requires.counted.within))
-    gone
+    on_ok_weaker c.left.result
+    (λ is. subst (λ (desktop : Desktop). KeepsOthers c.args.number (desktop_of c.args.desktop.now).device desktop.device) (sym is) (cleared_left c.args.number c.args.self.now (desktop_of c.args.desktop.now) c.requires).1)
+    (returns-clause-desktop c)

@@ -7,9 +7,9 @@ use Rattle.model_tree.specs.Node.{Node, row}
 use Rattle.model_world.specs.Session.{Session}
 use Rattle.model_world.specs.Fids.{is_kept, is_kind, keeps}
 use Rattle.model_world.specs.Links.{AreWithin}
-use Rattle.model_world.specs.World.{client}
-use Rattle.r9_draw.specs.World.{world_of}
+use Rattle.model_world.specs.Whole.{client}
 use Rattle.r9_tree.specs.View.{most_connections, node_of}
+use Rattle.r9_desktop.specs.World.{desktop_of}
 use Rattle.r9_session.specs.SessionView.{AreKept}
 use Rattle.r9_session.proofs.Clients.{free_client, within_push}
 use Rattle.r9_session.proofs.Bound.{kept_push, opened_kept}
@@ -17,8 +17,8 @@ use Rattle.r9_session.proofs.session.Session.open_new.Goals as goal
 
 pub connect-requires-clause-fresh : goal.connect-requires-clause-fresh
 connect-requires-clause-fresh c =
-    ap (lookup c.args.device.now.clients.entries) (c.client.ensures ∙ ap (λ (s : Session). client c.args.number (s.made + 1)) c.self.view_is)
-    ∙ free_client c.args.number c.args.self.now.made c.args.self.now.connections (world_of c.args.device.now) c.requires.linked (omega (arith, c.requires.room))
+    ap (λ (s : Session). lookup (desktop_of c.args.desktop.now).device.clients (client c.args.number (s.made + 1))) c.self.view_is
+    ∙ free_client c.args.number c.args.self.now.made c.args.self.now.connections (desktop_of c.args.desktop.now).device c.requires.linked (omega (arith, c.requires.room))
 
 pub invariant_of-self-2 : goal.invariant_of-self-2
 invariant_of-self-2 c =

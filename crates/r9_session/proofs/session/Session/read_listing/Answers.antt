@@ -4,7 +4,7 @@ use Rattle.model_text.specs.Map.{lookup, with}
 use Rattle.model_world.specs.Session.{Fid, Session}
 use Rattle.model_world.specs.Reading.{directory_read}
 use Rattle.r9_tree.specs.View.{view_of}
-use Rattle.r9_session.specs.Reads.{IsReadOf}
+use Rattle.r9_session.specs.Reads.{IsListed}
 use Rattle.r9_session.proofs.Keeping.{kept_with, same_keeps}
 use Rattle.r9_session.proofs.Readings.{read_of}
 use Rattle.r9_session.proofs.session.Session.read_listing.Goals as goal
@@ -16,9 +16,9 @@ returns-in-Some-clause-read c =
     let at : lookup c.self.inside.fids c.args.fid ≡ Some c.in-Some.found.now = search rules in
     let defined = λ (found : Fid). directory_read (stats (view_of c.args.view.now) found.node) found c.args.offset c.args.count in
     let read = read_of old c.args.fid c.read.result c.in-Some.found.now c.read.new.self fids (defined c.in-Some.found.now) at c.read.ensures.read c.read.ensures.kept refl in
-    let told : IfSome (lookup c.self.inside.fids c.args.fid) (λ found. IsReadOf old c.args.fid c.read.result (record old { fids = fids }) (defined found)) =
-    subst (λ (o : Option Fid). IfSome o (λ found. IsReadOf old c.args.fid c.read.result (record old { fids = fids }) (defined found))) (sym at) read in
-    subst (λ (s : Session). IfSome (lookup s.fids c.args.fid) (λ found. IsReadOf s c.args.fid c.read.result (record old { fids = fids }) (defined found))) c.self.view_is told
+    let told : IfSome (lookup c.self.inside.fids c.args.fid) (λ found. IsListed old c.args.fid c.read.result (record old { fids = fids }) (defined found)) =
+    subst (λ (o : Option Fid). IfSome o (λ found. IsListed old c.args.fid c.read.result (record old { fids = fids }) (defined found))) (sym at) read in
+    subst (λ (s : Session). IfSome (lookup s.fids c.args.fid) (λ found. IsListed s c.args.fid c.read.result (record old { fids = fids }) (defined found))) c.self.view_is told
 
 pub invariant_of-self : goal.invariant_of-self
 invariant_of-self c =

@@ -6,8 +6,8 @@ use Rattle.model_text.specs.Map.{lookup}
 use Rattle.model_tree.specs.Node.{Node}
 use Rattle.model_world.specs.Session.{Session}
 use Rattle.model_world.specs.Fids.{is_kept, keeps}
-use Rattle.model_world.specs.World.{device_for}
-use Rattle.r9_draw.specs.World.{world_of}
+use Rattle.model_world.specs.Whole.{desktop_for}
+use Rattle.r9_desktop.specs.World.{desktop_of}
 use Rattle.r9_session.specs.Clients.{let_go}
 use Rattle.r9_session.specs.SessionView.{AreKept}
 use Rattle.r9_session.proofs.Keeping.{all_left, others_left}
@@ -24,8 +24,8 @@ returns-then-not-keeps-clause-session c =
     let left = all_left session c.args.fid found at kept (inl fails) in
     λ j. record session { connections = sym left.0 j }
 
-pub returns-then-not-keeps-clause-device : goal.returns-then-not-keeps-clause-device
-returns-then-not-keeps-clause-device c =
+pub returns-then-not-keeps-clause-desktop : goal.returns-then-not-keeps-clause-desktop
+returns-then-not-keeps-clause-desktop c =
     let session = c.args.self.now in
     let found = c.in-Some.found.now in
     let at : lookup session.fids c.args.fid ≡ Some found = search rules in
@@ -33,7 +33,7 @@ returns-then-not-keeps-clause-device c =
     let own = ap (λ (node : Node). node.connection) c.node-connection.ensures.node in
     let fails : keeps found.node.connection found ≡ false = ap (λ (n : ℕ). keeps n found) (sym own) ∙ sym c.keeps.ensures ∙ c.if-not-keeps.true in
     let left = all_left session c.args.fid found at kept (inl fails) in
-    ap (λ (ns : List ℕ). fold (device_for c.args.number).leave (world_of c.args.device.now) ns) (sym left.1)
+    ap (λ (ns : List ℕ). fold (desktop_for c.args.number).leave (desktop_of c.args.desktop.now) ns) (sym left.1)
 
 pub returns-then-is_kept_beside-clause-session : goal.returns-then-is_kept_beside-clause-session
 returns-then-is_kept_beside-clause-session c =
@@ -46,8 +46,8 @@ returns-then-is_kept_beside-clause-session c =
     let left = all_left session c.args.fid found at kept (inr more) in
     λ j. record session { connections = sym left.0 j }
 
-pub returns-then-is_kept_beside-clause-device : goal.returns-then-is_kept_beside-clause-device
-returns-then-is_kept_beside-clause-device c =
+pub returns-then-is_kept_beside-clause-desktop : goal.returns-then-is_kept_beside-clause-desktop
+returns-then-is_kept_beside-clause-desktop c =
     let session = c.args.self.now in
     let found = c.in-Some.found.now in
     let at : lookup session.fids c.args.fid ≡ Some found = search rules in
@@ -55,7 +55,7 @@ returns-then-is_kept_beside-clause-device c =
     let own = ap (λ (node : Node). node.connection) c.node-connection.ensures.node in
     let more : is_kept (let_go session c.args.fid) found.node.connection ≡ true = ap (is_kept (let_go session c.args.fid)) (sym own) ∙ sym c.is_kept_beside.ensures ∙ c.if-is_kept_beside.true in
     let left = all_left session c.args.fid found at kept (inr more) in
-    ap (λ (ns : List ℕ). fold (device_for c.args.number).leave (world_of c.args.device.now) ns) (sym left.1)
+    ap (λ (ns : List ℕ). fold (desktop_for c.args.number).leave (desktop_of c.args.desktop.now) ns) (sym left.1)
 
 pub returns-clause-session : goal.returns-clause-session
 returns-clause-session c =
@@ -71,8 +71,8 @@ returns-clause-session c =
     is ∙ (λ j. record session { connections = filter (λ n. not (n == own j)) session.connections }) ∙ (λ j. record session { connections = sym left.0 j }))
     c.end.ensures.session
 
-pub returns-clause-device : goal.returns-clause-device
-returns-clause-device c =
+pub returns-clause-desktop : goal.returns-clause-desktop
+returns-clause-desktop c =
     let session = c.args.self.now in
     let found = c.in-Some.found.now in
     let at : lookup session.fids c.args.fid ≡ Some found = search rules in
@@ -81,6 +81,6 @@ returns-clause-device c =
     let gone : is_kept (let_go session c.args.fid) found.node.connection ≡ false = ap (is_kept (let_go session c.args.fid)) (sym own) ∙ sym c.is_kept_beside.ensures ∙ c.if-is_kept_beside.false in
     let left = others_left session c.args.fid found at kept gone in
     on_ok_weaker c.end.result
-    (λ (is : world_of c.end.new.device ≡ fold (device_for c.args.number).leave (world_of c.args.device.now) (filter (λ n. n == c.node-connection.result.connection) session.connections)).
-    is ∙ ap (λ (ns : List ℕ). fold (device_for c.args.number).leave (world_of c.args.device.now) ns) ((λ j. filter (λ n. n == own j) session.connections) ∙ sym left.1))
-    c.end.ensures.device
+    (λ (is : (desktop_of c.end.new.desktop) ≡ fold (desktop_for c.args.number).leave (desktop_of c.args.desktop.now) (filter (λ n. n == c.node-connection.result.connection) session.connections)).
+    is ∙ ap (λ (ns : List ℕ). fold (desktop_for c.args.number).leave (desktop_of c.args.desktop.now) ns) ((λ j. filter (λ n. n == own j) session.connections) ∙ sym left.1))
+    c.end.ensures.desktop

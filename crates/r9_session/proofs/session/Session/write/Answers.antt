@@ -1,8 +1,14 @@
-use Rattle.std.proofs.Common.{ap, subst, ◌∙◌}
+use Rattle.std.proofs.Common.{rules, ◌≡◌, ◌∙◌, true, Some, ap, subst}
+use Rattle.model_text.specs.Map.{lookup}
+use Rattle.model_tree.specs.Node.{writes}
+use Rattle.model_world.specs.Reading.{is_open_for}
 use Rattle.model_draw.specs.Act.{no_memory}
 use Rattle.model_world.specs.Refusal.{Refuses}
 use Rattle.r9_wire.specs.declared.message.Rmsg.{Rmsg}
 use Rattle.r9_wire.specs.View.{r_of}
+use Rattle.r9_desktop.specs.World.{desktop_of}
+use Rattle.r9_tree.specs.View.{node_of}
+use Rattle.r9_session.proofs.Opened.{cut_of}
 use Rattle.r9_session.proofs.Told.{write_tells}
 use Rattle.r9_session.proofs.session.Session.write.Goals as goal
 use Rattle.r9_session.proofs.session.Session.write.Goals.{in-Some-refusal+in_ok-reply-in-Some-refusal, in-None}
@@ -13,3 +19,13 @@ returns-clause-told c = elim c.match-written.branch [
       (ap r_of w.reply-is ∙ w.in_ok-reply-in-Some-refusal.ensures.reply) w.in-Some-refusal.is c.in_ok-written.ensures.refused
   | in-None w ↦ λ wants. absurd (subst (λ (reply : Rmsg). Refuses no_memory (r_of reply)) w.reply-is wants)
 ]
+
+pub returns-clause-cause : goal.returns-clause-cause
+returns-clause-cause c =
+    let session = c.args.self.now in
+    let found = c.in-Some.found.now in
+    let at : lookup session.fids c.args.fid ≡ Some found = search rules in
+    let mode_is : is_open_for writes found ≡ true = search rules in
+    let same : node_of c.node-node.result ≡ found.node = search rules in
+    let kind : found.node.kind ≡ c.kind_of-kind.result = search rules in
+    cut_of c.args.number session (desktop_of c.args.desktop.now) c.args.fid c.args.bytes.now c.args.mark _ found _ _ at mode_is same kind c.in_ok-written.ensures.cause

@@ -1,0 +1,53 @@
+-- Writing what is open (write(5), draw(3), rio(4)).
+use Rattle.std.specs.Prelude.{ℕ, ◌+◌, ◌==◌, ◌^◌, ◌&&◌, not, is_none, nat_le, List, ◌++◌, length, Option, Some, None, Ok, Err, if◌then◌else◌}
+use Rattle.model_text.specs.Outcome.{Outcome, ◌>>=◌, refuse_if}
+use Rattle.model_wire.specs.Message.{R, Rwrite}
+use Rattle.model_window.specs.Heard.{Labelled}
+use Rattle.model_tree.specs.declared.Kind.{Kind}
+use Rattle.model_tree.specs.declared.Kind.TheVariants as kind
+use Rattle.model_tree.specs.Node.{Node, writes}
+use Rattle.model_tree.specs.Tree.{check_live}
+use Rattle.model_world.specs.Session.{Session}
+use Rattle.model_world.specs.Outside.{Outside}
+use Rattle.model_world.specs.Refusal.{refusal}
+use Rattle.model_world.specs.Fids.{Left, left, fid_of}
+use Rattle.model_world.specs.Reading.{is_open_for}
+
+-- so many bytes of snarf are kept at most
+abbrev pub most_snarf : ℕ
+most_snarf = 2 ^ 20
+
+-- A write at the front of snarf replaces it, and one at its end goes on. Elsewhere, and past the most that is kept, it is 39.
+abbrev pub snarf_written : (old : List ℕ) → (offset : ℕ) → List ℕ → Outcome (List ℕ)
+snarf_written old offset bytes =
+    if offset == 0 then (if nat_le (length bytes) most_snarf then Ok bytes else Err 39)
+    else if (offset == length old) && nat_le (length old + length bytes) most_snarf then Ok (old ++ bytes)
+    else Err 39
+
+-- a write that leaves nothing where it is refused
+abbrev pub whole_or_refused : {S : Type 0} → Outcome S → Outcome (S × Option ℕ)
+whole_or_refused defined = defined >>= λ next. Ok (next, None)
+
+-- What a write leaves outside, and the refusal of one that may leave something all the same. No other files open for writing.
+abbrev pub file_written : {S : Type 0} → Outside S → S → Node → (offset : ℕ) → List ℕ → Option ℕ → Kind → Outcome (S × Option ℕ)
+file_written outside rest node offset bytes mark kind.Ctl = whole_or_refused (outside.write_ctl rest node.connection bytes)
+file_written outside rest node offset bytes mark kind.Data = Ok (outside.write_data rest node.connection bytes mark)
+file_written outside rest node offset bytes mark kind.Snarf =
+    whole_or_refused (snarf_written (outside.snarf rest node.serial) offset bytes >>= λ new. Ok (outside.with_snarf rest node.serial new))
+file_written outside rest node offset bytes mark kind.DeviceWctl = whole_or_refused (outside.device_command rest bytes)
+file_written outside rest node offset bytes mark kind.Label = Ok (outside.hear rest node.serial (Labelled bytes), None)
+file_written outside rest node offset bytes mark kind.Wctl = whole_or_refused (outside.command rest node.serial bytes)
+file_written outside rest node offset bytes mark _ = Err 38
+
+abbrev pub write_reply : (tag count : ℕ) → Option ℕ → R
+write_reply tag count None = Rwrite tag count
+write_reply tag count (Some n) = refusal tag n
+
+unfoldable pub write_answer : {S : Type 0} → Outside S → Session → S → (tag fid offset : ℕ) → List ℕ → Option ℕ → Outcome (Left S)
+write_answer outside session rest tag number offset bytes mark = do
+  fid ← fid_of session number
+  _ ← refuse_if (is_none fid.mode) 37
+  _ ← refuse_if (not (is_open_for writes fid)) 38
+  _ ← check_live (outside.view rest session.connections fid.node) fid.node
+  after ← file_written outside rest fid.node offset bytes mark fid.node.kind
+  Ok (left (session, after.0) (write_reply tag (length bytes) after.1))

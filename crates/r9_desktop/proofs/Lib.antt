@@ -1,0 +1,6 @@
+mod Maps
+mod Loops
+mod OfRio
+mod Placing
+mod Viewed
+mod Display

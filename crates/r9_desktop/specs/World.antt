@@ -1,0 +1,19 @@
+-- A desktop as the definitions have it.
+use Rattle.r9_draw.specs.World.{world_of}
+use Rattle.model_world.specs.Desktop as model
+use Rattle.r9_desktop.specs.declared.desktop.Desktop.{Desktop}
+
+-- what a desktop has, part by part
+abbrev pub parts_of : Desktop → model.Desktop
+parts_of d = record {
+  device = world_of d.device;
+  table = d.manager;
+  panes = d.panes.entries;
+  users = d.users.entries;
+  snarfs = d.snarfs.entries;
+  notes = d.notes;
+}
+
+-- The same as one value: crates above need not look into it.
+unfoldable pub desktop_of : Desktop → model.Desktop
+desktop_of d = parts_of d

@@ -1,0 +1,145 @@
+//! Connections of sessions to the draw device (draw(3)).
+
+ghost use Rattle.std.specs.Prelude.{◌≡◌, ◌≤◌, ◌<◌, ◌^◌, ◌⊎◌, ◌↔◌, length, None, Some, Ok, Err, IfOk, IfErr, IfSome, IsSome, OnOk, OnErr};
+ghost use Rattle.model_text.specs.Map.{lookup};
+ghost use Rattle.model_draw.specs.Act.{no_memory};
+ghost use Rattle.model_draw.specs.Memory.{MayRunOut};
+ghost use Rattle.model_world.specs.Whole.{client, desktop_for};
+ghost use Rattle.r9_desktop.specs.Words.{IfRefused, fault_of_draw, mark_after};
+ghost use Rattle.r9_desktop.specs.World.{desktop_of};
+
+use crate::desktop::Desktop;
+use r9_draw::DrawFault;
+use r9_files::Fault;
+use r9_memory::Memory;
+use r9_text::Bytes;
+
+/// The refusal where memory ran out in a data write.
+const NO_IMAGE_MEMORY: u8 = 24;
+
+/// How a data write ended.
+#[derive(Clone, Copy, Debug, PartialEq, Eq)]
+pub struct Wrote {
+    /// The number of the refusal that stopped it.
+    pub refusal: Option<u8>,
+    /// Where memory ran out, or its mark took effect: how many of its messages were done.
+    pub short: Option<u32>,
+}
+
+/// The draw device's number of a session's connection: each session has 2^26 of its own.
+pub fn client(session: u32, connection: u32) -> u64
+    ensures { result ≡ client session connection }
+{
+    0x400_0000 * u64::from(session) + u64::from(connection)
+}
+
+/// The same fault as one of a file.
+fn fault_of(fault: DrawFault) -> Fault
+    ensures { result ≡ fault_of_draw fault }
+{
+    match fault {
+        DrawFault::Refused(number) => Fault::Refused(number),
+        DrawFault::Memory => Fault::Memory,
+    }
+}
+
+impl Desktop {
+    /// A connection of a session begins. After Memory all is as before.
+    #[tactic(auto, unfolding(crate::specs::World::desktop_of))]
+    pub fn connect(&mut self, session: u32, connection: u32) -> Result<(), Memory>
+        requires some { 1 ≤ client session connection }
+        requires fresh { lookup (desktop_of self.old).device.clients (client session connection) ≡ None }
+        ensures made { OnOk result (desktop_of self.new ≡ (desktop_for session).connect (desktop_of self.old) connection) }
+        ensures kept { OnErr result (desktop_of self.new ≡ desktop_of self.old) }
+    {
+        self.device.connect(client(session, connection))
+    }
+
+    /// A connection of a session ends: its ids are freed, and what nothing refers to any more goes. After Memory all is as
+    /// before.
+    #[tactic(auto, unfolding(crate::specs::World::desktop_of))]
+    pub fn leave(&mut self, session: u32, connection: u32) -> Result<(), Memory>
+        requires { IsSome (lookup (desktop_of self.old).device.clients (client session connection)) }
+        ensures left { OnOk result (desktop_of self.new ≡ (desktop_for session).leave (desktop_of self.old) connection) }
+        ensures kept { OnErr result (desktop_of self.new ≡ desktop_of self.old) }
+    {
+        self.device.leave(client(session, connection))
+    }
+
+    /// Does the messages that the bytes spell, until one is refused; those before it stand. It stops before a message that is
+    /// not refused where its mark stands or memory runs out, which is the refusal 24. Memory where that is the first one.
+    #[tactic(auto, unfolding(crate::specs::World::desktop_of, model_world::specs::Whole::written_data))]
+    pub fn write_data(
+        &mut self,
+        session: u32,
+        connection: u32,
+        bytes: &[u8],
+        mark: Option<u32>,
+    ) -> Result<Wrote, Memory>
+        requires live { IsSome (lookup (desktop_of self.old).device.clients (client session connection)) }
+        requires few { length bytes.now < 2 ^ 32 }
+        ensures written { IfOk result (λ w. (desktop_for session).write_data (desktop_of self.old) connection bytes.now (mark_after mark w.short) ≡ (desktop_of self.new, w.refusal)) }
+        ensures cause { IfOk result (λ w. IfSome w.short (λ k. (mark ≡ Some k) ⊎ MayRunOut (client session connection) (desktop_of self.old).device bytes.now k)) }
+        ensures refused { IfOk result (λ w. IsSome w.short ↔ (w.refusal ≡ Some no_memory)) }
+    {
+        let wrote = self.device.write(client(session, connection), bytes, mark)?;
+        if wrote.short {
+            return Ok(Wrote {
+                refusal: Some(NO_IMAGE_MEMORY),
+                short: Some(wrote.done),
+            });
+        }
+        Ok(Wrote {
+            refusal: wrote.refusal,
+            short: None,
+        })
+    }
+
+    /// The pending bytes of a connection, which are then gone. Refused by 26 exactly where there are none, and by 25 exactly
+    /// where they are more than the most that may be read. After an `Err` all is as before.
+    #[tactic(auto, unfolding(crate::specs::World::desktop_of, model_world::specs::Whole::data_read))]
+    pub fn read_data(&mut self, session: u32, connection: u32, most: u32) -> Result<Bytes, Fault>
+        requires { IsSome (lookup (desktop_of self.old).device.clients (client session connection)) }
+        ensures read { IfOk result (λ bytes. (desktop_for session).read_data (desktop_of self.old) connection most ≡ Ok (bytes, desktop_of self.new)) }
+        ensures refused { IfErr result (λ f. IfRefused f (λ n. (desktop_for session).read_data (desktop_of self.old) connection most ≡ Err n)) }
+        ensures kept { OnErr result (desktop_of self.new ≡ desktop_of self.old) }
+    {
+        match self.device.read_data(client(session, connection), most) {
+            Ok(bytes) => Ok(bytes),
+            Err(fault) => Err(fault_of(fault)),
+        }
+    }
+
+    /// What `ctl` says of the image that it describes. Refused by 4 exactly where the image's id is gone, and by 18 exactly
+    /// where its tie has ended.
+    #[tactic(auto, unfolding(crate::specs::World::desktop_of))]
+    pub fn read_ctl(&self, session: u32, connection: u32) -> Result<Bytes, Fault>
+        requires { IsSome (lookup (desktop_of self.now).device.clients (client session connection)) }
+        ensures read { IfOk result (λ bytes. (desktop_for session).read_ctl (desktop_of self.now) connection ≡ Ok bytes) }
+        ensures len { IfOk result (λ bytes. length bytes ≡ 144) }
+        ensures refused { IfErr result (λ f. IfRefused f (λ n. (desktop_for session).read_ctl (desktop_of self.now) connection ≡ Err n)) }
+    {
+        match self
+            .device
+            .read_ctl(client(session, connection), connection)
+        {
+            Ok(bytes) => Ok(bytes),
+            Err(fault) => Err(fault_of(fault)),
+        }
+    }
+
+    /// Chooses the image id that `ctl` describes from now on. Refused by 27 exactly where there are not four bytes, and by 4
+    /// exactly where the connection does not know the id. After an `Err` all is as before.
+    #[tactic(auto, unfolding(crate::specs::World::desktop_of, model_world::specs::Whole::ctl_written))]
+    pub fn write_ctl(&mut self, session: u32, connection: u32, bytes: &[u8]) -> Result<(), Fault>
+        requires { IsSome (lookup (desktop_of self.old).device.clients (client session connection)) }
+        ensures chosen { OnOk result ((desktop_for session).write_ctl (desktop_of self.old) connection bytes.now ≡ Ok (desktop_of self.new)) }
+        ensures refused { IfErr result (λ f. IfRefused f (λ n. (desktop_for session).write_ctl (desktop_of self.old) connection bytes.now ≡ Err n)) }
+        ensures kept { OnErr result (desktop_of self.new ≡ desktop_of self.old) }
+    {
+        match self.device.write_ctl(client(session, connection), bytes) {
+            Ok(()) => Ok(()),
+            Err(fault) => Err(fault_of(fault)),
+        }
+    }
+}

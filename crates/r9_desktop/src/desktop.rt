@@ -1,0 +1,75 @@
+//! The desktop as one value.
+
+ghost use Rattle.std.specs.Prelude.{◌≡◌, ◌^◌, ◌<ℤ◌, pos, [], IfOk};
+ghost use Rattle.r9_geom.specs.Geometry.{IsOrdered};
+ghost use Rattle.model_draw.specs.Files.{screen_file};
+ghost use Rattle.model_world.specs.Desktop.{first_desktop};
+ghost use Rattle.r9_desktop.specs.World.{desktop_of};
+
+use crate::telling::{Panes, Snarfs, Users};
+use r9_chan::Chan;
+use r9_draw::Draw;
+use r9_event::Notes;
+use r9_geom::Rect;
+use r9_memory::Memory;
+use r9_text::Bytes;
+use r9_wmgr::Manager;
+use std::alloc::Global;
+use std::collections::BTreeMap;
+
+/// What all sessions share: the draw device; the windows of all rios; by a window's serial what its files have, and which
+/// sessions have a fid whose attach named it, in ascending order; by the serial of its host the snarf of each rio; and what
+/// windows were told since the notes were taken last.
+#[derive(Drop)]
+pub struct Desktop {
+    pub(crate) alloc: Global,
+    pub(crate) device: Draw,
+    pub(crate) manager: Manager,
+    pub(crate) panes: Panes,
+    pub(crate) users: Users,
+    pub(crate) snarfs: Snarfs,
+    pub(crate) notes: Notes,
+}
+
+impl Desktop {
+    /// The desktop with which a server starts: a display with these channels, and no windows.
+    #[tactic(auto, unfolding(crate::specs::World::desktop_of))]
+    pub fn start(alloc: Global, r: Rect, chan: Chan) -> Result<Self, Memory>
+        requires left { r.min.x ≡ pos 0 }
+        requires top { r.min.y ≡ pos 0 }
+        requires ordered { IsOrdered r }
+        requires width { r.max.x <ℤ pos (2 ^ 32) }
+        requires height { r.max.y <ℤ pos (2 ^ 32) }
+        ensures { IfOk result (λ desktop. desktop_of desktop ≡ first_desktop (record { r = r; chan = chan })) }
+    {
+        let device = Draw::start(alloc, r, chan)?;
+        let mut snarfs = BTreeMap::new(alloc);
+        snarfs.insert(0, Bytes::new(alloc))?;
+        Ok(Desktop {
+            alloc,
+            device,
+            manager: Manager::new(alloc, r),
+            panes: BTreeMap::new(alloc),
+            users: BTreeMap::new(alloc),
+            snarfs,
+            notes: Notes::new(alloc),
+        })
+    }
+
+    /// Takes what windows were told since this was asked last.
+    #[tactic(auto, unfolding(crate::specs::World::desktop_of))]
+    pub fn take_notes(&mut self) -> Notes
+        ensures taken { result ≡ (desktop_of self.old).notes }
+        ensures left { desktop_of self.new ≡ record (desktop_of self.old) { notes = [] } }
+    {
+        std::mem::replace(&mut self.notes, Notes::new(self.alloc))
+    }
+
+    /// The display as an image(6) file.
+    #[tactic(auto, unfolding(crate::specs::World::desktop_of))]
+    pub fn screen(&self) -> Result<Bytes, Memory>
+        ensures { IfOk result (λ file. file ≡ screen_file (desktop_of self.now).device) }
+    {
+        self.device.screen()
+    }
+}

@@ -1,0 +1,16 @@
+//! What all sessions share (draw(3), rio(4)): the draw device, and the windows with what their files have.
+#![tactic(auto)]
+
+mod attaching;
+mod commands;
+mod connections;
+mod desktop;
+mod files;
+mod finding;
+mod stepping;
+mod telling;
+mod using;
+mod viewing;
+
+pub use connections::{Wrote, client};
+pub use desktop::Desktop;

@@ -1,0 +1,71 @@
+//! Steps of the window manager, and what comes of them (rio(4)).
+
+ghost use Rattle.std.specs.Prelude.{◌≡◌, ◌++◌, Ok, Err, IfErr, OnOk};
+ghost use Rattle.std.specs.List.{fold};
+ghost use Rattle.model_draw.specs.Orders.{carried_out};
+ghost use Rattle.model_rio.specs.Rio.{rio};
+ghost use Rattle.model_world.specs.Desktop.{panes_told, snarfs_ordered, stepped_if, stepped_or, users_told};
+ghost use Rattle.r9_wmgr.specs.Acts.{act_of, AreKeys};
+ghost use Rattle.r9_desktop.specs.Words.{IfRefused, SameClients};
+ghost use Rattle.r9_desktop.specs.World.{parts_of};
+
+use crate::desktop::Desktop;
+use crate::telling::{order_snarfs, tell_panes, tell_users};
+use model_draw::orders_keep_connections;
+use model_rio::acts_end_no_connection;
+use r9_files::Fault;
+use r9_memory::Memory;
+use r9_wmgr::{Act, ActFault, Step};
+
+impl Desktop {
+    /// Does what a step asks of the draw device, and tells windows and rios what happened. The table of windows is that of
+    /// the step already.
+    fn follow(&mut self, step: Step) -> Result<(), Memory>
+        ensures { OnOk result (parts_of self.new ≡ record {
+          device = carried_out (parts_of self.old).device step.orders;
+          table = (parts_of self.old).table;
+          panes = fold panes_told (parts_of self.old).panes step.notes;
+          users = fold users_told (parts_of self.old).users step.notes;
+          snarfs = fold snarfs_ordered (parts_of self.old).snarfs step.orders;
+          notes = (parts_of self.old).notes ++ step.notes;
+        }) }
+    {
+        let Step { orders, notes } = step;
+        self.device.orders(&orders)?;
+        tell_panes(self.alloc, &mut self.panes, notes.as_slice())?;
+        tell_users(&mut self.users, notes.as_slice());
+        order_snarfs(self.alloc, &mut self.snarfs, orders.as_slice())?;
+        self.notes.append(notes)
+    }
+
+    /// What an act does to all. Refused exactly as the window manager refuses it, and then all is as before; of Memory nothing
+    /// is said.
+    #[tactic(auto, unfolding(model_world::specs::Desktop::stepped))]
+    pub(crate) fn step(&mut self, act: Act) -> Result<(), Fault>
+        requires keys { AreKeys act }
+        ensures done { OnOk result (stepped_or (parts_of self.old) (rio (parts_of self.old).table (act_of act)) ≡ Ok (parts_of self.new)) }
+        ensures refused { IfErr result (λ f. IfRefused f (λ n. rio (parts_of self.old).table (act_of act) ≡ Err n)) }
+        ensures kept { IfErr result (λ f. IfRefused f (λ n. parts_of self.new ≡ parts_of self.old)) }
+        ensures clients { OnOk result (SameClients (parts_of self.old) (parts_of self.new)) }
+    {
+        acts_end_no_connection();
+        orders_keep_connections();
+        match self.manager.step(act) {
+            Ok(step) => Ok(self.follow(step)?),
+            Err(ActFault::Refused(refusal)) => Err(Fault::Refused(refusal)),
+            Err(ActFault::Memory) => Err(Fault::Memory),
+        }
+    }
+
+    /// The same, where an act that is refused leaves all as it was.
+    pub(crate) fn step_if(&mut self, act: Act) -> Result<(), Memory>
+        requires keys { AreKeys act }
+        ensures done { OnOk result (parts_of self.new ≡ stepped_if (parts_of self.old) (rio (parts_of self.old).table (act_of act))) }
+        ensures clients { OnOk result (SameClients (parts_of self.old) (parts_of self.new)) }
+    {
+        match self.step(act) {
+            Ok(()) | Err(Fault::Refused(_)) => Ok(()),
+            Err(Fault::Memory) => Err(Memory),
+        }
+    }
+}

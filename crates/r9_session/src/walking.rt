@@ -1,0 +1,153 @@
+//! Walking and telling of files (walk(5), stat(5)).
+
+ghost use Rattle.std.specs.Prelude.{◌≡◌, ◌≢◌, ◌≤◌, ◌++◌, ℕ, List, false, length, map, IfOk, OnOk};
+ghost use Rattle.model_tree.specs.Node.{qid};
+ghost use Rattle.model_tree.specs.Node as model;
+ghost use Rattle.model_world.specs.Session.{fid_at};
+ghost use Rattle.model_world.specs.Fids.{with_fid, is_bound, is_full};
+ghost use Rattle.model_world.specs.Walking.{walk_answer, walk_ended, walked, last};
+ghost use Rattle.model_world.specs.Answer.{stat_answer, denied};
+ghost use Rattle.model_world.specs.Whole.{desktop_for, view_of};
+ghost use Rattle.r9_desktop.specs.World.{desktop_of};
+ghost use Rattle.r9_tree.specs.View.{node_of, IsNode};
+ghost use Rattle.r9_session.specs.Answers.{IsAnswer, IsClosed};
+
+use crate::session::Session;
+use r9_desktop::Desktop;
+use r9_files::{FID_IS_OPEN, Fault, Fid, PERMISSION_DENIED, UNKNOWN_FID};
+use r9_memory::Memory;
+use r9_text::Bytes;
+use r9_tree::{Node, check_live, qid, stat, walk};
+use r9_wire::{Names, Qids, Rmsg};
+use std::alloc::Global;
+
+/// How far a walk came: the file that it stands at, and the refusal of the name that it stopped at.
+#[derive(Clone, Copy)]
+struct Walked {
+    node: Node,
+    refusal: Option<u8>,
+}
+
+impl Session {
+    /// Walks names one after the other from a file, and adds the qids of the files on the way.
+    fn walk_names(
+        &self,
+        desktop: &Desktop,
+        from: Node,
+        names: &[Bytes],
+        qids: &mut Qids,
+    ) -> Result<Walked, Memory>
+        requires from { IsNode from }
+        ensures qids { OnOk result (qids.new ≡ qids.old ++ map qid (walked (view_of (desktop_of desktop.now).table self.now.connections) (node_of from) names.now).0) }
+        ensures node { IfOk result (λ w. node_of w.node ≡ last (node_of from) (walked (view_of (desktop_of desktop.now).table self.now.connections) (node_of from) names.now).0) }
+        ensures is_node { IfOk result (λ w. IsNode w.node) }
+        ensures refusal { IfOk result (λ w. w.refusal ≡ (walked (view_of (desktop_of desktop.now).table self.now.connections) (node_of from) names.now).1) }
+    {
+        let [name, others @ ..] = names else {
+            return Ok(Walked {
+                node: from,
+                refusal: None,
+            });
+        };
+        let view = self.view(desktop, &from)?;
+        match walk(&from, name.as_slice(), &view) {
+            Err(refusal) => Ok(Walked {
+                node: from,
+                refusal: Some(refusal),
+            }),
+            Ok(next) => {
+                qids.push(qid(&next))?;
+                self.walk_names(desktop, next, others, qids)
+            }
+        }
+    }
+
+    /// Lets a fid that is bound stand for another file.
+    fn rebind(&mut self, fid: u32, node: Node)
+        requires closed { IsClosed self.old fid }
+        requires node { IsNode node }
+        ensures { self.new ≡ with_fid self.old fid (fid_at (node_of node)) }
+    {
+        if let Some(found) = self.fids.get_mut(fid) {
+            *found = Fid::at(node);
+        }
+    }
+
+    /// Binds a fid to the file that a walk came to, where it went all the way; newfid is fid itself, or is free.
+    fn end_walk(
+        &mut self,
+        tag: u16,
+        fid: u32,
+        newfid: u32,
+        walked: Walked,
+        qids: Qids,
+    ) -> Result<Rmsg, Fault>
+        requires fid { IsClosed self.old fid }
+        requires free { newfid ≢ fid → (is_bound self.old newfid ≡ false) × (is_full self.old ≡ false) }
+        requires node { IsNode walked.node }
+        requires few { length qids ≤ 16 }
+        ensures { (from : model.Node) (nodes : List model.Node) → qids ≡ map qid nodes → node_of walked.node ≡ last from nodes → IsAnswer self.old result self.new (walk_ended self.old tag fid newfid from (nodes, walked.refusal)) }
+    {
+        match walked.refusal {
+            Some(refusal) if qids.as_slice().is_empty() => return Err(Fault::Refused(refusal)),
+            Some(_) => {}
+            None if newfid == fid => self.rebind(fid, walked.node),
+            None => self.bind(newfid, walked.node)?,
+        }
+        Ok(Rmsg::Walk { tag, qids })
+    }
+
+    /// Names a file further down by another fid.
+    #[tactic(auto, unfolding(model_world::specs::Walking::walk_answer))]
+    pub fn walk(
+        &mut self,
+        alloc: Global,
+        desktop: &Desktop,
+        tag: u16,
+        fid: u32,
+        newfid: u32,
+        names: &Names,
+    ) -> Result<Rmsg, Fault>
+        requires { length names.now ≤ 16 }
+        ensures { (number : ℕ) → IsAnswer self.old result self.new (walk_answer (desktop_for number) self.old (desktop_of desktop.now) tag fid newfid names.now) }
+    {
+        let Some(found) = self.fids.get(fid) else {
+            return Err(Fault::Refused(UNKNOWN_FID));
+        };
+        if found.mode().is_some() {
+            return Err(Fault::Refused(FID_IS_OPEN));
+        }
+        let from = found.node();
+        if newfid != fid {
+            self.check_free(newfid)?;
+        }
+        let mut qids = Qids::new(alloc);
+        let walked = self.walk_names(desktop, from, names.as_slice(), &mut qids)?;
+        self.end_walk(tag, fid, newfid, walked, qids)
+    }
+
+    /// Tells what a file is.
+    #[tactic(auto, unfolding(model_world::specs::Answer::stat_answer))]
+    pub fn stat(&self, alloc: Global, desktop: &Desktop, tag: u16, fid: u32) -> Result<Rmsg, Fault>
+        ensures { (number : ℕ) → IsAnswer self.now result self.now (stat_answer (desktop_for number) self.now (desktop_of desktop.now) tag fid) }
+    {
+        let Some(found) = self.fids.get(fid) else {
+            return Err(Fault::Refused(UNKNOWN_FID));
+        };
+        let node = found.node();
+        let view = self.view(desktop, &node)?;
+        check_live(&node, &view)?;
+        let stat = stat(alloc, &node, &view)?;
+        Ok(Rmsg::Stat { tag, stat })
+    }
+
+    /// Refuses to make a file, or to change what it is.
+    pub fn deny(&self, fid: u32) -> Result<Rmsg, Fault>
+        ensures { IsAnswer self.now result self.now (denied self.now fid) }
+    {
+        match self.fids.get(fid) {
+            Some(_) => Err(Fault::Refused(PERMISSION_DENIED)),
+            None => Err(Fault::Refused(UNKNOWN_FID)),
+        }
+    }
+}
