@@ -51,7 +51,7 @@ def classify(words, folder):
         return "", REST
     if os.path.basename(words[0]) == "rattle" and words[1:2] in (["check"], ["build"]):
         crate = words[words.index("--crate-name") + 1] if "--crate-name" in words[:-1] else ""
-        if re.search(r"/rt-edits?-\d+-[^/]*$", folder):
+        if re.search(r"/rt-edits?-[^/]*$", folder):
             return crate, WRONG
         return crate, TESTS if "--test" in words else PROOF
     within = re.search(r"/crates/([a-z0-9_]+)(?:/|$)", " ".join([folder, *words]))
