@@ -2,9 +2,7 @@ ghost use Rattle.std.specs.Prelude.{IfOk};
 ghost use Rattle.r9_tree.specs.View.{IsNode, IsView};
 
 use r9_text::{Numbers, to_hex};
-use r9_tree::{
-    Attach, Node, TreeView, check_live, listing, may, qid, read_attach, root_of, stat, walk,
-};
+use r9_tree::{Node, TreeView, check_live, listing, may, qid, root_of, stat, walk};
 use std::alloc::Global;
 use std::test::Fail;
 
@@ -76,65 +74,5 @@ fn a_listed_window(rt: HostRuntime) -> Result<(), Fail> {
     assert_eq!(rt; (may(&listed, 16), may(&listed, 1)), (true, false));
     view.live = false;
     assert_eq!(rt; check_live(&listed, &view), Err(42));
-    Ok(())
-}
-
-/// What the name of an attach asks for, with a window's path and the text of a command.
-enum Asked {
-    Device,
-    Existing(&'static [u32]),
-    New(&'static [u32], &'static str),
-    Unknown,
-}
-
-const NAMES: [(&str, Asked); 24] = [
-    ("", Asked::Device),
-    ("new", Asked::New(&[], "new")),
-    ("new ", Asked::New(&[], "new ")),
-    ("new \n", Asked::New(&[], "new \n")),
-    ("new -r 1 2 3 4", Asked::New(&[], "new -r 1 2 3 4")),
-    ("new /new", Asked::New(&[], "new /new")),
-    ("3/new", Asked::New(&[3], "new")),
-    ("03/1/new  -hide", Asked::New(&[3, 1], "new  -hide")),
-    ("3", Asked::Existing(&[3])),
-    ("03", Asked::Existing(&[3])),
-    ("3/1", Asked::Existing(&[3, 1])),
-    ("123456789", Asked::Existing(&[123_456_789])),
-    (
-        "1/2/3/4/5/6/7/8/9",
-        Asked::Existing(&[1, 2, 3, 4, 5, 6, 7, 8, 9]),
-    ),
-    (
-        "1/2/3/4/5/6/7/8/9/10",
-        Asked::Existing(&[1, 2, 3, 4, 5, 6, 7, 8, 9, 10]),
-    ),
-    ("1234567890", Asked::Unknown),
-    ("1x", Asked::Unknown),
-    ("3 ", Asked::Unknown),
-    ("3//1", Asked::Unknown),
-    ("3/1/", Asked::Unknown),
-    ("new\t", Asked::Unknown),
-    ("new\n", Asked::Unknown),
-    ("/new", Asked::Unknown),
-    ("3/new\t", Asked::Unknown),
-    ("new/new", Asked::Unknown),
-];
-
-fn asks_for(attach: &Attach, asked: &Asked) -> bool {
-    match (attach, asked) {
-        (Attach::Device, Asked::Device) | (Attach::Unknown, Asked::Unknown) => true,
-        (Attach::Existing { path }, Asked::Existing(numbers)) => path.as_slice() == *numbers,
-        (Attach::New { path, command }, Asked::New(numbers, text)) => path.as_slice() == *numbers
-            && command.as_slice() == text.as_bytes(),
-        _ => false,
-    }
-}
-
-#[test]
-fn attach_names(rt: HostRuntime) -> Result<(), Fail> {
-    for (name, asked) in &NAMES {
-        let attach = read_attach(rt.alloc(), name.as_bytes())?;
-        assert!(rt; asks_for(&attach, asked));
-    }
     Ok(())
 }
