@@ -134,3 +134,17 @@ with_canvas-same world i a b x y same agree = λ j.
     by_cases s false bare m n own e f = ap (λ v. if v && bare then m else own) e
     by_cases s true false m n own e f = ap (λ v. if v && false then m else own) e
     by_cases s true true m n own e f = ap (λ v. if v && true then m else own) e ∙ f e refl
+
+-- a pixel that hides each target is what each point gets, and fits
+pub solid_is : (world : World) (task : Task) (dst src through s m : ℕ) (o : Option ℕ) → dst ≡ (image_at world task.dst).chan → src ≡ (image_at world task.src).chan → through ≡ mask_chan world task.mask → ((p : Point) → at world task.src p ≡ s) → ((p : Point) → mask_at world task p ≡ m) → IfSome o (λ raw. (d : ℕ) → composed_raw dst src through (number task.op) s m d ≡ raw) → IfSome o (λ raw. (p : Point) → drawn world (drawing_of task) p ≡ raw)
+solid_is world task dst src through s m None dst_is src_is mask_is source mask same = same
+solid_is world task dst src through s m (Some raw) dst_is src_is mask_is source mask same = λ p.
+    sym (drawn_is world task p)
+    ∙ (λ i. composed_raw (sym dst_is i) (sym src_is i) (sym mask_is i) (number task.op) (source (carried p task.r.min task.sp) i) (mask p i) (view world task.dst p))
+    ∙ same (view world task.dst p)
+
+pub solid_below : (world : World) → IsForest world → (task : Task) → IsLive world task.dst → (dst src through s m : ℕ) (o : Option ℕ) → dst ≡ (image_at world task.dst).chan → IfSome o (λ raw. (d : ℕ) → composed_raw dst src through (number task.op) s m d ≡ raw) → IfSome o (λ raw. raw < 2 ^ depth (image_at world task.dst).chan)
+solid_below world ok task live dst src through s m None is same = same
+solid_below world ok task live dst src through s m (Some raw) is same =
+    subst (λ (n : ℕ). n < 2 ^ depth (image_at world task.dst).chan) (ap (λ chan. composed_raw chan src through (number task.op) s m 0) (sym is) ∙ same 0)
+    (composed_raw_below (image_at world task.dst).chan src through (number task.op) s m 0 (ok.images task.dst live).chan)

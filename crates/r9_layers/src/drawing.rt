@@ -17,7 +17,7 @@ ghost use Rattle.r9_layers.specs.Area.{drawing_of, drawn_on, mask_at, mask_chan,
 use super::task::Task;
 use r9_chan::Chan;
 use r9_geom::{Point, Rect};
-use r9_mem::{compose, fill};
+use r9_mem::{compose, fill, solid};
 use r9_stack::{Images, along, carried_rect};
 
 // How many pixels of a row are composed at a time.
@@ -105,6 +105,34 @@ fn single_mask(images: &Images, task: &Task) -> Option<u32>
         Some(i) => images.single(i),
         None => Some(FULL),
     }
+}
+
+/// The one pixel that each point of the area gets, where source and mask are single pixels that hide the target.
+pub fn solid_pixel(images: &Images, task: &Task) -> Option<u32>
+    requires { IsTaskOf (world images.now) task.now }
+    ensures value { IfSome result (λ raw. (p : Spot) → drawn (world images.now) (drawing_of task.now) p ≡ raw) }
+    ensures range { IfSome result (λ raw. raw < 2 ^ channels.depth (image_at (world images.now) task.now.dst).chan) }
+{
+    images.keeps();
+    let s = images.single(task.src)?;
+    let m = single_mask(images, task)?;
+    let dst = images.info(task.dst).chan;
+    let src = images.info(task.src).chan;
+    let mask = chan_of_mask(images, task.mask);
+    solid(dst, src, mask, task.op, s, m)
+}
+
+/// Draws on the points of an area that all get one pixel. The target is not read.
+pub fn draw_solid(images: &mut Images, task: &Task, area: &Rect, raw: u32)
+    requires live { IsTaskOf (world images.old) task.now }
+    requires area { area.now ≡ cost.area (world images.old) (drawing_of task.now) }
+    requires some { is_empty area.now ≡ false }
+    requires drawn { (p : Spot) → drawn (world images.old) (drawing_of task.now) p ≡ raw }
+    requires raw { raw < 2 ^ channels.depth (image_at (world images.old) task.now.dst).chan }
+    ensures world { world images.new ≡ after_draw (world images.old) (drawing_of task.now) }
+    ensures numbers { numbers images.new ≡ numbers images.old }
+{
+    images.fill(task.dst, *area, raw);
 }
 
 // Reads what the mask has over points of the area side by side, from `at` to the right.

@@ -321,6 +321,10 @@ impl Forest {
         if area.is_empty() {
             return Ok(());
         }
+        if let Some(raw) = drawing::solid_pixel(&self.images, task) {
+            drawing::draw_solid(&mut self.images, task, &area, raw);
+            return Ok(());
+        }
         let points = match area.width().checked_mul(area.height()) {
             Some(points) => points,
             None => return Err(Memory),

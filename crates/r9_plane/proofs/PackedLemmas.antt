@@ -32,6 +32,9 @@ raw_at_whole depth k bytes n some is =
 pub size_of : (depth : ℕ) → is_depth depth ≡ true → 8 ≤ depth → depth ≡ 8 * (depth / 8)
 size_of depth is whole = grind (arith, nat_tests)
 
+pub depth_most : (depth : ℕ) → is_depth depth ≡ true → depth ≤ 32
+depth_most depth is = grind (arith, nat_tests)
+
 -- bytes written from a number, the lowest first, spell it
 pub little-written : (k : ℕ) (bytes : List ℕ) (at raw : ℕ) → ((j : ℕ) → j < k → get_or bytes (at + j) 0 ≡ raw / 2 ^ (8 * j) % 256) → little k bytes at ≡ raw % 2 ^ (8 * k)
 little-written zero bytes at raw each = omega arith

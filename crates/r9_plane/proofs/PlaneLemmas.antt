@@ -6,8 +6,8 @@ use Rattle.std.proofs.lemmas.Bool.{cond-true, cond-false, cases_Bool, both_ways,
 use Rattle.std.proofs.lemmas.Nat.{mul-add-lt, same_from_place, mul-le}
 use Rattle.r9_geom.specs.declared.Point.{Point}
 use Rattle.r9_geom.specs.declared.Rect.{Rect}
-use Rattle.r9_geom.specs.Geometry.{distance, height, holds, is_point, point_at, strip, width, IsOrdered}
-use Rattle.r9_geom.proofs.GeometryLemmas.{band, band_more, band_none, bounds_of, cell_of, distance_is, row_inside, strip_distance, strip_here, is_point_true, same_point, true_is_point}
+use Rattle.r9_geom.specs.Geometry.{carried, distance, height, holds, is_point, point_at, strip, width, IsOrdered}
+use Rattle.r9_geom.proofs.GeometryLemmas.{band, band_more, band_none, bounds_of, cell_of, distance_is, holds_from, row_inside, strip_distance, strip_here, is_point_true, same_point, true_is_point}
 use Rattle.model_pixel.specs.Channels.{depth, is_depth}
 use Rattle.model_pixel.specs.Rows.{byte_at, raw_at, row_place, skip}
 use Rattle.std.proofs.lemmas.Int.{ints}
@@ -193,6 +193,23 @@ row_written r chan old new at n value lies copied q =
     (cases_Bool (holds r q))
     ∙ sym (cond-false _ _ _ h))
     (cases_Bool (holds (strip at n) q))
+
+-- a point of a strip, carried along with it
+pub carried_along : (at q start from : Point) (n : ℕ) → holds (strip at n) q ≡ true → along (carried at start from) (distance at.x q.x) ≡ carried q start from
+carried_along at q start from n h =
+    let b = bounds_of (strip at n) q h in
+    let d = distance_is at.x q.x b.left in
+    same_point (along (carried at start from) (distance at.x q.x)) (carried q start from) (omega (arith, ints, d)) (omega (arith, ints, b.top, b.bottom))
+
+-- and back
+pub carried_strip : (at p start from : Point) (n : ℕ) → holds (strip (carried at start from) n) p ≡ true → holds (strip at n) (carried p from start) ≡ true
+carried_strip at p start from n h =
+    let b = bounds_of (strip (carried at start from) n) p h in
+    holds_from (strip at n) (carried p from start)
+    (record { left = omega (arith, ints, b.left); right = omega (arith, ints, b.right); top = omega (arith, ints, b.top); bottom = omega (arith, ints, b.bottom) })
+
+pub carried_twice : (p from to : Point) → carried (carried p from to) to from ≡ p
+carried_twice p from to = same_point (carried (carried p from to) to from) p (omega (arith, ints)) (omega (arith, ints))
 
 -- ---- a row as a line of bytes
 

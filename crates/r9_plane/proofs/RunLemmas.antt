@@ -1,8 +1,8 @@
 -- Runs of pixels in packed bytes, and the bytes that packed pixels determine.
-use Rattle.std.proofs.Common.{◌≡◌, ℕ, zero, suc, ◌+◌, ◌-◌, ◌*◌, ◌/◌, ◌%◌, ◌^◌, ◌<◌, ◌≤◌, ◌≢◌, ⊎_elim, true, refl, ap, ◌∙◌, sym, arith, List, ◌++◌, take, drop, length, get_or, replicate}
+use Rattle.std.proofs.Common.{◌≡◌, ℕ, zero, suc, ◌+◌, ◌-◌, ◌*◌, ◌/◌, ◌%◌, ◌^◌, ◌<◌, ◌≤◌, ◌≢◌, ⊎_elim, true, refl, ap, ◌∙◌, sym, subst, arith, List, ◌++◌, take, drop, length, get_or, replicate}
 use Rattle.std.specs.Prelude.{slice_index}
 use borrow.Rule.Slice.PartMut.{put_mid}
-use Rattle.std.proofs.lemmas.List.{length-take, get_or_append_left, get_or-append_right, get_or-take, get_or-drop, get_or-replicate, get_or_past, length-replicate}
+use Rattle.std.proofs.lemmas.List.{length-drop, length-take, get_or_append_left, get_or-append_right, get_or-take, get_or-drop, get_or-replicate, get_or_past, length-replicate}
 use Rattle.std.proofs.lemmas.Bool.{cases_lt, cases_eq}
 use Rattle.std.proofs.lemmas.Nat.{shr-shr, shr_high, mod_low, mod_below, mul-le, div-mul-add, mod-mul-add}
 use Rattle.std.proofs.Math.Nat.{mul_comm, mul-le-mul_left, div-add-mod, zero-div, zero-mod}
@@ -27,6 +27,35 @@ copied_more depth first k value old mid new before here others = record {
       (cases_eq i k);
   others = λ n apart. others n (apart k (omega arith)) ∙ before.others n (λ i h. apart i (omega arith));
 }
+
+-- and some more behind them
+pub copied_joined : (depth first k size : ℕ) (value : ℕ → ℕ) (old mid new : List ℕ) → Copied depth first k value old mid → Copied depth (first + k) size (λ i. value (k + i)) mid new → Copied depth first (k + size) value old new
+copied_joined depth first k size value old mid new before more = record {
+  written = λ i h.
+      ⊎_elim
+      (λ (e : i < k). more.others (first + i) (λ j l. omega arith) ∙ before.written i e)
+      (λ (e : k ≤ i).
+      let at : first + i ≡ first + k + (i - k) = omega arith in
+      let back : k + (i - k) ≡ i = omega arith in
+      ap (raw_at depth new) at ∙ more.written (i - k) (omega arith) ∙ ap value back)
+      (cases_lt i k);
+  others = λ n apart. more.others n (λ i h same. apart (k + i) (omega arith) (omega (arith, same))) ∙ before.others n (λ i h. apart i (omega arith));
+}
+
+-- three runs from one run of another list, one behind the other
+pub copied_thrice : (depth first head whole rest from_first : ℕ) (from old a b new : List ℕ) → Copied depth first head (λ i. raw_at depth from (from_first + i)) old a → Copied depth (first + head) whole (λ i. raw_at depth from (from_first + head + i)) a b → Copied depth (first + (head + whole)) rest (λ i. raw_at depth from (from_first + (head + whole) + i)) b new → Copied depth first (head + whole + rest) (λ i. raw_at depth from (from_first + i)) old new
+copied_thrice depth first head whole rest from_first from old a b new begun more last =
+    let value = λ (i : ℕ). raw_at depth from (from_first + i) in
+    let two = copied_joined depth first head whole value old a b begun
+    (record {
+      written = λ i h. more.written i h ∙ ap (raw_at depth from) (let at : from_first + head + i ≡ from_first + (head + i) = omega arith in at);
+      others = more.others;
+    }) in
+    copied_joined depth first (head + whole) rest value old b new two
+    (record {
+      written = λ i h. last.written i h ∙ ap (raw_at depth from) (let at : from_first + (head + whole) + i ≡ from_first + (head + whole + i) = omega arith in at);
+      others = last.others;
+    })
 
 -- the bytes of a whole pixel, wherever they stand
 little-moved : (k : ℕ) (bytes others : List ℕ) (at to : ℕ) → ((j : ℕ) → j < k → get_or bytes (at + j) 0 ≡ get_or others (to + j) 0) → little k bytes at ≡ little k others to
@@ -88,6 +117,16 @@ stretch_of old new ys from a len from_start m same is s = record {
       ∙ get_or-take m (drop from_start from) j 0 (omega arith) ∙ get_or-drop from_start from j 0;
 }
 
+-- a stretch that was copied from another list
+pub put_stretch : (old from ys : List ℕ) (start len from_start : ℕ) → start + len ≤ length old → from_start + len ≤ length from → ys ≡ take (from_start + len - from_start) (drop from_start from) → Stretch old (put_mid start (start + len - start) old ys) from start len from_start
+put_stretch old from ys start len from_start here there is =
+    let same : start + len - start ≡ len = omega arith in
+    let from_same : from_start + len - from_start ≡ len = omega arith in
+    let size : length ys ≡ len = ap length is ∙ omega (arith, there, length-take (from_start + len - from_start) (drop from_start from), length-drop from_start from) in
+    let put = stretch_put old ys start (start + len - start) (size ∙ sym same) (omega (arith, here, same)) in
+    let put_len = subst (λ (n : ℕ). Stretch old (put_mid start (start + len - start) old ys) ys start n 0) same put in
+    stretch_of old (put_mid start (start + len - start) old ys) ys from start len from_start (from_start + len - from_start) from_same is put_len
+
 -- one more line of bytes was written below others
 pub lines_grow : (rows line : List ℕ) (row width k : ℕ) (f : ℕ → ℕ → ℕ) → k ≡ width → row * width + width ≤ length rows → length line ≡ width → ((j : ℕ) → j < row * width → get_or rows j 0 ≡ f (j / width) (j % width)) → ((j : ℕ) → j < width → get_or line j 0 ≡ f row j) → (j : ℕ) → j < (row + 1) * width → get_or (put_mid (row * width) k rows line) j 0 ≡ f (j / width) (j % width)
 lines_grow rows line row width k f same fits size above here j below =
@@ -140,6 +179,79 @@ whole_copied depth first count from_first old new from is whole s =
           (cases_lt n (first + count)))
           (cases_lt n first))
           ∙ sym (raw_at_whole depth k old n some size);
+    }
+
+-- ---- whole bytes of small pixels
+
+-- a pixel's byte and its place there, counted from a whole byte on
+record Place (depth first start i : ℕ) : Type 0 where
+  pub byte : (first + i) / (8 / depth) ≡ start + i / (8 / depth)
+  pub place : (first + i) % (8 / depth) ≡ i % (8 / depth)
+
+place_at : (depth first start i : ℕ) → is_depth depth ≡ true → depth < 8 → first ≡ start * (8 / depth) → Place depth first start i
+place_at depth first start i is small begins =
+    let all : first ≡ start * (8 / depth) → Place depth first start i =
+    by_depth (λ d. first ≡ start * (8 / d) → Place d first start i) depth is small
+    (λ e. record { byte = omega (arith, e); place = omega (arith, e) })
+    (λ e. record { byte = omega (arith, e); place = omega (arith, e) })
+    (λ e. record { byte = omega (arith, e); place = omega (arith, e) }) in
+    all begins
+
+-- the pixels of so many whole bytes
+record Cells (depth first start count len n : ℕ) : Type 0 where
+  pub before : n < first → n / (8 / depth) < start
+  pub after : first + count ≤ n → start + len ≤ n / (8 / depth)
+  pub inner : n < count → n / (8 / depth) < len
+
+cells_at : (depth first start count len n : ℕ) → is_depth depth ≡ true → depth < 8 → first ≡ start * (8 / depth) → count ≡ len * (8 / depth) → Cells depth first start count len n
+cells_at depth first start count len n is small begins whole =
+    let all : first ≡ start * (8 / depth) → count ≡ len * (8 / depth) → Cells depth first start count len n =
+    by_depth (λ d. first ≡ start * (8 / d) → count ≡ len * (8 / d) → Cells d first start count len n) depth is small
+    (λ e f. record { before = λ h. omega (arith, e); after = λ h. omega (arith, e, f); inner = λ h. omega (arith, f) })
+    (λ e f. record { before = λ h. omega (arith, e); after = λ h. omega (arith, e, f); inner = λ h. omega (arith, f) })
+    (λ e f. record { before = λ h. omega (arith, e); after = λ h. omega (arith, e, f); inner = λ h. omega (arith, f) }) in
+    all begins whole
+
+pub whole_bytes : (depth n : ℕ) → is_depth depth ≡ true → depth < 8 → n % (8 / depth) ≡ 0 → n ≡ n / (8 / depth) * (8 / depth)
+whole_bytes depth n is small none =
+    let all : n % (8 / depth) ≡ 0 → n ≡ n / (8 / depth) * (8 / depth) =
+    by_depth (λ d. n % (8 / d) ≡ 0 → n ≡ n / (8 / d) * (8 / d)) depth is small (λ e. omega (arith, e)) (λ e. omega (arith, e)) (λ e. omega (arith, e)) in
+    all none
+
+-- the bytes that so many whole bytes of pixels have
+pub small_fits : (depth start count len size n : ℕ) → is_depth depth ≡ true → depth < 8 → n ≡ start * (8 / depth) → count ≡ len * (8 / depth) → (n + count) * depth ≤ 8 * size → start + len ≤ size
+small_fits depth start count len size n is small begins whole fits =
+    let all : n ≡ start * (8 / depth) → count ≡ len * (8 / depth) → (n + count) * depth ≤ 8 * size → start + len ≤ size =
+    by_depth (λ d. n ≡ start * (8 / d) → count ≡ len * (8 / d) → (n + count) * d ≤ 8 * size → start + len ≤ size) depth is small
+    (λ e f h. omega (arith, e, f, h)) (λ e f h. omega (arith, e, f, h)) (λ e f h. omega (arith, e, f, h)) in
+    all begins whole fits
+
+pub small_copied : (depth first count from_first start len from_start : ℕ) (old new from : List ℕ) → is_depth depth ≡ true → depth < 8 → first ≡ start * (8 / depth) → from_first ≡ from_start * (8 / depth) → count ≡ len * (8 / depth) → Stretch old new from start len from_start → Copied depth first count (λ i. raw_at depth from (from_first + i)) old new
+small_copied depth first count from_first start len from_start old new from is small begins from_begins whole s =
+    let per = 8 / depth in
+    record {
+      written = λ i h.
+          let here = place_at depth first start i is small begins in
+          let there = place_at depth from_first from_start i is small from_begins in
+          let within = (cells_at depth first start count len i is small begins whole).inner h in
+          raw_at_small depth new (first + i) small
+          ∙ (λ t. get_or new (here.byte t) 0 / 2 ^ (depth * (per - 1 - here.place t)) % 2 ^ depth)
+          ∙ ap (λ b. b / 2 ^ (depth * (per - 1 - i % per)) % 2 ^ depth) (s.written (i / per) within)
+          ∙ (λ t. get_or from (sym there.byte t) 0 / 2 ^ (depth * (per - 1 - sym there.place t)) % 2 ^ depth)
+          ∙ sym (raw_at_small depth from (from_first + i) small);
+      others = λ n apart.
+          let cells = cells_at depth first start count len n is small begins whole in
+          raw_at_small depth new n small
+          ∙ ap (λ b. b / 2 ^ shift depth n % 2 ^ depth)
+          (⊎_elim
+          (λ (h : n < first). s.before (n / per) (cells.before h))
+          (λ (h : first ≤ n).
+          ⊎_elim
+          (λ (e : n < first + count). absurd (apart (n - first) (omega arith) (omega arith)))
+          (λ (e : first + count ≤ n). s.after (n / per) (cells.after e))
+          (cases_lt n (first + count)))
+          (cases_lt n first))
+          ∙ sym (raw_at_small depth old n small);
     }
 
 -- ---- pixels of one value

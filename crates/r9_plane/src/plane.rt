@@ -5,7 +5,7 @@ ghost use Rattle.model_pixel.specs.Rows.{byte_at, raw_at, row_bytes, row_pixel, 
 
 use super::packed;
 use super::rows::{row_bytes, skip};
-use super::runs::{self, MOST_PIXELS};
+use super::runs::{self, BLOCK_BYTES, MOST_PIXELS};
 use r9_chan::Chan;
 use r9_geom::{Point, Rect, distance};
 use r9_memory::Memory;
@@ -132,6 +132,83 @@ impl Plane {
         }
         let first = self.number(at);
         runs::write_run(&mut self.bytes, self.depth, first, raws);
+    }
+
+    // Writes pixels side by side, from a point to the right, all as those of a block.
+    fn fill_row(&mut self, at: Point, width: usize, block: &[u8])
+        requires inside { (p : Point) → IsTrue (holds (strip at width) p) → IsTrue (holds (rect_of self.old) p) }
+        requires room { 256 * channels.depth (chan_of self.old) ≤ 8 * length block.now }
+        requires block { (n : ℕ) → n < 256 → raw_at (channels.depth (chan_of self.old)) block.now n ≡ raw_at (channels.depth (chan_of self.old)) block.now 0 }
+        ensures rect { rect_of self.new ≡ rect_of self.old }
+        ensures chan { chan_of self.new ≡ chan_of self.old }
+        ensures pixels { (q : Point) → pixel_at self.new q ≡ (if holds (strip at width) q then raw_at (channels.depth (chan_of self.old)) block.now 0 else pixel_at self.old q) }
+    {
+        if width == 0 {
+            return;
+        }
+        let first = self.number(at);
+        runs::fill_run(&mut self.bytes, self.depth, first, width, block);
+    }
+
+    /// Writes one raw pixel at all points of a rectangle.
+    pub fn fill(&mut self, r: Rect, raw: u32)
+        requires near { IsRectNear r }
+        requires ordered { IsOrdered r }
+        requires inside { (p : Point) → IsTrue (holds r p) → IsTrue (holds (rect_of self.old) p) }
+        requires raw { raw < 2 ^ channels.depth (chan_of self.old) }
+        ensures rect { rect_of self.new ≡ rect_of self.old }
+        ensures chan { chan_of self.new ≡ chan_of self.old }
+        ensures pixels { (q : Point) → pixel_at self.new q ≡ (if holds r q then raw else pixel_at self.old q) }
+    {
+        let mut block = [0; BLOCK_BYTES];
+        runs::fill_block(&mut block, self.depth, raw);
+        let width = r.width() as usize;
+        for row in 0..r.height() {
+            self.fill_row(r.point_at(0, row), width, &block);
+        }
+    }
+
+    // Takes pixels side by side from another plane of the same channels, there from `from` and here from `at` to the right.
+    fn copy_row(&mut self, at: Point, width: usize, other: &Plane, from: Point)
+        requires inside { (p : Point) → IsTrue (holds (strip at width) p) → IsTrue (holds (rect_of self.old) p) }
+        requires inside_from { (p : Point) → IsTrue (holds (strip from width) p) → IsTrue (holds (rect_of other.now) p) }
+        requires chan { chan_of other.now ≡ chan_of self.old }
+        ensures rect { rect_of self.new ≡ rect_of self.old }
+        ensures chan { chan_of self.new ≡ chan_of self.old }
+        ensures pixels { (q : Point) → pixel_at self.new q ≡ (if holds (strip at width) q then pixel_at other.now (along from (distance at.x q.x)) else pixel_at self.old q) }
+    {
+        if width == 0 {
+            return;
+        }
+        let first = self.number(at);
+        let from_first = other.number(from);
+        runs::copy_run(
+            &mut self.bytes,
+            self.depth,
+            first,
+            width,
+            &other.bytes,
+            from_first,
+        );
+    }
+
+    /// Takes the pixels of a rectangle from another plane of the same channels, where its min stands at `from`.
+    pub fn copy(&mut self, r: Rect, other: &Plane, from: Point)
+        requires near { IsRectNear r }
+        requires ordered { IsOrdered r }
+        requires near_from { IsNear from }
+        requires inside { (p : Point) → IsTrue (holds r p) → IsTrue (holds (rect_of self.old) p) }
+        requires inside_from { (p : Point) → IsTrue (holds r p) → IsTrue (holds (rect_of other.now) (carried p r.min from)) }
+        requires chan { chan_of other.now ≡ chan_of self.old }
+        ensures rect { rect_of self.new ≡ rect_of self.old }
+        ensures chan { chan_of self.new ≡ chan_of self.old }
+        ensures pixels { (q : Point) → pixel_at self.new q ≡ (if holds r q then pixel_at other.now (carried q r.min from) else pixel_at self.old q) }
+    {
+        let width = r.width() as usize;
+        for row in 0..r.height() {
+            let at = r.point_at(0, row);
+            self.copy_row(at, width, other, at.carried(r.min, from));
+        }
     }
 
     /// Gives the rectangle another min. Each pixel stays where it is in it, so that none is moved.

@@ -1,6 +1,6 @@
 // Pixels side by side in packed bytes, of 1, 2, 4, 8, 16, 24 or 32 bits.
 
-ghost use Rattle.std.specs.Prelude.{◌≡◌, ◌≢◌, ℕ, ◌+◌, ◌*◌, ◌/◌, ◌<◌, ◌≤◌, ◌^◌, IsTrue, IfOk, length, slice_index, vec_len};
+ghost use Rattle.std.specs.Prelude.{◌≡◌, ◌≢◌, ℕ, ◌+◌, ◌*◌, ◌/◌, ◌%◌, ◌<◌, ◌≤◌, ◌^◌, IsTrue, IfOk, length, slice_index, vec_len};
 ghost use Rattle.model_pixel.specs.Channels.{is_depth, repeated};
 ghost use Rattle.model_pixel.specs.Rows.{raw_at};
 
@@ -10,6 +10,12 @@ use std::alloc::Global;
 
 // No memory holds so many pixels.
 pub const MOST_PIXELS: usize = 1 << 58;
+
+// How many pixels of one raw value are written at a time.
+const BLOCK: usize = 256;
+
+/// The bytes of a block of such pixels, of any depth.
+pub const BLOCK_BYTES: usize = 1024;
 
 fn read_run_of<const DEPTH: u32>(bytes: &[u8], first: usize, raws: &mut [u32])
     requires depth { IsTrue (is_depth DEPTH) }
@@ -75,7 +81,7 @@ pub fn write_run(bytes: &mut [u8], depth: u32, first: usize, raws: &[u32])
     }
 }
 
-fn copy_small(
+fn copy_pixels(
     bytes: &mut [u8],
     depth: u32,
     first: usize,
@@ -94,6 +100,66 @@ fn copy_small(
     for i in 0..count {
         write(bytes, depth, first + i, read(from, depth, from_first + i));
     }
+}
+
+// Whole bytes of small pixels, where both runs begin at one.
+fn copy_bytes(
+    bytes: &mut [u8],
+    depth: u32,
+    first: usize,
+    count: usize,
+    from: &[u8],
+    from_first: usize,
+)
+    requires depth { IsTrue (is_depth depth) }
+    requires small { depth < 8 }
+    requires numbers { first + count < 2 ^ 63 }
+    requires from_numbers { from_first + count < 2 ^ 63 }
+    requires within { (first + count) * depth ≤ 8 * length bytes.old }
+    requires from { (from_first + count) * depth ≤ 8 * length from.now }
+    requires begins { first % (8 / depth) ≡ 0 }
+    requires from_begins { from_first % (8 / depth) ≡ 0 }
+    requires whole { count % (8 / depth) ≡ 0 }
+    ensures written { (i : ℕ) → i < count → raw_at depth bytes.new (first + i) ≡ raw_at depth from.now (from_first + i) }
+    ensures others { (n : ℕ) → ((i : ℕ) → i < count → n ≢ first + i) → raw_at depth bytes.new n ≡ raw_at depth bytes.old n }
+{
+    let per_byte = 8 / depth as usize;
+    let start = first / per_byte;
+    let from_start = from_first / per_byte;
+    let len = count / per_byte;
+    bytes[start..start + len].copy_from_slice(&from[from_start..from_start + len]);
+}
+
+// Where both runs begin at one place of a byte, its whole bytes are copied as they are.
+fn copy_small(
+    bytes: &mut [u8],
+    depth: u32,
+    first: usize,
+    count: usize,
+    from: &[u8],
+    from_first: usize,
+)
+    requires depth { IsTrue (is_depth depth) }
+    requires small { depth < 8 }
+    requires numbers { first + count < 2 ^ 63 }
+    requires from_numbers { from_first + count < 2 ^ 63 }
+    requires within { (first + count) * depth ≤ 8 * length bytes.old }
+    requires from { (from_first + count) * depth ≤ 8 * length from.now }
+    ensures written { (i : ℕ) → i < count → raw_at depth bytes.new (first + i) ≡ raw_at depth from.now (from_first + i) }
+    ensures others { (n : ℕ) → ((i : ℕ) → i < count → n ≢ first + i) → raw_at depth bytes.new n ≡ raw_at depth bytes.old n }
+{
+    let per_byte = 8 / depth as usize;
+    let head = (per_byte - first % per_byte) % per_byte;
+    if first % per_byte != from_first % per_byte || count < head {
+        copy_pixels(bytes, depth, first, count, from, from_first);
+        return;
+    }
+    let rest = (count - head) % per_byte;
+    let whole = count - head - rest;
+    copy_pixels(bytes, depth, first, head, from, from_first);
+    copy_bytes(bytes, depth, first + head, whole, from, from_first + head);
+    let done = head + whole;
+    copy_pixels(bytes, depth, first + done, rest, from, from_first + done);
 }
 
 fn copy_whole(
@@ -171,6 +237,43 @@ fn byte_of(depth: u32, raw: u32) -> u8
     repeated as u8
 }
 
+/// Makes a block of 256 packed pixels of one raw value.
+pub fn fill_block(block: &mut [u8], depth: u32, raw: u32)
+    requires depth { IsTrue (is_depth depth) }
+    requires room { 256 * depth ≤ 8 * length block.old }
+    requires raw { raw < 2 ^ depth }
+    ensures { (n : ℕ) → n < 256 → raw_at depth block.new n ≡ raw }
+{
+    match depth {
+        8 => fill_whole::<8>(block, BLOCK, raw),
+        16 => fill_whole::<16>(block, BLOCK, raw),
+        24 => fill_whole::<24>(block, BLOCK, raw),
+        32 => fill_whole::<32>(block, BLOCK, raw),
+        _ => block.fill(byte_of(depth, raw)),
+    }
+}
+
+/// Writes `count` pixels from number `first` on, and no other. They become as those of a block of 256 packed ones, which are
+/// all equal.
+pub fn fill_run(bytes: &mut [u8], depth: u32, first: usize, count: usize, block: &[u8])
+    requires depth { IsTrue (is_depth depth) }
+    requires numbers { first + count < 2 ^ 63 }
+    requires within { (first + count) * depth ≤ 8 * length bytes.old }
+    requires room { 256 * depth ≤ 8 * length block.now }
+    requires block { (n : ℕ) → n < 256 → raw_at depth block.now n ≡ raw_at depth block.now 0 }
+    ensures written { (i : ℕ) → i < count → raw_at depth bytes.new (first + i) ≡ raw_at depth block.now 0 }
+    ensures others { (n : ℕ) → ((i : ℕ) → i < count → n ≢ first + i) → raw_at depth bytes.new n ≡ raw_at depth bytes.old n }
+{
+    // Both then begin at one place of a byte.
+    let skip = first % 8;
+    let mut done = 0;
+    while done < count {
+        let size = (count - done).min(BLOCK - 8);
+        copy_run(bytes, depth, first + done, size, block, skip);
+        done += size;
+    }
+}
+
 /// So many packed pixels, all of one raw value.
 pub fn filled(alloc: Global, depth: u32, count: usize, raw: u32) -> Result<Vec<u8>, Memory>
     requires depth { IsTrue (is_depth depth) }
@@ -184,11 +287,8 @@ pub fn filled(alloc: Global, depth: u32, count: usize, raw: u32) -> Result<Vec<u
         return Ok(vec![in alloc; byte_of(depth, raw); size]?);
     }
     let mut bytes = vec![in alloc; 0; count * (depth as usize / 8)]?;
-    match depth {
-        8 => fill_whole::<8>(&mut bytes, count, raw),
-        16 => fill_whole::<16>(&mut bytes, count, raw),
-        24 => fill_whole::<24>(&mut bytes, count, raw),
-        _ => fill_whole::<32>(&mut bytes, count, raw),
-    }
+    let mut block = [0; BLOCK_BYTES];
+    fill_block(&mut block, depth, raw);
+    fill_run(&mut bytes, depth, 0, count, &block);
     Ok(bytes)
 }

@@ -5,7 +5,7 @@ use Rattle.std.proofs.lemmas.Bool.{false≢true}
 use Rattle.std.proofs.lemmas.Int.{ints}
 use Rattle.r9_geom.specs.declared.Point.{Point}
 use Rattle.r9_geom.specs.declared.Rect.{Rect}
-use Rattle.r9_geom.specs.Geometry.{distance, holds, is_empty, strip, width, IsNear, IsRectNear, IsRectNearBy}
+use Rattle.r9_geom.specs.Geometry.{distance, holds, is_empty, strip, width, IsNear, IsOrdered, IsRectNear, IsRectNearBy}
 use Rattle.r9_geom.proofs.GeometryLemmas.{bounds_of, distance_is, holds_from, int_le_false, near_point, near_wider, same_point, same_tests}
 use Rattle.r9_plane.specs.Pixels.{along}
 use Rattle.model_forest.specs.declared.Window.{Window}
@@ -115,6 +115,12 @@ near_within world i r ok live solid inside =
         bottom = omega (arith, ints, is.high.bottom, far.bottom);
       };
     }
+
+-- a rectangle with points is ordered
+pub solid_ordered : (r : Rect) → is_empty r ≡ false → IsOrdered r
+solid_ordered r solid =
+    let is = is_within r r solid (λ p h. h) in
+    record { across = omega (arith, ints, is.across); down = omega (arith, ints, is.down) }
 
 -- a rectangle with points within an image is not wider than it
 pub width_own : (world : World) (i : ℕ) (r : Rect) → IsForest world → IsLive world i → is_empty r ≡ false → ((p : Point) → holds r p ≡ true → holds (image_at world i).r p ≡ true) → width r ≤ 2 ^ 40

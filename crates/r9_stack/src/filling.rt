@@ -1,7 +1,7 @@
 //! What a window uncovers is filled while the window still stands there: nothing that is written beneath it shows, so that
 //! the fill is read in the state before, also where it is the parent itself or shows it. No call takes memory.
 
-ghost use Rattle.std.specs.Prelude.{◌≡◌, ◌&&◌, ◌==◌, ◌^◌, ◌<◌, ◌≤◌, false, ℕ, length, slice_index, IsTrue, if◌then◌else◌};
+ghost use Rattle.std.specs.Prelude.{◌≡◌, ◌&&◌, ◌==◌, ◌^◌, ◌<◌, ◌≤◌, false, ℕ, length, slice_index, IfSome, IsTrue, if◌then◌else◌};
 ghost use Rattle.r9_geom.specs.declared.Point.{Point as Spot};
 ghost use Rattle.r9_geom.specs.Geometry.{holds, is_empty, strip, IsNear, IsNearBy, IsOrdered, IsRectNear};
 ghost use Rattle.model_pixel.specs.Channels as channels;
@@ -218,8 +218,28 @@ impl Images {
         ensures numbers { numbers self.new ≡ numbers self.old }
         ensures beneath { (p : Spot) → beneath self.new i p ≡ (if holds area.now p then fill_at (world self.old) (image_at (world self.old) i).chan fill p else beneath self.old i p) }
     {
-        if !area.is_empty() {
-            self.fill_area(i, fill, area);
+        if area.is_empty() {
+            return;
+        }
+        let chan = self.get(i).chan();
+        match self.solid_fill(fill, &chan, area) {
+            Some(raw) => self.fill_points(i, *area, raw),
+            None => self.fill_area(i, fill, area),
+        }
+    }
+
+    // The one pixel that a fill gives channels at all points of a rectangle, where it repeats a single one.
+    fn solid_fill(&self, fill: u32, chan: &Chan, area: &Rect) -> Option<u32>
+        requires { IsLive (world self.now) fill }
+        ensures value { IfSome result (λ raw. (p : Spot) → IsTrue (holds area.now p) → fill_at (world self.now) chan.now fill p ≡ raw) }
+        ensures range { IfSome result (λ raw. raw < 2 ^ channels.depth chan.now) }
+    {
+        let raw = self.single(fill)?;
+        let image = self.get(fill);
+        if image.repl() && area.inside(&image.clipr()) {
+            Some(converted(&image.chan(), chan, raw))
+        } else {
+            None
         }
     }
 }

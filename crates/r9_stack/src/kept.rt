@@ -3,7 +3,7 @@
 ghost use Rattle.std.specs.Prelude.{◌≡◌, ◌*◌, ◌^◌, ◌<◌, ◌≤◌, ◌≤ℤ◌, neg_ℤ, pos, ℕ, [], true, length, map, slice_index, vec_len, All, EachIndex, IfOk, IsTrue, if◌then◌else◌};
 ghost use Rattle.r9_geom.specs.declared.Point.{Point as Spot};
 ghost use Rattle.r9_geom.specs.Geometry as geometry;
-ghost use Rattle.r9_geom.specs.Geometry.{height, holds, strip, width, HasPoints, IsNearBy, IsOrdered, IsRectNear, IsRectNearBy};
+ghost use Rattle.r9_geom.specs.Geometry.{carried, height, holds, strip, width, HasPoints, IsNear, IsNearBy, IsOrdered, IsRectNear, IsRectNearBy};
 ghost use Rattle.model_pixel.specs.Channels as channels;
 ghost use Rattle.model_pixel.specs.Rows.{row_bytes, row_pixel, rows_of};
 ghost use Rattle.r9_plane.specs.Pixels.{along, chan_of, number_of, pixel_at, rect_of};
@@ -279,6 +279,32 @@ impl Kept {
         ensures pixels { (q : Spot) → pixels_of self.new q ≡ (if holds (strip at (length raws.now)) q then slice_index raws.now (geometry.distance at.x q.x) else pixels_of self.old q) }
     {
         self.plane.put_row(at, raws);
+    }
+
+    /// Writes one raw pixel at all points of a rectangle.
+    pub fn fill(&mut self, r: Rect, raw: u32)
+        requires near { IsRectNear r }
+        requires ordered { IsOrdered r }
+        requires inside { (p : Spot) → IsTrue (holds r p) → IsTrue (holds (image_of self.old).r p) }
+        requires raw { raw < 2 ^ channels.depth (image_of self.old).chan }
+        ensures image { image_of self.new ≡ record (image_of self.old) { canvas = seen (image_of self.old).r (image_of self.old).windows (pixels_of self.new) } }
+        ensures pixels { (q : Spot) → pixels_of self.new q ≡ (if holds r q then raw else pixels_of self.old q) }
+    {
+        self.plane.fill(r, raw);
+    }
+
+    /// Takes the own pixels of another image of the same channels into a rectangle, whose min stands at `from` there.
+    pub fn copy(&mut self, r: Rect, other: &Kept, from: Point)
+        requires near { IsRectNear r }
+        requires ordered { IsOrdered r }
+        requires near_from { IsNear from }
+        requires inside { (p : Spot) → IsTrue (holds r p) → IsTrue (holds (image_of self.old).r p) }
+        requires inside_from { (p : Spot) → IsTrue (holds r p) → IsTrue (holds (image_of other.now).r (carried p r.min from)) }
+        requires chan { (image_of other.now).chan ≡ (image_of self.old).chan }
+        ensures image { image_of self.new ≡ record (image_of self.old) { canvas = seen (image_of self.old).r (image_of self.old).windows (pixels_of self.new) } }
+        ensures pixels { (q : Spot) → pixels_of self.new q ≡ (if holds r q then pixels_of other.now (carried q r.min from) else pixels_of self.old q) }
+    {
+        self.plane.copy(r, &other.plane, from);
     }
 
     /// Writes the pixels of a rectangle, row by row.

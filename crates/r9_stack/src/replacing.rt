@@ -164,12 +164,31 @@ impl Images {
     {
         let mut kept = Kept::new(self.alloc, r, chan, raw)?;
         if keep {
-            self.copy_rows(old, &r, &mut kept);
+            self.copy_shown(old, &r, &mut kept);
         }
         Ok(kept)
     }
 
-    // Copies what an image shows onto one of its size, row by row, block by block.
+    // Copies what an image shows onto one of its size.
+    fn copy_shown(&self, old: u32, r: &Rect, kept: &mut Kept)
+        requires live { IsLive (world self.now) old }
+        requires near { IsRectNearBy (2 ^ 34) r.now }
+        requires ordered { IsOrdered r.now }
+        requires size { SameSize r.now (image_at (world self.now) old).r }
+        requires rect { (image_of kept.old).r ≡ r.now }
+        requires chan { (image_of kept.old).chan ≡ (image_at (world self.now) old).chan }
+        ensures image { image_of kept.new ≡ record (image_of kept.old) { canvas = seen r.now (image_of kept.old).windows (pixels_of kept.new) } }
+        ensures pixels { (p : Spot) → pixels_of kept.new p ≡ (if holds r.now p then model.view (world self.now) old (carried p r.now.min (image_at (world self.now) old).r.min) else pixels_of kept.old p) }
+    {
+        let shown = self.get(old);
+        if shown.windows().is_empty() {
+            kept.copy(*r, shown, shown.rect().min);
+        } else {
+            self.copy_rows(old, r, kept);
+        }
+    }
+
+    // The same where windows stand on it, row by row, block by block.
     fn copy_rows(&self, old: u32, r: &Rect, kept: &mut Kept)
         requires live { IsLive (world self.now) old }
         requires near { IsRectNearBy (2 ^ 34) r.now }

@@ -12,45 +12,7 @@ ghost use Rattle.model_forest.specs.World.{image_at, IsLive};
 ghost use Rattle.r9_stack.specs.Images.{image_of, pixels_of};
 
 use super::images::Images;
-use super::kept::Kept;
-use super::reading::along;
 use r9_geom::{Point, Rect};
-
-// How many pixels of a row are written at a time.
-const BLOCK: usize = 256;
-
-// Writes one raw pixel at all points of a rectangle of an image, row by row.
-fn fill_rows(kept: &mut Kept, r: &Rect, raw: u32)
-    requires near { IsRectNear r.now }
-    requires ordered { IsOrdered r.now }
-    requires inside { (p : Spot) → IsTrue (holds r.now p) → IsTrue (holds (image_of kept.old).r p) }
-    requires raw { raw < 2 ^ channels.depth (image_of kept.old).chan }
-    ensures image { image_of kept.new ≡ record (image_of kept.old) { canvas = seen (image_of kept.old).r (image_of kept.old).windows (pixels_of kept.new) } }
-    ensures pixels { (p : Spot) → pixels_of kept.new p ≡ (if holds r.now p then raw else pixels_of kept.old p) }
-{
-    let width = r.width() as usize;
-    for row in 0..r.height() {
-        fill_strip(kept, r.point_at(0, row), width, raw);
-    }
-}
-
-// The same at points side by side, from `at` to the right, block by block.
-fn fill_strip(kept: &mut Kept, at: Point, count: usize, raw: u32)
-    requires near { IsNear at }
-    requires width { count ≤ 2 ^ 41 }
-    requires inside { (p : Spot) → IsTrue (holds (strip at count) p) → IsTrue (holds (image_of kept.old).r p) }
-    requires raw { raw < 2 ^ channels.depth (image_of kept.old).chan }
-    ensures image { image_of kept.new ≡ record (image_of kept.old) { canvas = seen (image_of kept.old).r (image_of kept.old).windows (pixels_of kept.new) } }
-    ensures pixels { (p : Spot) → pixels_of kept.new p ≡ (if holds (strip at count) p then raw else pixels_of kept.old p) }
-{
-    let block = [raw; BLOCK];
-    let mut done = 0;
-    while done < count {
-        let size = (count - done).min(BLOCK);
-        kept.put_row(along(at, done), &block[..size]);
-        done += size;
-    }
-}
 
 impl Images {
     ghost use Rattle.r9_stack.specs.Table.{beneath, numbers, world};
@@ -110,8 +72,22 @@ impl Images {
         ensures world { world self.new ≡ after_fill (world self.old) i r raw }
         ensures numbers { numbers self.new ≡ numbers self.old }
     {
+        self.fill_points(i, r, raw);
+    }
+
+    /// The same, with what it writes beneath windows.
+    pub(crate) fn fill_points(&mut self, i: u32, r: Rect, raw: u32)
+        requires live { IsLive (world self.old) i }
+        requires near { IsRectNear r }
+        requires ordered { IsOrdered r }
+        requires inside { (p : Spot) → IsTrue (holds r p) → IsTrue (holds (image_at (world self.old) i).r p) }
+        requires raw { raw < 2 ^ channels.depth (image_at (world self.old) i).chan }
+        ensures world { world self.new ≡ with_canvas (world self.old) i (holds r) (λ _. raw) }
+        ensures numbers { numbers self.new ≡ numbers self.old }
+        ensures beneath { (p : Spot) → beneath self.new i p ≡ (if holds r p then raw else beneath self.old i p) }
+    {
         if let Some(kept) = &mut self.slots[i as usize] {
-            fill_rows(kept, &r, raw);
+            kept.fill(r, raw);
         }
     }
 }

@@ -29,5 +29,5 @@ returns-in_err-room-clause-memory c fits =
     let W = world c.args.self.now in
     let count : area_of c.area-area.result ≤ room c.args.self.now = omega (arith, area_count W d c.area-area.result c.area-area.ensures (sym c.is_empty.ensures.exact ∙ c.if-is_empty.false), fits) in
     let product : c.width.result * c.height.result ≡ area_of c.area-area.result = (λ j. c.width.ensures j * c.height.ensures j) in
-    let enough : c.in-Some.points ≤ room c.args.self.now = omega (arith, c.in-Some.ensures.1, product, count) in
+    let enough : c.in-Some-checked_mul.points ≤ room c.args.self.now = omega (arith, c.in-Some-checked_mul.ensures.1, product, count) in
     absurd (false≢true (c.in_err-room.ensures.memory enough))

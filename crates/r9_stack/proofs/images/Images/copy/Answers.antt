@@ -12,8 +12,8 @@ use Rattle.r9_stack.specs.Table.{world}
 use Rattle.r9_stack.proofs.images.Images.copy.Goals as goal
 use Rattle.r9_stack.proofs.images.Images.copy.Goals.{then-keep, else-keep}
 
-pub copy_rows-requires-clause-chan : goal.copy_rows-requires-clause-chan
-copy_rows-requires-clause-chan c = ap (λ (image : Image). image.chan) c.in_ok-kept.ensures ∙ c.requires.chan c.if-keep.true
+pub copy_shown-requires-clause-chan : goal.copy_shown-requires-clause-chan
+copy_shown-requires-clause-chan c = ap (λ (image : Image). image.chan) c.in_ok-kept.ensures ∙ c.requires.chan c.if-keep.true
 
 pub returns : goal.returns
 returns c =
@@ -24,14 +24,14 @@ returns c =
     let picture = λ (p : Point). view w old (carried p r.min (image_at w old).r.min) in
     elim c.if-keep.branch [
       | then-keep b ↦
-          let pixels = pixels_of b.copy_rows.new.kept in
+          let pixels = pixels_of b.copy_shown.new.kept in
           ap image_of b.kept-is
-          ∙ b.copy_rows.ensures.image
+          ∙ b.copy_shown.ensures.image
           ∙ ap (λ (image : Image). record image { canvas = seen r image.windows pixels }) c.in_ok-kept.ensures
           ∙ ap (λ (canvas : Point → ℕ). record (new_image r c.args.chan raw) { canvas = canvas })
           (seen-same r [] (λ p. if c.args.keep then picture p else raw) pixels
           (λ p inside bare.
-          b.copy_rows.ensures.pixels p
+          b.copy_shown.ensures.pixels p
           ∙ ap (λ t. if t then picture p else pixels_of c.in_ok-kept.kept p) inside
           ∙ ap (λ t. if t then picture p else raw) (sym b.if-keep.true)))
       | else-keep b ↦
