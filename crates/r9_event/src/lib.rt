@@ -2,10 +2,12 @@
 //! windows and what is ordered of the draw device.
 #![tactic(auto)]
 
+mod ask;
 mod event;
 mod lists;
 mod rio;
 
+pub use ask::{Answer, Ask};
 pub use event::{Did, Entry, Event, Opening, Reply};
 pub use lists::{Entries, Notes, Orders, Replies};
 pub use rio::{Note, Order};

@@ -1,0 +1,11 @@
+//! Tests of sessions and of doors, with a server that replies to each message with its bytes.
+#![tactic(auto)]
+
+#[cfg(test)]
+mod doors;
+#[cfg(test)]
+mod echo;
+#[cfg(test)]
+mod ends;
+#[cfg(test)]
+mod sessions;
