@@ -9,7 +9,7 @@ use Rattle.model_mouse.specs.Queue.{Queue, no_events, fed, resized, answered, an
 use Rattle.model_console.specs.Happening as console
 use Rattle.model_console.specs.Console.{Console, empty, remembered, keyed, with_raw, with_text, after_read, rest, read, text}
 use Rattle.model_console.proofs.Keeping.{step, same_text, same_read}
-use Rattle.model_window.specs.Heard.{Heard, Noted, Raw, Written, Labelled, MouseRead, ConsoleRead, known_heard, known_after, mouse_heard, mouse_answer, console_heard, console_answer, text_of, label_in, label_of}
+use Rattle.model_window.specs.Heard.{Heard, Noted, Raw, Written, Labelled, MouseRead, ConsoleRead, MouseHeld, ConsctlHeld, known_heard, known_after, mouse_heard, mouse_answer, console_heard, console_answer, text_of, label_in, label_of, mouse_held_in, consctl_held_in, is_held_by}
 use Rattle.model_window.specs.Pane.{Pane, new_pane, pane_heard, pane_after}
 
 pub goes_on : (before : List Heard) (now : Heard) → pane_after (before ++ now ∷ []) ≡ pane_heard (pane_after before) now
@@ -39,6 +39,8 @@ known-heard p (Written bytes) = refl
 known-heard p (Labelled bytes) = refl
 known-heard p MouseRead = refl
 known-heard p (ConsoleRead count) = refl
+known-heard p (MouseHeld held) = refl
+known-heard p (ConsctlHeld held) = refl
 
 known-along : (heard : List Heard) (p : Pane) → fold known_heard p.known heard ≡ (fold pane_heard p heard).known
 known-along [] p = refl
@@ -58,6 +60,8 @@ label-heard (Written bytes) p o e = e
 label-heard (Labelled bytes) p o e = refl
 label-heard MouseRead p o e = e
 label-heard (ConsoleRead count) p o e = e
+label-heard (MouseHeld held) p o e = e
+label-heard (ConsctlHeld held) p o e = e
 
 last-fold : {A : Type 0} (o : Option A) (xs : List A) → last_or o xs ≡ fold (λ before x. Some x) o xs
 last-fold o [] = refl
@@ -86,6 +90,8 @@ mouse-heard (Written bytes) p q e = e
 mouse-heard (Labelled bytes) p q e = e
 mouse-heard MouseRead p q e = ap answered e
 mouse-heard (ConsoleRead count) p q e = e
+mouse-heard (MouseHeld held) p q e = e
+mouse-heard (ConsctlHeld held) p q e = e
 
 pub mouse_reads : (heard : List Heard) → mouse_answer heard ≡ answer_text (pane_after heard).mouse
 unfolding pane_after mouse.queue_after
@@ -116,6 +122,9 @@ console-heard (Written bytes) p c e = ap (λ d. remembered (with_text bytes d)) 
 console-heard (Labelled bytes) p c e = e
 console-heard MouseRead p c e = e
 console-heard (ConsoleRead count) p c e = ap (after_read count) e ∙ read-kept count c
+console-heard (MouseHeld held) p c e = e
+console-heard (ConsctlHeld true) p c e = e
+console-heard (ConsctlHeld false) p c e = ap (λ d. remembered (with_raw false d)) e ∙ step (console.Raw false) c
 
 kept : (heard : List Heard) → (pane_after heard).console ≡ remembered (console.console_after (filter_map console_heard heard))
 unfolding pane_after console.console_after
@@ -126,3 +135,39 @@ console_reads count heard = sym (ap (read count) (kept heard) ∙ same_read coun
 
 pub text_reads : (heard : List Heard) → text_of heard ≡ text (pane_after heard).console
 text_reads heard = sym (ap text (kept heard) ∙ same_text (console.console_after (filter_map console_heard heard)))
+
+-- ---- the files that one fid at a time has open
+
+mouse-held-heard : (now : Heard) (p : Pane) (o : Option Bool) → p.mouse_held ≡ unwrap_or o false → (pane_heard p now).mouse_held ≡ unwrap_or (fold (λ before held. Some held) o (cons_option (mouse_held_in now) [])) false
+unfolding pane_heard
+mouse-held-heard (Noted n) p o e = e
+mouse-held-heard (Raw raw) p o e = e
+mouse-held-heard (Written bytes) p o e = e
+mouse-held-heard (Labelled bytes) p o e = e
+mouse-held-heard MouseRead p o e = e
+mouse-held-heard (ConsoleRead count) p o e = e
+mouse-held-heard (MouseHeld held) p o e = refl
+mouse-held-heard (ConsctlHeld held) p o e = e
+
+pub mouse_held : (heard : List Heard) → is_held_by mouse_held_in heard ≡ (pane_after heard).mouse_held
+unfolding pane_after
+mouse_held heard =
+    ap (λ o. unwrap_or o false) (last-fold None (filter_map mouse_held_in heard))
+    ∙ sym (fold-filtered (λ (p : Pane) (o : Option Bool). p.mouse_held ≡ unwrap_or o false) pane_heard mouse_held_in (λ before held. Some held) mouse-held-heard heard new_pane None refl)
+
+consctl-held-heard : (now : Heard) (p : Pane) (o : Option Bool) → p.consctl_held ≡ unwrap_or o false → (pane_heard p now).consctl_held ≡ unwrap_or (fold (λ before held. Some held) o (cons_option (consctl_held_in now) [])) false
+unfolding pane_heard
+consctl-held-heard (Noted n) p o e = e
+consctl-held-heard (Raw raw) p o e = e
+consctl-held-heard (Written bytes) p o e = e
+consctl-held-heard (Labelled bytes) p o e = e
+consctl-held-heard MouseRead p o e = e
+consctl-held-heard (ConsoleRead count) p o e = e
+consctl-held-heard (MouseHeld held) p o e = e
+consctl-held-heard (ConsctlHeld held) p o e = refl
+
+pub consctl_held : (heard : List Heard) → is_held_by consctl_held_in heard ≡ (pane_after heard).consctl_held
+unfolding pane_after
+consctl_held heard =
+    ap (λ o. unwrap_or o false) (last-fold None (filter_map consctl_held_in heard))
+    ∙ sym (fold-filtered (λ (p : Pane) (o : Option Bool). p.consctl_held ≡ unwrap_or o false) pane_heard consctl_held_in (λ before held. Some held) consctl-held-heard heard new_pane None refl)

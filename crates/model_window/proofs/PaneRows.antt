@@ -4,7 +4,7 @@ use Rattle.r9_event.specs.declared.rio.Note.TheVariants as note
 use Rattle.model_wctl.specs.Rectangle.{box}
 use Rattle.model_mouse.specs.Queue.{fed, answered}
 use Rattle.model_console.specs.Console.{keyed, with_raw, after_read}
-use Rattle.model_window.specs.Heard.{Noted, Raw, Written, MouseRead, ConsoleRead, Labelled}
+use Rattle.model_window.specs.Heard.{Noted, Raw, Written, MouseRead, ConsoleRead, MouseHeld, ConsctlHeld, Labelled}
 use Rattle.model_window.specs.Pane.{pane_heard, pane_after, new_pane}
 
 -- all that the cases compute with
@@ -26,6 +26,8 @@ all_kinds : pane_after (
     Written (codes "out") ∷
     ConsoleRead 9 ∷
     Labelled (codes "shell") ∷
+    MouseHeld true ∷
+    ConsctlHeld true ∷
     Noted (note.Hidden true) ∷ [])
     ≡ (record {
       known = record { number = 2; name = codes "window.2.8"; r = box (pos 20) (pos 12) (pos 60) (pos 42); current = true; hidden = true };
@@ -37,6 +39,8 @@ all_kinds : pane_after (
         changed = false;
       };
       console = record { line = []; ended = codes "b" ∷ []; raw = true; written = codes "aout" };
+      mouse_held = true;
+      consctl_held = true;
     })
 unfolding everything
 all_kinds = refl
@@ -54,3 +58,8 @@ next_label = refl
 waiting_reads : pane_after (MouseRead ∷ ConsoleRead 5 ∷ Noted note.Deleted ∷ []) ≡ new_pane
 unfolding everything
 waiting_reads = refl
+
+-- raw mode goes with `consctl`
+raw_ends : (pane_after (ConsctlHeld true ∷ Raw true ∷ ConsctlHeld false ∷ Noted (note.Key (codes "b")) ∷ [])).console.line ≡ codes "b" ∷ []
+unfolding everything
+raw_ends = refl

@@ -25,6 +25,9 @@ pub data Heard : Type 0 where
   -- a read of its `mouse` is answered, or one of its `cons` of so many bytes
   MouseRead : Heard
   ConsoleRead : (count : ℕ) → Heard
+  -- some fid has its `mouse` open from now on, or none has it any more; the same of its `consctl`
+  MouseHeld : (held : Bool) → Heard
+  ConsctlHeld : (held : Bool) → Heard
 
 -- ---- the mouse and the console
 
@@ -54,6 +57,8 @@ console_heard (Noted n) = console_noted n
 console_heard (Raw raw) = Some (console.Raw raw)
 console_heard (Written bytes) = Some (console.Written bytes)
 console_heard (ConsoleRead count) = Some (console.Answer count)
+-- raw mode lasts no longer than `consctl` is open
+console_heard (ConsctlHeld false) = Some (console.Raw false)
 console_heard _ = None
 
 -- what a read of so many bytes of `cons` gives, None where it waits
@@ -115,3 +120,17 @@ label_in _ = None
 -- the first 256 bytes of what was written to `label` last
 abbrev pub label_of : List Heard → List ℕ
 label_of heard = unwrap_or (last_or None (filter_map label_in heard)) []
+
+-- ---- the files that one fid at a time has open
+
+abbrev pub mouse_held_in : Heard → Option Bool
+mouse_held_in (MouseHeld held) = Some held
+mouse_held_in _ = None
+
+abbrev pub consctl_held_in : Heard → Option Bool
+consctl_held_in (ConsctlHeld held) = Some held
+consctl_held_in _ = None
+
+-- what was said of it last; at first no fid has it open
+abbrev pub is_held_by : (Heard → Option Bool) → List Heard → Bool
+is_held_by said heard = unwrap_or (last_or None (filter_map said heard)) false

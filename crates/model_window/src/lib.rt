@@ -5,7 +5,7 @@
 ghost use Rattle.std.specs.Prelude.{◌≡◌, ℕ, List, [], ◌∷◌, ◌++◌};
 ghost use Rattle.model_mouse.specs.Queue.{answer_text};
 ghost use Rattle.model_console.specs.Console.{read, text};
-ghost use Rattle.model_window.specs.Heard.{Heard, known_after, label_of, mouse_answer, console_answer, text_of};
+ghost use Rattle.model_window.specs.Heard.{Heard, known_after, label_of, mouse_answer, console_answer, text_of, is_held_by, mouse_held_in, consctl_held_in};
 ghost use Rattle.model_window.specs.Pane.{pane_heard, pane_after};
 
 /// What happens next acts on what is kept alone: all that happened before shows in it.
@@ -20,4 +20,6 @@ pub fn pane_is_enough()
     ensures mouse { (heard : List Heard) → mouse_answer heard ≡ answer_text (pane_after heard).mouse }
     ensures console { (count : ℕ) (heard : List Heard) → console_answer count heard ≡ read count (pane_after heard).console }
     ensures text { (heard : List Heard) → text_of heard ≡ text (pane_after heard).console }
+    ensures mouse_held { (heard : List Heard) → is_held_by mouse_held_in heard ≡ (pane_after heard).mouse_held }
+    ensures consctl_held { (heard : List Heard) → is_held_by consctl_held_in heard ≡ (pane_after heard).consctl_held }
 {}

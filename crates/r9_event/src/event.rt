@@ -53,6 +53,8 @@ pub struct Did {
     /// Where memory ran out in a data write: how many of its draw messages were done. The event stands in the history with
     /// this mark.
     pub short: Option<u32>,
+    /// Where the event closed its session, since the tag of a read that waited came again: that tag (intro(5)).
+    pub closed: Option<u16>,
 }
 
 /// The display with which the server starts: its sides in pixels, and the channels of its pixels.

@@ -1,6 +1,6 @@
 //! An event of the mouse as text: a letter and four numbers, each 11 wide and a blank (mouse(3)).
 
-ghost use Rattle.std.specs.Prelude.{◌≡◌, ◌≤◌, drop, IfOk, IfSome};
+ghost use Rattle.std.specs.Prelude.{◌≡◌, ◌≤◌, length, drop, IfOk, IfSome};
 ghost use Rattle.model_mouse.specs.Pointer.{text, coordinate_in, natural_in, pointer_of};
 
 use model_mouse::Mouse;
@@ -17,7 +17,8 @@ const FARTHEST: i64 = 1 << 20;
 /// The text of an event: the letter, and x, y, buttons and msec, 49 bytes.
 #[tactic(auto, unfolding(model_mouse::specs::Pointer::text))]
 pub fn text(alloc: Global, letter: u8, e: Mouse) -> Result<Bytes, Memory>
-    ensures { IfOk result (λ bytes. bytes ≡ text letter e) }
+    ensures text { IfOk result (λ bytes. bytes ≡ text letter e) }
+    ensures len { IfOk result (λ bytes. length bytes ≡ 49) }
 {
     let mut out: Bytes = Vec::with_capacity(alloc, LEN)?.into();
     out.push_all(&[letter])?;

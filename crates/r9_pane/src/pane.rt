@@ -3,7 +3,7 @@
 ghost use Rattle.std.specs.Prelude.{◌≡◌, ◌≤◌, length, codes, if◌then◌else◌, false, None, IsOk, IfOk, OnOk, OnErr, IfSome, IfNone};
 ghost use Rattle.model_mouse.specs.Queue.{answer_text, resized};
 ghost use Rattle.model_console.specs.Console as console;
-ghost use Rattle.model_window.specs.Heard.{Noted, Raw, Written, Labelled, MouseRead, ConsoleRead, wctl_text, winid_text};
+ghost use Rattle.model_window.specs.Heard.{Noted, Raw, Written, Labelled, MouseRead, ConsoleRead, MouseHeld, ConsctlHeld, wctl_text, winid_text};
 ghost use Rattle.model_window.specs.Pane.{new_pane, pane_heard};
 
 use crate::field::push_number;
@@ -31,6 +31,8 @@ pub struct Pane {
     label: Bytes,
     queue: MouseQueue,
     console: Console,
+    mouse_held: bool,
+    consctl_held: bool,
     alloc: Global,
 }
 
@@ -39,7 +41,7 @@ impl Model for Pane {
 
     ghost Value = { model.Pane };
 
-    ghost view = { λ p. record { known = record { number = p.number; name = p.name; r = p.r; current = p.current; hidden = p.hidden }; label = p.label; mouse = p.queue; console = p.console } };
+    ghost view = { λ p. record { known = record { number = p.number; name = p.name; r = p.r; current = p.current; hidden = p.hidden }; label = p.label; mouse = p.queue; console = p.console; mouse_held = p.mouse_held; consctl_held = p.consctl_held } };
 }
 
 fn current_word(current: bool) -> &'static [u8]
@@ -74,6 +76,8 @@ impl Pane {
             label: Bytes::new(alloc),
             queue: MouseQueue::new(alloc)?,
             console: Console::new(alloc),
+            mouse_held: false,
+            consctl_held: false,
             alloc,
         })
     }
@@ -147,6 +151,39 @@ impl Pane {
         self.console.set_raw(raw)
     }
 
+    /// Some fid has its `mouse` open from now on, or none has it any more.
+    #[tactic(auto, unfolding(model_window::specs::Pane::pane_heard))]
+    pub fn set_mouse_held(&mut self, held: bool)
+        ensures { self.new ≡ pane_heard self.old (MouseHeld held) }
+    {
+        self.mouse_held = held;
+    }
+
+    /// Some fid has its `consctl` open from now on, or none has it any more, and then lines are edited again.
+    #[tactic(auto, unfolding(model_window::specs::Pane::pane_heard))]
+    pub fn set_consctl_held(&mut self, held: bool)
+        ensures { self.new ≡ pane_heard self.old (ConsctlHeld held) }
+    {
+        if !held && self.console.set_raw(false).is_err() {
+            unreachable!();
+        }
+        self.consctl_held = held;
+    }
+
+    /// Whether some fid has its `mouse` open.
+    pub fn is_mouse_held(&self) -> bool
+        ensures { result ≡ self.now.mouse_held }
+    {
+        self.mouse_held
+    }
+
+    /// Whether some fid has its `consctl` open.
+    pub fn is_consctl_held(&self) -> bool
+        ensures { result ≡ self.now.consctl_held }
+    {
+        self.consctl_held
+    }
+
     /// Bytes are written to `cons`.
     #[tactic(auto, unfolding(model_window::specs::Pane::pane_heard))]
     pub fn write_text(&mut self, bytes: &[u8]) -> Result<(), Memory>
@@ -163,6 +200,7 @@ impl Pane {
         ensures takes { IfOk result (λ given. IfSome given (λ _. self.new ≡ pane_heard self.old MouseRead)) }
         ensures leaves { IfOk result (λ given. IfNone given (self.new ≡ self.old)) }
         ensures err { OnErr result (self.new ≡ self.old) }
+        ensures len { IfOk result (λ given. IfSome given (λ bytes. length bytes ≡ 49)) }
         // Giving nothing takes no memory.
         ensures waits { answer_text self.old.mouse ≡ None → IsOk result }
     {

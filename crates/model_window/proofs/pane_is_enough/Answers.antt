@@ -1,4 +1,4 @@
-use Rattle.model_window.proofs.PaneLaws.{known, label, mouse_reads, console_reads, text_reads}
+use Rattle.model_window.proofs.PaneLaws.{known, label, mouse_reads, console_reads, text_reads, mouse_held, consctl_held}
 use Rattle.model_window.proofs.pane_is_enough.Goals as goal
 
 pub returns-clause-known : goal.returns-clause-known
@@ -15,3 +15,9 @@ returns-clause-console c = console_reads
 
 pub returns-clause-text : goal.returns-clause-text
 returns-clause-text c = text_reads
+
+pub returns-clause-mouse_held : goal.returns-clause-mouse_held
+returns-clause-mouse_held c = mouse_held
+
+pub returns-clause-consctl_held : goal.returns-clause-consctl_held
+returns-clause-consctl_held c = consctl_held
