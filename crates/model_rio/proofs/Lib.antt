@@ -14,3 +14,4 @@ pub mod Soundness
 mod Notes
 pub mod Turns
 pub mod Orders
+pub mod Lives

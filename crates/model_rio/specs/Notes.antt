@@ -1,7 +1,12 @@
--- In which order a window is told what an act does to it.
-use Rattle.std.specs.Prelude.{◌≡◌, ◌≤◌, ℕ, List, AllPairs}
+-- Which windows are told, and in which order one is told what an act does to it.
+use Rattle.std.specs.Prelude.{◌≡◌, ◌≤◌, ◌==◌, ℕ, Bool, List, AllPairs}
+use Rattle.std.specs.List.{list_any}
 use Rattle.r9_event.specs.declared.rio.Note.{Note}
 use Rattle.r9_event.specs.declared.rio.Note.TheVariants as note
+
+-- some note is one to this window
+abbrev pub is_told : (window : ℕ) → List (ℕ × Note) → Bool
+is_told window notes = list_any (λ told. told.0 == window) notes
 
 -- which place a kind of note has
 abbrev pub rank : Note → ℕ

@@ -1,6 +1,6 @@
 //! What the definitions say of the mouse, of the order of windows and of notes, and of what each table keeps.
 
-ghost use Rattle.std.specs.Prelude.{◌≡◌, ◌==◌, ◌<◌, ◌≤◌, All, AllPairs, Contains, IsSomeAnd, length, ℕ, true, false, not, List, [], ◌∷◌, map, Some, Ok};
+ghost use Rattle.std.specs.Prelude.{◌≡◌, ◌==◌, ◌<◌, ◌≤◌, All, AllPairs, Contains, IsSomeAnd, length, ℕ, true, false, not, List, [], ◌∷◌, map, Some, is_some, Ok};
 ghost use Rattle.r9_geom.specs.declared.Point.{Point};
 ghost use Rattle.r9_geom.specs.declared.Rect.{Rect};
 ghost use Rattle.r9_geom.specs.Geometry.{holds};
@@ -12,7 +12,7 @@ ghost use Rattle.model_rio.specs.Act.{Act};
 ghost use Rattle.model_rio.specs.Act as act;
 ghost use Rattle.model_rio.specs.Step.{Step, in_place};
 ghost use Rattle.model_rio.specs.Sound.{IsSound};
-ghost use Rattle.model_rio.specs.Notes.{AreInTurn};
+ghost use Rattle.model_rio.specs.Notes.{AreInTurn, is_told};
 ghost use Rattle.r9_event.specs.Orders.{EndNoConnection};
 ghost use Rattle.model_rio.specs.Rio.{rio};
 
@@ -68,4 +68,9 @@ pub fn notes_stand_in_turn()
 /// What an act orders of the draw device ends no connection.
 pub fn acts_end_no_connection()
     ensures { (table : Table) (a : Act) (step : Step) → rio table a ≡ Ok step → EndNoConnection step.orders }
+{}
+
+/// A window that an act does not tell anything lives after it exactly where it lived before.
+pub fn windows_come_and_go_with_notes()
+    ensures { (table : Table) (a : Act) (step : Step) (window : ℕ) → rio table a ≡ Ok step → is_told window step.notes ≡ false → is_some (window_of step.table window) ≡ is_some (window_of table window) }
 {}

@@ -1,7 +1,8 @@
 -- What a session answers leaves the draw device with its connections.
-use Rattle.std.proofs.Common.{◌≡◌, ◌<◌, ◌+◌, ◌&&◌, ◌||◌, ℕ, Bool, true, false, not, List, [], ◌∷◌, Option, Some, None, Ok, Err, refl, sym, ap, subst, ◌∙◌, arith}
-use Rattle.std.specs.Prelude.{◌-◌, filter, map, is_none, is_some, nat_le, nat_lt, min, length, codes, IfOk, if◌then◌else◌, ◌==◌}
+use Rattle.std.proofs.Common.{◌≡◌, ◌<◌, ◌+◌, ◌&&◌, ℕ, Bool, true, false, not, List, [], ◌∷◌, ◌++◌, Option, Some, None, Ok, Err, refl, sym, ap, subst, ◌∙◌, arith}
+use Rattle.std.specs.Prelude.{filter, map, is_none, is_some, nat_le, nat_lt, min, length, codes, IfOk, if◌then◌else◌, ◌==◌}
 use Rattle.std.specs.List.{fold}
+use Rattle.std.specs.Option.{option_map}
 use Rattle.std.proofs.lemmas.Grind.{common_steps}
 use Rattle.std.proofs.lemmas.Bool.Decides.{nat_tests}
 use Rattle.model_text.specs.Outcome.{Outcome, ◌>>=◌, refuse_if}
@@ -13,21 +14,22 @@ use Rattle.model_tree.specs.Attach.{attach_of}
 use Rattle.model_tree.specs.Node.{Node, qid, may, reads, writes}
 use Rattle.model_tree.specs.Tree.{check_live}
 use Rattle.model_draw.specs.World as draw
-use Rattle.model_world.specs.Session.{Fid, Session, max_msize}
+use Rattle.model_world.specs.Session.{Fid, Session, Wait, max_msize}
 use Rattle.model_world.specs.Desktop.{Desktop}
 use Rattle.model_world.specs.Whole.{attached, desktop_for, left_one}
 use Rattle.model_world.specs.Refusal.{refusal}
-use Rattle.model_world.specs.Fids.{with_fid, Done, Left, left, beside, fid_of, fids_gone, is_bound, is_full, is_kind, is_kept, left_by, settled, cleared}
-use Rattle.model_world.specs.Walking.{attach_answer, walk_answer, walk_ended, open_answer, opened, opened_new, is_input, is_taken, most_made}
-use Rattle.model_world.specs.Reading.{is_open_for, node_read, read_answer}
+use Rattle.model_world.specs.Fids.{with_fid, with_held, let_go, Done, Left, left, beside, fid_of, fids_gone, is_bound, is_full, is_kind, is_kept, left_by, settled, cleared}
+use Rattle.model_world.specs.Walking.{attach_answer, walk_answer, walk_ended, open_answer, opened, opened_new, is_taken, most_made}
+use Rattle.model_world.specs.Reading.{Given, count_within, given_now, is_open_for, most_waiting, node_read, read_answer, read_ended}
 use Rattle.model_world.specs.Writing.{file_written, write_answer}
-use Rattle.model_world.specs.Answer.{asks_for_9p, agreed_on, version_answer, clunk_answer, stat_answer, denied, answer_to, answer_read, is_version, read_or_not, replied, answer}
+use Rattle.model_world.specs.Waiting.{answered_or, awaited, first_of, given_or_refused, one_answered, wait_answer}
+use Rattle.model_world.specs.Answer.{Taking, Ignored, TooLong, Closes, Reads, taken, taking, asks_for_9p, agreed_on, version_answer, clunk_answer, stat_answer, denied, answer_to, answer_read, is_version, read_or_not, replied, answer}
 use Rattle.model_world.specs.Links.{IsLinked, KeepsOthers}
 use Rattle.model_world.proofs.Others.{after_known, after_step}
 use Rattle.model_world.proofs.Connections.{numbers_of}
 use Rattle.model_world.proofs.Links.{begun_linked, begun_others, device_left, filter_none, kept_linked, kept_others, same_linked, same_others, within_filter}
-use Rattle.model_world.proofs.Desktops.{IsMadeSame, attached_same, left_same}
-use Rattle.model_world.proofs.Files.{IsAfterSame, IsGivenSame, file_written_same, node_read_same}
+use Rattle.model_world.proofs.Desktops.{IsMadeSame, IsSame, all_let_go_same, attached_same, held_same, left_same}
+use Rattle.model_world.proofs.Files.{IsAfterSame, IsGivenSame, file_written_same, given_now_same, node_read_same}
 
 -- the device has the session's connections still, and those of the others
 pub record Holds (c : ℕ) (desktop : Desktop) (l : Left Desktop) : Type 0 where
@@ -36,6 +38,10 @@ pub record Holds (c : ℕ) (desktop : Desktop) (l : Left Desktop) : Type 0 where
 
 abbrev pub HoldsIf : ℕ → Desktop → Outcome (Left Desktop) → Type 0
 HoldsIf c desktop o = IfOk o (λ l. Holds c desktop l)
+
+abbrev pub HoldsSome : ℕ → Desktop → Option (Left Desktop) → Type 0
+HoldsSome c desktop (Some l) = Holds c desktop l
+HoldsSome c desktop None = Unit {0}
 
 -- the session has the same connections, and the device too
 abbrev Stays : Session → Desktop → Left Desktop → Type 0
@@ -90,6 +96,10 @@ attach_stays c session desktop tag fid afid aname =
     after_step _ (refuse_if (is_full session) 44) _ (λ _ _.
     after_known _ (IsMadeSame desktop) (attached c desktop (attach_of aname)) _ (attached_same c desktop (attach_of aname)) (λ root same. (refl, refl, same)))))
 
+end_stays : (session : Session) (desktop : Desktop) (tag number count : ℕ) (got : Option (Given Desktop)) → IsGivenSame desktop got → StaysIf session desktop (read_ended session desktop tag number count got)
+end_stays session desktop tag number count (Some got) same = (refl, refl, same)
+end_stays session desktop tag number count None same = after_step _ (refuse_if (nat_le most_waiting (length session.waiting)) 45) _ (λ _ _. (refl, refl, refl))
+
 read_stays : (c : ℕ) (session : Session) (desktop : Desktop) (tag number offset count : ℕ) → StaysIf session desktop (read_answer (desktop_for c) session desktop tag number offset count)
 unfolding read_answer
 read_stays c session desktop tag number offset count =
@@ -97,8 +107,8 @@ read_stays c session desktop tag number offset count =
     after_step _ (refuse_if (is_none fid.mode) 37) _ (λ _ _.
     after_step _ (refuse_if (not (is_open_for reads fid)) 38) _ (λ _ _.
     after_step _ (check_live ((desktop_for c).view desktop session.connections fid.node) fid.node) _ (λ _ _.
-    after_known _ (IsGivenSame desktop) (node_read (desktop_for c) session.connections desktop fid offset (min count (session.msize - 11))) _
-    (node_read_same c session.connections desktop fid offset (min count (session.msize - 11))) (λ got same. (refl, refl, same))))))
+    after_known _ (IsGivenSame desktop) (node_read (desktop_for c) session.connections desktop fid offset (count_within session count)) _
+    (node_read_same c session.connections desktop fid offset (count_within session count)) (λ got same. end_stays session desktop tag number (count_within session count) got same)))))
 
 write_stays : (c : ℕ) (session : Session) (desktop : Desktop) (tag number offset : ℕ) (bytes : List ℕ) (mark : Option ℕ)
     → StaysIf session desktop (write_answer (desktop_for c) session desktop tag number offset bytes mark)
@@ -135,8 +145,9 @@ gone_holds c session desktop gone linked =
     let ended = settled (desktop_for c) session desktop in
     let holds = settled_holds c session desktop linked in
     let windows = left_by ended.0 gone in
-    let after : Desktop = fold (left_one c) ended.1 windows in
-    let same = left_same c windows ended.1 in (
+    let let_all : Desktop = fold (let_go (desktop_for c)) ended.1 gone in
+    let after : Desktop = fold (left_one c) let_all windows in
+    let same : IsSame ended.1 after = left_same c windows let_all ∙ all_let_go_same c gone ended.1 in (
       same_linked c ended.0.made ended.0.connections ended.1.device after.device same holds.0,
       λ k other. same_others c ended.1.device after.device same k other ∙ holds.1 k other,
     )
@@ -163,7 +174,7 @@ pub cleared_left : (c : ℕ) (session : Session) (desktop : Desktop) → IsLinke
     → IsLinked c session.made [] (cleared (desktop_for c) session desktop).1.device × KeepsOthers c desktop.device (cleared (desktop_for c) session desktop).1.device
 cleared_left c session desktop linked =
     let after = cleared (desktop_for c) session desktop in
-    let holds = gone_holds c (record session { fids = [] }) desktop (map (λ entry. entry.1) session.fids) linked in (
+    let holds = gone_holds c (record session { fids = []; waiting = [] }) desktop (map (λ entry. entry.1) session.fids) linked in (
       subst (λ (connections : List ℕ). IsLinked c session.made connections after.1.device) (none_kept session desktop c)
           (subst (λ (made : ℕ). IsLinked c made after.0.connections after.1.device) (made_still session desktop c) holds.0),
       holds.1,
@@ -186,7 +197,7 @@ unfolding version_answer
 version_holds c session desktop tag msize version linked =
     after_step _ (refuse_if (nat_lt msize 256) 48) _ (λ _ _.
     agreed_holds c tag msize version desktop (cleared (desktop_for c) session desktop)
-    (gone_holds c (record session { fids = [] }) desktop (map (λ entry. entry.1) session.fids) linked))
+    (gone_holds c (record session { fids = []; waiting = [] }) desktop (map (λ entry. entry.1) session.fids) linked))
 
 -- ---- an open
 
@@ -196,7 +207,7 @@ opened_holds c session desktop tag number mode fid linked room = by (is_kind New
   where
     by : (b : Bool) → is_kind New fid.node.kind ≡ b → Holds c desktop (
         if b then opened_new (desktop_for c) session desktop tag number mode fid
-        else left (with_fid session number (record fid { mode = Some mode }), desktop) (Ropen tag (qid fid.node) 0)
+        else left (with_fid session number (record fid { mode = Some mode }), with_held (desktop_for c) true desktop fid.node) (Ropen tag (qid fid.node) 0)
         )
     by true at =
         let more : nat_le most_made session.made ≡ false = ap (λ (b : Bool). b && nat_le most_made session.made) (sym at) ∙ room in
@@ -205,7 +216,13 @@ opened_holds c session desktop tag number mode fid linked room = by (is_kind New
           linked = begun_linked c session.made session.connections desktop.device (omega arith) linked;
           others = begun_others c (session.made + 1) desktop.device (omega arith);
         }
-    by false at = record { linked = linked; others = λ k other. refl }
+    by false at =
+        let after = with_held (desktop_for c) true desktop fid.node in
+        let same = held_same c true desktop fid.node in
+        record {
+          linked = same_linked c session.made session.connections desktop.device after.device same linked;
+          others = same_others c desktop.device after.device same;
+        }
 
 not_refused : (b : Bool) → refuse_if b 44 ≡ Ok tt → b ≡ false
 not_refused true e = absurd (cc e)
@@ -218,8 +235,8 @@ open_holds c session desktop tag number mode linked =
     after_step _ (fid_of session number) _ (λ fid _.
     after_step _ (refuse_if (is_some fid.mode) 36) _ (λ _ _.
     after_step _ (check_live ((desktop_for c).view desktop session.connections fid.node) fid.node) _ (λ _ _.
-    after_step _ (refuse_if (not (may fid.node mode) || is_input fid.node.kind) 38) _ (λ _ _.
-    after_step _ (refuse_if (is_taken session fid.node) 43) _ (λ _ _.
+    after_step _ (refuse_if (not (may fid.node mode)) 38) _ (λ _ _.
+    after_step _ (refuse_if (is_taken (desktop_for c) session desktop fid.node) 43) _ (λ _ _.
     after_step _ (refuse_if (is_kind New fid.node.kind && nat_le most_made session.made) 44) _ (λ _ at.
     opened_holds c session desktop tag number mode fid linked (not_refused _ at)))))))
 
@@ -281,8 +298,40 @@ pub answer_holds : (c : ℕ) (session : Session) (desktop : Desktop) (bytes : Li
     → Holds c desktop (answer (desktop_for c) session desktop bytes mark)
 unfolding answer
 answer_holds c session desktop bytes mark linked =
-    replied_holds c session desktop (tag_of bytes) _ linked
-    (elim (nat_lt session.msize (length bytes)) as (λ b. HoldsIf c desktop (if b then Err 30 else read_or_not (desktop_for c) session desktop mark (message_of bytes))) [
-      | true ↦ tt
-      | false ↦ read_or_not_holds c session desktop mark (message_of bytes) linked
-    ])
+    by (taking session bytes)
+  where
+    by : (t : Taking) → Holds c desktop (taken (desktop_for c) session desktop bytes mark t)
+    by Ignored = record { linked = linked; others = λ k other. refl }
+    by TooLong = record { linked = linked; others = λ k other. refl }
+    by Closes =
+        let holds = gone_holds c (record session { fids = []; waiting = [] }) desktop (map (λ entry. entry.1) session.fids) linked in
+        record { linked = holds.0; others = holds.1 }
+    by Reads = replied_holds c session desktop (tag_of bytes) _ linked (read_or_not_holds c session desktop mark (message_of bytes) linked)
+
+-- ---- reads that waited
+
+late_holds : (c : ℕ) (session : Session) (desktop : Desktop) (tag : ℕ) (wait : Wait) (fid : Outcome Fid) (later : Option (Left Desktop))
+    → IsLinked c session.made session.connections desktop.device → HoldsSome c desktop later
+    → HoldsSome c desktop (answered_or session desktop tag wait (given_or_refused (desktop_for c) desktop wait.count fid) later)
+late_holds c session desktop tag wait (Err n) later linked holds = record { linked = linked; others = λ k other. refl }
+late_holds c session desktop tag wait (Ok fid) later linked holds =
+    by (given_now (desktop_for c) desktop fid wait.count fid.node.kind) (given_now_same c desktop fid wait.count fid.node.kind)
+  where
+    by : (o : Option (Given Desktop)) → IsGivenSame desktop o → HoldsSome c desktop (answered_or session desktop tag wait (option_map Ok o) later)
+    by None same = holds
+    by (Some got) same = record {
+      linked = same_linked c session.made session.connections desktop.device got.rest.device same linked;
+      others = same_others c desktop.device got.rest.device same;
+    }
+
+first_holds : (c : ℕ) (session : Session) (desktop : Desktop) (before after : List (ℕ × Wait)) → IsLinked c session.made session.connections desktop.device
+    → HoldsSome c desktop (first_of (desktop_for c) session desktop before after)
+unfolding first_of wait_answer
+first_holds c session desktop before [] linked = tt
+first_holds c session desktop before ((tag, wait) ∷ after) linked =
+    late_holds c (record session { waiting = before ++ after }) desktop tag wait (awaited (desktop_for c) session desktop wait) _ linked
+    (first_holds c session desktop (before ++ (tag, wait) ∷ []) after linked)
+
+pub one_holds : (c : ℕ) (session : Session) (desktop : Desktop) → IsLinked c session.made session.connections desktop.device
+    → HoldsSome c desktop (one_answered (desktop_for c) session desktop)
+one_holds c session desktop linked = first_holds c session desktop [] session.waiting linked

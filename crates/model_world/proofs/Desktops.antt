@@ -1,6 +1,6 @@
 -- What sessions do with the windows leaves the draw device its connections, and is not refused for want of memory.
-use Rattle.std.proofs.Common.{◌≡◌, ◌∙◌, ℕ, true, false, not, List, [], ◌∷◌, length, Option, Ok, Err, refl, ap, arith}
-use Rattle.std.specs.Prelude.{◌==◌, nat_lt}
+use Rattle.std.proofs.Common.{◌≡◌, ◌∙◌, ℕ, Bool, true, false, not, List, [], ◌∷◌, length, Option, Ok, Err, refl, ap, arith}
+use Rattle.std.specs.Prelude.{◌==◌, nat_lt, is_some}
 use Rattle.std.specs.Int.{w32, from_le_bytes}
 use Rattle.std.specs.List.{fold}
 use Rattle.std.specs.Map.{keys_of}
@@ -9,6 +9,9 @@ use Rattle.model_text.specs.Outcome.{Outcome, ◌>>=◌, refuse_if, value_or_ref
 use Rattle.model_wctl.specs.Command.{Wctl}
 use Rattle.model_wctl.specs.Command as wctl
 use Rattle.model_wctl.specs.Reading.{command_of}
+use Rattle.model_mouse.specs.declared.Mouse.{Mouse as Pointer}
+use Rattle.model_tree.specs.declared.Kind.TheVariants as kind
+use Rattle.model_tree.specs.Node.{Node}
 use Rattle.model_tree.specs.Attach.{Attach, Whole, Existing, Fresh, Unknown}
 use Rattle.model_images.specs.Book.{Book, image, image_id, is_stale}
 use Rattle.model_rio.specs.Table.{Table, found, is_host}
@@ -18,8 +21,10 @@ use Rattle.model_rio.specs.Step.{Step}
 use Rattle.model_draw.specs.World as draw
 use Rattle.model_draw.specs.Act.{no_memory}
 use Rattle.model_draw.specs.Files.{is_known, read_ctl, read_data, write_ctl}
+use Rattle.model_world.specs.Session.{Fid}
+use Rattle.model_world.specs.Fids.{is_kind, let_go, with_held}
 use Rattle.model_world.specs.Desktop.{Desktop, is_user, stepped, stepped_if, stepped_or, users_of, without_user}
-use Rattle.model_world.specs.Whole.{attached, commanded, ctl_written, data_read, device_commanded, device_commanded_by, host_of, left_one, made_by, serial_of, window_made, with_device, written_data}
+use Rattle.model_world.specs.Whole.{attached, commanded, ctl_written, data_read, desktop_for, device_commanded, device_commanded_by, host_of, left_one, made_by, moused, serial_of, typed, window_made, with_device, written_data}
 use Rattle.model_world.proofs.Others.{IsOther, IsTold, behind_known, behind_step, refused_by, value_by}
 use Rattle.model_world.proofs.Orders.{IsFair, rio_fair}
 use Rattle.model_world.proofs.Connections.{Keeps, KeepsRead, numbers_of, carried_out_kept, read_data_kept, write_ctl_kept, written_kept}
@@ -109,6 +114,30 @@ left_one_same session desktop window =
 pub left_same : (session : ℕ) (windows : List ℕ) (desktop : Desktop) → IsSame desktop (fold (left_one session) desktop windows)
 left_same session [] desktop = refl
 left_same session (window ∷ windows) desktop = left_same session windows (left_one session desktop window) ∙ left_one_same session desktop window
+
+-- ---- input
+
+pub moused_same : (desktop : Desktop) (e : Pointer) → IsSame desktop (moused desktop e)
+unfolding moused
+moused_same desktop e = stepped_if_same desktop (rio desktop.table (act.Mouse e)) (rio_fair desktop.table (act.Mouse e))
+
+pub typed_same : (desktop : Desktop) (keys : List ℕ) → IsSame desktop (typed desktop keys)
+unfolding typed
+typed_same desktop keys = stepped_if_same desktop (rio desktop.table (act.Keys keys)) (rio_fair desktop.table (act.Keys keys))
+
+-- ---- the files that one fid at a time has open
+
+pub held_same : (c : ℕ) (held : Bool) (desktop : Desktop) (node : Node) → IsSame desktop (with_held (desktop_for c) held desktop node)
+held_same c held desktop node =
+    cond_both (is_kind kind.Mouse node.kind) _ _ (IsSame desktop) (λ _. refl) (λ _.
+    cond_both (is_kind kind.Consctl node.kind) _ _ (IsSame desktop) (λ _. refl) (λ _. refl))
+
+let_go_same : (c : ℕ) (desktop : Desktop) (fid : Fid) → IsSame desktop (let_go (desktop_for c) desktop fid)
+let_go_same c desktop fid = cond_both (is_some fid.mode) _ _ (IsSame desktop) (λ _. held_same c false desktop fid.node) (λ _. refl)
+
+pub all_let_go_same : (c : ℕ) (gone : List Fid) (desktop : Desktop) → IsSame desktop (fold (let_go (desktop_for c)) desktop gone)
+all_let_go_same c [] desktop = refl
+all_let_go_same c (fid ∷ gone) desktop = all_let_go_same c gone (let_go (desktop_for c) desktop fid) ∙ let_go_same c desktop fid
 
 -- ---- the draw device
 

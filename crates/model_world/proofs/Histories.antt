@@ -2,10 +2,14 @@
 use Rattle.std.proofs.Common.{◌≡◌, ℕ, List, [], ◌∷◌, ◌++◌, Option, Some, None, refl, ◌∙◌}
 use Rattle.r9_event.specs.declared.event.Event.{Event}
 use Rattle.r9_event.specs.declared.event.Event.TheVariants.{Begin, Msg, Take, End, Stop}
-use Rattle.model_text.specs.Map.{lookup}
+use Rattle.model_text.specs.Map.{lookup, without}
 use Rattle.model_world.specs.Session.{Session}
+use Rattle.model_world.specs.Whole.{desktop_for}
 use Rattle.model_world.specs.World.{World}
-use Rattle.model_world.specs.Replay.{step, served, ended, world_from, waiting_from, waiting_after}
+use Rattle.model_world.specs.Fids.{cleared}
+use Rattle.model_world.specs.Answer.{answer}
+use Rattle.model_world.specs.Replay.{step, served, ended, with_left, waiting_in, world_from, waiting_from, waiting_after}
+use Rattle.model_world.proofs.Settling.{settled_opening}
 
 pub world_from-push : (world : World) (events : List Event) (event : Event) → world_from world (events ++ event ∷ []) ≡ (step (world_from world events) event).world
 world_from-push world [] event = refl
@@ -20,11 +24,13 @@ waiting_from-push world (e ∷ events) event c waiting =
 -- each event leaves the opening
 served_opening : (world : World) (c : ℕ) (bytes : List ℕ) (mark : Option ℕ) (session : Option Session) → (served world c bytes mark session).world.opening ≡ world.opening
 served_opening world c bytes mark None = refl
-served_opening world c bytes mark (Some session) = refl
+served_opening world c bytes mark (Some session) =
+    let after = with_left world c (answer (desktop_for c) session world.desktop bytes mark) in settled_opening (waiting_in after) after
 
-ended_opening : (world : World) (c : ℕ) (session : Option Session) → (ended world c session).opening ≡ world.opening
+ended_opening : (world : World) (c : ℕ) (session : Option Session) → (ended world c session).world.opening ≡ world.opening
 ended_opening world c None = refl
-ended_opening world c (Some session) = refl
+ended_opening world c (Some session) =
+    let after = record world { desktop = (cleared (desktop_for c) session world.desktop).1; sessions = without world.sessions c } in settled_opening (waiting_in after) after
 
 step_opening : (world : World) (event : Event) → (step world event).world.opening ≡ world.opening
 step_opening world (Begin c) = refl

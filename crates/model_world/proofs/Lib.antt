@@ -1,3 +1,4 @@
+pub mod Settling
 pub mod Histories
 pub mod Others
 pub mod Orders
@@ -10,4 +11,15 @@ pub mod Refused
 pub mod Steps
 pub mod Marks
 pub mod Wanting
+pub mod Standing
+pub mod Tags
+pub mod Remains
+pub mod Each
+pub mod Closed
+pub mod Flushed
+pub mod Quiet
+pub mod Windows
+pub mod Sleeping
+pub mod Waking
+pub mod Asking
 mod Rows

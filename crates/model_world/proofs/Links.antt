@@ -16,7 +16,7 @@ use Rattle.model_images.specs.Release.{leave}
 use Rattle.model_draw.specs.World as draw
 use Rattle.model_world.specs.Session.{Session}
 use Rattle.model_world.specs.Outside.{Outside}
-use Rattle.model_world.specs.Fids.{cleared, fids_gone, left_by, settled}
+use Rattle.model_world.specs.Fids.{cleared, fids_gone, left_by, let_go, settled}
 use Rattle.model_world.specs.Desktop.{Desktop}
 use Rattle.model_world.specs.Whole.{client, desktop_for}
 use Rattle.model_world.specs.Links.{AreWithin, IsLinked, KeepsOthers, is_connected, is_among}
@@ -175,11 +175,14 @@ cleared_linked c made connections device linked =
 -- what a session leaves all of whose fids go
 pub cleared_is : {S : Type 0} (outside : Outside S) (session : Session) (rest : S)
     → cleared outside session rest
-    ≡ (record session { fids = []; connections = [] }, outside.left (fold outside.leave rest session.connections) (left_by (record session { fids = [] }) (map (λ entry. entry.1) session.fids)))
+    ≡ (
+      record session { fids = []; waiting = []; connections = [] },
+      outside.left (fold (let_go outside) (fold outside.leave rest session.connections) (map (λ entry. entry.1) session.fids)) (left_by (record session { fids = [] }) (map (λ entry. entry.1) session.fids)),
+    )
 unfolding fids_gone settled
 cleared_is outside session rest = λ i. (
-  record session { fids = []; connections = filter_none session.connections i },
-  outside.left (fold outside.leave rest (filter_all session.connections i)) (left_by (record session { fids = [] }) (map (λ entry. entry.1) session.fids)),
+  record session { fids = []; waiting = []; connections = filter_none session.connections i },
+  outside.left (fold (let_go outside) (fold outside.leave rest (filter_all session.connections i)) (map (λ entry. entry.1) session.fids)) (left_by (record session { fids = [] }) (map (λ entry. entry.1) session.fids)),
 )
 
 -- ---- a connection begins

@@ -4,6 +4,9 @@ use Rattle.std.specs.Prelude.{IfOk, if◌then◌else◌}
 use Rattle.model_text.specs.Outcome.{Outcome, ◌>>=◌, refuse_if, value_or_refuse}
 use Rattle.model_draw.specs.Act.{no_memory}
 
+pub some_is : {A : Type 0} (x y : A) → Some x ≡ Some y → x ≡ y
+some_is x y e = cc
+
 -- what is not refused has a property, and what is refused is refused by another number
 abbrev pub IsOther : {A : Type 0} → (A → Type 0) → Outcome A → Type 0
 IsOther P (Ok x) = P x
@@ -53,3 +56,7 @@ after_step P (Err n) next h = tt
 pub after_known : {A B : Type 0} (P : B → Type 0) (Q : A → Type 0) (o : Outcome A) (next : A → Outcome B) → IsOther Q o → ((x : A) → Q x → IfOk (next x) P) → IfOk (o >>= next) P
 after_known P Q (Ok x) next known further = further x known
 after_known P Q (Err n) next known further = tt
+
+pub after_if : {A B : Type 0} (P : B → Type 0) (Q : A → Type 0) (o : Outcome A) (next : A → Outcome B) → IfOk o Q → ((x : A) → Q x → IfOk (next x) P) → IfOk (o >>= next) P
+after_if P Q (Ok x) next known further = further x known
+after_if P Q (Err n) next known further = tt

@@ -1,11 +1,12 @@
 -- A refusal leaves all as it was.
-use Rattle.std.proofs.Common.{◌≡◌, ℕ, Bool, true, false, List, [], ◌∷◌, Option, Some, None, Ok, Err, refl, sym, ap, ◌∙◌}
-use Rattle.std.specs.Prelude.{◌-◌, ◌||◌, ◌&&◌, ◌==◌, length, not, is_none, is_some, min, nat_le, nat_lt, IfOk, if◌then◌else◌}
+use Rattle.std.proofs.Common.{◌≡◌, ℕ, Bool, true, false, List, [], ◌∷◌, Option, Some, None, Ok, Err, refl, sym, ap, subst, ◌∙◌}
+use Rattle.std.specs.Prelude.{◌&&◌, ◌==◌, length, not, is_none, is_some, nat_le, nat_lt, IfOk, if◌then◌else◌}
 use Rattle.std.specs.Option.{option_map_or}
 use Rattle.model_text.specs.Outcome.{Outcome, ◌>>=◌, refuse_if, value_or_refuse}
 use Rattle.model_text.specs.Map.{lookup}
 use Rattle.model_wire.specs.Message.{T, Tversion, Tauth, Tattach, Tflush, Twalk, Topen, Tcreate, Tread, Twrite, Tclunk, Tremove, Tstat, Twstat, R, no_fid, no_tag, tag_of_t}
 use Rattle.model_wire.specs.Reading.{message_of, tag_of}
+use Rattle.model_mouse.specs.Pointer.{pointer_of}
 use Rattle.model_tree.specs.declared.Kind.{Kind}
 use Rattle.model_tree.specs.declared.Kind.TheVariants.{New}
 use Rattle.model_tree.specs.declared.Kind.TheVariants as kind
@@ -14,17 +15,22 @@ use Rattle.model_tree.specs.Node.{Node, may, reads, row, writes}
 use Rattle.model_tree.specs.Tree.{check_live}
 use Rattle.model_world.specs.Session.{Fid, Session}
 use Rattle.model_world.specs.Outside.{Outside}
+use Rattle.model_world.specs.Refusal.{refusal}
 use Rattle.model_world.specs.Fids.{Done, Left, left, beside, fid_of, is_bound, is_full, is_kind}
-use Rattle.model_world.specs.Walking.{attach_answer, is_input, is_taken, most_made, open_answer, walk_answer, walk_ended, walked}
-use Rattle.model_world.specs.Reading.{is_open_for, node_read, read_answer}
-use Rattle.model_world.specs.Writing.{file_written, snarf_written, whole_or_refused, write_answer, write_reply}
-use Rattle.model_world.specs.Answer.{answer, answer_read, answer_to, asks_for_9p, clunk_answer, denied, is_version, read_or_not, replied, stat_answer, version_answer}
+use Rattle.model_world.specs.Walking.{attach_answer, is_taken, most_made, open_answer, walk_answer, walk_ended, walked}
+use Rattle.model_world.specs.Reading.{Given, count_within, is_open_for, most_waiting, node_read, read_answer, read_ended}
+use Rattle.model_world.specs.Writing.{are_keys, file_written, line_of, raw_asked, snarf_written, whole_or_refused, with_raw_asked, write_answer, write_reply}
+use Rattle.model_world.specs.Answer.{Taking, Ignored, TooLong, Closes, Reads, answer, answer_read, answer_to, asks_for_9p, clunk_answer, denied, is_version, read_or_not, replied, stat_answer, taken, taking, version_answer}
 use Rattle.model_world.specs.Refused.{is_error, may_leave, may_leave_of}
-use Rattle.model_world.proofs.Others.{after_step}
+use Rattle.model_world.proofs.Others.{after_step, some_is}
 
 -- what is not refused is answered by no error
+abbrev IsPlainReply : Option R → Type 0
+IsPlainReply (Some reply) = is_error reply ≡ false
+IsPlainReply None = Unit {0}
+
 abbrev IsPlain : {S : Type 0} → Outcome (Left S) → Type 0
-IsPlain o = IfOk o (λ after. is_error after.reply ≡ false)
+IsPlain o = IfOk o (λ after. IsPlainReply after.reply)
 
 abbrev IsPlainDone : Outcome Done → Type 0
 IsPlainDone o = IfOk o (λ d. is_error d.reply ≡ false)
@@ -33,7 +39,7 @@ plain-beside : {S : Type 0} (rest : S) (o : Outcome Done) → IsPlainDone o → 
 plain-beside rest (Ok d) h = h
 plain-beside rest (Err n) h = tt
 
-plain-if : {S : Type 0} (b : Bool) (x y : Left S) → is_error x.reply ≡ false → is_error y.reply ≡ false → is_error (let z : Left S = if b then x else y in z.reply) ≡ false
+plain-if : {S : Type 0} (b : Bool) (x y : Left S) → IsPlainReply x.reply → IsPlainReply y.reply → IsPlainReply (let z : Left S = if b then x else y in z.reply)
 plain-if true x y h k = h
 plain-if false x y h k = k
 
@@ -68,9 +74,13 @@ plain-opened outside session rest tag number mode =
     after_step _ (fid_of session number) _ (λ fid _.
     after_step _ (refuse_if (is_some fid.mode) 36) _ (λ _ _.
     after_step _ (check_live (outside.view rest session.connections fid.node) fid.node) _ (λ _ _.
-    after_step _ (refuse_if (not (may fid.node mode) || is_input fid.node.kind) 38) _ (λ _ _.
-    after_step _ (refuse_if (is_taken session fid.node) 43) _ (λ _ _.
+    after_step _ (refuse_if (not (may fid.node mode)) 38) _ (λ _ _.
+    after_step _ (refuse_if (is_taken outside session rest fid.node) 43) _ (λ _ _.
     after_step _ (refuse_if (is_kind New fid.node.kind && nat_le most_made session.made) 44) _ (λ _ _. plain-if (is_kind New fid.node.kind) _ _ refl refl))))))
+
+plain-end : {S : Type 0} (session : Session) (rest : S) (tag number count : ℕ) (got : Option (Given S)) → IsPlain (read_ended session rest tag number count got)
+plain-end session rest tag number count (Some got) = refl
+plain-end session rest tag number count None = after_step _ (refuse_if (nat_le most_waiting (length session.waiting)) 45) _ (λ _ _. tt)
 
 plain-read : {S : Type 0} (outside : Outside S) (session : Session) (rest : S) (tag number offset count : ℕ) → IsPlain (read_answer outside session rest tag number offset count)
 unfolding read_answer
@@ -79,7 +89,7 @@ plain-read outside session rest tag number offset count =
     after_step _ (refuse_if (is_none fid.mode) 37) _ (λ _ _.
     after_step _ (refuse_if (not (is_open_for reads fid)) 38) _ (λ _ _.
     after_step _ (check_live (outside.view rest session.connections fid.node) fid.node) _ (λ _ _.
-    after_step _ (node_read outside session.connections rest fid offset (min count (session.msize - 11))) _ (λ got _. refl)))))
+    after_step _ (node_read outside session.connections rest fid offset (count_within session count)) _ (λ got _. plain-end session rest tag number (count_within session count) got)))))
 
 -- only a write to data leaves something that it refuses
 plain-file : {S : Type 0} (outside : Outside S) (session : Session) (rest : S) (tag : ℕ) (node : Node) (offset : ℕ) (bytes : List ℕ) (mark : Option ℕ) (k : Kind) → is_kind kind.Data k ≡ false
@@ -94,8 +104,13 @@ plain-file {S = S} outside session rest tag node offset bytes mark k other = by 
     by : (k : Kind) → is_kind kind.Data k ≡ false → IsPlain (file_written outside rest node offset bytes mark k >>= λ after. Ok (left (session, after.0) (write_reply tag (length bytes) after.1)))
     by kind.Ctl other = whole (outside.write_ctl rest node.connection bytes)
     by kind.Data other = absurd (cc other)
+    by kind.Mousein other = whole (value_or_refuse (pointer_of bytes) 51 >>= λ e. Ok (outside.mouse rest e))
+    by kind.Kbdin other = whole (refuse_if (not (are_keys bytes)) 51 >>= λ _. Ok (outside.keys rest bytes))
     by kind.Snarf other = whole (snarf_written (outside.snarf rest node.serial) offset bytes >>= λ new. Ok (outside.with_snarf rest node.serial new))
     by kind.DeviceWctl other = whole (outside.device_command rest bytes)
+    by kind.Cons other = refl
+    by kind.Consctl other = whole (raw_asked (line_of bytes) >>= λ asked. Ok (with_raw_asked outside rest node.serial asked))
+    by kind.Mouse other = refl
     by kind.Label other = refl
     by kind.Wctl other = whole (outside.command rest node.serial bytes)
     by _ other = tt
@@ -160,19 +175,21 @@ plain-or_not : {S : Type 0} (outside : Outside S) (session : Session) (rest : S)
 plain-or_not outside session rest mark None h = tt
 plain-or_not outside session rest mark (Some m) h = plain-read_answer outside session rest mark m h
 
-replied-same : {S : Type 0} (session : Session) (rest : S) (tag : ℕ) (o : Outcome (Left S)) → IsPlain o → is_error (replied session rest tag o).reply ≡ true
-    → replied session rest tag o ≡ left (session, rest) (replied session rest tag o).reply
-replied-same session rest tag (Err n) h e = refl
-replied-same session rest tag (Ok after) h e = absurd cc
+replied-same : {S : Type 0} (session : Session) (rest : S) (tag : ℕ) (o : Outcome (Left S)) (reply : R) → IsPlain o → (replied session rest tag o).reply ≡ Some reply → is_error reply ≡ true
+    → replied session rest tag o ≡ left (session, rest) reply
+replied-same session rest tag (Err n) reply h at e = ap (λ (r : R). left (session, rest) r) (some_is (refusal tag n) reply at)
+replied-same session rest tag (Ok after) reply h at e = let plain : is_error reply ≡ false = subst IsPlainReply at h in absurd cc
 
-pub refusal-leaves : {S : Type 0} (outside : Outside S) (session : Session) (rest : S) (bytes : List ℕ) (mark : Option ℕ) → may_leave_of session bytes ≡ false
-    → is_error (answer outside session rest bytes mark).reply ≡ true → answer outside session rest bytes mark ≡ left (session, rest) (answer outside session rest bytes mark).reply
+pub refusal-leaves : {S : Type 0} (outside : Outside S) (session : Session) (rest : S) (bytes : List ℕ) (mark : Option ℕ) (reply : R) → may_leave_of session bytes ≡ false
+    → (answer outside session rest bytes mark).reply ≡ Some reply → is_error reply ≡ true → answer outside session rest bytes mark ≡ left (session, rest) reply
 unfolding answer
-refusal-leaves {S = S} outside session rest bytes mark h e = replied-same session rest (tag_of bytes) _ (by (nat_lt session.msize (length bytes))) e
+refusal-leaves outside session rest bytes mark reply h at e = by (taking session bytes) at
   where
-    by : (b : Bool) → IsPlain (if b then Err 30 else read_or_not outside session rest mark (message_of bytes))
-    by true = tt
-    by false = plain-or_not outside session rest mark (message_of bytes) h
+    by : (t : Taking) → (taken outside session rest bytes mark t).reply ≡ Some reply → taken outside session rest bytes mark t ≡ left (session, rest) reply
+    by Ignored at = absurd (cc at)
+    by TooLong at = ap (λ (r : R). left (session, rest) r) (some_is (refusal (tag_of bytes) 30) reply at)
+    by Closes at = absurd (cc at)
+    by Reads at = replied-same session rest (tag_of bytes) (read_or_not outside session rest mark (message_of bytes)) reply (plain-or_not outside session rest mark (message_of bytes) h) at e
 
 -- ---- a write leaves its session
 
@@ -198,11 +215,16 @@ replied-keeps : {S : Type 0} (session : Session) (rest : S) (tag : ℕ) (o : Out
 replied-keeps session rest tag (Err n) h = refl
 replied-keeps session rest tag (Ok after) h = h
 
-pub write-leaves : {S : Type 0} (outside : Outside S) (session : Session) (rest : S) (bytes : List ℕ) (mark : Option ℕ) (tag fid offset : ℕ) (written : List ℕ) → message_of bytes ≡ Some (Twrite tag fid offset written)
-    → (answer outside session rest bytes mark).session ≡ session
+pub write-leaves : {S : Type 0} (outside : Outside S) (session : Session) (rest : S) (bytes : List ℕ) (mark : Option ℕ) (tag fid offset : ℕ) (written : List ℕ) (reply : R)
+    → message_of bytes ≡ Some (Twrite tag fid offset written) → (answer outside session rest bytes mark).reply ≡ Some reply → (answer outside session rest bytes mark).session ≡ session
 unfolding answer
-write-leaves outside session rest bytes mark tag fid offset written spelled = replied-keeps session rest (tag_of bytes) _ (by (nat_lt session.msize (length bytes)) (message_of bytes) spelled)
+write-leaves outside session rest bytes mark tag fid offset written reply spelled at = by (taking session bytes) at
   where
-    by : (b : Bool) (o : Option T) → o ≡ Some (Twrite tag fid offset written) → KeepsSession session (if b then Err 30 else read_or_not outside session rest mark o)
-    by true o e = tt
-    by false o e = rw e (keeps-read outside session rest mark tag fid offset written)
+    read : (o : Option T) → o ≡ Some (Twrite tag fid offset written) → KeepsSession session (read_or_not outside session rest mark o)
+    read o e = rw e (keeps-read outside session rest mark tag fid offset written)
+
+    by : (t : Taking) → (taken outside session rest bytes mark t).reply ≡ Some reply → (taken outside session rest bytes mark t).session ≡ session
+    by Ignored at = refl
+    by TooLong at = refl
+    by Closes at = absurd (cc at)
+    by Reads at = replied-keeps session rest (tag_of bytes) (read_or_not outside session rest mark (message_of bytes)) (read (message_of bytes) spelled)

@@ -18,10 +18,12 @@ use Rattle.model_world.specs.Whole.{client, desktop_for}
 use Rattle.model_world.specs.World.{World, opened}
 use Rattle.model_world.specs.Fids.{Left, cleared}
 use Rattle.model_world.specs.Answer.{answer}
-use Rattle.model_world.specs.Replay.{step, served, ended, marked}
+use Rattle.model_world.specs.Replay.{step, served, ended, first_answered, marked, settled_within, waiting_in, with_left}
 use Rattle.model_world.specs.Links.{AreCounted, AreKnown, AreLinked, IsLinked, IsNext, KeepsOthers, begun_after, has_connection, is_connected}
 use Rattle.model_world.proofs.Connections.{numbers_of}
-use Rattle.model_world.proofs.Answers.{Holds, answer_holds, cleared_left}
+use Rattle.model_world.proofs.Answers.{Holds, HoldsSome, answer_holds, cleared_left, one_holds}
+use Rattle.model_world.proofs.Settling.{IfNext, all_in, first_leaves, settled_keeps}
+use Rattle.model_world.proofs.Others.{some_is}
 
 client_of_another : (c d n m : ℕ) → n < 2 ^ 26 → m < 2 ^ 26 → client d n ≡ client c m → d ≡ c
 client_of_another c d n m below few same = omega (arith, same)
@@ -69,9 +71,6 @@ changed_linked world c device sessions now linked changed = record {
         ∙ linked.linked d n few
         ∙ ap (λ (found : Option Session). has_connection found n) (sym (changed.others d apart))
 
-some_is : {A : Type 0} (x y : A) → Some x ≡ Some y → x ≡ y
-some_is x y e = cc
-
 counted_as : (s t : Session) → s ≡ t → AreCounted s.made s.connections → AreCounted t.made t.connections
 counted_as s t same counted = subst (λ (x : Session). AreCounted x.made x.connections) same counted
 
@@ -86,7 +85,7 @@ begun_linked world c linked none = changed_linked world c world.desktop.device (
   kept = λ k other. refl;
 })
 
-replied_linked : (world : World) (c : ℕ) (session : Session) (l : Left Desktop) → AreLinked world.desktop.device world.sessions → lookup world.sessions c ≡ Some session → Holds c world.desktop l
+pub replied_linked : (world : World) (c : ℕ) (session : Session) (l : Left Desktop) → AreLinked world.desktop.device world.sessions → lookup world.sessions c ≡ Some session → Holds c world.desktop l
     → AreLinked l.rest.device (with world.sessions c l.session)
 replied_linked world c session l linked at holds = changed_linked world c l.rest.device (with world.sessions c l.session) (Some l.session) linked (record {
   here = with-here world.sessions c session l.session at;
@@ -98,15 +97,26 @@ replied_linked world c session l linked at holds = changed_linked world c l.rest
   kept = holds.others;
 })
 
+-- an answer to a read that waited keeps the connections
+pub late_linked : (world : World) → AreLinked world.desktop.device world.sessions → IfNext (λ next. AreLinked next.desktop.device next.sessions) (first_answered world world.sessions)
+late_linked world linked = first_leaves (λ next. AreLinked next.desktop.device next.sessions) world world.sessions (all_in world.sessions linked.ascending) (λ c session after at is.
+    replied_linked world c session after linked at (let P : Option (Left Desktop) → Type 0 = λ o. HoldsSome c world.desktop o in subst P is (one_holds c session world.desktop (linked_of world.desktop.device world.sessions c session linked at))))
+
+pub settled_linked : (most : ℕ) (world : World) → AreLinked world.desktop.device world.sessions → AreLinked (settled_within most world).0.desktop.device (settled_within most world).0.sessions
+settled_linked most world linked = settled_keeps (λ w. AreLinked w.desktop.device w.sessions) late_linked most world linked
+
 served_linked : (world : World) (c : ℕ) (bytes : List ℕ) (mark : Option ℕ) (found : Option Session) → AreLinked world.desktop.device world.sessions → lookup world.sessions c ≡ found
     → AreLinked (served world c bytes mark found).world.desktop.device (served world c bytes mark found).world.sessions
 served_linked world c bytes mark None linked at = linked
 served_linked world c bytes mark (Some session) linked at =
-    replied_linked world c session (answer (desktop_for c) session world.desktop bytes mark) linked at (answer_holds c session world.desktop bytes mark (linked_of world.desktop.device world.sessions c session linked at))
+    let left = answer (desktop_for c) session world.desktop bytes mark in
+    let after = with_left world c left in
+    settled_linked (waiting_in after) after (replied_linked world c session left linked at (answer_holds c session world.desktop bytes mark (linked_of world.desktop.device world.sessions c session linked at)))
 
-ended_linked : (world : World) (c : ℕ) (found : Option Session) → AreLinked world.desktop.device world.sessions → lookup world.sessions c ≡ found → AreLinked (ended world c found).desktop.device (ended world c found).sessions
-ended_linked world c None linked at = linked
-ended_linked world c (Some session) linked at =
+-- a session ends with all that goes with its fids
+pub gone_linked : (world : World) (c : ℕ) (session : Session) → AreLinked world.desktop.device world.sessions → lookup world.sessions c ≡ Some session
+    → AreLinked (cleared (desktop_for c) session world.desktop).1.device (without world.sessions c)
+gone_linked world c session linked at =
     let gone = cleared_left c session world.desktop (linked_of world.desktop.device world.sessions c session linked at) in
     changed_linked world c (cleared (desktop_for c) session world.desktop).1.device (without world.sessions c) None linked (record {
       here = without-here world.sessions c linked.ascending;
@@ -117,6 +127,13 @@ ended_linked world c (Some session) linked at =
       linked = gone.0.linked;
       kept = gone.1;
     })
+
+ended_linked : (world : World) (c : ℕ) (found : Option Session) → AreLinked world.desktop.device world.sessions → lookup world.sessions c ≡ found
+    → AreLinked (ended world c found).world.desktop.device (ended world c found).world.sessions
+ended_linked world c None linked at = linked
+ended_linked world c (Some session) linked at =
+    let after : World = record world { desktop = (cleared (desktop_for c) session world.desktop).1; sessions = without world.sessions c } in
+    settled_linked (waiting_in after) after (gone_linked world c session linked at)
 
 pub step_linked : (world : World) (begun : ℕ) (event : Event) → IsNext begun event → AreKnown begun world.sessions → AreLinked world.desktop.device world.sessions
     → AreLinked (step world event).world.desktop.device (step world event).world.sessions
@@ -160,24 +177,41 @@ with_none sessions c d session none true is at after =
     let same : d ≡ c = eqb-true d c is in absurd (let two : None ≡ Some session = sym none ∙ ap (λ (k : ℕ). lookup sessions k) same ∙ at in cc two)
 with_none sessions c d session none false is at after = with-others sessions c d after (λ same. eqb-false d c is same) ∙ none
 
-served_known : (world : World) (c begun : ℕ) (bytes : List ℕ) (mark : Option ℕ) (found : Option Session) → AreKnown begun world.sessions → lookup world.sessions c ≡ found
+abbrev pub IsKnown : (begun : ℕ) → World → Type 0
+IsKnown begun world = Ascend (keys_of world.sessions) × AreKnown begun world.sessions
+
+pub late_known : (begun : ℕ) (world : World) → IsKnown begun world → IfNext (IsKnown begun) (first_answered world world.sessions)
+late_known begun world are = first_leaves (IsKnown begun) world world.sessions (all_in world.sessions are.0) (λ c session after at is. (
+  ascend-with world.sessions c after.session are.0,
+  λ d later. with_none world.sessions c d session (are.1 d later) (eqb d c) refl at after.session,
+))
+
+pub settled_known : (most begun : ℕ) (world : World) → Ascend (keys_of world.sessions) → AreKnown begun world.sessions → AreKnown begun (settled_within most world).0.sessions
+settled_known most begun world ascend known = (settled_keeps (IsKnown begun) (late_known begun) most world (ascend, known)).1
+
+served_known : (world : World) (c begun : ℕ) (bytes : List ℕ) (mark : Option ℕ) (found : Option Session) → Ascend (keys_of world.sessions) → AreKnown begun world.sessions → lookup world.sessions c ≡ found
     → AreKnown begun (served world c bytes mark found).world.sessions
-served_known world c begun bytes mark None known at = known
-served_known world c begun bytes mark (Some session) known at = λ d later. with_none world.sessions c d session (known d later) (eqb d c) refl at _
+served_known world c begun bytes mark None ascend known at = known
+served_known world c begun bytes mark (Some session) ascend known at =
+    let left = answer (desktop_for c) session world.desktop bytes mark in
+    let after = with_left world c left in
+    settled_known (waiting_in after) begun after (ascend-with world.sessions c left.session ascend) (λ d later. with_none world.sessions c d session (known d later) (eqb d c) refl at left.session)
 
 without_none : (sessions : List (ℕ × Session)) (c d : ℕ) → Ascend (keys_of sessions) → lookup sessions d ≡ None → (b : Bool) → eqb d c ≡ b → lookup (without sessions c) d ≡ None
 without_none sessions c d ascend none true is =
     let same : d ≡ c = eqb-true d c is in subst (λ (k : ℕ). lookup (without sessions c) k ≡ None) (sym same) (without-here sessions c ascend)
 without_none sessions c d ascend none false is = without-others sessions c d (λ same. eqb-false d c is same) ∙ none
 
-ended_known : (world : World) (c begun : ℕ) (found : Option Session) → Ascend (keys_of world.sessions) → AreKnown begun world.sessions → AreKnown begun (ended world c found).sessions
+ended_known : (world : World) (c begun : ℕ) (found : Option Session) → Ascend (keys_of world.sessions) → AreKnown begun world.sessions → AreKnown begun (ended world c found).world.sessions
 ended_known world c begun None ascend known = known
-ended_known world c begun (Some session) ascend known = λ d later. without_none world.sessions c d ascend (known d later) (eqb d c) refl
+ended_known world c begun (Some session) ascend known =
+    let after : World = record world { desktop = (cleared (desktop_for c) session world.desktop).1; sessions = without world.sessions c } in
+    settled_known (waiting_in after) begun after (ascend-without world.sessions c ascend) (λ d later. without_none world.sessions c d ascend (known d later) (eqb d c) refl)
 
 pub step_known : (world : World) (begun : ℕ) (event : Event) → IsNext begun event → Ascend (keys_of world.sessions) → AreKnown begun world.sessions
     → AreKnown (begun_after begun event) (step world event).world.sessions
 step_known world begun (Begin c) next ascend known = λ d later. and-others world.sessions c d fresh (λ same. omega (arith, same)) ∙ known d (omega (arith, next))
-step_known world begun (Msg c bytes mark) next ascend known = served_known world c begun bytes mark (lookup world.sessions c) known refl
+step_known world begun (Msg c bytes mark) next ascend known = served_known world c begun bytes mark (lookup world.sessions c) ascend known refl
 step_known world begun (Take c) next ascend known = known
 step_known world begun (End c) next ascend known = ended_known world c begun (lookup world.sessions c) ascend known
 step_known world begun Stop next ascend known = known

@@ -1,6 +1,6 @@
 -- The reply that refuses for want of memory, and no other reply, is that refusal.
 use Rattle.std.proofs.Common.{◌≡◌, ℕ, Bool, true, false, eqb, List, [], ◌∷◌, Option, Some, None, Ok, Err, refl, arith}
-use Rattle.std.specs.Prelude.{◌-◌, ◌||◌, ◌&&◌, ◌==◌, codes, not, is_none, is_some, min, nat_le, nat_lt, if◌then◌else◌}
+use Rattle.std.specs.Prelude.{◌||◌, ◌&&◌, ◌==◌, codes, length, not, is_none, is_some, nat_le, nat_lt, if◌then◌else◌}
 use Rattle.std.specs.Str.{bytes_eq}
 use Rattle.std.proofs.lemmas.Bool.{eqb-true}
 use Rattle.std.proofs.lemmas.Slice.Eq.{bytes_eq-Decides}
@@ -15,10 +15,10 @@ use Rattle.model_draw.specs.Act.{no_memory}
 use Rattle.model_world.specs.Session.{Session}
 use Rattle.model_world.specs.Desktop.{Desktop}
 use Rattle.model_world.specs.Whole.{attached, desktop_for}
-use Rattle.model_world.specs.Refusal.{Refuses, draw_texts, file_texts, refusal, refusal_text, text_in}
+use Rattle.model_world.specs.Refusal.{IsRefused, Refuses, draw_texts, file_texts, refusal, refusal_text, text_in}
 use Rattle.model_world.specs.Fids.{Done, Left, beside, fid_of, is_bound, is_full, is_kind}
-use Rattle.model_world.specs.Walking.{attach_answer, is_input, is_taken, most_made, open_answer, walk_answer, walk_ended, walk_on, walked}
-use Rattle.model_world.specs.Reading.{is_open_for, node_read, read_answer}
+use Rattle.model_world.specs.Walking.{attach_answer, is_taken, most_made, open_answer, walk_answer, walk_ended, walk_on, walked}
+use Rattle.model_world.specs.Reading.{Given, count_within, is_open_for, most_waiting, node_read, read_answer, read_ended}
 use Rattle.model_world.specs.Writing.{file_written, write_answer}
 use Rattle.model_world.specs.Answer.{answer_read, answer_to, asks_for_9p, clunk_answer, denied, is_version, read_or_not, stat_answer, version_answer}
 pub use Rattle.model_world.proofs.Others.{IsOther}
@@ -106,7 +106,7 @@ walked_told view node (name ∷ names) = walked_on (walk (view node) node name) 
 -- ---- replies that are others
 
 abbrev pub Spares : {S : Type 0} → Left S → Type 0
-Spares after = Refuses no_memory after.reply → ⊥
+Spares after = IsRefused no_memory after.reply → ⊥
 
 abbrev SparesDone : Done → Type 0
 SparesDone done = Refuses no_memory done.reply → ⊥
@@ -153,8 +153,8 @@ open_spares c session desktop tag number mode =
     behind_step _ (fid_of session number) _ (fid_told session number) (λ fid.
     behind_step _ (refuse_if (is_some fid.mode) 36) _ (refused_by _ 36 (λ e. omega (arith, e))) (λ _.
     behind_step _ (check_live ((desktop_for c).view desktop session.connections fid.node) fid.node) _ (live_told ((desktop_for c).view desktop session.connections fid.node) fid.node) (λ _.
-    behind_step _ (refuse_if (not (may fid.node mode) || is_input fid.node.kind) 38) _ (refused_by _ 38 (λ e. omega (arith, e))) (λ _.
-    behind_step _ (refuse_if (is_taken session fid.node) 43) _ (refused_by _ 43 (λ e. omega (arith, e))) (λ _.
+    behind_step _ (refuse_if (not (may fid.node mode)) 38) _ (refused_by _ 38 (λ e. omega (arith, e))) (λ _.
+    behind_step _ (refuse_if (is_taken (desktop_for c) session desktop fid.node) 43) _ (refused_by _ 43 (λ e. omega (arith, e))) (λ _.
     behind_step _ (refuse_if (is_kind New fid.node.kind && nat_le most_made session.made) 44) _ (refused_by _ 44 (λ e. omega (arith, e))) (λ _.
     either_spares (is_kind New fid.node.kind) _ _ (λ none. none) (λ none. none)))))))
 
@@ -173,6 +173,11 @@ clunk_spares c session desktop number reply other = behind_step _ (fid_of sessio
 
 -- ---- reads and writes
 
+end_spares : (session : Session) (desktop : Desktop) (tag number count : ℕ) (got : Option (Given Desktop)) → IsOther Spares (read_ended session desktop tag number count got)
+end_spares session desktop tag number count (Some got) = λ none. none
+end_spares session desktop tag number count None =
+    behind_step _ (refuse_if (nat_le most_waiting (length session.waiting)) 45) _ (refused_by _ 45 (λ e. omega (arith, e))) (λ _. λ none. none)
+
 read_spares : (c : ℕ) (session : Session) (desktop : Desktop) (tag number offset count : ℕ) → IsOther Spares (read_answer (desktop_for c) session desktop tag number offset count)
 unfolding read_answer
 read_spares c session desktop tag number offset count =
@@ -180,8 +185,8 @@ read_spares c session desktop tag number offset count =
     behind_step _ (refuse_if (is_none fid.mode) 37) _ (refused_by _ 37 (λ e. omega (arith, e))) (λ _.
     behind_step _ (refuse_if (not (is_open_for reads fid)) 38) _ (refused_by _ 38 (λ e. omega (arith, e))) (λ _.
     behind_step _ (check_live ((desktop_for c).view desktop session.connections fid.node) fid.node) _ (live_told ((desktop_for c).view desktop session.connections fid.node) fid.node) (λ _.
-    behind_known _ (IsGivenSame desktop) (node_read (desktop_for c) session.connections desktop fid offset (min count (session.msize - 11))) _
-    (node_read_same c session.connections desktop fid offset (min count (session.msize - 11))) (λ _ _. λ none. none)))))
+    behind_known _ (IsGivenSame desktop) (node_read (desktop_for c) session.connections desktop fid offset (count_within session count)) _
+    (node_read_same c session.connections desktop fid offset (count_within session count)) (λ got _. end_spares session desktop tag number (count_within session count) got)))))
 
 write_told : (c : ℕ) (session : Session) (desktop : Desktop) (tag number offset : ℕ) (bytes : List ℕ) (mark : Option ℕ) → IsTold (write_answer (desktop_for c) session desktop tag number offset bytes mark)
 unfolding write_answer

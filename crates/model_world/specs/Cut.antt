@@ -13,7 +13,7 @@ use Rattle.model_world.specs.Session.{Fid, Session}
 use Rattle.model_world.specs.Fids.{is_kind}
 use Rattle.model_world.specs.Reading.{is_open_for}
 use Rattle.model_world.specs.Answer.{answer}
-use Rattle.model_world.specs.Refusal.{Refuses}
+use Rattle.model_world.specs.Refusal.{IsRefused}
 use Rattle.model_world.specs.Desktop.{Desktop}
 use Rattle.model_world.specs.Whole.{client, desktop_for}
 use Rattle.model_world.specs.World.{World}
@@ -41,7 +41,7 @@ pub record IsCutSpelled (c : ℕ) (session : Session) (desktop : Desktop) (bytes
 -- and with the mark k the reply to it is the refusal of want of memory
 pub record IsCutMessage (c : ℕ) (session : Session) (desktop : Desktop) (bytes : List ℕ) (mark : Option ℕ) (k : ℕ) : Type 0 where
   pub spells : IsCutSpelled c session desktop bytes mark k
-  pub refused : Refuses no_memory (answer (desktop_for c) session desktop bytes (Some k)).reply
+  pub refused : IsRefused no_memory (answer (desktop_for c) session desktop bytes (Some k)).reply
 
 -- the event is such a message to a session that lives
 pub record IsCutServed (world : World) (c : ℕ) (bytes : List ℕ) (mark : Option ℕ) (k : ℕ) : Type 0 where
@@ -58,7 +58,7 @@ IsCutEvent world event k = ⊥
 pub record IsWantingServed (world : World) (c : ℕ) (bytes : List ℕ) (mark : Option ℕ) : Type 0 where
   pub session : Session
   pub lives : lookup world.sessions c ≡ Some session
-  pub refused : Refuses no_memory (answer (desktop_for c) session world.desktop bytes mark).reply
+  pub refused : IsRefused no_memory (answer (desktop_for c) session world.desktop bytes mark).reply
 
 abbrev pub IsWantingEvent : World → Event → Type 0
 IsWantingEvent world (Msg c bytes mark) = IsWantingServed world c bytes mark

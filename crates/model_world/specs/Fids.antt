@@ -1,12 +1,13 @@
 -- A session's fids, what a message leaves, and what goes with a fid (intro(5), clunk(5)).
-use Rattle.std.specs.Prelude.{ℕ, ◌==◌, ◌&&◌, ◌||◌, Bool, not, is_some, nat_le, nat_lt, List, [], ◌∷◌, length, filter, map, Ok, Err, if◌then◌else◌}
+use Rattle.std.specs.Prelude.{ℕ, ◌==◌, ◌&&◌, ◌||◌, Bool, false, not, is_some, nat_le, nat_lt, List, [], ◌∷◌, length, filter, map, Option, Some, None, Ok, Err, if◌then◌else◌}
 use Rattle.std.specs.List.{fold, list_any}
 use Rattle.model_text.specs.Outcome.{Outcome, value_or_refuse}
 use Rattle.model_text.specs.Map.{lookup, with, and, without}
 use Rattle.model_wire.specs.Message.{R, no_fid}
 use Rattle.model_tree.specs.declared.Kind.{Kind}
-use Rattle.model_tree.specs.declared.Kind.TheVariants.{Ctl, Data, Refresh}
-use Rattle.model_tree.specs.Node.{row}
+use Rattle.model_tree.specs.declared.Kind.TheVariants.{Ctl, Data, Refresh, Consctl, Mouse}
+use Rattle.model_window.specs.Heard.{MouseHeld, ConsctlHeld}
+use Rattle.model_tree.specs.Node.{Node, row}
 use Rattle.model_world.specs.Session.{Fid, Session}
 use Rattle.model_world.specs.Outside.{Outside}
 
@@ -18,18 +19,22 @@ pub record Done : Type 0 where
 abbrev pub done : Session → R → Done
 done session reply = record { session = session; reply = reply }
 
--- what a message leaves of its session and of the outside, and the reply
+-- what a message leaves of its session and of the outside, and the reply, if it has one now
 pub record Left (S : Type 0) : Type 0 where
   pub session : Session
   pub rest : S
-  pub reply : R
+  pub reply : Option R
 
 abbrev pub left : {S : Type 0} → Session × S → R → Left S
-left after reply = record { session = after.0; rest = after.1; reply = reply }
+left after reply = record { session = after.0; rest = after.1; reply = Some reply }
+
+-- what is left by a message that has no reply, or none yet
+abbrev pub unanswered : {S : Type 0} → Session × S → Left S
+unanswered after = record { session = after.0; rest = after.1; reply = None }
 
 -- nothing outside has changed
 abbrev pub beside : {S : Type 0} → S → Outcome Done → Outcome (Left S)
-beside rest (Ok d) = Ok (record { session = d.session; rest = rest; reply = d.reply })
+beside rest (Ok d) = Ok (record { session = d.session; rest = rest; reply = Some d.reply })
 beside rest (Err n) = Err n
 
 -- 32 where there is no such fid
@@ -93,18 +98,32 @@ left_by session gone =
     filter (λ window. not (window == 0) && not (has_root session window))
     (fold (λ windows (fid : Fid). put fid.node.root windows) [] gone)
 
--- What goes with fids that have gone from a session: the connections that they alone kept alive, and then the session's use of
--- the windows at their roots.
+-- ---- the files of a window that one fid at a time has open
+
+-- a fid has such a file open from now on, or has it open no more
+abbrev pub with_held : {S : Type 0} → Outside S → (held : Bool) → S → Node → S
+with_held outside held rest node =
+    if is_kind Mouse node.kind then outside.hear rest node.serial (MouseHeld held)
+    else if is_kind Consctl node.kind then outside.hear rest node.serial (ConsctlHeld held)
+    else rest
+
+-- a fid goes, which may be open
+abbrev pub let_go : {S : Type 0} → Outside S → S → Fid → S
+let_go outside rest fid = if is_some fid.mode then with_held outside false rest fid.node else rest
+
+-- What goes with fids that have gone from a session: the connections that they alone kept alive, then what they had open for
+-- themselves, and with it raw mode, and then the session's use of the windows at their roots.
 unfoldable pub fids_gone : {S : Type 0} → Outside S → Session → S → (gone : List Fid) → Session × S
 fids_gone outside session rest gone =
-    let ended = settled outside session rest in (ended.0, outside.left ended.1 (left_by ended.0 gone))
+    let ended = settled outside session rest in
+    (ended.0, outside.left (fold (let_go outside) ended.1 gone) (left_by ended.0 gone))
 
 -- a fid goes
 abbrev pub clunked : {S : Type 0} → Outside S → Session → S → ℕ → Fid → Session × S
 clunked outside session rest n fid =
     fids_gone outside (record session { fids = without session.fids n }) rest (fid ∷ [])
 
--- all fids go, and with them all connections
+-- all fids go, and with them all connections; the reads that wait go without a reply
 abbrev pub cleared : {S : Type 0} → Outside S → Session → S → Session × S
 cleared outside session rest =
-    fids_gone outside (record session { fids = [] }) rest (map (λ entry. entry.1) session.fids)
+    fids_gone outside (record session { fids = []; waiting = [] }) rest (map (λ entry. entry.1) session.fids)

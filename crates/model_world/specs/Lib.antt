@@ -7,9 +7,12 @@ pub mod Whole
 pub mod Walking
 pub mod Reading
 pub mod Writing
+pub mod Waiting
 pub mod Answer
 pub mod Refused
 pub mod World
 pub mod Replay
 pub mod Links
+pub mod Standing
+pub mod Sleeping
 pub mod Cut

@@ -6,6 +6,7 @@ use Rattle.model_tree.specs.Attach.{Attach}
 use Rattle.model_tree.specs.Node.{Node}
 use Rattle.model_tree.specs.Tree.{View}
 use Rattle.model_window.specs.Heard.{Heard}
+use Rattle.model_mouse.specs.declared.Mouse.{Mouse as Pointer}
 use Rattle.model_window.specs.Pane.{Pane}
 
 -- Over states of the outside. The connections are those of one session, by their numbers in it; windows are named by their
@@ -23,6 +24,9 @@ pub record Outside (S : Type 0) : Type 0 where
   -- a command that is written to a window's `wctl`, and to the device tree's
   pub command : S → (window : ℕ) → List ℕ → Outcome S
   pub device_command : S → List ℕ → Outcome S
+  -- what the mouse does, and what is typed, characters of UTF-8
+  pub mouse : S → Pointer → S
+  pub keys : S → List ℕ → S
   -- the image file of a window, and for 0 of the display
   pub picture : S → (window : ℕ) → List ℕ
   -- what was cut last in the rio of a host, and other such text

@@ -1,5 +1,5 @@
 -- The texts of the refusals, by their numbers.
-use Rattle.std.specs.Prelude.{◌≡◌, ◌==◌, ℕ, nat_lt, List, [], ◌∷◌, codes, if◌then◌else◌}
+use Rattle.std.specs.Prelude.{◌≡◌, ◌==◌, ℕ, nat_lt, List, [], ◌∷◌, codes, Option, Some, None, if◌then◌else◌}
 use Rattle.model_wire.specs.Message.{R, Rerror}
 
 abbrev pub text_in : List (ℕ × List ℕ) → ℕ → List ℕ
@@ -30,7 +30,7 @@ file_texts =
     ∷ (40, codes "no authentication") ∷ (41, codes "unknown id in attach") ∷ (42, codes "window deleted")
     ∷ (43, codes "file in use") ∷ (44, codes "too many fids") ∷ (45, codes "too many blocked reads")
     ∷ (46, codes "read too short") ∷ (47, codes "bad wctl command") ∷ (48, codes "msize too small")
-    ∷ (49, codes "too many windows") ∷ (50, codes "nested too deep") ∷ []
+    ∷ (49, codes "too many windows") ∷ (50, codes "nested too deep") ∷ (51, codes "bad input record") ∷ []
 
 unfoldable pub refusal_text : ℕ → List ℕ
 refusal_text n = if nat_lt n 30 then text_in draw_texts n else text_in file_texts n
@@ -42,3 +42,8 @@ refusal tag number = Rerror tag (refusal_text number)
 abbrev pub Refuses : ℕ → R → Type 0
 Refuses number (Rerror tag text) = text ≡ refusal_text number
 Refuses number _ = ⊥
+
+-- there is a reply, and it is that
+abbrev pub IsRefused : ℕ → Option R → Type 0
+IsRefused number (Some reply) = Refuses number reply
+IsRefused number None = ⊥

@@ -1,62 +1,113 @@
 -- What a history leaves and what it answers.
-use Rattle.std.specs.Prelude.{ℕ, ◌==◌, List, [], ◌∷◌, ◌++◌, Option, Some, None, filter, if◌then◌else◌}
-use Rattle.std.specs.List.{flat_map}
+use Rattle.std.specs.Prelude.{ℕ, zero, suc, ◌==◌, List, [], ◌∷◌, ◌++◌, length, Option, Some, None, filter, if◌then◌else◌}
+use Rattle.std.specs.List.{flat_map, sum_by}
+use Rattle.std.specs.Option.{option_map_or}
 use Rattle.r9_event.specs.declared.event.Event.{Event}
 use Rattle.r9_event.specs.declared.event.Event.TheVariants.{Begin, Msg, Take, End, Stop}
 use Rattle.r9_event.specs.declared.event.Opening.{Opening}
 use Rattle.r9_event.specs.declared.event.Reply.{Reply}
 use Rattle.r9_event.specs.declared.rio.Note.{Note}
+use Rattle.model_wire.specs.Message.{R}
+use Rattle.model_wire.specs.Reading.{tag_of}
 use Rattle.model_wire.specs.Spelling.{spelling_of_r}
 use Rattle.model_event.specs.Journal.{Journal}
 use Rattle.model_text.specs.Map.{lookup, with, and, without}
 use Rattle.model_world.specs.Session.{Session, fresh}
 use Rattle.model_world.specs.Fids.{Left, cleared}
-use Rattle.model_world.specs.Answer.{answer}
+use Rattle.model_world.specs.Answer.{answer, Taking, Closes, taking}
+use Rattle.model_world.specs.Waiting.{one_answered}
 use Rattle.model_world.specs.Desktop.{Desktop}
 use Rattle.model_world.specs.Whole.{desktop_for}
 use Rattle.model_world.specs.World.{World, opened}
 
--- the world after an event, the replies to it in their order, and what the windows were told
+-- the world after an event, the replies to it in their order, what the windows were told, and the tag by which it closed its session
 pub record Turn : Type 0 where
   pub world : World
   pub replies : List Reply
   pub notes : List (ℕ × Note)
+  pub closed : Option ℕ
 
 -- the turn ends: what was told in it is told
-abbrev pub turned : World → List Reply → Turn
-turned world replies = record {
+abbrev pub turned : World → List Reply → Option ℕ → Turn
+turned world replies closed = record {
   world = record world { desktop = record world.desktop { notes = [] } };
   replies = replies;
   notes = world.desktop.notes;
+  closed = closed;
 }
 
 abbrev pub silent : World → Turn
-silent world = turned world []
+silent world = turned world [] None
 
-abbrev pub replied_by : World → ℕ → Left Desktop → Turn
-replied_by world c after =
-    turned (record world { desktop = after.rest; sessions = with world.sessions c after.session })
-    (record { session = c; bytes = spelling_of_r after.reply } ∷ [])
+-- ---- reads that wait
+
+abbrev pub reply_to : (c : ℕ) → Option R → List Reply
+reply_to c None = []
+reply_to c (Some reply) = record { session = c; bytes = spelling_of_r reply } ∷ []
+
+-- the world with what a session left
+abbrev pub with_left : World → (c : ℕ) → Left Desktop → World
+with_left world c after = record world { desktop = after.rest; sessions = with world.sessions c after.session }
+
+abbrev pub answered_in : World → (c : ℕ) → Option (Left Desktop) → (later : Option (World × List Reply)) → Option (World × List Reply)
+answered_in world c None later = later
+answered_in world c (Some after) later = Some (with_left world c after, reply_to c after.reply)
+
+-- of these sessions the first that has a read that can be answered
+abbrev pub first_answered : World → (sessions : List (ℕ × Session)) → Option (World × List Reply)
+first_answered world [] = None
+first_answered world ((c, session) ∷ sessions) =
+    answered_in world c (one_answered (desktop_for c) session world.desktop) (first_answered world sessions)
+
+abbrev pub and_replies : List Reply → World × List Reply → World × List Reply
+and_replies replies more = (more.0, replies ++ more.1)
+
+-- Reads that wait are answered, each time the earliest of the lowest session that has one that can be, so often at most.
+unfoldable pub settled_within : (most : ℕ) → World → World × List Reply
+settled_within zero world = (world, [])
+settled_within (suc most) world =
+    option_map_or (λ next. and_replies next.1 (settled_within most next.0)) (first_answered world world.sessions) (world, [])
+
+-- how many reads wait
+abbrev pub waiting_in : World → ℕ
+waiting_in world = sum_by (λ entry. length entry.1.waiting) world.sessions
+
+-- until none can be answered any more
+abbrev pub settled : World → World × List Reply
+settled world = settled_within (waiting_in world) world
+
+-- an event has made this of the world and has these replies; then come those to reads that waited
+abbrev pub settled_after : World → List Reply → Option ℕ → Turn
+settled_after world replies closed = turned (settled world).0 (replies ++ (settled world).1) closed
+
+-- ---- events
+
+-- the tag by which the bytes of a message close their session
+abbrev pub closing_tag : List ℕ → Taking → Option ℕ
+closing_tag bytes Closes = Some (tag_of bytes)
+closing_tag bytes _ = None
 
 -- a message is answered by its session, if it lives
 abbrev pub served : World → ℕ → List ℕ → Option ℕ → Option Session → Turn
 served world c bytes mark None = silent world
-served world c bytes mark (Some session) = replied_by world c (answer (desktop_for c) session world.desktop bytes mark)
+served world c bytes mark (Some session) =
+    let after = answer (desktop_for c) session world.desktop bytes mark in
+    settled_after (with_left world c after) (reply_to c after.reply) (closing_tag bytes (taking session bytes))
 
 -- a session ends, and all that goes with its fids
-abbrev pub ended : World → ℕ → Option Session → World
-ended world c None = world
-ended world c (Some session) = record world {
+abbrev pub ended : World → ℕ → Option Session → Turn
+ended world c None = silent world
+ended world c (Some session) = settled_after (record world {
   desktop = (cleared (desktop_for c) session world.desktop).1;
   sessions = without world.sessions c;
-}
+}) [] None
 
 -- One turn of the server.
 abbrev pub step : World → Event → Turn
 step world (Begin c) = silent (record world { sessions = and world.sessions c fresh })
 step world (Msg c bytes mark) = served world c bytes mark (lookup world.sessions c)
 step world (Take c) = silent world
-step world (End c) = silent (ended world c (lookup world.sessions c))
+step world (End c) = ended world c (lookup world.sessions c)
 step world Stop = silent world
 
 abbrev pub world_from : World → List Event → World

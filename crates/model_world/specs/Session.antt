@@ -18,12 +18,20 @@ pub record Fid : Type 0 where
 abbrev pub fid_at : Node → Fid
 fid_at node = record { node = node; mode = None; kept = None; told = None }
 
--- The greatest size of a message; whether a version is agreed; the fids; the connections to the draw device that live, in
--- ascending order; and how many it ever made, whose numbers are from 1 to that.
+-- a read that waits: its fid, and how many bytes it asks for
+pub record Wait : Type 0 where
+  pub fid : ℕ
+  pub count : ℕ
+
+-- The greatest size of a message; whether a version is agreed; the tag whose second use closed the session; the fids; the reads
+-- that wait, by the tags of their messages in order of arrival; the connections to the draw device that live, in ascending order;
+-- and how many it ever made, whose numbers are from 1 to that.
 pub record Session : Type 0 where
   pub msize : ℕ
   pub agreed : Bool
+  pub closed : Option ℕ
   pub fids : List (ℕ × Fid)
+  pub waiting : List (ℕ × Wait)
   pub connections : List ℕ
   pub made : ℕ
 
@@ -33,4 +41,4 @@ max_msize = 65560
 
 -- a session that has agreed on nothing
 abbrev pub fresh : Session
-fresh = record { msize = max_msize; agreed = false; fids = []; connections = []; made = 0 }
+fresh = record { msize = max_msize; agreed = false; closed = None; fids = []; waiting = []; connections = []; made = 0 }

@@ -1,17 +1,16 @@
 -- Attaching, walking and opening (attach(5), walk(5), open(5)).
-use Rattle.std.specs.Prelude.{ℕ, ◌+◌, ◌==◌, ◌&&◌, ◌||◌, Bool, true, false, not, is_some, nat_le, List, [], ◌∷◌, ◌++◌, length, map, Option, Some, None, Ok, Err, if◌then◌else◌}
+use Rattle.std.specs.Prelude.{ℕ, ◌+◌, ◌==◌, ◌&&◌, ◌||◌, Bool, true, not, is_some, nat_le, List, [], ◌∷◌, ◌++◌, length, map, Option, Some, None, Ok, Err, if◌then◌else◌}
 use Rattle.std.specs.List.{list_any}
 use Rattle.model_text.specs.Outcome.{Outcome, ◌>>=◌, refuse_if}
 use Rattle.model_wire.specs.Message.{Rattach, Rwalk, Ropen, no_fid}
 use Rattle.model_tree.specs.Node.{Node, qid, may}
 use Rattle.model_tree.specs.Attach.{attach_of}
-use Rattle.model_tree.specs.declared.Kind.{Kind}
-use Rattle.model_tree.specs.declared.Kind.TheVariants.{New, Ctl, Mousein, Kbdin, Cons, Consctl, Mouse, Text}
+use Rattle.model_tree.specs.declared.Kind.TheVariants.{New, Ctl, Consctl, Mouse}
 use Rattle.model_tree.specs.Tree.{View, root_of, check_live, walk}
 use Rattle.model_world.specs.Session.{Fid, Session, fid_at}
 use Rattle.model_text.specs.Map.{with}
 use Rattle.model_world.specs.Outside.{Outside}
-use Rattle.model_world.specs.Fids.{Done, done, Left, left, fid_of, with_fid, and_fid, is_bound, is_full, is_kind, is_open_on}
+use Rattle.model_world.specs.Fids.{Done, done, Left, left, fid_of, with_fid, and_fid, is_bound, is_full, is_kind, is_open_on, with_held}
 
 -- ---- attach
 
@@ -64,16 +63,6 @@ walk_answer outside session rest tag fid newfid names = do
 
 -- ---- open
 
--- the files that do not open yet: those of the mouse, of the keyboard and of the console
-abbrev pub is_input : Kind → Bool
-is_input Mousein = true
-is_input Kbdin = true
-is_input Cons = true
-is_input Consctl = true
-is_input Mouse = true
-is_input Text = true
-is_input _ = false
-
 -- so many connections of a session live at once at most, and so many may be made
 abbrev pub most_at_once : ℕ
 most_at_once = 4
@@ -81,11 +70,13 @@ most_at_once = 4
 abbrev pub most_made : ℕ
 most_made = 67108863
 
--- The session has all its connections, or the one ctl of a connection is open already.
-abbrev pub is_taken : Session → Node → Bool
-is_taken session node =
+-- The session has all its connections, or the one ctl of a connection, or the `mouse` or `consctl` of a window is open already.
+abbrev pub is_taken : {S : Type 0} → Outside S → Session → S → Node → Bool
+is_taken outside session rest node =
     (is_kind New node.kind && nat_le most_at_once (length session.connections))
     || (is_kind Ctl node.kind && list_any (λ entry. (entry.1.node.connection == node.connection) && is_open_on Ctl entry.1) session.fids)
+    || (is_kind Mouse node.kind && (outside.pane rest node.serial).mouse_held)
+    || (is_kind Consctl node.kind && (outside.pane rest node.serial).consctl_held)
 
 -- the ctl of a connection, which an open of new becomes
 abbrev pub ctl_of : Node → ℕ → Node
@@ -109,16 +100,15 @@ opened_new outside session rest tag number mode fid =
 abbrev pub opened : {S : Type 0} → Outside S → Session → S → (tag number mode : ℕ) → Fid → Left S
 opened outside session rest tag number mode fid =
     if is_kind New fid.node.kind then opened_new outside session rest tag number mode fid
-    else left (with_fid session number (record fid { mode = Some mode }), rest) (Ropen tag (qid fid.node) 0)
+    else left (with_fid session number (record fid { mode = Some mode }), with_held outside true rest fid.node) (Ropen tag (qid fid.node) 0)
 
--- 38 what its permissions forbid does not open, nor what is not built yet; 43 what is taken; 44 no number is left for another
--- connection
+-- 38 what its permissions forbid does not open; 43 what is taken; 44 no number is left for another connection
 unfoldable pub open_answer : {S : Type 0} → Outside S → Session → S → (tag fid mode : ℕ) → Outcome (Left S)
 open_answer outside session rest tag number mode = do
   fid ← fid_of session number
   _ ← refuse_if (is_some fid.mode) 36
   _ ← check_live (outside.view rest session.connections fid.node) fid.node
-  _ ← refuse_if (not (may fid.node mode) || is_input fid.node.kind) 38
-  _ ← refuse_if (is_taken session fid.node) 43
+  _ ← refuse_if (not (may fid.node mode)) 38
+  _ ← refuse_if (is_taken outside session rest fid.node) 43
   _ ← refuse_if (is_kind New fid.node.kind && nat_le most_made session.made) 44
   Ok (opened outside session rest tag number mode fid)

@@ -9,6 +9,7 @@ use Rattle.model_wctl.specs.Command as wctl
 use Rattle.model_wctl.specs.Reading.{command_of}
 use Rattle.model_rio.specs.Table.{Table, window_of, is_host, made_in, found}
 use Rattle.model_rio.specs.Act as act
+use Rattle.model_mouse.specs.declared.Mouse.{Mouse as Pointer}
 use Rattle.model_rio.specs.Rio.{rio}
 use Rattle.model_tree.specs.declared.Kind.{Kind}
 use Rattle.model_tree.specs.declared.Kind.TheVariants as kind
@@ -80,6 +81,15 @@ device_commanded desktop text = do
   command ← value_or_refuse (command_of true text) 47
   device_commanded_by desktop command.id command.what
 
+-- ---- input
+
+-- an event of the mouse, and what is typed, which begin at the root rio
+unfoldable pub moused : Desktop → Pointer → Desktop
+moused desktop e = stepped_if desktop (rio desktop.table (act.Mouse e))
+
+unfoldable pub typed : Desktop → (keys : List ℕ) → Desktop
+typed desktop keys = stepped_if desktop (rio desktop.table (act.Keys keys))
+
 -- ---- attaching, and leaving
 
 -- a new window, whose serial is the last that was given
@@ -136,6 +146,8 @@ desktop_for session = record {
   hear = λ desktop window h. record desktop { panes = pane_told desktop.panes window h };
   command = commanded;
   device_command = device_commanded;
+  mouse = moused;
+  keys = typed;
   picture = λ desktop window. picture_of desktop.device window;
   snarf = λ desktop host. unwrap_or (lookup desktop.snarfs host) [];
   with_snarf = λ desktop host bytes. record desktop { snarfs = with desktop.snarfs host bytes };

@@ -1,8 +1,11 @@
 -- Writing what is open (write(5), draw(3), rio(4)).
-use Rattle.std.specs.Prelude.{ℕ, ◌+◌, ◌==◌, ◌^◌, ◌&&◌, not, is_none, nat_le, List, ◌++◌, length, Option, Some, None, Ok, Err, if◌then◌else◌}
-use Rattle.model_text.specs.Outcome.{Outcome, ◌>>=◌, refuse_if}
+use Rattle.std.specs.Prelude.{ℕ, ◌+◌, ◌-◌, ◌==◌, ◌^◌, ◌&&◌, ◌||◌, Bool, true, false, not, is_none, nat_le, List, ◌++◌, length, take, slice_index, codes, Option, Some, None, Ok, Err, if◌then◌else◌}
+use Rattle.std.specs.List.{list_any}
+use Rattle.std.specs.Str.{bytes_eq, is_utf8, chars}
+use Rattle.model_text.specs.Outcome.{Outcome, ◌>>=◌, refuse_if, value_or_refuse}
 use Rattle.model_wire.specs.Message.{R, Rwrite}
-use Rattle.model_window.specs.Heard.{Labelled}
+use Rattle.model_mouse.specs.Pointer.{pointer_of}
+use Rattle.model_window.specs.Heard.{Raw, Written, Labelled}
 use Rattle.model_tree.specs.declared.Kind.{Kind}
 use Rattle.model_tree.specs.declared.Kind.TheVariants as kind
 use Rattle.model_tree.specs.Node.{Node, writes}
@@ -24,17 +27,51 @@ snarf_written old offset bytes =
     else if (offset == length old) && nat_le (length old + length bytes) most_snarf then Ok (old ++ bytes)
     else Err 39
 
+-- so many characters are typed by one write at most
+abbrev pub most_keys : ℕ
+most_keys = 64
+
+-- 1 to 64 characters of UTF-8, none of them 0
+unfoldable pub are_keys : List ℕ → Bool
+are_keys bytes =
+    is_utf8 bytes && nat_le 1 (length (chars bytes)) && nat_le (length (chars bytes)) most_keys && not (list_any (λ byte. byte == 0) bytes)
+
+-- a text without the newline that may end it
+abbrev pub line_of : List ℕ → List ℕ
+line_of text = if slice_index text (length text - 1) == 10 then take (length text - 1) text else text
+
+-- What a word written to `consctl` makes of raw mode: `holdon` and `holdoff` leave it. Another word is 47.
+abbrev pub raw_asked : (word : List ℕ) → Outcome (Option Bool)
+raw_asked word =
+    if bytes_eq word (codes "rawon") then Ok (Some true)
+    else if bytes_eq word (codes "rawoff") then Ok (Some false)
+    else if bytes_eq word (codes "holdon") || bytes_eq word (codes "holdoff") then Ok None
+    else Err 47
+
+abbrev pub with_raw_asked : {S : Type 0} → Outside S → S → (window : ℕ) → Option Bool → S
+with_raw_asked outside rest window None = rest
+with_raw_asked outside rest window (Some raw) = outside.hear rest window (Raw raw)
+
 -- a write that leaves nothing where it is refused
 abbrev pub whole_or_refused : {S : Type 0} → Outcome S → Outcome (S × Option ℕ)
 whole_or_refused defined = defined >>= λ next. Ok (next, None)
 
--- What a write leaves outside, and the refusal of one that may leave something all the same. No other files open for writing.
+-- What a write leaves outside, and the refusal of one that may leave something all the same. A write to `mouse` has no effect, and no
+-- other files open for writing.
 abbrev pub file_written : {S : Type 0} → Outside S → S → Node → (offset : ℕ) → List ℕ → Option ℕ → Kind → Outcome (S × Option ℕ)
 file_written outside rest node offset bytes mark kind.Ctl = whole_or_refused (outside.write_ctl rest node.connection bytes)
 file_written outside rest node offset bytes mark kind.Data = Ok (outside.write_data rest node.connection bytes mark)
+file_written outside rest node offset bytes mark kind.Mousein =
+    whole_or_refused (value_or_refuse (pointer_of bytes) 51 >>= λ e. Ok (outside.mouse rest e))
+file_written outside rest node offset bytes mark kind.Kbdin =
+    whole_or_refused (refuse_if (not (are_keys bytes)) 51 >>= λ _. Ok (outside.keys rest bytes))
 file_written outside rest node offset bytes mark kind.Snarf =
     whole_or_refused (snarf_written (outside.snarf rest node.serial) offset bytes >>= λ new. Ok (outside.with_snarf rest node.serial new))
 file_written outside rest node offset bytes mark kind.DeviceWctl = whole_or_refused (outside.device_command rest bytes)
+file_written outside rest node offset bytes mark kind.Cons = Ok (outside.hear rest node.serial (Written bytes), None)
+file_written outside rest node offset bytes mark kind.Consctl =
+    whole_or_refused (raw_asked (line_of bytes) >>= λ asked. Ok (with_raw_asked outside rest node.serial asked))
+file_written outside rest node offset bytes mark kind.Mouse = Ok (rest, None)
 file_written outside rest node offset bytes mark kind.Label = Ok (outside.hear rest node.serial (Labelled bytes), None)
 file_written outside rest node offset bytes mark kind.Wctl = whole_or_refused (outside.command rest node.serial bytes)
 file_written outside rest node offset bytes mark _ = Err 38

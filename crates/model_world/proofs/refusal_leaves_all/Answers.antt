@@ -3,4 +3,4 @@ use Rattle.model_world.proofs.Refused.{refusal-leaves}
 use Rattle.model_world.proofs.refusal_leaves_all.Goals as goal
 
 pub returns : goal.returns
-returns c = λ k session desktop bytes mark. refusal-leaves (desktop_for k) session desktop bytes mark
+returns c = λ k session desktop bytes mark reply. refusal-leaves (desktop_for k) session desktop bytes mark reply
