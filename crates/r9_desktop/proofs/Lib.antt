@@ -4,3 +4,4 @@ mod OfRio
 mod Placing
 mod Viewed
 mod Display
+mod Panes

@@ -9,7 +9,7 @@ ghost use Rattle.r9_desktop.specs.World.{desktop_of};
 use crate::telling::{Panes, Snarfs, Users};
 use r9_chan::Chan;
 use r9_draw::Draw;
-use r9_event::Notes;
+use r9_event::{Note, Notes};
 use r9_geom::Rect;
 use r9_memory::Memory;
 use r9_text::Bytes;
@@ -54,6 +54,14 @@ impl Desktop {
             snarfs,
             notes: Notes::new(alloc),
         })
+    }
+
+    /// What windows were told since the notes were taken last, each with the serial of its window.
+    #[tactic(auto, unfolding(crate::specs::World::desktop_of))]
+    pub fn notes(&self) -> &[(u32, Note)]
+        ensures { result.now ≡ (desktop_of self.now).notes }
+    {
+        self.notes.as_slice()
     }
 
     /// Takes what windows were told since this was asked last.

@@ -7,6 +7,8 @@ mod connections;
 mod desktop;
 mod files;
 mod finding;
+mod hearing;
+mod input;
 mod stepping;
 mod telling;
 mod using;

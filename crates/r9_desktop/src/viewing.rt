@@ -1,6 +1,9 @@
 //! What walks and listings of the tree depend on (intro(5)).
 
-ghost use Rattle.std.specs.Prelude.{◌≡◌, ◌≤◌, map, All, IfOk};
+ghost use Rattle.std.specs.Prelude.{◌≡◌, ◌≤◌, ◌==◌, ◌&&◌, not, is_some, map, All, Ok, Err, IfErr, IfOk, OnOk};
+ghost use Rattle.std.specs.List.{list_any};
+ghost use Rattle.model_rio.specs.Table.{window_of};
+ghost use Rattle.model_tree.specs.Tree.{check_live, is_of_connection};
 ghost use Rattle.model_world.specs.Whole as whole;
 ghost use Rattle.r9_desktop.specs.Words.{is_of_rio};
 ghost use Rattle.r9_tree.specs.View.{node_of, view_of, most_connections, IsNode, IsView};
@@ -10,9 +13,15 @@ use crate::desktop::Desktop;
 use r9_files::is_kind;
 use r9_memory::Memory;
 use r9_text::Numbers;
-use r9_tree::{Kind, Node, TreeView};
+use r9_tree::{Kind, Node, TreeView, kind_of};
 use r9_window::Window;
 use std::alloc::Global;
+
+/// The number of the refusal "window deleted".
+const WINDOW_DELETED: u8 = 42;
+
+/// The number of the refusal "file does not exist".
+const NO_SUCH_FILE: u8 = 34;
 
 /// The numbers of windows.
 fn numbers_of(alloc: Global, windows: &[Window]) -> Result<Numbers, Memory>
@@ -42,6 +51,32 @@ fn is_of_rio(node: &Node) -> bool
     ensures { result ≡ is_of_rio (node_of node.now).kind }
 {
     is_kind(node, Kind::Wsys) || is_kind(node, Kind::Screen) || is_kind(node, Kind::Snarf)
+}
+
+/// Whether files of a kind belong to a connection.
+#[tactic(auto, unfolding(model_tree::specs::Node::row))]
+fn is_of_connection(kind: Kind) -> bool
+    ensures { result ≡ is_of_connection kind }
+{
+    matches!(
+        kind,
+        Kind::Connection | Kind::Ctl | Kind::Data | Kind::Refresh
+    )
+}
+
+/// Whether a connection is among these.
+fn lives(connections: &Numbers, connection: u32) -> bool
+    ensures { result ≡ list_any (λ n. n == connection) connections.now }
+{
+    connections.as_slice().iter().any(|n| *n == connection)
+}
+
+/// Whether the connection that a file belongs to is gone, where its session has these.
+fn is_ended(connections: &Numbers, node: &Node) -> bool
+    requires { IsNode node.now }
+    ensures { result ≡ (is_of_connection (node_of node.now).kind && not (list_any (λ n. n == node.now.connection) connections.now)) }
+{
+    is_of_connection(kind_of(node.kind)) && !lives(connections, node.connection)
 }
 
 impl Desktop {
@@ -76,5 +111,28 @@ impl Desktop {
             serials: serials_of(self.alloc, &windows)?,
             live: self.manager.window_of(node.serial).is_some(),
         })
+    }
+    /// Whether the window that a file tells of is gone.
+    fn is_gone(&self, node: &Node) -> bool
+        ensures { result ≡ (not (node.now.serial == 0) && not (is_some (window_of (parts_of self.now).table node.now.serial))) }
+    {
+        node.serial != 0 && self.manager.window_of(node.serial).is_none()
+    }
+
+    /// Whether a file's window and its connection live, where it has one: refused by 42 exactly where its window is gone, and else
+    /// by 34 exactly where its connection is.
+    #[tactic(auto, unfolding(crate::specs::World::desktop_of, model_world::specs::Whole::view_of, model_tree::specs::Tree::check_live))]
+    pub fn check_live(&self, connections: &Numbers, node: &Node) -> Result<(), u8>
+        requires { IsNode node.now }
+        ensures lives { OnOk result (check_live (whole.view_of (desktop_of self.now).table connections.now (node_of node.now)) (node_of node.now) ≡ Ok tt) }
+        ensures refused { IfErr result (λ n. check_live (whole.view_of (desktop_of self.now).table connections.now (node_of node.now)) (node_of node.now) ≡ Err n) }
+    {
+        if self.is_gone(node) {
+            return Err(WINDOW_DELETED);
+        }
+        if is_ended(connections, node) {
+            return Err(NO_SUCH_FILE);
+        }
+        Ok(())
     }
 }

@@ -70,6 +70,9 @@ pub const TOO_MANY_WINDOWS: u8 = 49;
 /// The number of the refusal "nested too deep".
 pub const NESTED_TOO_DEEP: u8 = 50;
 
+/// The number of the refusal "bad input record".
+pub const BAD_INPUT: u8 = 51;
+
 /// Why there is no answer.
 #[derive(Clone, Copy, Debug, PartialEq, Eq)]
 pub enum Fault {
@@ -165,6 +168,7 @@ fn file_text(number: u8) -> &'static str
         MSIZE_TOO_SMALL => "msize too small",
         TOO_MANY_WINDOWS => "too many windows",
         NESTED_TOO_DEEP => "nested too deep",
+        BAD_INPUT => "bad input record",
         _ => "",
     }
 }

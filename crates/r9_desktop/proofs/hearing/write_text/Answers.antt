@@ -1,0 +1,30 @@
+use Rattle.std.proofs.Common.{rules, ◌≡◌, Some, None, ap, ◌∙◌}
+use Rattle.model_text.specs.Map.{lookup, with}
+use Rattle.model_map.proofs.Keys.{with-written}
+use Rattle.model_map.proofs.Maps.{with-same}
+use Rattle.model_window.specs.Pane.{Pane}
+use Rattle.model_window.specs.Heard.{Written}
+use Rattle.r9_desktop.proofs.Maps.{on_err, told-some, told-none}
+use Rattle.r9_desktop.proofs.hearing.write_text.Goals as goal
+
+pub returns-in_err-write_text-clause-err : goal.returns-in_err-write_text-clause-err
+returns-in_err-write_text-clause-err c =
+    let before = c.args.panes.now.entries in
+    let found : lookup before c.args.window ≡ Some c.in-Some.pane.now = search rules in
+    on_err c.from_residual.result
+    (with-written before _ c.args.window c.write_text.new.self (c.get_mut.follows.holds c.write_text.new.self).0
+    ∙ ap (λ (p : Pane). with before c.args.window p) c.in_err-write_text.ensures.err ∙ with-same before c.args.window c.in-Some.pane.now found)
+
+pub returns-in_ok-write_text-clause-ok : goal.returns-in_ok-write_text-clause-ok
+returns-in_ok-write_text-clause-ok c =
+    let before = c.args.panes.now.entries in
+    let found : lookup before c.args.window ≡ Some c.in-Some.pane.now = search rules in
+    with-written before _ c.args.window c.write_text.new.self (c.get_mut.follows.holds c.write_text.new.self).0
+    ∙ told-some before c.args.window c.in-Some.pane.now c.write_text.new.self (Written c.args.bytes.now) found c.in_ok-write_text.ensures.ok
+
+pub returns-in_default-clause-ok : goal.returns-in_default-clause-ok
+returns-in_default-clause-ok c =
+    let before = c.args.panes.now.entries in
+    let none : lookup before c.args.window ≡ None = search rules in
+    let kept : c.get_mut.follows.lender-at-none.entries ≡ before = search rules in
+    kept ∙ told-none before c.args.window (Written c.args.bytes.now) none
