@@ -12,6 +12,7 @@ use Rattle.model_world.specs.Whole.{desktop_for}
 use Rattle.model_world.specs.Answer.{agreed_on, version_answer}
 use Rattle.model_world.specs.Fids.{cleared, has_root, left_by, put}
 use Rattle.model_world.proofs.Links.{cleared_is}
+use Rattle.r9_session.specs.Clients.{left_of}
 use Rattle.r9_session.specs.Roots.{roots_of, without_fids}
 use Rattle.r9_session.proofs.Keeping.{filter_same}
 
@@ -116,8 +117,14 @@ refused_not n true r is = absurd (cc is)
 refused_not n false r is = refl
 
 pub version_is : (c : ℕ) (session : Session) (desktop : Desktop) (tag msize : ℕ) (version : List ℕ) → nat_lt msize 256 ≡ false
-    → version_answer (desktop_for c) session desktop tag msize version ≡ Ok (agreed_on tag msize version (record session { fids = []; connections = [] }, (cleared (desktop_for c) session desktop).1))
+    → version_answer (desktop_for c) session desktop tag msize version ≡ Ok (agreed_on tag msize version (cleared (desktop_for c) session desktop))
 unfolding version_answer
 version_is c session desktop tag msize version long =
     refused_not 48 (nat_lt msize 256) (Ok (agreed_on tag msize version (cleared (desktop_for c) session desktop))) long
-    ∙ ap (λ (after : Session × Desktop). Ok (agreed_on tag msize version (after.0, (cleared (desktop_for c) session desktop).1))) (cleared_is (desktop_for c) session desktop)
+
+-- all fids of a session have gone, and the reads that waited
+pub cleared_of : (c : ℕ) (session : Session) (desktop after : Desktop) → after ≡ (cleared (desktop_for c) session desktop).1
+    → cleared (desktop_for c) session desktop ≡ left_of (record session { fids = []; waiting = []; connections = [] }) after
+cleared_of c session desktop after is =
+    let own = ap (λ (both : Session × Desktop). both.0) (cleared_is (desktop_for c) session desktop) in
+    λ j. (own j, sym is j)

@@ -13,7 +13,7 @@ use Rattle.model_world.specs.Fids.{is_kept, is_kind, keeps}
 use Rattle.model_tree.specs.declared.Kind.TheVariants.{Ctl, Data, Refresh}
 use Rattle.model_world.specs.Links.{is_among}
 use Rattle.r9_session.specs.SessionView.{AreKept}
-use Rattle.r9_session.specs.Clients.{let_go}
+use Rattle.r9_session.specs.Clients.{without_fid}
 
 -- ---- whether the value of some entry passes a test
 
@@ -167,7 +167,7 @@ not_true true no_more = absurd (no_more refl)
 not_true false no_more = refl
 
 -- a connection stays that the fid does not keep alive
-stays : (session : Session) (key n : ℕ) (fid : Fid) → lookup session.fids key ≡ Some fid → AreKept session.fids session.connections → is_among session.connections n ≡ true → keeps n fid ≡ false → is_kept (let_go session key) n ≡ true
+stays : (session : Session) (key n : ℕ) (fid : Fid) → lookup session.fids key ≡ Some fid → AreKept session.fids session.connections → is_among session.connections n ≡ true → keeps n fid ≡ false → is_kept (without_fid session key) n ≡ true
 stays session key n fid found kept among fails = any_without (keeps n) session.fids key fid found fails ∙ kept n among
 
 others_fail : (n : ℕ) (fid : Fid) → (n == fid.node.connection) ≡ false → keeps n fid ≡ false
@@ -175,26 +175,26 @@ others_fail n fid apart = not_true (keeps n fid) (λ is. false≢true (sym apart
 
 -- none goes where the fid keeps none alive, or others keep it too
 pub none_goes : (session : Session) (key : ℕ) (fid : Fid) → lookup session.fids key ≡ Some fid → AreKept session.fids session.connections
-    → (keeps fid.node.connection fid ≡ false) ⊎ (is_kept (let_go session key) fid.node.connection ≡ true) → (n : ℕ) → is_among session.connections n ≡ true → is_kept (let_go session key) n ≡ true
+    → (keeps fid.node.connection fid ≡ false) ⊎ (is_kept (without_fid session key) fid.node.connection ≡ true) → (n : ℕ) → is_among session.connections n ≡ true → is_kept (without_fid session key) n ≡ true
 none_goes session key fid found kept cause n among = by_cases (n == fid.node.connection) refl
   where
-    by_cases : (b : Bool) → (n == fid.node.connection) ≡ b → is_kept (let_go session key) n ≡ true
+    by_cases : (b : Bool) → (n == fid.node.connection) ≡ b → is_kept (without_fid session key) n ≡ true
     by_cases false apart = stays session key n fid found kept among (others_fail n fid apart)
     by_cases true at =
         let same : n ≡ fid.node.connection = eqb-true n fid.node.connection at in
         ⊎_elim
         (λ fails. stays session key n fid found kept among (ap (λ m. keeps m fid) same ∙ fails))
-        (λ more. ap (is_kept (let_go session key)) same ∙ more)
+        (λ more. ap (is_kept (without_fid session key)) same ∙ more)
         cause
 
 -- or else that one
 pub one_goes : (session : Session) (key : ℕ) (fid : Fid) → lookup session.fids key ≡ Some fid → AreKept session.fids session.connections
-    → is_kept (let_go session key) fid.node.connection ≡ false → (n : ℕ) → is_among session.connections n ≡ true → is_kept (let_go session key) n ≡ not (n == fid.node.connection)
+    → is_kept (without_fid session key) fid.node.connection ≡ false → (n : ℕ) → is_among session.connections n ≡ true → is_kept (without_fid session key) n ≡ not (n == fid.node.connection)
 one_goes session key fid found kept gone n among = by_cases (n == fid.node.connection) refl
   where
-    by_cases : (b : Bool) → (n == fid.node.connection) ≡ b → is_kept (let_go session key) n ≡ not b
+    by_cases : (b : Bool) → (n == fid.node.connection) ≡ b → is_kept (without_fid session key) n ≡ not b
     by_cases false apart = stays session key n fid found kept among (others_fail n fid apart)
-    by_cases true at = ap (is_kept (let_go session key)) (eqb-true n fid.node.connection at) ∙ gone
+    by_cases true at = ap (is_kept (without_fid session key)) (eqb-true n fid.node.connection at) ∙ gone
 
 pub all_pass : (ns : List ℕ) → filter (λ n. true) ns ≡ ns
 all_pass [] = refl
@@ -210,22 +210,22 @@ twice false = refl
 
 -- what is left of the connections, and which end
 pub all_left : (session : Session) (key : ℕ) (fid : Fid) → lookup session.fids key ≡ Some fid → AreKept session.fids session.connections
-    → (keeps fid.node.connection fid ≡ false) ⊎ (is_kept (let_go session key) fid.node.connection ≡ true)
-    → (filter (is_kept (let_go session key)) session.connections ≡ session.connections) × (filter (λ n. not (is_kept (let_go session key) n)) session.connections ≡ [])
+    → (keeps fid.node.connection fid ≡ false) ⊎ (is_kept (without_fid session key) fid.node.connection ≡ true)
+    → (filter (is_kept (without_fid session key)) session.connections ≡ session.connections) × (filter (λ n. not (is_kept (without_fid session key) n)) session.connections ≡ [])
 all_left session key fid found kept cause =
     let each = none_goes session key fid found kept cause in
-    let gone = let_go session key in (
+    let gone = without_fid session key in (
       filter_same (is_kept gone) (λ n. true) session.connections each ∙ all_pass session.connections,
       filter_same (λ n. not (is_kept gone n)) (λ n. false) session.connections (λ n among. ap not (each n among)) ∙ none_pass session.connections,
     )
 
 pub others_left : (session : Session) (key : ℕ) (fid : Fid) → lookup session.fids key ≡ Some fid → AreKept session.fids session.connections
-    → is_kept (let_go session key) fid.node.connection ≡ false
-    → (filter (is_kept (let_go session key)) session.connections ≡ filter (λ n. not (n == fid.node.connection)) session.connections)
-    × (filter (λ n. not (is_kept (let_go session key) n)) session.connections ≡ filter (λ n. n == fid.node.connection) session.connections)
+    → is_kept (without_fid session key) fid.node.connection ≡ false
+    → (filter (is_kept (without_fid session key)) session.connections ≡ filter (λ n. not (n == fid.node.connection)) session.connections)
+    × (filter (λ n. not (is_kept (without_fid session key) n)) session.connections ≡ filter (λ n. n == fid.node.connection) session.connections)
 others_left session key fid found kept gone =
     let each = one_goes session key fid found kept gone in
-    let left = let_go session key in (
+    let left = without_fid session key in (
       filter_same (is_kept left) (λ n. not (n == fid.node.connection)) session.connections each,
       filter_same (λ n. not (is_kept left n)) (λ n. n == fid.node.connection) session.connections (λ n among. ap not (each n among) ∙ twice (n == fid.node.connection)),
     )

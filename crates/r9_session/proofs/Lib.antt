@@ -5,6 +5,7 @@ mod Begun
 mod Keeping
 mod Bound
 mod Gone
-mod Done
 mod Told
 mod Opened
+mod Awaited
+mod Taken

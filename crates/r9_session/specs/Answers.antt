@@ -1,18 +1,21 @@
 -- What a session's answer to a message promises.
-use Rattle.std.specs.Prelude.{◌≡◌, ◌⊎◌, ◌==◌, ◌&&◌, not, ℕ, Bool, true, false, Option, Some, Result, Ok, Err, None, option_map}
+use Rattle.std.specs.Prelude.{◌≡◌, ◌⊎◌, ◌==◌, ◌&&◌, not, ℕ, Bool, true, false, Option, Some, Result, Ok, Err, None, IfSome, option_map}
 use Rattle.model_text.specs.Map.{lookup}
 use Rattle.model_text.specs.Outcome.{Outcome}
-use Rattle.model_wire.specs.Message.{T, Twrite, no_tag, tag_of_t}
+use Rattle.model_wire.specs.Message.{T, Tread, Twrite, no_tag, tag_of_t}
 use Rattle.model_wire.specs.Spelling.{FitsR}
 use Rattle.model_world.specs.Session.{Session}
 use Rattle.model_world.specs.Desktop.{Desktop}
-use Rattle.model_world.specs.Answer.{is_version}
+use Rattle.model_world.specs.Answer.{Taking, Ignored, TooLong, Closes, Reads, is_version}
+use Rattle.model_world.specs.Waiting.{waits_for}
 use Rattle.model_world.specs.Fids.{Done, Left, is_bound, is_full}
 use Rattle.r9_wire.specs.declared.message.Rmsg.{Rmsg}
 use Rattle.r9_wire.specs.View.{r_of}
 use Rattle.r9_files.specs.declared.fault.Fault.{Fault}
 use Rattle.r9_files.specs.declared.fault.Fault.TheVariants as fault
 use Rattle.r9_desktop.specs.Words.{mark_after}
+use Rattle.r9_session.specs.declared.taking.Taking.{Taking as CodeTaking}
+use Rattle.r9_session.specs.declared.taking.Taking.TheVariants as taking
 use Rattle.r9_session.specs.declared.writing.Answered.{Answered}
 
 -- What is answered is what is defined: the session after it and a reply that can be written, or a refusal, which leaves
@@ -24,14 +27,20 @@ IsAnswer old (Err fault.Memory) new defined = Unit {0}
 
 -- the same of a message that reaches the draw device or the windows
 abbrev pub IsReach : (old : Session) (before : Desktop) (found : Result Rmsg Fault) (new : Session) (after : Desktop) → Outcome (Left Desktop) → Type 0
-IsReach old before (Ok reply) new after defined = (defined ≡ Ok (record { session = new; rest = after; reply = r_of reply })) × FitsR (r_of reply)
+IsReach old before (Ok reply) new after defined = (defined ≡ Ok (record { session = new; rest = after; reply = Some (r_of reply) })) × FitsR (r_of reply)
 IsReach old before (Err (fault.Refused n)) new after defined = (defined ≡ Err n) × (new ≡ old) × (after ≡ before)
 IsReach old before (Err fault.Memory) new after defined = Unit {0}
+
+-- the same of a read, which may have no reply yet
+abbrev pub IsReadEnd : (old : Session) (before : Desktop) (found : Result (Option Rmsg) Fault) (new : Session) (after : Desktop) → Outcome (Left Desktop) → Type 0
+IsReadEnd old before (Ok reply) new after defined = (defined ≡ Ok (record { session = new; rest = after; reply = option_map r_of reply })) × IfSome reply (λ reply. FitsR (r_of reply))
+IsReadEnd old before (Err (fault.Refused n)) new after defined = (defined ≡ Err n) × (new ≡ old) × (after ≡ before)
+IsReadEnd old before (Err fault.Memory) new after defined = Unit {0}
 
 -- the same of one that may be a data write: what is defined has the mark with which it stands in the history
 abbrev pub IsReply : (mark : Option ℕ) (old : Session) (before : Desktop) (found : Result Answered Fault) (new : Session) (after : Desktop)
     → (Option ℕ → Outcome (Left Desktop)) → Type 0
-IsReply mark old before (Ok a) new after defined = (defined (mark_after mark a.short) ≡ Ok (record { session = new; rest = after; reply = r_of a.reply })) × FitsR (r_of a.reply)
+IsReply mark old before (Ok a) new after defined = (defined (mark_after mark a.short) ≡ Ok (record { session = new; rest = after; reply = option_map r_of a.reply })) × IfSome a.reply (λ reply. FitsR (r_of reply))
 IsReply mark old before (Err (fault.Refused n)) new after defined = (defined mark ≡ Err n) × (new ≡ old) × (after ≡ before)
 IsReply mark old before (Err fault.Memory) new after defined = Unit {0}
 
@@ -54,9 +63,23 @@ IsBegun session m (Ok _) = (lacks_tag m ≡ false) × (lacks_version session m �
 IsBegun session m (Err (fault.Refused n)) = ((lacks_tag m ≡ true) × (n ≡ 30)) ⊎ ((lacks_tag m ≡ false) × (lacks_version session m ≡ true) × (n ≡ 31))
 IsBegun session m (Err fault.Memory) = ⊥
 
-abbrev pub is_write : T → Bool
-is_write (Twrite tag fid offset bytes) = true
-is_write _ = false
+-- a message reads an open file, or writes it
+abbrev pub uses_file : T → Bool
+uses_file (Tread tag fid offset count) = true
+uses_file (Twrite tag fid offset bytes) = true
+uses_file _ = false
+
+-- where it reads, no read waits that has its tag
+abbrev pub IsNewTag : Session → T → Type 0
+IsNewTag session (Tread tag fid offset count) = waits_for session tag ≡ false
+IsNewTag session _ = Unit {0}
+
+-- how the code takes the bytes of a message
+abbrev pub taking_of : CodeTaking → Taking
+taking_of taking.Ignored = Ignored
+taking_of taking.TooLong = TooLong
+taking_of taking.Closes = Closes
+taking_of taking.Reads = Reads
 
 -- the fid is bound to a file and is not open
 abbrev pub IsClosed : Session → (fid : ℕ) → Type 0

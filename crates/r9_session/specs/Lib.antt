@@ -3,4 +3,3 @@ pub mod Reads
 pub mod Answers
 pub mod Clients
 pub mod Roots
-pub mod Writes

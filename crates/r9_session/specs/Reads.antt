@@ -1,10 +1,14 @@
 -- What a read of a fid promises.
-use Rattle.std.specs.Prelude.{◌≡◌, ℕ, List, Result, Ok, Err}
+use Rattle.std.specs.Prelude.{◌≡◌, ℕ, true, false, nat_le, length, List, Option, Some, None, Result, Ok, Err}
 use Rattle.model_text.specs.Outcome.{Outcome}
 use Rattle.model_world.specs.Desktop.{Desktop}
-use Rattle.model_world.specs.Session.{Fid, Session}
-use Rattle.model_world.specs.Fids.{with_fid}
-use Rattle.model_world.specs.Reading.{Given, given_by}
+use Rattle.model_world.specs.Session.{Fid, Session, Wait}
+use Rattle.model_wire.specs.Spelling.{FitsR}
+use Rattle.model_world.specs.Fids.{Left, with_fid}
+use Rattle.model_world.specs.Reading.{Given, given_by, most_waiting, parked}
+use Rattle.r9_memory.specs.declared.Memory.{Memory}
+use Rattle.r9_wire.specs.declared.message.Rmsg.{Rmsg}
+use Rattle.r9_wire.specs.View.{r_of}
 use Rattle.r9_files.specs.declared.fault.Fault.{Fault}
 use Rattle.r9_files.specs.declared.fault.Fault.TheVariants as fault
 
@@ -14,20 +18,33 @@ IsListed old fid (Ok bytes) new defined = (after : Fid) × (defined ≡ Ok (afte
 IsListed old fid (Err (fault.Refused n)) new defined = (defined ≡ Err n) × (new ≡ old)
 IsListed old fid (Err fault.Memory) new defined = Unit {0}
 
--- the same of any read, with what is left outside
-abbrev pub IsReadOf : (old : Session) (before : Desktop) (fid : ℕ) (found : Result (List ℕ) Fault) (new : Session) (after : Desktop) → Outcome (Given Desktop) → Type 0
-IsReadOf old before fid (Ok bytes) new after defined = (kept : Fid) × (defined ≡ Ok (given_by kept after bytes)) × (new ≡ with_fid old fid kept)
+-- the same of any read, with what is left outside; all is as before where the read waits
+abbrev pub IsReadOf : (old : Session) (before : Desktop) (fid : ℕ) (found : Result (Option (List ℕ)) Fault) (new : Session) (after : Desktop) → Outcome (Option (Given Desktop)) → Type 0
+IsReadOf old before fid (Ok (Some bytes)) new after defined = (kept : Fid) × (defined ≡ Ok (Some (given_by kept after bytes))) × (new ≡ with_fid old fid kept)
+IsReadOf old before fid (Ok None) new after defined = (defined ≡ Ok None) × (new ≡ old) × (after ≡ before)
 IsReadOf old before fid (Err (fault.Refused n)) new after defined = (defined ≡ Err n) × (new ≡ old) × (after ≡ before)
 IsReadOf old before fid (Err fault.Memory) new after defined = Unit {0}
 
--- what a file gives where a read changes nothing
-abbrev pub IsTold : (found : Result (List ℕ) Fault) → Outcome (List ℕ) → Type 0
-IsTold (Ok bytes) defined = defined ≡ Ok bytes
-IsTold (Err (fault.Refused n)) defined = defined ≡ Err n
-IsTold (Err fault.Memory) defined = Unit {0}
+-- the same of what a read that waited gets
+abbrev pub IsAwaited : (old : Session) (before : Desktop) (fid : ℕ) (found : Result (Option (List ℕ)) Fault) (new : Session) (after : Desktop) → Option (Outcome (Given Desktop)) → Type 0
+IsAwaited old before fid (Ok (Some bytes)) new after defined = (kept : Fid) × (defined ≡ Some (Ok (given_by kept after bytes))) × (new ≡ with_fid old fid kept)
+IsAwaited old before fid (Ok None) new after defined = (defined ≡ None) × (new ≡ old) × (after ≡ before)
+IsAwaited old before fid (Err (fault.Refused n)) new after defined = (defined ≡ Some (Err n)) × (new ≡ old) × (after ≡ before)
+IsAwaited old before fid (Err fault.Memory) new after defined = Unit {0}
 
--- what a file of a connection gives, and what is left outside
-abbrev pub IsGiven : (before : Desktop) (found : Result (List ℕ) Fault) (after : Desktop) → Outcome (List ℕ × Desktop) → Type 0
-IsGiven before (Ok bytes) after defined = defined ≡ Ok (bytes, after)
-IsGiven before (Err (fault.Refused n)) after defined = (defined ≡ Err n) × (after ≡ before)
-IsGiven before (Err fault.Memory) after defined = Unit {0}
+-- a read waits from now on; 45 where 64 do already, and then all is as before
+abbrev pub IsParked : (old : Session) (tag : ℕ) → Wait → (found : Result (Unit {0}) Fault) (new : Session) → Type 0
+IsParked old tag wait (Ok _) new = (nat_le most_waiting (length old.waiting) ≡ false) × (new ≡ parked old tag wait)
+IsParked old tag wait (Err (fault.Refused n)) new = (nat_le most_waiting (length old.waiting) ≡ true) × (n ≡ 45) × (new ≡ old)
+IsParked old tag wait (Err fault.Memory) new = Unit {0}
+
+-- what is given of a file now is what is defined, with what the session's fid keeps; all is as before where its read waits on
+abbrev pub IsGivenOf : (old : Session) (before : Desktop) (fid : ℕ) (found : Result (Option (List ℕ)) Memory) (new : Session) (after : Desktop) → Option (Given Desktop) → Type 0
+IsGivenOf old before fid (Ok (Some bytes)) new after defined = (kept : Fid) × (defined ≡ Some (given_by kept after bytes)) × (new ≡ with_fid old fid kept)
+IsGivenOf old before fid (Ok None) new after defined = (defined ≡ None) × (new ≡ old) × (after ≡ before)
+IsGivenOf old before fid (Err _) new after defined = Unit {0}
+
+-- a read that waited is answered, or else all is as before and is answered what comes later
+abbrev pub IsFirst : (old : Session) (before : Desktop) (found : Option Rmsg) (new : Session) (after : Desktop) (defined later : Option (Left Desktop)) → Type 0
+IsFirst old before (Some reply) new after defined later = (defined ≡ Some (record { session = new; rest = after; reply = Some (r_of reply) })) × FitsR (r_of reply)
+IsFirst old before None new after defined later = (defined ≡ later) × (new ≡ old) × (after ≡ before)

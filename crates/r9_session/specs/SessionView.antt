@@ -11,7 +11,9 @@ abbrev pub session_of : session.Inside → model.Session
 session_of s = record {
   msize = s.msize;
   agreed = s.agreed;
+  closed = s.closed;
   fids = s.fids;
+  waiting = s.waiting;
   connections = s.connections;
   made = s.made;
 }

@@ -1,22 +1,27 @@
 //! What a session answers to a message (intro(5), version(5), flush(5)).
 
-ghost use Rattle.std.specs.Prelude.{◌≡◌, ◌<◌, ◌≤◌, ◌^◌, ◌==◌, ℕ, Option, None, length, false, IsSome, IfOk, IfSome, OnOk};
+ghost use Rattle.std.specs.Prelude.{◌≡◌, ◌<◌, ◌≤◌, ◌^◌, ◌==◌, ℕ, Option, None, Some, length, false, IsSome, IfOk, IfSome, OnOk};
 ghost use Rattle.std.specs.List.{before_first};
-ghost use Rattle.model_wire.specs.Message.{tag_of_t, Rversion};
+ghost use Rattle.std.specs.Option.{option_map};
+ghost use Rattle.model_wire.specs.Message.{tag_of_t, Rflush, Rversion};
 ghost use Rattle.model_wire.specs.Spelling.{FitsR, FitsT};
-ghost use Rattle.model_wire.specs.Reading.{message_of};
-ghost use Rattle.model_world.specs.Answer.{answer, answer_to, answer_read, asks_for_9p, is_version, read_or_not, version_answer};
+ghost use Rattle.model_wire.specs.Reading.{message_of, tag_of};
+ghost use Rattle.model_world.specs.Answer.{Reads, answer, answer_to, answer_read, asks_for_9p, closed_by, is_version, read_or_not, replied, taking, version_answer};
 ghost use Rattle.model_draw.specs.Act.{no_memory};
-ghost use Rattle.model_world.specs.Refusal.{refusal, Refuses};
+ghost use Rattle.model_world.specs.Fids.{cleared};
+ghost use Rattle.model_world.specs.Refusal.{refusal, IsRefused};
 ghost use Rattle.model_world.specs.Cut.{IsCut, IsCutMessage, IsCutSpelled};
 ghost use Rattle.model_world.specs.Links.{IsLinked, KeepsOthers};
+ghost use Rattle.model_world.specs.Waiting.{flushed};
 ghost use Rattle.model_world.specs.Whole.{desktop_for};
 ghost use Rattle.r9_desktop.specs.World.{desktop_of};
 ghost use Rattle.r9_wire.specs.View.{r_of, t_of};
-ghost use Rattle.r9_session.specs.Answers.{IsBegun, IsReach, IsReply, is_write};
+ghost use Rattle.r9_session.specs.Answers.{IsBegun, IsNewTag, IsReach, IsReply, uses_file};
+ghost use Rattle.r9_session.specs.Clients.{left_of};
 ghost use Rattle.r9_desktop.specs.Words.{mark_after};
 
 use crate::session::{MAX_MSIZE, Session};
+use crate::taking::{Taking, tag_of as tag_in};
 use crate::writing::Answered;
 use r9_desktop::Desktop;
 use r9_files::{
@@ -93,13 +98,26 @@ fn version_reply(alloc: Global, tag: u16, msize: u32, name: &str) -> Result<Rmsg
     })
 }
 
+/// No reply.
+fn silence() -> Answered
+    ensures { (result.reply ≡ None) × (result.short ≡ None) }
+{
+    Answered {
+        reply: None,
+        short: None,
+    }
+}
+
 /// The answer that refuses a message, by the reason of a number.
 fn refuse(alloc: Global, tag: u16, number: u8) -> Result<Answered, Memory>
-    ensures reply { IfOk result (λ a. (r_of a.reply ≡ refusal tag number) × FitsR (r_of a.reply)) }
+    ensures reply { IfOk result (λ a. (option_map r_of a.reply ≡ Some (refusal tag number)) × IfSome a.reply (λ reply. FitsR (r_of reply))) }
     ensures whole { IfOk result (λ a. a.short ≡ None) }
 {
     let reply = refusal(alloc, tag, number)?;
-    Ok(Answered { reply, short: None })
+    Ok(Answered {
+        reply: Some(reply),
+        short: None,
+    })
 }
 
 impl Session {
@@ -120,10 +138,8 @@ impl Session {
         if msize < MIN_MSIZE {
             return Err(Fault::Refused(MSIZE_TOO_SMALL));
         }
-        self.leave(alloc, desktop, number)?;
+        self.clear(alloc, desktop, number)?;
         let msize = msize.min(MAX_MSIZE);
-        self.fids.clear();
-        self.connections.clear();
         self.agreed = asks_for_9p(version);
         if self.agreed {
             self.msize = msize;
@@ -134,7 +150,16 @@ impl Session {
         }
     }
 
-    /// Answers a message that is no write, in a session that has agreed on a version.
+    /// The read of a tag waits no longer, and has no reply.
+    fn flush(&mut self, tag: u16, oldtag: u16) -> Rmsg
+        ensures session { self.new ≡ flushed self.old oldtag }
+        ensures reply { r_of result ≡ Rflush tag }
+    {
+        self.waiting.flush(oldtag);
+        Rmsg::Flush { tag }
+    }
+
+    /// Answers a message that neither reads an open file nor writes it, in a session that has agreed on a version.
     fn answer_other(
         &mut self,
         alloc: Global,
@@ -144,7 +169,7 @@ impl Session {
     ) -> Result<Rmsg, Fault>
         requires fits { FitsT (t_of m.now) }
         requires linked { IsLinked number self.old.made self.old.connections (desktop_of desktop.old).device }
-        requires other { is_write (t_of m.now) ≡ false }
+        requires other { uses_file (t_of m.now) ≡ false }
         ensures { (mark : Option ℕ) → IsReach self.old (desktop_of desktop.old) result self.new (desktop_of desktop.new) (answer_to (desktop_for number) self.old (desktop_of desktop.old) mark (t_of m.now)) }
     {
         match m {
@@ -161,7 +186,7 @@ impl Session {
                 aname,
                 ..
             } => self.attach(alloc, desktop, number, *tag, *fid, *afid, aname.as_slice()),
-            Tmsg::Flush { tag, .. } => Ok(Rmsg::Flush { tag: *tag }),
+            Tmsg::Flush { tag, oldtag } => Ok(self.flush(*tag, *oldtag)),
             Tmsg::Walk {
                 tag,
                 fid,
@@ -169,15 +194,10 @@ impl Session {
                 names,
             } => self.walk(alloc, desktop, *tag, *fid, *newfid, names),
             Tmsg::Open { tag, fid, mode } => self.open(desktop, number, *tag, *fid, *mode),
-            Tmsg::Create { fid, .. } | Tmsg::Wstat { fid, .. } | Tmsg::Write { fid, .. } => {
-                self.deny(*fid)
-            }
-            Tmsg::Read {
-                tag,
-                fid,
-                offset,
-                count,
-            } => self.read(alloc, desktop, number, *tag, *fid, *offset, *count),
+            Tmsg::Create { fid, .. }
+            | Tmsg::Wstat { fid, .. }
+            | Tmsg::Read { fid, .. }
+            | Tmsg::Write { fid, .. } => self.deny(*fid),
             Tmsg::Clunk { tag, fid } => {
                 self.clunk(alloc, desktop, number, *fid, Rmsg::Clunk { tag: *tag })
             }
@@ -215,24 +235,40 @@ impl Session {
     ) -> Result<Answered, Fault>
         requires fits { FitsT (t_of m.now) }
         requires linked { IsLinked number self.old.made self.old.connections (desktop_of desktop.old).device }
+        requires fresh { IsNewTag self.old (t_of m.now) }
         ensures answer { IsReply mark self.old (desktop_of desktop.old) result self.new (desktop_of desktop.new) (λ k. answer_read (desktop_for number) self.old (desktop_of desktop.old) k (t_of m.now)) }
         ensures cause { IfOk result (λ a. IfSome a.short (λ k. IsCut number self.old (desktop_of desktop.old) mark k (t_of m.now))) }
-        ensures refused { IfOk result (λ a. IsSome a.short → Refuses no_memory (r_of a.reply)) }
-        ensures told { IfOk result (λ a. Refuses no_memory (r_of a.reply) → IsSome a.short) }
+        ensures refused { IfOk result (λ a. IsSome a.short → IsRefused no_memory (option_map r_of a.reply)) }
+        ensures told { IfOk result (λ a. IsRefused no_memory (option_map r_of a.reply) → IsSome a.short) }
     {
         self.check_begun(m)?;
-        if let Tmsg::Write {
-            tag,
-            fid,
-            offset,
-            bytes,
-        } = m
-        {
-            let bytes = bytes.as_slice();
-            return self.write(alloc, desktop, number, *tag, *fid, *offset, bytes, mark);
+        match m {
+            Tmsg::Write {
+                tag,
+                fid,
+                offset,
+                bytes,
+            } => {
+                let bytes = bytes.as_slice();
+                self.write(alloc, desktop, number, *tag, *fid, *offset, bytes, mark)
+            }
+            Tmsg::Read {
+                tag,
+                fid,
+                offset,
+                count,
+            } => {
+                let reply = self.read(alloc, desktop, number, *tag, *fid, *offset, *count)?;
+                Ok(Answered { reply, short: None })
+            }
+            _ => {
+                let reply = self.answer_other(alloc, desktop, number, m)?;
+                Ok(Answered {
+                    reply: Some(reply),
+                    short: None,
+                })
+            }
         }
-        let reply = self.answer_other(alloc, desktop, number, m)?;
-        Ok(Answered { reply, short: None })
     }
 
     /// Reads a message, and answers it.
@@ -246,10 +282,11 @@ impl Session {
     ) -> Result<Answered, Fault>
         requires long { 7 ≤ length bytes.now }
         requires linked { IsLinked number self.old.made self.old.connections (desktop_of desktop.old).device }
+        requires taken { taking self.old bytes.now ≡ Reads }
         ensures answer { IsReply mark self.old (desktop_of desktop.old) result self.new (desktop_of desktop.new) (λ k. read_or_not (desktop_for number) self.old (desktop_of desktop.old) k (message_of bytes.now)) }
         ensures cause { IfOk result (λ a. IfSome a.short (λ k. IsCutSpelled number self.old (desktop_of desktop.old) bytes.now mark k)) }
-        ensures refused { IfOk result (λ a. IsSome a.short → Refuses no_memory (r_of a.reply)) }
-        ensures told { IfOk result (λ a. Refuses no_memory (r_of a.reply) → IsSome a.short) }
+        ensures refused { IfOk result (λ a. IsSome a.short → IsRefused no_memory (option_map r_of a.reply)) }
+        ensures told { IfOk result (λ a. IsRefused no_memory (option_map r_of a.reply) → IsSome a.short) }
     {
         match read_t(alloc, bytes) {
             Ok(m) => self.answer_read(alloc, desktop, number, &m, mark),
@@ -258,10 +295,57 @@ impl Session {
         }
     }
 
-    /// Answers the bytes of a message of the session that has the number that is given. A mark tells that memory ran out in a
-    /// data write after so many draw messages; the answer tells the mark with which the message stands in the history where the
-    /// reply is the refusal of want of memory, and only there. After an `Err` nothing is said of the session and the desktop: they
-    /// are not to be used again.
+    /// Answers a message, or refuses it.
+    fn answer_taken(
+        &mut self,
+        alloc: Global,
+        desktop: &mut Desktop,
+        number: u32,
+        bytes: &[u8],
+        mark: Option<u32>,
+    ) -> Result<Answered, Memory>
+        requires long { 7 ≤ length bytes.now }
+        requires linked { IsLinked number self.old.made self.old.connections (desktop_of desktop.old).device }
+        requires taken { taking self.old bytes.now ≡ Reads }
+        ensures answer { IfOk result (λ a. replied self.old (desktop_of desktop.old) (tag_of bytes.now) (read_or_not (desktop_for number) self.old (desktop_of desktop.old) (mark_after mark a.short) (message_of bytes.now)) ≡ record { session = self.new; rest = desktop_of desktop.new; reply = option_map r_of a.reply }) }
+        ensures fits { IfOk result (λ a. IfSome a.reply (λ reply. FitsR (r_of reply))) }
+        ensures cause { IfOk result (λ a. IfSome a.short (λ k. IsCutSpelled number self.old (desktop_of desktop.old) bytes.now mark k)) }
+        ensures refused { IfOk result (λ a. IsSome a.short → IsRefused no_memory (option_map r_of a.reply)) }
+        ensures told { IfOk result (λ a. IsRefused no_memory (option_map r_of a.reply) → IsSome a.short) }
+        ensures linked { OnOk result (IsLinked number self.new.made self.new.connections (desktop_of desktop.new).device) }
+        ensures others { OnOk result (KeepsOthers number (desktop_of desktop.old).device (desktop_of desktop.new).device) }
+    {
+        match self.read_and_answer(alloc, desktop, number, bytes, mark) {
+            Ok(answered) => Ok(answered),
+            Err(Fault::Refused(refused)) => refuse(alloc, tag_in(bytes), refused),
+            Err(Fault::Memory) => Err(Memory),
+        }
+    }
+
+    /// Closes the session, which has nothing any more.
+    fn close(
+        &mut self,
+        alloc: Global,
+        desktop: &mut Desktop,
+        number: u32,
+        tag: u16,
+    ) -> Result<Answered, Memory>
+        requires { IsLinked number self.old.made self.old.connections (desktop_of desktop.old).device }
+        ensures closed { OnOk result (closed_by tag (cleared (desktop_for number) self.old (desktop_of desktop.old)) ≡ left_of self.new (desktop_of desktop.new)) }
+        ensures silent { IfOk result (λ a. (a.reply ≡ None) × (a.short ≡ None)) }
+        ensures linked { OnOk result (IsLinked number self.new.made self.new.connections (desktop_of desktop.new).device) }
+        ensures others { OnOk result (KeepsOthers number (desktop_of desktop.old).device (desktop_of desktop.new).device) }
+    {
+        self.clear(alloc, desktop, number)?;
+        self.closed = Some(tag);
+        Ok(silence())
+    }
+
+    /// Answers the bytes of a message of the session that has the number that is given. There is no reply where a read waits from
+    /// then on, where the message closes the session, and where the session is closed. A mark tells that memory ran out in a data
+    /// write after so many draw messages; the answer tells the mark with which the message stands in the history where the reply is
+    /// the refusal of want of memory, and only there. After an `Err` nothing is said of the session and the desktop: they are not to
+    /// be used again.
     #[tactic(auto, unfolding(model_world::specs::Answer::answer))]
     pub fn answer(
         &mut self,
@@ -273,21 +357,18 @@ impl Session {
     ) -> Result<Answered, Memory>
         requires long { 7 ≤ length bytes.now }
         requires linked { IsLinked number self.old.made self.old.connections (desktop_of desktop.old).device }
-        ensures answer { IfOk result (λ a. answer (desktop_for number) self.old (desktop_of desktop.old) bytes.now (mark_after mark a.short) ≡ record { session = self.new; rest = desktop_of desktop.new; reply = r_of a.reply }) }
-        ensures fits { IfOk result (λ a. FitsR (r_of a.reply)) }
+        ensures answer { IfOk result (λ a. answer (desktop_for number) self.old (desktop_of desktop.old) bytes.now (mark_after mark a.short) ≡ record { session = self.new; rest = desktop_of desktop.new; reply = option_map r_of a.reply }) }
+        ensures fits { IfOk result (λ a. IfSome a.reply (λ reply. FitsR (r_of reply))) }
         ensures short { IfOk result (λ a. IfSome a.short (λ k. IsCutMessage number self.old (desktop_of desktop.old) bytes.now mark k)) }
-        ensures told { IfOk result (λ a. Refuses no_memory (r_of a.reply) → IsSome a.short) }
+        ensures told { IfOk result (λ a. IsRefused no_memory (option_map r_of a.reply) → IsSome a.short) }
         ensures linked { OnOk result (IsLinked number self.new.made self.new.connections (desktop_of desktop.new).device) }
         ensures others { OnOk result (KeepsOthers number (desktop_of desktop.old).device (desktop_of desktop.new).device) }
     {
-        let tag = u16::from_le_bytes([bytes[5], bytes[6]]);
-        if bytes.len() > self.msize as usize {
-            return refuse(alloc, tag, BAD_MESSAGE);
-        }
-        match self.read_and_answer(alloc, desktop, number, bytes, mark) {
-            Ok(answered) => Ok(answered),
-            Err(Fault::Refused(number)) => refuse(alloc, tag, number),
-            Err(Fault::Memory) => Err(Memory),
+        match self.taking(bytes) {
+            Taking::Ignored => Ok(silence()),
+            Taking::TooLong => refuse(alloc, tag_in(bytes), BAD_MESSAGE),
+            Taking::Closes => self.close(alloc, desktop, number, tag_in(bytes)),
+            Taking::Reads => self.answer_taken(alloc, desktop, number, bytes, mark),
         }
     }
 }

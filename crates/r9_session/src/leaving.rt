@@ -15,9 +15,10 @@ ghost use Rattle.model_wire.specs.Spelling.{FitsR};
 ghost use Rattle.r9_desktop.specs.World.{desktop_of};
 ghost use Rattle.r9_wire.specs.View.{r_of};
 ghost use Rattle.r9_session.specs.Answers.{IsReach};
-ghost use Rattle.r9_session.specs.Clients.{MayLeave, let_go};
+ghost use Rattle.r9_session.specs.Clients.{MayLeave, left_of, without_fid};
 ghost use Rattle.r9_session.specs.Roots.{roots_of, without_fids};
 
+use crate::holding::let_go;
 use crate::session::Session;
 use r9_desktop::Desktop;
 use r9_files::{Fault, Fid, UNKNOWN_FID};
@@ -98,7 +99,7 @@ impl Session {
 
     /// Whether some fid keeps a connection alive where this one is let go.
     fn is_kept_beside(&self, fid: u32, connection: u32) -> bool
-        ensures { result ≡ is_kept (let_go self.now fid) connection }
+        ensures { result ≡ is_kept (without_fid self.now fid) connection }
     {
         self.ascends();
         self.has_other_keeper(fid, connection)
@@ -152,8 +153,8 @@ impl Session {
     ) -> Result<(), Memory>
         requires linked { IsLinked number self.old.made self.old.connections (desktop_of desktop.old).device }
         requires bound { IsSome (lookup self.old.fids fid) }
-        ensures session { OnOk result (self.new ≡ record self.old { connections = filter (is_kept (let_go self.old fid)) self.old.connections }) }
-        ensures desktop { OnOk result ((desktop_of desktop.new) ≡ fold (desktop_for number).leave (desktop_of desktop.old) (filter (λ n. not (is_kept (let_go self.old fid) n)) self.old.connections)) }
+        ensures session { OnOk result (self.new ≡ record self.old { connections = filter (is_kept (without_fid self.old fid)) self.old.connections }) }
+        ensures desktop { OnOk result ((desktop_of desktop.new) ≡ fold (desktop_for number).leave (desktop_of desktop.old) (filter (λ n. not (is_kept (without_fid self.old fid) n)) self.old.connections)) }
     {
         let Some(found) = self.fids.get(fid) else {
             return Ok(());
@@ -192,8 +193,8 @@ impl Session {
         desktop.left(number, &windows)
     }
 
-    /// Lets a fid go, ends the connection that it alone kept alive, leaves the window that it alone had as its root, and answers
-    /// by the reply that is given.
+    /// Lets a fid go, ends the connection that it alone kept alive and what it had open for itself, leaves the window that it alone
+    /// had as its root, and answers by the reply that is given.
     #[tactic(auto, unfolding(model_world::specs::Answer::clunk_answer, model_world::specs::Fids::settled, model_world::specs::Fids::fids_gone))]
     pub(crate) fn clunk(
         &mut self,
@@ -207,13 +208,14 @@ impl Session {
         requires fits { FitsR (r_of reply) }
         ensures { IsReach self.old (desktop_of desktop.old) result self.new (desktop_of desktop.new) (clunk_answer (desktop_for number) self.old (desktop_of desktop.old) fid (r_of reply)) }
     {
-        let Some(found) = self.fids.get(fid) else {
+        if self.fids.get(fid).is_none() {
             return Err(Fault::Refused(UNKNOWN_FID));
-        };
-        let root = found.node().root;
+        }
         self.settle(alloc, desktop, number, fid)?;
-        self.fids.clunk(fid);
-        self.leave_root(alloc, desktop, number, root)?;
+        if let Some(gone) = self.fids.clunk(fid) {
+            let_go(desktop, &gone);
+            self.leave_root(alloc, desktop, number, gone.node().root)?;
+        }
         Ok(reply)
     }
 
@@ -246,8 +248,8 @@ impl Session {
         Ok(Numbers::from(windows))
     }
 
-    /// Ends all connections of the session, which has the number that is given, and its use of windows. Nothing is said of the
-    /// desktop where memory ran out.
+    /// Ends all connections of the session, which has the number that is given, what its fids had open for themselves, and its use of
+    /// windows. Nothing is said of the desktop where memory ran out.
     #[tactic(auto, using(crate::proofs::Clients::all_may_leave))]
     pub fn leave(&self, alloc: Global, desktop: &mut Desktop, number: u32) -> Result<(), Memory>
         requires { IsLinked number self.now.made self.now.connections (desktop_of desktop.old).device }
@@ -257,6 +259,26 @@ impl Session {
     {
         let windows = self.windows(alloc)?;
         leave_all(desktop, number, self.connections.as_slice())?;
+        self.let_all_go(desktop);
         desktop.left(number, &windows)
+    }
+
+    /// All fids go, and with them all connections; the reads that wait go without a reply.
+    pub(crate) fn clear(
+        &mut self,
+        alloc: Global,
+        desktop: &mut Desktop,
+        number: u32,
+    ) -> Result<(), Memory>
+        requires { IsLinked number self.old.made self.old.connections (desktop_of desktop.old).device }
+        ensures cleared { OnOk result (cleared (desktop_for number) self.old (desktop_of desktop.old) ≡ left_of self.new (desktop_of desktop.new)) }
+        ensures linked { OnOk result (IsLinked number self.new.made self.new.connections (desktop_of desktop.new).device) }
+        ensures others { OnOk result (KeepsOthers number (desktop_of desktop.old).device (desktop_of desktop.new).device) }
+    {
+        self.leave(alloc, desktop, number)?;
+        self.fids.clear();
+        self.waiting.clear();
+        self.connections.clear();
+        Ok(())
     }
 }

@@ -8,20 +8,21 @@ ghost use Rattle.model_tree.specs.Node as model;
 ghost use Rattle.model_world.specs.Session.{Fid};
 ghost use Rattle.model_world.specs.Fids.{with_fid, is_open_on};
 ghost use Rattle.model_world.specs.Links.{IsLinked};
-ghost use Rattle.model_world.specs.Walking.{ctl_of, is_input, is_taken, most_made, open_answer, opened_new};
+ghost use Rattle.model_world.specs.Walking.{ctl_of, is_taken, most_made, open_answer, opened_new};
 ghost use Rattle.model_world.specs.Whole.{desktop_for};
 ghost use Rattle.r9_desktop.specs.World.{desktop_of};
 ghost use Rattle.r9_tree.specs.View.{node_of, IsNode};
 ghost use Rattle.r9_wire.specs.View.{r_of};
 ghost use Rattle.r9_session.specs.Answers.{IsClosed, IsReach};
 
+use crate::holding::{hold, is_held};
 use crate::session::Session;
 use r9_desktop::Desktop;
 use r9_files::{
     FID_IS_OPEN, FILE_IN_USE, Fault, PERMISSION_DENIED, TOO_MANY_FIDS, UNKNOWN_FID, is_kind,
 };
 use r9_memory::Memory;
-use r9_tree::{Kind, Node, check_live, kind_of, may, qid};
+use r9_tree::{Kind, Node, may, qid};
 use r9_wire::Rmsg;
 
 /// So many connections of a session live at once at most.
@@ -29,16 +30,6 @@ const MOST_AT_ONCE: usize = 4;
 
 /// So many connections may be made in a session.
 const MOST_MADE: u32 = 67_108_863;
-
-/// Whether a file does not open yet: those of the mouse, of the keyboard and of the console.
-fn is_input(kind: Kind) -> bool
-    ensures { result ≡ is_input kind }
-{
-    matches!(
-        kind,
-        Kind::Mousein | Kind::Kbdin | Kind::Cons | Kind::Consctl | Kind::Mouse | Kind::Text
-    )
-}
 
 /// The ctl of a connection, which an open of `new` becomes.
 #[tactic(auto, unfolding(model_tree::specs::Node::kind_numbered))]
@@ -64,13 +55,15 @@ impl Session {
             && entry.1.is_open_on(Kind::Ctl))
     }
 
-    /// Whether the session has all its connections, or the one ctl of a connection is open already.
-    fn is_taken(&self, node: &Node) -> bool
+    /// Whether the session has all its connections, or the one ctl of a connection, or the `mouse` or `consctl` of a window is open
+    /// already.
+    fn is_taken(&self, desktop: &Desktop, node: &Node) -> bool
         requires { IsNode node.now }
-        ensures { result ≡ is_taken self.now (node_of node.now) }
+        ensures { result ≡ is_taken (desktop_for 0) self.now (desktop_of desktop.now) (node_of node.now) }
     {
         is_kind(node, Kind::New) && self.connections.len() >= MOST_AT_ONCE
             || is_kind(node, Kind::Ctl) && self.has_open_ctl(node.connection)
+            || is_held(desktop, node)
     }
 
     /// Opens the file that a fid stands for.
@@ -108,7 +101,7 @@ impl Session {
         requires room { self.old.made < most_made }
         requires closed { IsClosed self.old fid }
         ensures opened { IfOk result (λ reply. (found : Fid) → lookup self.old.fids fid ≡ Some found → node_of node.now ≡ found.node →
-            opened_new (desktop_for number) self.old (desktop_of desktop.old) tag fid mode found ≡ record { session = self.new; rest = desktop_of desktop.new; reply = r_of reply }) }
+            opened_new (desktop_for number) self.old (desktop_of desktop.old) tag fid mode found ≡ record { session = self.new; rest = desktop_of desktop.new; reply = Some (r_of reply) }) }
         ensures fits { IfOk result (λ reply. FitsR (r_of reply)) }
     {
         let connection = self.made + 1;
@@ -124,8 +117,8 @@ impl Session {
         })
     }
 
-    /// Opens a file. What its permissions forbid does not open, nor what is not served yet, nor a ctl that is open already. An
-    /// open of `new` begins a connection.
+    /// Opens a file. What its permissions forbid does not open, nor what one fid at a time may have open and some fid has. An open of
+    /// `new` begins a connection.
     #[tactic(auto, unfolding(model_world::specs::Walking::open_answer))]
     pub fn open(
         &mut self,
@@ -145,12 +138,11 @@ impl Session {
             return Err(Fault::Refused(FID_IS_OPEN));
         }
         let node = found.node();
-        let view = self.view(desktop, &node)?;
-        check_live(&node, &view)?;
-        if !may(&node, mode) || is_input(kind_of(node.kind)) {
+        self.check_live(desktop, &node)?;
+        if !may(&node, mode) {
             return Err(Fault::Refused(PERMISSION_DENIED));
         }
-        if self.is_taken(&node) {
+        if self.is_taken(desktop, &node) {
             return Err(Fault::Refused(FILE_IN_USE));
         }
         if is_kind(&node, Kind::New) {
@@ -160,6 +152,7 @@ impl Session {
             return Ok(self.open_new(desktop, number, tag, fid, &node, mode)?);
         }
         self.set_mode(fid, mode);
+        hold(desktop, &node, true);
         Ok(Rmsg::Open {
             tag,
             qid: qid(&node),

@@ -1,7 +1,8 @@
 //! What is kept of a session.
 
-ghost use Rattle.std.specs.Prelude.{◌≡◌, ℕ, [], IfOk};
+ghost use Rattle.std.specs.Prelude.{◌≡◌, ◌==◌, ℕ, [], length, not, Ok, Err, IfErr, IfOk, OnOk};
 ghost use Rattle.model_draw.specs.World.{Opening, World};
+ghost use Rattle.model_tree.specs.Tree.{check_live};
 ghost use Rattle.model_world.specs.Session.{fresh};
 ghost use Rattle.model_world.specs.Desktop.{first_desktop};
 ghost use Rattle.model_world.specs.Links.{IsLinked};
@@ -9,10 +10,12 @@ ghost use Rattle.model_world.specs.Whole as whole;
 ghost use Rattle.r9_desktop.specs.World.{desktop_of};
 ghost use Rattle.r9_tree.specs.View.{node_of, view_of, IsNode, IsView};
 
+use crate::wait::Wait;
 use r9_desktop::Desktop;
 use r9_fids::FidTable;
 use r9_files::Fid;
 use r9_memory::Memory;
+use r9_tags::Waiting;
 use r9_text::Numbers;
 use r9_tree::{Node, TreeView};
 use std::alloc::Global;
@@ -21,13 +24,16 @@ use std::marker::Model;
 /// The greatest size of a message in bytes, and the one of a session that agreed on none (version(5)).
 pub const MAX_MSIZE: u32 = 65_560;
 
-/// A session: the greatest size of a message in bytes, whether a version is agreed, the fids (intro(5)), the connections to
-/// the draw device that live, in ascending order, and how many it ever made, whose numbers are from 1 to that (draw(3)).
+/// A session: the greatest size of a message in bytes, whether a version is agreed, the tag whose second use closed it, the fids
+/// (intro(5)), the reads that wait, the connections to the draw device that live, in ascending order, and how many it ever made,
+/// whose numbers are from 1 to that (draw(3)).
 #[derive(Drop)]
 pub struct Session {
     pub(crate) msize: u32,
     pub(crate) agreed: bool,
+    pub(crate) closed: Option<u16>,
     pub(crate) fids: FidTable<Fid>,
+    pub(crate) waiting: Waiting<Wait>,
     pub(crate) connections: Numbers,
     pub(crate) made: u32,
 }
@@ -54,7 +60,9 @@ impl Session {
         Session {
             msize: MAX_MSIZE,
             agreed: false,
+            closed: None,
             fids: FidTable::new(alloc),
+            waiting: Waiting::new(alloc),
             connections: Numbers::new(alloc),
             made: 0,
         }
@@ -68,5 +76,20 @@ impl Session {
         ensures view { IfOk result IsView }
     {
         desktop.view(&self.connections, node)
+    }
+    /// Whether a file may be used: refused by 42 where its window is gone, and by 34 where its connection is.
+    pub(crate) fn check_live(&self, desktop: &Desktop, node: &Node) -> Result<(), u8>
+        requires { IsNode node.now }
+        ensures lives { OnOk result (check_live (whole.view_of (desktop_of desktop.now).table self.now.connections (node_of node.now)) (node_of node.now) ≡ Ok tt) }
+        ensures refused { IfErr result (λ n. check_live (whole.view_of (desktop_of desktop.now).table self.now.connections (node_of node.now)) (node_of node.now) ≡ Err n) }
+    {
+        desktop.check_live(&self.connections, node)
+    }
+
+    /// Whether a read waits.
+    pub fn is_waiting(&self) -> bool
+        ensures { result ≡ not (length self.now.waiting == 0) }
+    {
+        !self.waiting.is_empty()
     }
 }

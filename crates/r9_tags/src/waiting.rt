@@ -1,7 +1,7 @@
 //! Waiting reads in order of arrival, each under the tag of its message.
 
-ghost use Rattle.std.specs.Prelude.{◌≡◌, ◌==◌, ◌≤◌, ◌++◌, ◌∷◌, [], List, ℕ, Bool, length, not, position, IfSome, OnOk, OnErr, IfErr, ◌<◌};
-ghost use Rattle.std.specs.List.{filter};
+ghost use Rattle.std.specs.Prelude.{◌≡◌, ◌==◌, ◌≤◌, ◌++◌, ◌∷◌, [], List, ℕ, Bool, None, Some, length, not, position, IfSome, OnOk, OnErr, IfErr, ◌<◌};
+ghost use Rattle.std.specs.List.{filter, slice_get, remove};
 ghost use Rattle.r9_tags.specs.Waiting.{waits, park_refusal, refusal_of, at, but};
 
 use r9_memory::Memory;
@@ -123,6 +123,15 @@ impl<W: Drop> Waiting<W> {
         let waited = self.has(tag);
         self.reads.retain(|read| read.0 != tag);
         waited
+    }
+
+    /// Takes out the read at a place.
+    pub fn remove(&mut self, place: usize) -> (u16, W)
+        requires { place < length self.old }
+        ensures taken { slice_get self.old place ≡ Some result }
+        ensures rest { self.new ≡ remove self.old place }
+    {
+        self.reads.remove(place)
     }
 
     /// Takes out the first read whose flag is set: None where none is set. There is one flag for each read, in order.

@@ -3,7 +3,7 @@ use Rattle.std.specs.Prelude.{filter}
 use Rattle.model_text.specs.Map.{without}
 use Rattle.model_world.specs.Session.{Fid, Session}
 use Rattle.model_world.specs.Fids.{is_kept}
-use Rattle.r9_session.specs.Clients.{let_go}
+use Rattle.r9_session.specs.Clients.{without_fid}
 use Rattle.r9_session.specs.SessionView.{AreKept}
 use Rattle.r9_session.proofs.Keeping.{kept_again}
 use Rattle.r9_session.proofs.session.Session.clunk.Goals as goal
@@ -11,7 +11,7 @@ use Rattle.r9_session.proofs.session.Session.clunk.Goals as goal
 pub invariant_of-self : goal.invariant_of-self
 invariant_of-self c =
     let session = c.args.self.now in
-    let gone = let_go session c.args.fid in
+    let gone = without_fid session c.args.fid in
     let is : c.settle.new.self ≡ record session { connections = filter (is_kept gone) session.connections } = c.in_ok-settle.ensures.session in
     let connections : c.self-2.inside.connections ≡ filter (is_kept gone) session.connections = ap (λ (s : Session). s.connections) (c.self-2.view_is ∙ is) in
     let fids : c.clunk.new.self ≡ gone.fids = c.clunk.ensures.rest ∙ ap (λ (s : Session). without s.fids c.args.fid) (c.self-2.view_is ∙ is) in

@@ -5,4 +5,4 @@ use Rattle.r9_session.proofs.Clients.{live_client}
 use Rattle.r9_session.proofs.session.Session.has_connection.Goals as goal
 
 pub returns : goal.returns
-returns c = live_client c.args.number c.args.self.now (desktop_of c.args.desktop.now) (node_of c.args.node.now) c.requires.linked c.requires.of c.requires.live (omega (arith, c.requires.node.connection))
+returns c = λ of. live_client c.args.number c.args.self.now (desktop_of c.args.desktop.now) (node_of c.args.node.now) c.requires.linked of c.requires.live (omega (arith, c.requires.node.connection))

@@ -11,7 +11,7 @@ use Rattle.r9_session.proofs.session.Session.read_listing.Goals as goal
 
 pub returns-in-Some-clause-read : goal.returns-in-Some-clause-read
 returns-in-Some-clause-read c =
-    let old : Session = record { msize = c.self.inside.msize; agreed = c.self.inside.agreed; fids = c.self.inside.fids; connections = c.self.inside.connections; made = c.self.inside.made } in
+    let old : Session = record { msize = c.self.inside.msize; agreed = c.self.inside.agreed; closed = c.self.inside.closed; fids = c.self.inside.fids; waiting = c.self.inside.waiting; connections = c.self.inside.connections; made = c.self.inside.made } in
     let fids : List (ℕ × Fid) = with c.self.inside.fids c.args.fid c.read.new.self in
     let at : lookup c.self.inside.fids c.args.fid ≡ Some c.in-Some.found.now = search rules in
     let defined = λ (found : Fid). directory_read (stats (view_of c.args.view.now) found.node) found c.args.offset c.args.count in

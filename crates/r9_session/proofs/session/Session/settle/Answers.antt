@@ -8,7 +8,7 @@ use Rattle.model_world.specs.Session.{Session}
 use Rattle.model_world.specs.Fids.{is_kept, keeps}
 use Rattle.model_world.specs.Whole.{desktop_for}
 use Rattle.r9_desktop.specs.World.{desktop_of}
-use Rattle.r9_session.specs.Clients.{let_go}
+use Rattle.r9_session.specs.Clients.{without_fid}
 use Rattle.r9_session.specs.SessionView.{AreKept}
 use Rattle.r9_session.proofs.Keeping.{all_left, others_left}
 use Rattle.r9_session.proofs.session.Session.settle.Goals as goal
@@ -42,7 +42,7 @@ returns-then-is_kept_beside-clause-session c =
     let at : lookup session.fids c.args.fid ≡ Some found = search rules in
     let kept : AreKept session.fids session.connections = subst (λ (s : Session). AreKept s.fids s.connections) c.self.view_is c.self.invariant.kept in
     let own = ap (λ (node : Node). node.connection) c.node-connection.ensures.node in
-    let more : is_kept (let_go session c.args.fid) found.node.connection ≡ true = ap (is_kept (let_go session c.args.fid)) (sym own) ∙ sym c.is_kept_beside.ensures ∙ c.if-is_kept_beside.true in
+    let more : is_kept (without_fid session c.args.fid) found.node.connection ≡ true = ap (is_kept (without_fid session c.args.fid)) (sym own) ∙ sym c.is_kept_beside.ensures ∙ c.if-is_kept_beside.true in
     let left = all_left session c.args.fid found at kept (inr more) in
     λ j. record session { connections = sym left.0 j }
 
@@ -53,7 +53,7 @@ returns-then-is_kept_beside-clause-desktop c =
     let at : lookup session.fids c.args.fid ≡ Some found = search rules in
     let kept : AreKept session.fids session.connections = subst (λ (s : Session). AreKept s.fids s.connections) c.self.view_is c.self.invariant.kept in
     let own = ap (λ (node : Node). node.connection) c.node-connection.ensures.node in
-    let more : is_kept (let_go session c.args.fid) found.node.connection ≡ true = ap (is_kept (let_go session c.args.fid)) (sym own) ∙ sym c.is_kept_beside.ensures ∙ c.if-is_kept_beside.true in
+    let more : is_kept (without_fid session c.args.fid) found.node.connection ≡ true = ap (is_kept (without_fid session c.args.fid)) (sym own) ∙ sym c.is_kept_beside.ensures ∙ c.if-is_kept_beside.true in
     let left = all_left session c.args.fid found at kept (inr more) in
     ap (λ (ns : List ℕ). fold (desktop_for c.args.number).leave (desktop_of c.args.desktop.now) ns) (sym left.1)
 
@@ -64,7 +64,7 @@ returns-clause-session c =
     let at : lookup session.fids c.args.fid ≡ Some found = search rules in
     let kept : AreKept session.fids session.connections = subst (λ (s : Session). AreKept s.fids s.connections) c.self.view_is c.self.invariant.kept in
     let own = ap (λ (node : Node). node.connection) c.node-connection.ensures.node in
-    let gone : is_kept (let_go session c.args.fid) found.node.connection ≡ false = ap (is_kept (let_go session c.args.fid)) (sym own) ∙ sym c.is_kept_beside.ensures ∙ c.if-is_kept_beside.false in
+    let gone : is_kept (without_fid session c.args.fid) found.node.connection ≡ false = ap (is_kept (without_fid session c.args.fid)) (sym own) ∙ sym c.is_kept_beside.ensures ∙ c.if-is_kept_beside.false in
     let left = others_left session c.args.fid found at kept gone in
     on_ok_weaker c.end.result
     (λ (is : c.end.new.self ≡ record session { connections = filter (λ n. not (n == c.node-connection.result.connection)) session.connections }).
@@ -78,7 +78,7 @@ returns-clause-desktop c =
     let at : lookup session.fids c.args.fid ≡ Some found = search rules in
     let kept : AreKept session.fids session.connections = subst (λ (s : Session). AreKept s.fids s.connections) c.self.view_is c.self.invariant.kept in
     let own = ap (λ (node : Node). node.connection) c.node-connection.ensures.node in
-    let gone : is_kept (let_go session c.args.fid) found.node.connection ≡ false = ap (is_kept (let_go session c.args.fid)) (sym own) ∙ sym c.is_kept_beside.ensures ∙ c.if-is_kept_beside.false in
+    let gone : is_kept (without_fid session c.args.fid) found.node.connection ≡ false = ap (is_kept (without_fid session c.args.fid)) (sym own) ∙ sym c.is_kept_beside.ensures ∙ c.if-is_kept_beside.false in
     let left = others_left session c.args.fid found at kept gone in
     on_ok_weaker c.end.result
     (λ (is : (desktop_of c.end.new.desktop) ≡ fold (desktop_for c.args.number).leave (desktop_of c.args.desktop.now) (filter (λ n. n == c.node-connection.result.connection) session.connections)).

@@ -1,6 +1,6 @@
-use Rattle.std.proofs.Common.{rules, ◌≡◌, ◌∙◌, true, Some, ap, subst}
+use Rattle.std.proofs.Common.{rules, ◌≡◌, ◌∙◌, true, Some, sym, ap, subst}
 use Rattle.model_text.specs.Map.{lookup}
-use Rattle.model_tree.specs.Node.{writes}
+use Rattle.model_tree.specs.Node.{Node, writes}
 use Rattle.model_world.specs.Reading.{is_open_for}
 use Rattle.model_draw.specs.Act.{no_memory}
 use Rattle.model_world.specs.Refusal.{Refuses}
@@ -27,5 +27,5 @@ returns-clause-cause c =
     let at : lookup session.fids c.args.fid ≡ Some found = search rules in
     let mode_is : is_open_for writes found ≡ true = search rules in
     let same : node_of c.node-node.result ≡ found.node = search rules in
-    let kind : found.node.kind ≡ c.kind_of-kind.result = search rules in
-    cut_of c.args.number session (desktop_of c.args.desktop.now) c.args.fid c.args.bytes.now c.args.mark _ found _ _ at mode_is same kind c.in_ok-written.ensures.cause
+    let node = node_of c.node-node.result in
+    cut_of c.args.number session (desktop_of c.args.desktop.now) c.args.fid c.args.bytes.now c.args.mark _ found node node.kind at mode_is same (ap (λ (n : Node). n.kind) (sym same)) c.in_ok-written.ensures.cause

@@ -1,0 +1,4 @@
+mod Short
+mod Done
+mod Readings
+mod Keys

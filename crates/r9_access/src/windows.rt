@@ -1,0 +1,105 @@
+//! What the files of windows and rios have (rio(4)).
+
+ghost use Rattle.std.specs.Prelude.{◌≡◌, ◌≤◌, ℕ, length, Ok, IfOk};
+ghost use Rattle.model_console.specs.Console as console;
+ghost use Rattle.model_window.specs.Heard.{wctl_text, winid_text};
+ghost use Rattle.model_world.specs.Desktop.{pane_of};
+ghost use Rattle.model_world.specs.Writing.{snarf_written};
+ghost use Rattle.r9_desktop.specs.World.{desktop_of};
+ghost use Rattle.r9_access.specs.Reads.{IsTold};
+ghost use Rattle.r9_access.specs.Writes.{IsDone, snarf_left};
+
+use r9_desktop::Desktop;
+use r9_files::{BAD_OFFSET, Fault};
+use r9_memory::Memory;
+use r9_pane::Pane;
+use r9_text::Bytes;
+use std::alloc::Global;
+
+/// So many bytes of snarf are kept at most.
+const MOST_SNARF: usize = 0x10_0000;
+
+/// What a window's label is.
+pub(crate) fn label(desktop: &Desktop, window: u32) -> &[u8]
+    ensures { result.now ≡ (pane_of (desktop_of desktop.now).panes window).label }
+{
+    match desktop.pane(window) {
+        Some(pane) => pane.label(),
+        None => &[],
+    }
+}
+
+/// The name of the image that a window has.
+pub(crate) fn winname(desktop: &Desktop, window: u32) -> &[u8]
+    ensures { result.now ≡ (pane_of (desktop_of desktop.now).panes window).known.name }
+{
+    match desktop.pane(window) {
+        Some(pane) => pane.name(),
+        None => &[],
+    }
+}
+
+/// The text that tells a window's number in its rio.
+pub(crate) fn winid(alloc: Global, desktop: &Desktop, window: u32) -> Result<Bytes, Memory>
+    ensures { IfOk result (λ text. text ≡ winid_text (pane_of (desktop_of desktop.now).panes window).known) }
+{
+    match desktop.pane(window) {
+        Some(pane) => pane.winid(),
+        None => Pane::new(alloc)?.winid(),
+    }
+}
+
+/// The text that tells where a window is, and whether it is current and can be seen.
+pub(crate) fn wctl(alloc: Global, desktop: &Desktop, window: u32) -> Result<Bytes, Memory>
+    ensures text { IfOk result (λ text. text ≡ wctl_text (pane_of (desktop_of desktop.now).panes window).known) }
+    ensures short { IfOk result (λ text. length text ≤ 128) }
+{
+    match desktop.pane(window) {
+        Some(pane) => pane.wctl(),
+        None => Pane::new(alloc)?.wctl(),
+    }
+}
+
+/// The text of snarf after a write: at its front another text, and at its end more of it. Elsewhere, and past the most that is
+/// kept, it is refused.
+fn next_snarf(alloc: Global, old: &[u8], offset: u64, bytes: &[u8]) -> Result<Bytes, Fault>
+    ensures { IsTold result (snarf_written old.now offset bytes.now) }
+{
+    if offset == 0 {
+        if bytes.len() <= MOST_SNARF {
+            return Ok(Bytes::from_slice(alloc, bytes)?);
+        }
+        return Err(Fault::Refused(BAD_OFFSET));
+    }
+    if offset == old.len() as u64 && old.len() + bytes.len() <= MOST_SNARF {
+        let mut contents = Bytes::from_slice(alloc, old)?;
+        contents.push_all(bytes)?;
+        return Ok(contents);
+    }
+    Err(Fault::Refused(BAD_OFFSET))
+}
+
+/// Writes the text of the snarf of a rio.
+pub(crate) fn write_snarf(
+    alloc: Global,
+    desktop: &mut Desktop,
+    host: u32,
+    offset: u64,
+    bytes: &[u8],
+) -> Result<(), Fault>
+    ensures { (session : ℕ) → IsDone (desktop_of desktop.old) result (desktop_of desktop.new) (snarf_left session (desktop_of desktop.old) host offset bytes.now) }
+{
+    let contents = next_snarf(alloc, desktop.snarf(host), offset, bytes)?;
+    desktop.set_snarf(host, contents);
+    Ok(())
+}
+
+/// What a window's `text` has.
+pub(crate) fn text(desktop: &Desktop, window: u32) -> &[u8]
+    ensures { result.now ≡ console.text (pane_of (desktop_of desktop.now).panes window).console }
+{
+    match desktop.pane(window) {
+        Some(pane) => pane.text(),
+        None => &[],
+    }
+}

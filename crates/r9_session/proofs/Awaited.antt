@@ -1,0 +1,151 @@
+-- Reads that wait, by their places.
+use Rattle.std.proofs.Common.{◌≡◌, ◌∙◌, ◌<◌, ◌≤◌, ◌+◌, ℕ, zero, suc, List, [], ◌∷◌, ◌++◌, length, get_or, take, drop, Option, None, Some, Result, Ok, Err, IfOk, IfSome, OnOk, refl, sym, ap, subst, arith, add-one}
+use Rattle.std.specs.Prelude.{IfNone}
+use Rattle.std.specs.List.{remove}
+use Rattle.model_text.specs.Outcome.{Outcome}
+use Rattle.model_wire.specs.Message.{R, Rread}
+use Rattle.model_wire.specs.Spelling.{FitsR}
+use Rattle.model_world.specs.Session.{Session, Wait}
+use Rattle.model_world.specs.Desktop.{Desktop}
+use Rattle.model_world.specs.Fids.{Left}
+use Rattle.model_world.specs.Links.{IsLinked, KeepsOthers}
+use Rattle.model_world.specs.Reading.{Given, given_by}
+use Rattle.model_world.specs.Refusal.{refusal}
+use Rattle.model_world.specs.Waiting.{answered_or, first_of, late_reply, one_answered, wait_answer}
+use Rattle.model_world.specs.Whole.{desktop_for}
+use Rattle.model_world.proofs.Answers.{HoldsSome, one_holds}
+use Rattle.r9_memory.specs.declared.Memory.{Memory}
+use Rattle.r9_wire.specs.declared.message.Rmsg.{Rmsg}
+use Rattle.r9_wire.specs.View.{r_of}
+use Rattle.r9_files.specs.declared.fault.Fault.TheVariants.{Refused}
+use Rattle.r9_session.specs.Reads.{IsAwaited, IsFirst}
+
+-- a list at a place
+split_at : {A : Type 0} (xs : List A) (i : ℕ) (d : A) → i < length xs → (drop i xs ≡ get_or xs i d ∷ drop (suc i) xs) × (take (suc i) xs ≡ take i xs ++ get_or xs i d ∷ [])
+split_at [] i d within = absurd (omega (arith, within))
+split_at (x ∷ xs) zero d within = (refl, refl)
+split_at (x ∷ xs) (suc i) d within =
+    let more = split_at xs i d (omega (arith, within)) in
+    (more.0, ap (λ ys. x ∷ ys) more.1)
+
+abbrev pub waiting_without : Session → (place : ℕ) → Session
+waiting_without session place = record session { waiting = remove session.waiting place }
+
+-- what the read at a place is answered, and what comes later
+first_at : (c : ℕ) (session : Session) (desktop : Desktop) (before after : List (ℕ × Wait)) (tag : ℕ) (wait : Wait)
+    → first_of (desktop_for c) session desktop before ((tag, wait) ∷ after)
+    ≡ answered_or (record session { waiting = before ++ after }) desktop tag wait (wait_answer (desktop_for c) session desktop wait) (first_of (desktop_for c) session desktop (before ++ (tag, wait) ∷ []) after)
+unfolding first_of
+first_at c session desktop before after tag wait = refl
+
+abbrev pub first_from : ℕ → Session → Desktop → (place : ℕ) → Option (Left Desktop)
+first_from c session desktop place = first_of (desktop_for c) session desktop (take place session.waiting) (drop place session.waiting)
+
+pub first_is : (c : ℕ) (session : Session) (desktop : Desktop) (place tag : ℕ) (wait : Wait) (d : ℕ × Wait) → place < length session.waiting → get_or session.waiting place d ≡ (tag, wait)
+    → first_from c session desktop place
+    ≡ answered_or (waiting_without session place) desktop tag wait (wait_answer (desktop_for c) session desktop wait) (first_from c session desktop (place + 1))
+first_is c session desktop place tag wait d within at =
+    let parts = split_at session.waiting place d within in
+    let before = take place session.waiting in
+    let after = drop (suc place) session.waiting in
+    let here : drop place session.waiting ≡ (tag, wait) ∷ after = parts.0 ∙ ap (λ (read : ℕ × Wait). read ∷ after) at in
+    let past : take (suc place) session.waiting ≡ before ++ (tag, wait) ∷ [] = parts.1 ∙ ap (λ (read : ℕ × Wait). before ++ read ∷ []) at in
+    ap (first_of (desktop_for c) session desktop before) here
+    ∙ first_at c session desktop before after tag wait
+    ∙ (λ j. answered_or (waiting_without session place) desktop tag wait (wait_answer (desktop_for c) session desktop wait) (first_of (desktop_for c) session desktop (sym past j) after))
+    ∙ ap (λ (n : ℕ). answered_or (waiting_without session place) desktop tag wait (wait_answer (desktop_for c) session desktop wait) (first_from c session desktop n)) (sym (add-one place))
+
+-- none is left behind the last place
+pub first_end : (c : ℕ) (session : Session) (desktop : Desktop) (place : ℕ) → length session.waiting ≤ place → first_from c session desktop place ≡ None
+unfolding first_of
+first_end c session desktop place past = ap (first_of (desktop_for c) session desktop (take place session.waiting)) (none_behind session.waiting place past)
+  where
+    none_behind : {A : Type 0} (xs : List A) (n : ℕ) → length xs ≤ n → drop n xs ≡ []
+    none_behind [] zero past = refl
+    none_behind [] (suc n) past = refl
+    none_behind (x ∷ xs) zero past = absurd (omega (arith, past))
+    none_behind (x ∷ xs) (suc n) past = none_behind xs n (omega (arith, past))
+
+-- it waits on, or it is answered
+pub waits_on : (c : ℕ) (session : Session) (desktop : Desktop) (place tag : ℕ) (wait : Wait) (d : ℕ × Wait) → place < length session.waiting → get_or session.waiting place d ≡ (tag, wait)
+    → wait_answer (desktop_for c) session desktop wait ≡ None → first_from c session desktop place ≡ first_from c session desktop (place + 1)
+waits_on c session desktop place tag wait d within at none =
+    first_is c session desktop place tag wait d within at
+    ∙ ap (λ (o : Option (Outcome (Given Desktop))). answered_or (waiting_without session place) desktop tag wait o (first_from c session desktop (place + 1))) none
+
+pub gets : (c : ℕ) (session : Session) (desktop : Desktop) (place tag : ℕ) (wait : Wait) (d : ℕ × Wait) (got : Outcome (Given Desktop)) → place < length session.waiting
+    → get_or session.waiting place d ≡ (tag, wait) → wait_answer (desktop_for c) session desktop wait ≡ Some got
+    → first_from c session desktop place ≡ Some (late_reply (waiting_without session place) desktop tag wait got)
+gets c session desktop place tag wait d got within at some =
+    first_is c session desktop place tag wait d within at
+    ∙ ap (λ (o : Option (Outcome (Given Desktop))). answered_or (waiting_without session place) desktop tag wait o (first_from c session desktop (place + 1))) some
+
+abbrev pub waiting_read : ℕ → Wait → ℕ × Wait
+waiting_read tag wait = (tag, wait)
+
+pub gets_bytes : (c : ℕ) (session mid new : Session) (desktop after : Desktop) (place tag : ℕ) (wait : Wait) (d : ℕ × Wait) (bytes : List ℕ) (reply : R) → place < length session.waiting
+    → get_or session.waiting place d ≡ (tag, wait) → IsAwaited session desktop wait.fid (Ok (Some bytes)) mid after (wait_answer (desktop_for c) session desktop wait)
+    → new ≡ waiting_without mid place → reply ≡ Rread tag bytes → first_from c session desktop place ≡ Some (record { session = new; rest = after; reply = Some reply })
+gets_bytes c session mid new desktop after place tag wait d bytes reply within at got left is =
+    let own = ap (λ (s : Session). waiting_without s place) (sym got.2) ∙ sym left in
+    gets c session desktop place tag wait d (Ok (given_by got.0 after bytes)) within at got.1
+    ∙ (λ j. Some (record { session = own j; rest = after; reply = Some (sym is j) }))
+
+pub gets_refusal : (c : ℕ) (session mid new : Session) (desktop after : Desktop) (place tag : ℕ) (wait : Wait) (d : ℕ × Wait) (n : ℕ) (reply : R) → place < length session.waiting
+    → get_or session.waiting place d ≡ (tag, wait) → IsAwaited session desktop wait.fid (Err (Refused n)) mid after (wait_answer (desktop_for c) session desktop wait)
+    → new ≡ waiting_without mid place → reply ≡ refusal tag n → first_from c session desktop place ≡ Some (record { session = new; rest = after; reply = Some reply })
+gets_refusal c session mid new desktop after place tag wait d n reply within at got left is =
+    let own = ap (λ (s : Session). waiting_without s place) (sym got.1) ∙ sym left in
+    gets c session desktop place tag wait d (Err n) within at got.0
+    ∙ (λ j. Some (record { session = own j; rest = sym got.2 j; reply = Some (sym is j) }))
+
+-- ---- one after the other
+
+abbrev pub IsFirstOf : Session → Desktop → Result (Option Rmsg) Memory → Session → Desktop → (defined later : Option (Left Desktop)) → Type 0
+IsFirstOf session desktop r new after defined later = IfOk r (λ given. IsFirst session desktop given new after defined later)
+
+pub first_then : (c : ℕ) (session mid new : Session) (desktop rest after : Desktop) (place : ℕ) (r : Result (Option Rmsg) Memory)
+    → first_from c session desktop place ≡ first_from c session desktop (place + 1) → mid ≡ session → rest ≡ desktop
+    → IsFirstOf mid rest r new after (first_from c mid rest (place + 1)) None → IsFirstOf session desktop r new after (first_from c session desktop place) None
+first_then c session mid new desktop rest after place (Ok (Some reply)) step same left is = (step ∙ (λ j. first_from c (sym same j) (sym left j) (place + 1)) ∙ is.0, is.1)
+first_then c session mid new desktop rest after place (Ok None) step same left is =
+    (step ∙ (λ j. first_from c (sym same j) (sym left j) (place + 1)) ∙ is.0, is.1 ∙ same, is.2 ∙ left)
+first_then c session mid new desktop rest after place (Err e) step same left is = tt
+
+-- ---- what is said of the earliest that can be answered
+
+module _ (c : ℕ) (session new : Session) (desktop after : Desktop) where
+  pub answered_of : (r : Result (Option Rmsg) Memory) → IsFirstOf session desktop r new after (one_answered (desktop_for c) session desktop) None
+      → IfOk r (λ given. IfSome given (λ reply. one_answered (desktop_for c) session desktop ≡ Some (record { session = new; rest = after; reply = Some (r_of reply) })))
+  answered_of (Ok (Some reply)) is = is.0
+  answered_of (Ok None) is = tt
+  answered_of (Err e) is = tt
+
+  pub none_of : (r : Result (Option Rmsg) Memory) → IsFirstOf session desktop r new after (one_answered (desktop_for c) session desktop) None
+      → IfOk r (λ given. IfNone given (one_answered (desktop_for c) session desktop ≡ None))
+  none_of (Ok (Some reply)) is = tt
+  none_of (Ok None) is = is.0
+  none_of (Err e) is = tt
+
+  pub kept_of : (r : Result (Option Rmsg) Memory) → IsFirstOf session desktop r new after (one_answered (desktop_for c) session desktop) None
+      → IfOk r (λ given. IfNone given ((new ≡ session) × (after ≡ desktop)))
+  kept_of (Ok (Some reply)) is = tt
+  kept_of (Ok None) is = (is.1, is.2)
+  kept_of (Err e) is = tt
+
+  pub fits_of : (r : Result (Option Rmsg) Memory) → IsFirstOf session desktop r new after (one_answered (desktop_for c) session desktop) None
+      → IfOk r (λ given. IfSome given (λ reply. FitsR (r_of reply)))
+  fits_of (Ok (Some reply)) is = is.1
+  fits_of (Ok None) is = tt
+  fits_of (Err e) is = tt
+
+  pub holds_of : (r : Result (Option Rmsg) Memory) → IsLinked c session.made session.connections desktop.device
+      → IsFirstOf session desktop r new after (one_answered (desktop_for c) session desktop) None
+      → OnOk r (IsLinked c new.made new.connections after.device × KeepsOthers c desktop.device after.device)
+  holds_of (Ok (Some reply)) linked is =
+      let holds = subst (λ (o : Option (Left Desktop)). HoldsSome c desktop o) is.0 (one_holds c session desktop linked) in (holds.linked, holds.others)
+  holds_of (Ok None) linked is = (
+    subst (λ (s : Session). IsLinked c s.made s.connections after.device) (sym is.1) (subst (λ (d : Desktop). IsLinked c session.made session.connections d.device) (sym is.2) linked),
+    subst (λ (d : Desktop). KeepsOthers c desktop.device d.device) (sym is.2) (λ k other. refl),
+  )
+  holds_of (Err e) linked is = tt
