@@ -15,7 +15,7 @@ use Rattle.model_world.specs.World.{World, opened}
 use Rattle.model_text.specs.Map.{lookup}
 use Rattle.model_world.specs.Desktop.{Desktop}
 use Rattle.model_world.specs.Session.{Session}
-use Rattle.model_world.specs.Replay.{step, served, world_at, world_from, waiting_from, waiting_after}
+use Rattle.model_world.specs.Replay.{step, served, ended, world_at, world_from, waiting_from, waiting_after}
 use Rattle.model_world.proofs.Histories.{world_from-push, waiting_from-push, world_from-opening}
 use Rattle.r9_hall.specs.HallView.{HallValue, Stands, entered}
 use Rattle.model_world.specs.Desktop.{first_desktop}
@@ -74,17 +74,26 @@ pub notes_after : (opening : Opening) (events : List Event) (event : Event) (did
 notes_after opening events event did s after stands is =
     sym is.notes_are ∙ ap (λ (w : World). (step w event).notes) (standing opening events s stands)
 
+pub closed_after : (opening : Opening) (events : List Event) (event : Event) (did : Did) (s after : State) → Stands (record { opening = opening; events = events }) s
+    → IsAfter opening s event did after → did.closed ≡ (step (world_at (record { opening = opening; events = events })) event).closed
+closed_after opening events event did s after stands is =
+    sym is.closed_is ∙ ap (λ (w : World). (step w event).closed) (standing opening events s stands)
+
 -- ---- what was told in a turn is told
 
 served_told : (world : World) (c : ℕ) (bytes : List ℕ) (mark : Option ℕ) (session : Option Session) → (served world c bytes mark session).world.desktop.notes ≡ []
 served_told world c bytes mark None = refl
 served_told world c bytes mark (Some session) = refl
 
+ended_told : (world : World) (c : ℕ) (session : Option Session) → (ended world c session).world.desktop.notes ≡ []
+ended_told world c None = refl
+ended_told world c (Some session) = refl
+
 step_told : (world : World) (event : Event) → (step world event).world.desktop.notes ≡ []
 step_told world (Begin c) = refl
 step_told world (Msg c bytes mark) = served_told world c bytes mark (lookup world.sessions c)
 step_told world (Take c) = refl
-step_told world (End c) = refl
+step_told world (End c) = ended_told world c (lookup world.sessions c)
 step_told world Stop = refl
 
 world_from_told : (world : World) (events : List Event) → world.desktop.notes ≡ [] → (world_from world events).desktop.notes ≡ []
@@ -108,7 +117,7 @@ stop_told journal event is = ap (λ (e : Event). (step (world_at journal) e).not
 
 -- a Stop gives nothing, and changes nothing
 abbrev pub nothing_done : Did
-nothing_done = record { replies = []; notes = []; short = None }
+nothing_done = record { replies = []; notes = []; short = None; closed = None }
 
 pub stop_after : (opening : Opening) (events : List Event) (s : State) → Stands (record { opening = opening; events = events }) s → IsAfter opening s Stop nothing_done s
 stop_after opening events s stands =
@@ -117,6 +126,7 @@ stop_after opening events s stands =
       world = λ i. record { opening = opening; desktop = record s.desktop { notes = sym told i }; sessions = s.sessions };
       replies_are = refl;
       notes_are = told;
+      closed_is = refl;
       outboxes = λ c. sym (append-nil (waiting s.outboxes c));
     }
 

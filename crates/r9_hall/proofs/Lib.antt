@@ -1,4 +1,5 @@
 mod States
 mod Halls
 mod Worlds
+mod Waits
 mod Cuts

@@ -1,3 +1,4 @@
 pub mod StateView
 pub mod HallView
 pub mod WorldView
+pub mod Settling

@@ -5,22 +5,20 @@ use Rattle.r9_event.specs.declared.event.Event.{Event}
 use Rattle.r9_event.specs.declared.event.Event.TheVariants.{Msg}
 use Rattle.r9_event.specs.declared.event.Opening.{Opening}
 use Rattle.r9_event.specs.declared.event.Did.{Did}
-use Rattle.r9_event.specs.declared.event.Reply.{Reply}
 use Rattle.model_text.specs.Map.{lookup, with}
-use Rattle.model_wire.specs.Spelling.{spelling_of_r}
 use Rattle.model_draw.specs.Act.{no_memory}
 use Rattle.model_world.specs.Session.{Session}
 use Rattle.model_world.specs.Fids.{cleared}
-use Rattle.model_world.specs.Answer.{answer}
+use Rattle.model_world.specs.Answer.{answer, taking}
 use Rattle.model_world.specs.Cut.{IsCutMessage}
-use Rattle.model_world.specs.Refusal.{Refuses}
+use Rattle.model_world.specs.Refusal.{IsRefused}
 use Rattle.model_world.specs.Desktop.{Desktop}
 use Rattle.model_world.specs.Whole.{desktop_for}
 use Rattle.model_world.specs.World.{World}
-use Rattle.model_world.specs.Replay.{step, turned, waiting_after}
+use Rattle.model_world.specs.Replay.{closing_tag, reply_to, step, turned, waiting_after}
 use Rattle.r9_desktop.specs.Words.{mark_after}
 use Rattle.r9_desktop.specs.World.{desktop_of}
-use Rattle.r9_hall.specs.declared.sessions.Framed.{Framed}
+use Rattle.r9_hall.specs.declared.sessions.Made.{Made}
 use Rattle.r9_hall.specs.declared.sessions.Sessions.{Sessions}
 use Rattle.r9_hall.specs.declared.state.State.{State as Kept}
 
@@ -37,22 +35,23 @@ state_of s = record { sessions = s.sessions.live.entries; outboxes = s.outboxes.
 abbrev pub waiting : List (ℕ × List ℕ) → ℕ → List ℕ
 waiting outboxes c = unwrap_or (lookup outboxes c) []
 
--- A message of a session was answered: the frame is its reply, and the session and the desktop are what the message left, with
--- the mark with which it stands in the history.
-pub record IsFramed (c : ℕ) (session : Session) (desktop : Desktop) (bytes : List ℕ) (mark : Option ℕ) (framed : Framed) (now : Session) (left : Desktop) : Type 0 where
-  pub frame : framed.frame ≡ spelling_of_r (answer (desktop_for c) session desktop bytes (mark_after mark framed.short)).reply
-  pub session_is : now ≡ (answer (desktop_for c) session desktop bytes (mark_after mark framed.short)).session
-  pub left_is : left ≡ (answer (desktop_for c) session desktop bytes (mark_after mark framed.short)).rest
-  pub cause : IfSome framed.short (λ k. IsCutMessage c session desktop bytes mark k)
-  pub told : Refuses no_memory (answer (desktop_for c) session desktop bytes (mark_after mark framed.short)).reply → IsSome framed.short
+-- A message of a session was answered: what it gave is its reply, if it has one, and the session and the desktop are what the
+-- message left, with the mark with which it stands in the history.
+pub record IsAnswered (c : ℕ) (session : Session) (desktop : Desktop) (bytes : List ℕ) (mark : Option ℕ) (made : Made) (now : Session) (left : Desktop) : Type 0 where
+  pub replies_are : made.replies ≡ reply_to c (answer (desktop_for c) session desktop bytes (mark_after mark made.short)).reply
+  pub session_is : now ≡ (answer (desktop_for c) session desktop bytes (mark_after mark made.short)).session
+  pub left_is : left ≡ (answer (desktop_for c) session desktop bytes (mark_after mark made.short)).rest
+  pub closed_is : made.closed ≡ closing_tag bytes (taking session bytes)
+  pub cause : IfSome made.short (λ k. IsCutMessage c session desktop bytes mark k)
+  pub told : IsRefused no_memory (answer (desktop_for c) session desktop bytes (mark_after mark made.short)).reply → IsSome made.short
 
--- there is no frame where the session does not live
-abbrev pub IsServed : (c : ℕ) → Option Session → (before : List (ℕ × Session)) (desktop : Desktop) (bytes : List ℕ) (mark : Option ℕ) (found : Option Framed) (after : List (ℕ × Session)) (left : Desktop) → Type 0
+-- it gives nothing where the session does not live
+abbrev pub IsServed : (c : ℕ) → Option Session → (before : List (ℕ × Session)) (desktop : Desktop) (bytes : List ℕ) (mark : Option ℕ) (found : Option Made) (after : List (ℕ × Session)) (left : Desktop) → Type 0
 IsServed c None before desktop bytes mark None after left = (after ≡ before) × (left ≡ desktop)
-IsServed c None before desktop bytes mark (Some framed) after left = ⊥
+IsServed c None before desktop bytes mark (Some made) after left = ⊥
 IsServed c (Some session) before desktop bytes mark None after left = ⊥
-IsServed c (Some session) before desktop bytes mark (Some framed) after left =
-    (now : Session) × (after ≡ with before c now) × IsFramed c session desktop bytes mark framed now left
+IsServed c (Some session) before desktop bytes mark (Some made) after left =
+    (now : Session) × (after ≡ with before c now) × IsAnswered c session desktop bytes mark made now left
 
 -- all that goes with the fids of a session that lives has gone
 abbrev pub IsLeft : (c : ℕ) → Option Session → (desktop : Desktop) → Bool → (left : Desktop) → Type 0
@@ -73,19 +72,21 @@ abbrev pub IsWhole : Event → Type 0
 IsWhole (Msg c bytes mark) = 7 ≤ length bytes
 IsWhole _ = Unit {0}
 
--- an event was made under an opening, and got these replies; its turn has still to end
-pub record IsMade (opening : Opening) (before : Sessions) (event : Event) (replies : List Reply) (after : Sessions) : Type 0 where
-  pub step_is : step (world_with opening before) event ≡ turned (world_with opening after) replies
+-- an event was made under an opening, and gave this; its turn has still to end
+pub record IsMade (opening : Opening) (before : Sessions) (event : Event) (made : Made) (after : Sessions) : Type 0 where
+  pub step_is : step (world_with opening before) event ≡ turned (world_with opening after) made.replies made.closed
 
 -- what all sessions have after an event, and what it gave, are those of a step of the world under an opening
 pub record IsTurn (opening : Opening) (before : Sessions) (event : Event) (did : Did) (after : Sessions) : Type 0 where
   pub world : (step (world_with opening before) event).world ≡ world_with opening after
   pub replies_are : (step (world_with opening before) event).replies ≡ did.replies
   pub notes_are : (step (world_with opening before) event).notes ≡ did.notes
+  pub closed_is : (step (world_with opening before) event).closed ≡ did.closed
 
 -- the state after an event, and what it gave, are those of a step of the world
 pub record IsAfter (opening : Opening) (before : State) (event : Event) (did : Did) (after : State) : Type 0 where
   pub world : (step (state_world opening before) event).world ≡ state_world opening after
   pub replies_are : (step (state_world opening before) event).replies ≡ did.replies
   pub notes_are : (step (state_world opening before) event).notes ≡ did.notes
+  pub closed_is : (step (state_world opening before) event).closed ≡ did.closed
   pub outboxes : (c : ℕ) → waiting after.outboxes c ≡ waiting_after c (waiting before.outboxes c) event did.replies

@@ -133,11 +133,12 @@ impl Hall {
         ensures allowed { IfOk result (λ did. AllowedNext self.old (marked event did.short)) }
         ensures replies { IfOk result (λ did. self.old.broken ≡ false → did.replies ≡ (step (world_at self.old.journal) (marked event did.short)).replies) }
         ensures notes { IfOk result (λ did. self.old.broken ≡ false → did.notes ≡ (step (world_at self.old.journal) (marked event did.short)).notes) }
+        ensures closed { IfOk result (λ did. self.old.broken ≡ false → did.closed ≡ (step (world_at self.old.journal) (marked event did.short)).closed) }
         // A mark is told only of a write of an open `data` file, where its own mark took effect or the message may want memory.
         ensures short { IfOk result (λ did. self.old.broken ≡ false → IfSome did.short (λ k. IsCutEvent (world_at self.old.journal) event k)) }
         // A reply that is the refusal of want of memory tells one.
         ensures told { IfOk result (λ did. self.old.broken ≡ false → IsWantingEvent (world_at self.old.journal) (marked event did.short) → IsSome did.short) }
-        ensures stop { event ≡ Event.Stop → IfOk result (λ did. (did.replies ≡ []) × (did.notes ≡ []) × (did.short ≡ None)) × IsOk result }
+        ensures stop { event ≡ Event.Stop → IfOk result (λ did. (did.replies ≡ []) × (did.notes ≡ []) × (did.short ≡ None) × (did.closed ≡ None)) × IsOk result }
         ensures err { OnErr result (self.new.journal ≡ self.old.journal) }
     {
         if let Event::Stop = event {
@@ -146,6 +147,7 @@ impl Hall {
                 replies: Replies::new(self.alloc),
                 notes: Notes::new(self.alloc),
                 short: None,
+                closed: None,
             });
         }
         self.entries.reserve(2)?;

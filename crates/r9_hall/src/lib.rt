@@ -3,6 +3,7 @@
 
 mod hall;
 mod sessions;
+mod settling;
 mod state;
 mod world;
 

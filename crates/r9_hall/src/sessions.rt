@@ -11,39 +11,32 @@ ghost use Rattle.model_world.specs.World.{display_of, opened};
 ghost use Rattle.r9_desktop.specs.World.{desktop_of};
 ghost use Rattle.r9_event.specs.declared.event.Event.{Event};
 ghost use Rattle.r9_event.specs.declared.event.Opening.{Opening};
-ghost use Rattle.r9_hall.specs.StateView.{world_with, IsFramed, IsLeft, IsMade, IsServed, IsTurn, IsWhole};
+ghost use Rattle.r9_hall.specs.StateView.{world_with, IsAnswered, IsLeft, IsMade, IsServed, IsTurn, IsWhole};
 
+use crate::settling::spelled;
 use r9_desktop::Desktop;
-use r9_event::{Did, Event, Opening, Replies, Reply};
+use r9_event::{Did, Event, Opening, Replies};
 use r9_geom::{Point, Rect};
 use r9_memory::Memory;
 use r9_session::Session;
 use r9_text::Bytes;
-use r9_wire::write_r;
 use std::alloc::Global;
 use std::collections::BTreeMap;
 
 /// The live sessions by number, and the draw device and the windows, which they share.
 #[derive(Drop)]
 pub struct Sessions {
-    live: BTreeMap<u32, Session>,
-    desktop: Desktop,
+    pub(crate) live: BTreeMap<u32, Session>,
+    pub(crate) desktop: Desktop,
 }
 
-/// The bytes of a reply, and, where memory ran out in a data write or its mark took effect, how many of its draw messages were
-/// done.
-#[derive(Drop)]
-struct Framed {
-    frame: Bytes,
-    short: Option<u32>,
-}
-
-/// What an event gave but for what the windows were told: the replies to it, and the mark with which it stands in the history
-/// where that is not its own.
+/// What an event gave but for what the windows were told: the replies to it, the mark with which it stands in the history where
+/// that is not its own, and the tag by which it closed its session.
 #[derive(Drop)]
 struct Made {
     replies: Replies,
     short: Option<u32>,
+    closed: Option<u16>,
 }
 
 /// No windows, and a draw device with the display of an opening.
@@ -58,7 +51,7 @@ fn start_desktop(alloc: Global, opening: &Opening) -> Result<Desktop, Memory>
     Desktop::start(alloc, Rect { min, max }, opening.chan)
 }
 
-/// The bytes of a session's reply to a message.
+/// What a session's message gives by itself.
 fn answer(
     alloc: Global,
     found: &mut Session,
@@ -66,37 +59,42 @@ fn answer(
     session: u32,
     bytes: &[u8],
     mark: Option<u32>,
-) -> Result<Framed, Memory>
+) -> Result<Made, Memory>
     requires long { 7 ≤ length bytes.now }
     requires linked { IsLinked session found.old.made found.old.connections (desktop_of desktop.old).device }
-    ensures { IfOk result (λ framed. IsFramed session found.old (desktop_of desktop.old) bytes.now mark framed found.new (desktop_of desktop.new)) }
+    ensures { IfOk result (λ made. IsAnswered session found.old (desktop_of desktop.old) bytes.now mark made found.new (desktop_of desktop.new)) }
 {
+    let closed = found.closing_tag(bytes);
     let answered = found.answer(alloc, desktop, session, bytes, mark)?;
-    let mut frame = Bytes::new(alloc);
-    write_r(alloc, &answered.reply, &mut frame)?;
-    Ok(Framed {
-        frame,
+    let mut replies = Replies::new(alloc);
+    if let Some(reply) = &answered.reply {
+        replies.push(spelled(alloc, session, reply)?)?;
+    }
+    Ok(Made {
+        replies,
         short: answered.short,
+        closed,
     })
 }
 
-/// The bytes of the reply to a message, or None where its session does not live.
-fn frame(
+/// The same, or None where the session does not live.
+fn answer_in(
     alloc: Global,
     sessions: &mut BTreeMap<u32, Session>,
     desktop: &mut Desktop,
     session: u32,
     bytes: &[u8],
     mark: Option<u32>,
-) -> Result<Option<Framed>, Memory>
+) -> Result<Option<Made>, Memory>
     requires long { 7 ≤ length bytes.now }
     requires linked { AreLinked (desktop_of desktop.old).device sessions.old.entries }
-    ensures { IfOk result (λ framed. IsServed session (lookup sessions.old.entries session) sessions.old.entries (desktop_of desktop.old) bytes.now mark framed sessions.new.entries (desktop_of desktop.new)) }
+    ensures served { IfOk result (λ made. IsServed session (lookup sessions.old.entries session) sessions.old.entries (desktop_of desktop.old) bytes.now mark made sessions.new.entries (desktop_of desktop.new)) }
+    ensures linked { OnOk result (AreLinked (desktop_of desktop.new).device sessions.new.entries) }
 {
     match sessions.get_mut(&session) {
         Some(found) => {
-            let framed = answer(alloc, found, desktop, session, bytes, mark)?;
-            Ok(Some(framed))
+            let made = answer(alloc, found, desktop, session, bytes, mark)?;
+            Ok(Some(made))
         }
         None => Ok(None),
     }
@@ -123,11 +121,12 @@ fn leave(
 
 /// What an event gives that is no message.
 fn silent(alloc: Global) -> Made
-    ensures { result ≡ record { replies = []; short = None } }
+    ensures { result ≡ record { replies = []; short = None; closed = None } }
 {
     Made {
         replies: Replies::new(alloc),
         short: None,
+        closed: None,
     }
 }
 
@@ -142,7 +141,7 @@ impl Sessions {
         })
     }
 
-    /// What a message gives: its reply.
+    /// What a message gives: its own reply, if it has one, and then those to reads that waited.
     fn serve(
         &mut self,
         alloc: Global,
@@ -152,12 +151,11 @@ impl Sessions {
     ) -> Result<Made, Memory>
         requires long { 7 ≤ length bytes.now }
         requires linked { AreLinked (desktop_of self.old.desktop).device self.old.live.entries }
-        ensures made { IfOk result (λ made. (opening : Opening) → IsMade opening self.old (marked (Event.Msg session bytes.now mark) made.short) made.replies self.new) }
+        ensures made { IfOk result (λ made. (opening : Opening) → IsMade opening self.old (marked (Event.Msg session bytes.now mark) made.short) made self.new) }
         ensures short { IfOk result (λ made. (opening : Opening) → IfSome made.short (λ k. IsCutEvent (world_with opening self.old) (Event.Msg session bytes.now mark) k)) }
         ensures told { IfOk result (λ made. (opening : Opening) → IsWantingEvent (world_with opening self.old) (marked (Event.Msg session bytes.now mark) made.short) → IsSome made.short) }
     {
-        let mut replies = Replies::new(alloc);
-        let framed = frame(
+        let made = answer_in(
             alloc,
             &mut self.live,
             &mut self.desktop,
@@ -165,61 +163,60 @@ impl Sessions {
             bytes,
             mark,
         )?;
-        let Some(framed) = framed else {
-            return Ok(Made {
-                replies,
-                short: None,
-            });
+        let Some(made) = made else {
+            return Ok(silent(alloc));
         };
-        replies.push(Reply {
-            session,
-            bytes: framed.frame,
-        })?;
+        let mut replies = made.replies;
+        self.settle(alloc, &mut replies)?;
         Ok(Made {
             replies,
-            short: framed.short,
+            short: made.short,
+            closed: made.closed,
         })
     }
 
-    fn begin(&mut self, alloc: Global, session: u32) -> Result<(), Memory>
-        ensures { OnOk result ((opening : Opening) → IsMade opening self.old (Event.Begin session) [] self.new) }
+    fn begin(&mut self, alloc: Global, session: u32) -> Result<Made, Memory>
+        ensures made { IfOk result (λ made. (opening : Opening) → IsMade opening self.old (Event.Begin session) made self.new) }
+        ensures unmarked { IfOk result (λ made. made.short ≡ None) }
     {
         self.live.insert(session, Session::fresh(alloc))?;
-        Ok(())
+        Ok(silent(alloc))
     }
 
-    fn end(&mut self, alloc: Global, session: u32) -> Result<(), Memory>
+    fn end(&mut self, alloc: Global, session: u32) -> Result<Made, Memory>
         requires { AreLinked (desktop_of self.old.desktop).device self.old.live.entries }
-        ensures { OnOk result ((opening : Opening) → IsMade opening self.old (Event.End session) [] self.new) }
+        ensures made { IfOk result (λ made. (opening : Opening) → IsMade opening self.old (Event.End session) made self.new) }
+        ensures unmarked { IfOk result (λ made. made.short ≡ None) }
     {
-        if leave(alloc, &self.live, &mut self.desktop, session)? {
-            self.live.remove(&session);
+        if !leave(alloc, &self.live, &mut self.desktop, session)? {
+            return Ok(silent(alloc));
         }
-        Ok(())
+        self.live.remove(&session);
+        let mut replies = Replies::new(alloc);
+        self.settle(alloc, &mut replies)?;
+        Ok(Made {
+            replies,
+            short: None,
+            closed: None,
+        })
     }
 
     /// Makes an event. What the windows were told is still to be taken.
     fn make(&mut self, alloc: Global, event: &Event) -> Result<Made, Memory>
         requires whole { IsWhole event.now }
         requires linked { AreLinked (desktop_of self.old.desktop).device self.old.live.entries }
-        ensures made { IfOk result (λ made. (opening : Opening) → IsMade opening self.old (marked event.now made.short) made.replies self.new) }
+        ensures made { IfOk result (λ made. (opening : Opening) → IsMade opening self.old (marked event.now made.short) made self.new) }
         ensures short { IfOk result (λ made. (opening : Opening) → IfSome made.short (λ k. IsCutEvent (world_with opening self.old) event.now k)) }
         ensures told { IfOk result (λ made. (opening : Opening) → IsWantingEvent (world_with opening self.old) (marked event.now made.short) → IsSome made.short) }
     {
         match event {
-            Event::Begin { session } => {
-                self.begin(alloc, *session)?;
-                Ok(silent(alloc))
-            }
+            Event::Begin { session } => self.begin(alloc, *session),
             Event::Msg {
                 session,
                 bytes,
                 mark,
             } => self.serve(alloc, *session, bytes.as_slice(), *mark),
-            Event::End { session } => {
-                self.end(alloc, *session)?;
-                Ok(silent(alloc))
-            }
+            Event::End { session } => self.end(alloc, *session),
             Event::Take { .. } | Event::Stop => Ok(silent(alloc)),
         }
     }
@@ -239,6 +236,7 @@ impl Sessions {
             replies: made.replies,
             notes,
             short: made.short,
+            closed: made.closed,
         })
     }
 

@@ -76,6 +76,7 @@ impl World {
         ensures world { IfOk result (λ did. IsStepped self.old (marked event.now did.short) self.new) }
         ensures replies { IfOk result (λ did. did.replies ≡ (step (world_in self.old) (marked event.now did.short)).replies) }
         ensures notes { IfOk result (λ did. did.notes ≡ (step (world_in self.old) (marked event.now did.short)).notes) }
+        ensures closed { IfOk result (λ did. did.closed ≡ (step (world_in self.old) (marked event.now did.short)).closed) }
         // A mark is told only of a write of an open `data` file, where its own mark took effect or the message may want memory.
         ensures short { IfOk result (λ did. IfSome did.short (λ k. IsCutEvent (world_in self.old) event.now k)) }
         // A reply that is the refusal of want of memory tells one.

@@ -1,10 +1,18 @@
-use Rattle.std.proofs.Common.{rules, ◌≡◌, Some}
+use Rattle.std.proofs.Common.{rules, ◌≡◌, true, Option, Some, subst, sym}
 use Rattle.model_text.specs.Map.{lookup}
+use Rattle.model_world.specs.Session.{Session}
 use Rattle.model_world.proofs.Steps.{linked_of}
 use Rattle.r9_desktop.specs.World.{desktop_of}
+use Rattle.r9_hall.specs.StateView.{IsLeft}
 use Rattle.r9_hall.proofs.sessions.leave.Goals as goal
 
 pub leave-requires : goal.leave-requires
 leave-requires c =
     let at : lookup c.args.sessions.now.entries c.args.session ≡ Some c.in-Some.found.now = search rules in
     linked_of (desktop_of c.args.desktop.now).device c.args.sessions.now.entries c.args.session c.in-Some.found.now c.requires at
+
+pub returns-in_ok-leave-in-Some : goal.returns-in_ok-leave-in-Some
+returns-in_ok-leave-in-Some c =
+    let at : lookup c.args.sessions.now.entries c.args.session ≡ Some c.in-Some.found.now = search rules in
+    let P : Option Session → Type 0 = λ found. IsLeft c.args.session found (desktop_of c.args.desktop.now) true (desktop_of c.leave.new.desktop) in
+    subst P (sym at) c.in_ok-leave-in-Some.ensures.desktop

@@ -10,7 +10,7 @@ use Rattle.model_world.proofs.Marks.{marked_allowed}
 use Rattle.model_world.proofs.Steps.{next_allowed}
 use Rattle.r9_hall.specs.HallView.{AllowedNext, HallValue, entered}
 use Rattle.r9_hall.specs.StateView.{state_of, state_world, IsAfter}
-use Rattle.r9_hall.proofs.Halls.{legal_more, notes_after, nothing_done, roll_entered, stop_after, stop_next, stop_told, stopped_after, not_going, not_broken, value_entered, standing, stands_more, replies_after}
+use Rattle.r9_hall.proofs.Halls.{closed_after, legal_more, notes_after, nothing_done, roll_entered, stop_after, stop_next, stop_told, stopped_after, not_going, not_broken, value_entered, standing, stands_more, replies_after}
 use Rattle.r9_hall.proofs.hall.Hall.event.Goals as goal
 
 pub carry_out-requires-clause-linked : goal.carry_out-requires-clause-linked
@@ -72,6 +72,8 @@ returns c =
           ∙ ap (λ (h : HallValue). (step (world_at h.journal) event).replies) c.self.view_is;
       notes = λ _. notes_after opening events event _ _ _ stands (c.in_ok-did.ensures.after opening)
           ∙ ap (λ (h : HallValue). (step (world_at h.journal) event).notes) c.self.view_is;
+      closed = λ _. closed_after opening events event _ _ _ stands (c.in_ok-did.ensures.after opening)
+          ∙ ap (λ (h : HallValue). (step (world_at h.journal) event).closed) c.self.view_is;
       allowed = subst (λ (h : HallValue). AllowedNext h event) c.self.view_is (
         marked_allowed (state_world opening (state_of c.self.inside.state)) (roll_of events) c.args.event c.in_ok-did.did.short
             (subst (λ (h : HallValue). Allowed (roll_of h.journal.events) c.args.event) (sym c.self.view_is) c.requires.can.0) (c.in_ok-did.ensures.short opening),
@@ -87,3 +89,6 @@ returns c =
 
 pub returns-in-Stop-clause-notes : goal.returns-in-Stop-clause-notes
 returns-in-Stop-clause-notes c = λ _. c.new-in-Stop.ensures ∙ sym (stop_told c.args.self.now.journal c.args.event c.in-Stop.is)
+
+pub returns-in-Stop-clause-closed : goal.returns-in-Stop-clause-closed
+returns-in-Stop-clause-closed c = λ _. ap (λ (e : Event). (step (world_at c.args.self.now.journal) e).closed) (sym c.in-Stop.is)

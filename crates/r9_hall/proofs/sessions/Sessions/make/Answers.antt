@@ -1,23 +1,29 @@
 use Rattle.std.proofs.Common.{◌≡◌, ℕ, List, IfOk, IfSome, IsSome, sym, ap, subst, ◌∙◌}
 use Rattle.r9_event.specs.declared.event.Event.{Event}
-use Rattle.r9_event.specs.declared.event.Event.TheVariants.{Msg}
+use Rattle.r9_event.specs.declared.event.Event.TheVariants.{Begin, Msg, End}
 use Rattle.r9_event.specs.declared.event.Opening.{Opening}
 use Rattle.model_world.specs.Cut.{IsCutEvent, IsWantingEvent}
 use Rattle.model_world.specs.Replay.{marked}
 use Rattle.r9_hall.specs.StateView.{IsMade, world_with}
-use Rattle.r9_hall.proofs.States.{silent_made}
+use Rattle.r9_hall.proofs.States.{unmarked, unmarked_made}
 use Rattle.r9_hall.proofs.sessions.Sessions.make.Goals as goal
 
-pub returns-in_ok-begin-in-Begin-clause-made : goal.returns-in_ok-begin-in-Begin-clause-made
-returns-in_ok-begin-in-Begin-clause-made c = λ opening. silent_made opening _ _ _ _ c.silent.result c.in-Begin.is c.silent.ensures (c.in_ok-begin-in-Begin.ensures opening)
+pub returns-in-Begin-clause-made : goal.returns-in-Begin-clause-made
+returns-in-Begin-clause-made c = unmarked_made c.args.self.now c.begin.new.self c.args.event.now (Begin c.in-Begin.session) c.begin.result c.in-Begin.is c.begin.ensures.unmarked c.begin.ensures.made
 
-pub returns-in_ok-end-in-End-clause-made : goal.returns-in_ok-end-in-End-clause-made
-returns-in_ok-end-in-End-clause-made c = λ opening. silent_made opening _ _ _ _ c.silent-in-End.result c.in-End.is c.silent-in-End.ensures (c.in_ok-end-in-End.ensures opening)
+pub returns-in-Begin-clause-short : goal.returns-in-Begin-clause-short
+returns-in-Begin-clause-short c = unmarked (λ opening k. IsCutEvent (world_with opening c.args.self.now) c.args.event.now k) c.begin.result c.begin.ensures.unmarked
+
+pub returns-in-End-clause-made : goal.returns-in-End-clause-made
+returns-in-End-clause-made c = unmarked_made c.args.self.now c.end.new.self c.args.event.now (End c.in-End.session) c.end.result c.in-End.is c.end.ensures.unmarked c.end.ensures.made
+
+pub returns-in-End-clause-short : goal.returns-in-End-clause-short
+returns-in-End-clause-short c = unmarked (λ opening k. IsCutEvent (world_with opening c.args.self.now) c.args.event.now k) c.end.result c.end.ensures.unmarked
 
 pub returns-in-Msg-clause-made : goal.returns-in-Msg-clause-made
 returns-in-Msg-clause-made c =
     let is : c.args.event.now ≡ Msg c.in-Msg.session c.as_slice.result.now c.in-Msg.mark = c.in-Msg.is ∙ ap (λ (bytes : List ℕ). Msg c.in-Msg.session bytes c.in-Msg.mark) (sym c.as_slice.ensures) in
-    subst (λ (e : Event). IfOk c.serve.result (λ made. (opening : Opening) → IsMade opening c.args.self.now (marked e made.short) made.replies c.serve.new.self)) (sym is) c.serve.ensures.made
+    subst (λ (e : Event). IfOk c.serve.result (λ made. (opening : Opening) → IsMade opening c.args.self.now (marked e made.short) made c.serve.new.self)) (sym is) c.serve.ensures.made
 
 pub returns-in-Msg-clause-short : goal.returns-in-Msg-clause-short
 returns-in-Msg-clause-short c =

@@ -13,6 +13,7 @@ returns-clause-after c = λ opening.
       world = turn.world;
       replies_are = turn.replies_are;
       notes_are = turn.notes_are;
+      closed_is = turn.closed_is;
       outboxes = λ other. c.in_ok-post.ensures other
           ∙ ap (λ (replies : List Reply). waiting_after other (waiting before other) c.args.event.now replies) c.as_slice.ensures
           ∙ sym (waiting_marked other (waiting before other) c.args.event.now c.in_ok-did.did.short c.in_ok-did.did.replies);

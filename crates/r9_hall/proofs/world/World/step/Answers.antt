@@ -36,6 +36,7 @@ returns c =
       };
       replies = sym turn.replies_are ∙ ap (λ (w : WorldValue). (step (world_in w) event).replies) c.self.view_is;
       notes = sym turn.notes_are ∙ ap (λ (w : WorldValue). (step (world_in w) event).notes) c.self.view_is;
+      closed = sym turn.closed_is ∙ ap (λ (w : WorldValue). (step (world_in w) event).closed) c.self.view_is;
       short = subst (λ (w : WorldValue). IfSome c.in_ok-did.did.short (λ k. IsCutEvent (world_in w) c.args.event.now k)) c.self.view_is (c.in_ok-did.ensures.short opening);
       told = subst (λ (w : WorldValue). IsWantingEvent (world_in w) event → IsSome c.in_ok-did.did.short) c.self.view_is (c.in_ok-did.ensures.told opening);
     }
