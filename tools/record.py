@@ -20,6 +20,7 @@ The readable lines. A word that begins with `#` begins a comment.
         y id=5 r=0,0,4,1                            the bytes of a write stand beneath it, indented: messages
         hex 000000ff 0000ff00                       of draw(3), bytes in hex, and text
         text "ab\\n"
+        mouse point=20,12 buttons=1 msec=100        an event of the mouse, as mouse(3) spells it
     1 hex 0700000064ffff                            any bytes as a message, its size first
     1 take                                          what waits for session 1 is taken
     1 end                                           session 1 ends
@@ -578,14 +579,36 @@ def payload_of(words):
     if first.key is None and first.value in LETTERS:
         fields = LETTERS[first.value]
         return first.value.encode() + put_fields(fields, hear_fields(fields, first, rest))
+    if first.key is None and first.value == "mouse":
+        return mouse_text(hear_fields(MOUSE_FIELDS, first, rest))
     if first.key is not None or first.value not in ("hex", "text"):
-        raise BadWord(first, "a draw message, hex or text is wanted")
+        raise BadWord(first, "a draw message, hex, text or mouse is wanted")
     for word in rest:
         if word.key is not None:
             raise BadWord(word, f"{first.value} has no fields")
     if first.value == "hex":
         return hex_bytes(rest)
     return "".join(hear_word(LONG_TEXT, word) for word in rest).encode()
+
+
+# An event of the mouse (mouse(3)): a point of the display, the buttons that are down, and a time.
+MOUSE_FIELDS = (Field("point", POINT), Field("buttons", BYTE), Field("msec", LONG))
+
+
+def mouse_text(event):
+    """The bytes of an event: a letter and four numbers, each 11 wide and a blank."""
+    return ("m" + "".join(f"{n:11} " for n in (*event["point"], event["buttons"], event["msec"]))).encode()
+
+
+def mouse_line(payload):
+    """The line of bytes that are an event of the mouse, and of no others."""
+    try:
+        x, y, buttons, msec = (int(payload[at : at + 11]) for at in (1, 13, 25, 37))
+        event = {"point": (x, y), "buttons": buttons, "msec": msec}
+        POINT.put(event["point"]), BYTE.put(buttons), LONG.put(msec)
+    except (ValueError, NotWhole):
+        return None
+    return " ".join([INDENT + "mouse", *say_fields(MOUSE_FIELDS, event)]) if mouse_text(event) == payload else None
 
 
 def hex_bytes(words):
@@ -738,6 +761,9 @@ def payload_lines(payload, bytes_on_a_line):
     """The lines of bytes that are no draw messages."""
     if not payload:
         return []
+    event = mouse_line(payload)
+    if event is not None:
+        return [event]
     try:
         content = payload.decode()
         if re.sub(r"[\n\t]", "", content).isprintable():

@@ -44,6 +44,9 @@ LINES = [
     ('1 Twrite fid=9 offset=1\n    text "a\\n\\"é"',
      "M 1 1c00000076010009000000010000000000000005000000610a22c3a9"),
     ("1 Twrite fid=9 offset=1\n    hex 00ff", "M 1 190000007601000900000001000000000000000200000000ff"),
+    ("1 Twrite fid=1 offset=0\n    mouse point=-3,12 buttons=1 msec=100",
+     "M 1 4800000076010001000000000000000000000031000000"
+     + b"m         -3          12           1         100 ".hex()),
     ("1 Tclunk tag=8 fid=0", "M 1 0b00000078080000000000"),
     ("1 Tremove fid=1", "M 1 0b0000007a010001000000"),
     ("1 Tstat fid=1", "M 1 0b0000007c010001000000"),
@@ -156,6 +159,8 @@ UNREADABLE = [
     (WRITE + "    S id=0 chan=m8", 3, 3),
     (WRITE + "    n id=0 name=" + "a" * 256, 3, 3),
     (WRITE + "    hex " + "00" * 65538, 2, 2),
+    (WRITE + "    mouse point=1,2 buttons=1", 3, 1),
+    (WRITE + "    mouse point=1,2 buttons=256 msec=0", 3, 3),
     (WRITE + "    hex 0\n2 end\n    hex q", 3, 2),
     ("2 end\n1 hex q", 1, 1),
     # Which event may come next.
