@@ -13,8 +13,8 @@ class Kinds(unittest.TestCase):
         for words, folder, wanted in [
             (CHECK, "/repo/crates/r9_geom", ("r9_geom", PROOF)),
             ([*CHECK, "--test"], "/repo/crates/r9_geom", ("r9_geom", TESTS)),
-            (CHECK, "/tmp/rt-edit-71-ab_c", ("r9_geom", WRONG)),
-            (CHECK, "/tmp/rt-edit-q71mut9n", ("r9_geom", WRONG)),
+            (CHECK, "/scratch/rt-edit-71-ab_c", ("r9_geom", WRONG)),
+            (CHECK, "/scratch/rt-edit-q71mut9n", ("r9_geom", WRONG)),
             (["/kit/bin/rattle", "build", "--crate-name", "rio9"], "/repo/crates/rio9", ("rio9", PROOF)),
             (["clang", "/repo/crates/rio9/out/main.o"], "/repo", ("rio9", REST)),
             (["python3", "/kit/bin/rt", "ci"], "/repo", ("", REST)),

@@ -21,6 +21,13 @@ def need_program():
         sys.exit(2)
 
 
+def need_peer(program, words):
+    """The path of a peer, where that is all that the words are; ends with one line where it or the program cannot be run."""
+    if len(words) != 1 or not all(os.access(path, os.X_OK) for path in (program, *words)):
+        sys.exit("times.py: the paths of a peer and of the built program are wanted, programs that can be run")
+    return words[0]
+
+
 def number(value, size):
     return value.to_bytes(size, "little")
 
@@ -33,8 +40,16 @@ def string(text):
     return number(len(text), 2) + text
 
 
+def version():
+    return message(100, 0xFFFF, number(65560, 4) + string(b"9P2000"))
+
+
+def attach(name):
+    return message(104, 1, number(0, 4) + number(0xFFFFFFFF, 4) + string(b"") + string(name))
+
+
 OPENING = [
-    message(100, 0xFFFF, number(65560, 4) + string(b"9P2000")),
+    version(),
     message(104, 1, number(0, 4) + number(0xFFFFFFFF, 4) + string(b"u") + string(b"")),
 ]
 
@@ -77,6 +92,25 @@ def measure(text, status, command=(PROGRAM, "replay")):
     if process.returncode != status:
         sys.exit(f"status {process.returncode} in place of {status}")
     return seconds, memory
+
+
+def seconds(program, text, rounds=3):
+    """The least user seconds of some runs of `replay`, and what the program prints."""
+    least, out = None, None
+    for _ in range(rounds):
+        before = os.times().children_user
+        out = subprocess.run([program, "replay"], input=text, capture_output=True, check=True).stdout
+        spent = os.times().children_user - before
+        least = spent if least is None else min(least, spent)
+    return least, out
+
+
+def compare(name, text, program, peer):
+    """Prints the user seconds of both on a record, and their ratio; ends where they answer differently."""
+    (ours, mine), (theirs, others) = seconds(program, text), seconds(peer, text)
+    if mine != others:
+        sys.exit(f"times.py: the programs answer differently: {name}")
+    print(f"{name}: {ours:7.2f} s, peer {theirs:7.2f} s, ratio {ours / max(theirs, 0.02):5.2f}")
 
 
 def show(name, text, status, messages=0, rounds=5):

@@ -10,23 +10,14 @@ user seconds, the least of three runs, of both programs, and their ratio; and wh
 others, in microseconds.
 """
 import os
-import subprocess
 import sys
 
 HERE = os.path.dirname(os.path.abspath(__file__))
 sys.path[:0] = [os.path.join(os.path.dirname(HERE), folder) for folder in ("drawing", "replay")]
-from run import PROGRAM, message, number, string
+from run import PROGRAM, attach, compare, message, need_peer, number, seconds, version
 from times import topen, walk
 
-ROUNDS, REPEATS, WINDOWS = 3, 100, 64
-
-
-def version():
-    return message(100, 0xFFFF, number(65560, 4) + string(b"9P2000"))
-
-
-def attach(name):
-    return message(104, 1, number(0, 4) + number(0xFFFFFFFF, 4) + string(b"") + string(name))
+REPEATS, WINDOWS = 100, 64
 
 
 def command(text):
@@ -75,32 +66,15 @@ def moved(others):
     return [opening() + [command(text) for text in commands + more] for more in ([], moves)]
 
 
-def seconds(program, text):
-    """The least user seconds of some runs, and what the program prints."""
-    least, out = None, None
-    for _ in range(ROUNDS):
-        before = os.times().children_user
-        out = subprocess.run([program, "replay"], input=text, capture_output=True, check=True).stdout
-        spent = os.times().children_user - before
-        least = spent if least is None else min(least, spent)
-    return least, out
-
-
 def main(words):
     program = PROGRAM
     if "--program" in words[:-1]:
         at = words.index("--program")
         program = words[at + 1]
         words = words[:at] + words[at + 2 :]
-    if len(words) != 1 or not all(os.access(path, os.X_OK) for path in (program, *words)):
-        sys.exit("times.py: the paths of a peer and of the built program are wanted, programs that can be run")
-    peer = words[0]
+    peer = need_peer(program, words)
     for levels in (1, 2, 8):
-        text = record(handled(levels))
-        (ours, mine), (theirs, others) = seconds(program, text), seconds(peer, text)
-        if mine != others:
-            sys.exit(f"times.py: the programs answer differently where windows stand {levels} deep")
-        print(f"{levels} levels: {ours:7.2f} s, peer {theirs:7.2f} s, ratio {ours / max(theirs, 0.02):5.2f}")
+        compare(f"{levels} levels", record(handled(levels)), program, peer)
     for name, path in (("rio9", program), ("peer", peer)):
         costs = []
         for others in (0, 63):

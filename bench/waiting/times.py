@@ -10,24 +10,15 @@ of three runs, of both programs, and their ratio; and what an event costs that a
 waits and where 64 reads wait in each of 100 sessions.
 """
 import os
-import subprocess
 import sys
 
 HERE = os.path.dirname(os.path.abspath(__file__))
 sys.path[:0] = [os.path.join(os.path.dirname(HERE), folder) for folder in ("drawing", "replay")]
-from run import PROGRAM, message, number, string
+from run import PROGRAM, attach, compare, message, need_peer, number, seconds, version
 from times import walk
 
-ROUNDS, READERS, READS, IDLE = 3, 100, 64, 20_000
+READERS, READS, IDLE = 100, 64, 20_000
 READ, WRITE, READWRITE = 0, 1, 2
-
-
-def version():
-    return message(100, 0xFFFF, number(65560, 4) + string(b"9P2000"))
-
-
-def attach(name):
-    return message(104, 1, number(0, 4) + number(0xFFFFFFFF, 4) + string(b"") + string(name))
 
 
 def topen(fid, mode):
@@ -113,30 +104,14 @@ def idle(reads, events):
     return record.text()
 
 
-def seconds(program, text):
-    """The least user seconds of some runs, and what the program prints."""
-    least, out = None, None
-    for _ in range(ROUNDS):
-        before = os.times().children_user
-        out = subprocess.run([program, "replay"], input=text, capture_output=True, check=True).stdout
-        spent = os.times().children_user - before
-        least = spent if least is None else min(least, spent)
-    return least, out
-
-
 def main(words):
     options = {"--program": PROGRAM, "--events": "1000000"}
     while len(words) > 1 and words[-2] in options:
         options[words[-2]], words = words[-1], words[:-2]
     program, events = options["--program"], int(options["--events"])
-    if len(words) != 1 or not all(os.access(path, os.X_OK) for path in (program, *words)):
-        sys.exit("times.py: the paths of a peer and of the built program are wanted, programs that can be run")
-    peer = words[0]
+    peer = need_peer(program, words)
     for name, text in (("mouse events", moved(events)), ("keys", typed(events)), ("idle events", idle(READS, IDLE))):
-        (ours, mine), (theirs, others) = seconds(program, text), seconds(peer, text)
-        if mine != others:
-            sys.exit(f"times.py: the programs answer {name} differently")
-        print(f"{name}: {ours:7.2f} s, peer {theirs:7.2f} s, ratio {ours / max(theirs, 0.02):5.2f}")
+        compare(name, text, program, peer)
     for name, path in (("rio9", program), ("peer", peer)):
         costs = [(seconds(path, idle(reads, IDLE))[0] - seconds(path, idle(reads, 0))[0]) / IDLE * 1e6 for reads in (0, READS)]
         print(f"{name}: an event that answers nothing costs {costs[0]:6.1f} microseconds, {costs[1]:6.1f} where {READERS * READS} reads wait")
