@@ -1,8 +1,7 @@
 -- Reads that wait, and when they are answered (read(5), flush(5), rio(4)).
-use Rattle.std.specs.Prelude.{ℕ, ◌==◌, not, List, [], ◌∷◌, ◌++◌, Option, Some, None, Ok, Err}
+use Rattle.std.specs.Prelude.{ℕ, Bool, ◌==◌, not, List, [], ◌∷◌, ◌++◌, Option, Some, None, Ok, Err}
 use Rattle.std.specs.List.{filter, list_any}
 use Rattle.std.specs.Option.{option_map}
-use Rattle.std.specs.Prelude.{Bool}
 use Rattle.model_text.specs.Outcome.{Outcome, ◌>>=◌}
 use Rattle.model_wire.specs.Message.{Rread}
 use Rattle.model_tree.specs.Tree.{check_live}

@@ -21,7 +21,11 @@ use Rattle.r9_hall.specs.HallView.{HallValue, Stands, entered}
 use Rattle.model_world.specs.Desktop.{first_desktop}
 use Rattle.model_world.specs.World.{display_of}
 use Rattle.model_world.specs.Links.{AreKnown, AreLinked, IsNext, begun_after}
+use Rattle.model_world.specs.Standing.{AllWaitOn}
+use Rattle.model_world.proofs.Standing.{history_waits}
+use Rattle.model_world.proofs.Waking.{waits_each}
 use Rattle.model_world.proofs.Steps.{begun_rolled, opened_linked, step_linked, step_known}
+use Rattle.r9_hall.specs.Settling.{WaitsAt}
 use Rattle.r9_hall.specs.StateView.{State, IsAfter, state_world, waiting}
 
 pub events_of-push : (entries : List Entry) (entry : Entry) → events_of (entries ++ entry ∷ []) ≡ events_of entries ++ entry.event ∷ []
@@ -39,6 +43,11 @@ standing opening events s stands = λ i. record {
   desktop = stands.desktop i;
   sessions = stands.sessions i;
 }
+
+-- no read waits in it that can be answered
+pub stands_quiet : (opening : Opening) (events : List Event) (s : State) → Stands (record { opening = opening; events = events }) s → (c : ℕ) → WaitsAt s.sessions s.desktop c
+stands_quiet opening events s stands c session =
+    waits_each (state_world opening s) c session (subst (λ (w : World). AllWaitOn w) (sym (standing opening events s stands)) (history_waits opening events))
 
 roll_next : (events : List Event) (event : Event) → roll_of (events ++ event ∷ []) ≡ roll_after (roll_of events) event
 roll_next events event = roll_from-push no_sessions events event

@@ -5,9 +5,13 @@ use Rattle.r9_event.specs.declared.event.Opening.{Opening}
 use Rattle.r9_event.specs.declared.event.Did.{Did}
 use Rattle.model_world.specs.Links.{AreKnown, AreLinked, IsNext, begun_after}
 use Rattle.model_world.specs.Replay.{marked}
+use Rattle.model_world.specs.Standing.{AllWaitOn}
 use Rattle.model_world.specs.World.{World, opened}
+use Rattle.model_world.proofs.Standing.{step_waits}
 use Rattle.model_world.proofs.Steps.{begun_marked, next_marked, opened_linked, step_known, step_linked}
+use Rattle.model_world.proofs.Waking.{all_wait, waits_each}
 use Rattle.r9_desktop.specs.World.{desktop_of}
+use Rattle.r9_hall.specs.Settling.{WaitsAt}
 use Rattle.r9_hall.specs.StateView.{IsTurn, world_with}
 use Rattle.r9_hall.specs.declared.sessions.Sessions.{Sessions}
 
@@ -17,6 +21,9 @@ first_linked opening sessions is = subst (λ (w : World). AreLinked w.desktop.de
 
 pub first_known : (opening : Opening) (sessions : Sessions) → world_with opening sessions ≡ opened opening → AreKnown 0 sessions.live.entries
 first_known opening sessions is = subst (λ (w : World). AreKnown 0 w.sessions) (sym is) (λ c later. refl)
+
+pub first_quiet : (opening : Opening) (sessions : Sessions) → world_with opening sessions ≡ opened opening → (c : ℕ) → WaitsAt sessions.live.entries (desktop_of sessions.desktop) c
+first_quiet opening sessions is = subst (λ (w : World). (c : ℕ) → WaitsAt w.sessions w.desktop c) (sym is) (λ c session there. absurd (cc there))
 
 -- ---- an event
 
@@ -34,6 +41,13 @@ turn_known opening before after begun now event short did next linked known is t
     subst (λ (n : ℕ). AreKnown n after.live.entries) (begun_marked begun event short ∙ sym is)
     (subst (λ (w : World). AreKnown (begun_after begun (marked event short)) w.sessions) turn.world
     (step_known (world_with opening before) begun (marked event short) (next_marked begun event short next) linked.ascending known))
+
+-- no read waits after it that can be answered
+pub turn_quiet : (opening : Opening) (before after : Sessions) (event : Event) (did : Did) → AreLinked (desktop_of before.desktop).device before.live.entries
+    → ((c : ℕ) → WaitsAt before.live.entries (desktop_of before.desktop) c) → IsTurn opening before event did after → (c : ℕ) → WaitsAt after.live.entries (desktop_of after.desktop) c
+turn_quiet opening before after event did linked quiet turn c session =
+    let world = world_with opening before in
+    waits_each (world_with opening after) c session (subst (λ (w : World). AllWaitOn w) turn.world (step_waits world event linked.ascending (all_wait world linked.ascending quiet)))
 
 pub turn_begun : (begun now : ℕ) (event : Event) (short : Option ℕ) → now ≡ begun_after begun event → now ≡ begun_after begun (marked event short)
 turn_begun begun now event short is = is ∙ sym (begun_marked begun event short)

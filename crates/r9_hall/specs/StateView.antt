@@ -13,12 +13,14 @@ use Rattle.model_world.specs.Answer.{answer, taking}
 use Rattle.model_world.specs.Cut.{IsCutMessage}
 use Rattle.model_world.specs.Refusal.{IsRefused}
 use Rattle.model_world.specs.Desktop.{Desktop}
+use Rattle.model_world.specs.Sleeping.{written_at}
 use Rattle.model_world.specs.Whole.{desktop_for}
 use Rattle.model_world.specs.World.{World}
 use Rattle.model_world.specs.Replay.{closing_tag, reply_to, step, turned, waiting_after}
 use Rattle.r9_desktop.specs.Words.{mark_after}
 use Rattle.r9_desktop.specs.World.{desktop_of}
 use Rattle.r9_hall.specs.declared.sessions.Made.{Made}
+use Rattle.r9_hall.specs.declared.sessions.Own.{Own}
 use Rattle.r9_hall.specs.declared.sessions.Sessions.{Sessions}
 use Rattle.r9_hall.specs.declared.state.State.{State as Kept}
 
@@ -37,21 +39,22 @@ waiting outboxes c = unwrap_or (lookup outboxes c) []
 
 -- A message of a session was answered: what it gave is its reply, if it has one, and the session and the desktop are what the
 -- message left, with the mark with which it stands in the history.
-pub record IsAnswered (c : ℕ) (session : Session) (desktop : Desktop) (bytes : List ℕ) (mark : Option ℕ) (made : Made) (now : Session) (left : Desktop) : Type 0 where
-  pub replies_are : made.replies ≡ reply_to c (answer (desktop_for c) session desktop bytes (mark_after mark made.short)).reply
-  pub session_is : now ≡ (answer (desktop_for c) session desktop bytes (mark_after mark made.short)).session
-  pub left_is : left ≡ (answer (desktop_for c) session desktop bytes (mark_after mark made.short)).rest
-  pub closed_is : made.closed ≡ closing_tag bytes (taking session bytes)
-  pub cause : IfSome made.short (λ k. IsCutMessage c session desktop bytes mark k)
-  pub told : IsRefused no_memory (answer (desktop_for c) session desktop bytes (mark_after mark made.short)).reply → IsSome made.short
+pub record IsAnswered (c : ℕ) (session : Session) (desktop : Desktop) (bytes : List ℕ) (mark : Option ℕ) (own : Own) (now : Session) (left : Desktop) : Type 0 where
+  pub replies_are : own.replies ≡ reply_to c (answer (desktop_for c) session desktop bytes (mark_after mark own.short)).reply
+  pub session_is : now ≡ (answer (desktop_for c) session desktop bytes (mark_after mark own.short)).session
+  pub left_is : left ≡ (answer (desktop_for c) session desktop bytes (mark_after mark own.short)).rest
+  pub closed_is : own.closed ≡ closing_tag bytes (taking session bytes)
+  pub cause : IfSome own.short (λ k. IsCutMessage c session desktop bytes mark k)
+  pub told : IsRefused no_memory (answer (desktop_for c) session desktop bytes (mark_after mark own.short)).reply → IsSome own.short
+  pub wrote_is : own.wrote ≡ written_at session bytes
 
 -- it gives nothing where the session does not live
-abbrev pub IsServed : (c : ℕ) → Option Session → (before : List (ℕ × Session)) (desktop : Desktop) (bytes : List ℕ) (mark : Option ℕ) (found : Option Made) (after : List (ℕ × Session)) (left : Desktop) → Type 0
+abbrev pub IsServed : (c : ℕ) → Option Session → (before : List (ℕ × Session)) (desktop : Desktop) (bytes : List ℕ) (mark : Option ℕ) (given : Option Own) (after : List (ℕ × Session)) (left : Desktop) → Type 0
 IsServed c None before desktop bytes mark None after left = (after ≡ before) × (left ≡ desktop)
-IsServed c None before desktop bytes mark (Some made) after left = ⊥
+IsServed c None before desktop bytes mark (Some own) after left = ⊥
 IsServed c (Some session) before desktop bytes mark None after left = ⊥
-IsServed c (Some session) before desktop bytes mark (Some made) after left =
-    (now : Session) × (after ≡ with before c now) × IsAnswered c session desktop bytes mark made now left
+IsServed c (Some session) before desktop bytes mark (Some own) after left =
+    (now : Session) × (after ≡ with before c now) × IsAnswered c session desktop bytes mark own now left
 
 -- all that goes with the fids of a session that lives has gone
 abbrev pub IsLeft : (c : ℕ) → Option Session → (desktop : Desktop) → Bool → (left : Desktop) → Type 0

@@ -8,6 +8,7 @@ use Rattle.model_world.specs.World.{World, opened}
 use Rattle.r9_desktop.specs.World.{desktop_of}
 use Rattle.r9_hall.specs.declared.sessions.Sessions.{Sessions}
 use Rattle.r9_hall.specs.declared.world.World.TheInside as world
+use Rattle.r9_hall.specs.Settling.{WaitsAt}
 use Rattle.r9_hall.specs.StateView.{world_with}
 
 -- the opening, the sessions with what they share, how many sessions have begun, and whether the world is broken, which it is once
@@ -37,8 +38,9 @@ pub record IsStepped (before : WorldValue) (event : Event) (after : WorldValue) 
 abbrev pub value_of : world.Inside → WorldValue
 value_of w = record { opening = w.opening; sessions = w.sessions; begun = w.begun; broken = w.broken }
 
--- A world that is not broken has the draw device with the connections of the sessions that live, and no session that has not
--- begun.
+-- A world that is not broken has the draw device with the connections of the sessions that live, no session that has not begun,
+-- and no read that waits though it can be answered.
 pub record IsWorld (w : world.Inside) : Type 0 where
   pub linked : w.broken ≡ false → AreLinked (desktop_of w.sessions.desktop).device w.sessions.live.entries
   pub known : w.broken ≡ false → AreKnown w.begun w.sessions.live.entries
+  pub quiet : w.broken ≡ false → (c : ℕ) → WaitsAt w.sessions.live.entries (desktop_of w.sessions.desktop) c

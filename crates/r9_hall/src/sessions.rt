@@ -11,6 +11,7 @@ ghost use Rattle.model_world.specs.World.{display_of, opened};
 ghost use Rattle.r9_desktop.specs.World.{desktop_of};
 ghost use Rattle.r9_event.specs.declared.event.Event.{Event};
 ghost use Rattle.r9_event.specs.declared.event.Opening.{Opening};
+ghost use Rattle.r9_hall.specs.Settling.{WaitsAt};
 ghost use Rattle.r9_hall.specs.StateView.{world_with, IsAnswered, IsLeft, IsMade, IsServed, IsTurn, IsWhole};
 
 use crate::settling::spelled;
@@ -39,6 +40,16 @@ struct Made {
     closed: Option<u16>,
 }
 
+/// What a message gave by itself: its reply, if it has one, the mark with which it stands in the history where that is not its own,
+/// the tag by which it closed its session, and the serial of the window or rio whose file it wrote, 0 where it wrote none.
+#[derive(Drop)]
+struct Own {
+    replies: Replies,
+    short: Option<u32>,
+    closed: Option<u16>,
+    wrote: u32,
+}
+
 /// No windows, and a draw device with the display of an opening.
 fn start_desktop(alloc: Global, opening: &Opening) -> Result<Desktop, Memory>
     ensures { IfOk result (λ desktop. desktop_of desktop ≡ first_desktop (display_of opening.now)) }
@@ -59,10 +70,10 @@ fn answer(
     session: u32,
     bytes: &[u8],
     mark: Option<u32>,
-) -> Result<Made, Memory>
+) -> Result<Own, Memory>
     requires long { 7 ≤ length bytes.now }
     requires linked { IsLinked session found.old.made found.old.connections (desktop_of desktop.old).device }
-    ensures { IfOk result (λ made. IsAnswered session found.old (desktop_of desktop.old) bytes.now mark made found.new (desktop_of desktop.new)) }
+    ensures { IfOk result (λ own. IsAnswered session found.old (desktop_of desktop.old) bytes.now mark own found.new (desktop_of desktop.new)) }
 {
     let closed = found.closing_tag(bytes);
     let answered = found.answer(alloc, desktop, session, bytes, mark)?;
@@ -70,10 +81,11 @@ fn answer(
     if let Some(reply) = &answered.reply {
         replies.push(spelled(alloc, session, reply)?)?;
     }
-    Ok(Made {
+    Ok(Own {
         replies,
         short: answered.short,
         closed,
+        wrote: answered.wrote,
     })
 }
 
@@ -85,16 +97,16 @@ fn answer_in(
     session: u32,
     bytes: &[u8],
     mark: Option<u32>,
-) -> Result<Option<Made>, Memory>
+) -> Result<Option<Own>, Memory>
     requires long { 7 ≤ length bytes.now }
     requires linked { AreLinked (desktop_of desktop.old).device sessions.old.entries }
-    ensures served { IfOk result (λ made. IsServed session (lookup sessions.old.entries session) sessions.old.entries (desktop_of desktop.old) bytes.now mark made sessions.new.entries (desktop_of desktop.new)) }
+    ensures served { IfOk result (λ own. IsServed session (lookup sessions.old.entries session) sessions.old.entries (desktop_of desktop.old) bytes.now mark own sessions.new.entries (desktop_of desktop.new)) }
     ensures linked { OnOk result (AreLinked (desktop_of desktop.new).device sessions.new.entries) }
 {
     match sessions.get_mut(&session) {
         Some(found) => {
-            let made = answer(alloc, found, desktop, session, bytes, mark)?;
-            Ok(Some(made))
+            let own = answer(alloc, found, desktop, session, bytes, mark)?;
+            Ok(Some(own))
         }
         None => Ok(None),
     }
@@ -151,11 +163,12 @@ impl Sessions {
     ) -> Result<Made, Memory>
         requires long { 7 ≤ length bytes.now }
         requires linked { AreLinked (desktop_of self.old.desktop).device self.old.live.entries }
+        requires quiet { (c : ℕ) → WaitsAt self.old.live.entries (desktop_of self.old.desktop) c }
         ensures made { IfOk result (λ made. (opening : Opening) → IsMade opening self.old (marked (Event.Msg session bytes.now mark) made.short) made self.new) }
         ensures short { IfOk result (λ made. (opening : Opening) → IfSome made.short (λ k. IsCutEvent (world_with opening self.old) (Event.Msg session bytes.now mark) k)) }
         ensures told { IfOk result (λ made. (opening : Opening) → IsWantingEvent (world_with opening self.old) (marked (Event.Msg session bytes.now mark) made.short) → IsSome made.short) }
     {
-        let made = answer_in(
+        let own = answer_in(
             alloc,
             &mut self.live,
             &mut self.desktop,
@@ -163,15 +176,16 @@ impl Sessions {
             bytes,
             mark,
         )?;
-        let Some(made) = made else {
+        let Some(own) = own else {
             return Ok(silent(alloc));
         };
-        let mut replies = made.replies;
-        self.settle(alloc, &mut replies)?;
+        let asked = self.woken(alloc, session, own.wrote)?;
+        let mut replies = own.replies;
+        self.settle(alloc, &asked, &mut replies)?;
         Ok(Made {
             replies,
-            short: made.short,
-            closed: made.closed,
+            short: own.short,
+            closed: own.closed,
         })
     }
 
@@ -184,16 +198,17 @@ impl Sessions {
     }
 
     fn end(&mut self, alloc: Global, session: u32) -> Result<Made, Memory>
-        requires { AreLinked (desktop_of self.old.desktop).device self.old.live.entries }
+        requires linked { AreLinked (desktop_of self.old.desktop).device self.old.live.entries }
+        requires quiet { (c : ℕ) → WaitsAt self.old.live.entries (desktop_of self.old.desktop) c }
         ensures made { IfOk result (λ made. (opening : Opening) → IsMade opening self.old (Event.End session) made self.new) }
         ensures unmarked { IfOk result (λ made. made.short ≡ None) }
     {
-        if !leave(alloc, &self.live, &mut self.desktop, session)? {
-            return Ok(silent(alloc));
-        }
-        self.live.remove(&session);
         let mut replies = Replies::new(alloc);
-        self.settle(alloc, &mut replies)?;
+        if leave(alloc, &self.live, &mut self.desktop, session)? {
+            self.live.remove(&session);
+            let asked = self.woken(alloc, session, 0)?;
+            self.settle(alloc, &asked, &mut replies)?;
+        }
         Ok(Made {
             replies,
             short: None,
@@ -205,6 +220,7 @@ impl Sessions {
     fn make(&mut self, alloc: Global, event: &Event) -> Result<Made, Memory>
         requires whole { IsWhole event.now }
         requires linked { AreLinked (desktop_of self.old.desktop).device self.old.live.entries }
+        requires quiet { (c : ℕ) → WaitsAt self.old.live.entries (desktop_of self.old.desktop) c }
         ensures made { IfOk result (λ made. (opening : Opening) → IsMade opening self.old (marked event.now made.short) made self.new) }
         ensures short { IfOk result (λ made. (opening : Opening) → IfSome made.short (λ k. IsCutEvent (world_with opening self.old) event.now k)) }
         ensures told { IfOk result (λ made. (opening : Opening) → IsWantingEvent (world_with opening self.old) (marked event.now made.short) → IsSome made.short) }
@@ -226,6 +242,7 @@ impl Sessions {
     pub fn step(&mut self, alloc: Global, event: &Event) -> Result<Did, Memory>
         requires whole { IsWhole event.now }
         requires linked { AreLinked (desktop_of self.old.desktop).device self.old.live.entries }
+        requires quiet { (c : ℕ) → WaitsAt self.old.live.entries (desktop_of self.old.desktop) c }
         ensures turn { IfOk result (λ did. (opening : Opening) → IsTurn opening self.old (marked event.now did.short) did self.new) }
         ensures short { IfOk result (λ did. (opening : Opening) → IfSome did.short (λ k. IsCutEvent (world_with opening self.old) event.now k)) }
         ensures told { IfOk result (λ did. (opening : Opening) → IsWantingEvent (world_with opening self.old) (marked event.now did.short) → IsSome did.short) }

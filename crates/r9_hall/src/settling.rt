@@ -1,19 +1,20 @@
-//! Reads that wait are answered after each event that may have given them something, until none can be (read(5)).
+//! Reads that wait are answered after each event that may have given them something, until none can be (read(5)). Only those
+//! sessions are asked that an event may have woken.
 
-ghost use Rattle.std.specs.Prelude.{◌≡◌, ◌++◌, ◌∷◌, [], IfOk, OnOk};
+ghost use Rattle.std.specs.Prelude.{◌≡◌, ◌<◌, ℕ, IfOk, OnOk};
 ghost use Rattle.model_text.specs.Map.{lookup};
 ghost use Rattle.model_wire.specs.Spelling.{spelling_of_r, FitsR};
 ghost use Rattle.model_world.specs.Links.{AreLinked, IsLinked};
-ghost use Rattle.model_world.specs.Replay.{first_answered};
+ghost use Rattle.model_world.specs.Sleeping.{stirred};
 ghost use Rattle.r9_desktop.specs.World.{desktop_of};
 ghost use Rattle.r9_event.specs.declared.event.Opening.{Opening};
-ghost use Rattle.r9_hall.specs.Settling.{answered_at, waiting_sessions, world_of, IsLate, IsNext, IsSettled};
+ghost use Rattle.r9_hall.specs.Settling.{answered_at, world_of, AreAsked, AreWoken, GoesOn, IsLate, IsNext, IsSettled, WaitsAt};
 ghost use Rattle.r9_hall.specs.StateView.{world_with};
 ghost use Rattle.r9_wire.specs.View.{r_of};
 
 use crate::sessions::Sessions;
 use r9_desktop::Desktop;
-use r9_event::{Replies, Reply};
+use r9_event::{Note, Replies, Reply};
 use r9_memory::Memory;
 use r9_session::Session;
 use r9_text::Bytes;
@@ -66,44 +67,69 @@ fn answer_at(
     }
 }
 
+/// The windows where something happened: the one of a file that was written, and those that were told something.
+fn stirred(alloc: Global, notes: &[(u32, Note)], wrote: u32) -> Result<Vec<u32>, Memory>
+    ensures { IfOk result (λ windows. windows.items ≡ stirred notes.now wrote) }
+{
+    let mut windows = Vec::new(alloc);
+    windows.push(wrote)?;
+    for (window, _) in notes {
+        windows.push(*window)?;
+    }
+    Ok(windows)
+}
+
 impl Sessions {
-    /// The sessions of which reads wait, in ascending order.
-    fn waiting(&self, alloc: Global) -> Result<Vec<u32>, Memory>
-        ensures { IfOk result (λ waiting. waiting.items ≡ waiting_sessions self.now.live.entries) }
+    /// The sessions to ask after an event, in ascending order: those whose reads something may have woken, and that of the event
+    /// where reads of it wait.
+    pub(crate) fn woken(&self, alloc: Global, session: u32, wrote: u32) -> Result<Vec<u32>, Memory>
+        ensures { IfOk result (λ asked. AreWoken session (stirred (desktop_of self.now.desktop).notes wrote) self.now.live.entries asked.items) }
     {
-        let mut waiting = Vec::new(alloc);
-        for (number, session) in &self.live {
-            if session.is_waiting() {
-                waiting.push(*number)?;
+        let windows = stirred(alloc, self.desktop.notes(), wrote)?;
+        let mut asked = Vec::new(alloc);
+        for (number, found) in &self.live {
+            if found.may_wake(&windows) || *number == session && found.is_waiting() {
+                asked.push(*number)?;
             }
         }
-        Ok(waiting)
+        Ok(asked)
     }
 
-    /// Answers the earliest read of the lowest session that has one that can be answered: the reply, or None where none can.
-    fn answer_first(&mut self, alloc: Global) -> Result<Option<Reply>, Memory>
-        requires { AreLinked (desktop_of self.old.desktop).device self.old.live.entries }
-        ensures next { IfOk result (λ given. (opening : Opening) → IsNext (first_answered (world_with opening self.old) self.old.live.entries) (world_with opening self.old) given (world_with opening self.new)) }
+    /// Answers reads of a session, each time the earliest that can be, until none can be any more. No session below has one that
+    /// can be. The replies come after those that there are.
+    fn settle_one(
+        &mut self,
+        alloc: Global,
+        session: u32,
+        replies: &mut Replies,
+    ) -> Result<(), Memory>
+        requires linked { AreLinked (desktop_of self.old.desktop).device self.old.live.entries }
+        requires below { (c : ℕ) → c < session → WaitsAt self.old.live.entries (desktop_of self.old.desktop) c }
         ensures linked { OnOk result (AreLinked (desktop_of self.new.desktop).device self.new.live.entries) }
+        ensures waits { OnOk result (WaitsAt self.new.live.entries (desktop_of self.new.desktop) session) }
+        ensures others { OnOk result ((c : ℕ) → WaitsAt self.old.live.entries (desktop_of self.old.desktop) c → WaitsAt self.new.live.entries (desktop_of self.new.desktop) c) }
+        ensures replies { OnOk result ((opening : Opening) → GoesOn (world_with opening self.old) replies.old (world_with opening self.new) replies.new) }
     {
-        let waiting = self.waiting(alloc)?;
-        for session in &waiting {
-            let given = answer_at(alloc, &mut self.live, &mut self.desktop, *session)?;
-            if let Some(reply) = given {
-                return Ok(Some(reply));
-            }
+        while let Some(reply) = answer_at(alloc, &mut self.live, &mut self.desktop, session)? {
+            replies.push(reply)?;
         }
-        Ok(None)
+        Ok(())
     }
 
     /// Answers reads that wait, each time the earliest of the lowest session that has one that can be, until none can be any
-    /// more. The replies come after those that there are.
-    pub(crate) fn settle(&mut self, alloc: Global, replies: &mut Replies) -> Result<(), Memory>
-        requires { AreLinked (desktop_of self.old.desktop).device self.old.live.entries }
+    /// more. Only these sessions may have such reads, and a late answer wakes no other. The replies come after those that there are.
+    pub(crate) fn settle(
+        &mut self,
+        alloc: Global,
+        asked: &[u32],
+        replies: &mut Replies,
+    ) -> Result<(), Memory>
+        requires linked { AreLinked (desktop_of self.old.desktop).device self.old.live.entries }
+        requires asked { AreAsked self.old.live.entries (desktop_of self.old.desktop) asked.now }
         ensures { OnOk result ((opening : Opening) → IsSettled (world_with opening self.old) replies.old (world_with opening self.new) replies.new) }
     {
-        while let Some(reply) = self.answer_first(alloc)? {
-            replies.push(reply)?;
+        for session in asked {
+            self.settle_one(alloc, *session, replies)?;
         }
         Ok(())
     }

@@ -8,6 +8,7 @@ ghost use Rattle.model_world.specs.Desktop.{first_desktop};
 ghost use Rattle.model_world.specs.Links.{AreLinked};
 ghost use Rattle.model_world.specs.Replay.{bytes_for, marked, waiting_after};
 ghost use Rattle.model_world.specs.World.{display_of};
+ghost use Rattle.r9_hall.specs.Settling.{WaitsAt};
 ghost use Rattle.r9_hall.specs.StateView.{state_of, state_world, waiting, IsAfter, IsWhole};
 
 use crate::sessions::Sessions;
@@ -105,6 +106,7 @@ impl State {
     pub fn carry_out(&mut self, alloc: Global, event: &Event) -> Result<Did, Memory>
         requires whole { IsWhole event.now }
         requires linked { AreLinked (state_of self.old).desktop.device (state_of self.old).sessions }
+        requires quiet { (c : ℕ) → WaitsAt (state_of self.old).sessions (state_of self.old).desktop c }
         ensures after { IfOk result (λ did. (opening : Opening) → IsAfter opening (state_of self.old) (marked event.now did.short) did (state_of self.new)) }
         ensures short { IfOk result (λ did. (opening : Opening) → IfSome did.short (λ k. IsCutEvent (state_world opening (state_of self.old)) event.now k)) }
         ensures told { IfOk result (λ did. (opening : Opening) → IsWantingEvent (state_world opening (state_of self.old)) (marked event.now did.short) → IsSome did.short) }

@@ -3,9 +3,11 @@ mod Walks
 mod Readings
 mod Begun
 mod Keeping
+mod Places
 mod Bound
 mod Gone
 mod Told
 mod Opened
 mod Awaited
 mod Taken
+mod Written

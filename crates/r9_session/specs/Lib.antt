@@ -1,3 +1,4 @@
+pub mod Places
 pub mod SessionView
 pub mod Reads
 pub mod Answers

@@ -12,6 +12,7 @@ ghost use Rattle.model_world.specs.Fids.{cleared};
 ghost use Rattle.model_world.specs.Refusal.{refusal, IsRefused};
 ghost use Rattle.model_world.specs.Cut.{IsCut, IsCutMessage, IsCutSpelled};
 ghost use Rattle.model_world.specs.Links.{IsLinked, KeepsOthers};
+ghost use Rattle.model_world.specs.Sleeping.{written_at, written_to};
 ghost use Rattle.model_world.specs.Waiting.{flushed};
 ghost use Rattle.model_world.specs.Whole.{desktop_for};
 ghost use Rattle.r9_desktop.specs.World.{desktop_of};
@@ -100,11 +101,12 @@ fn version_reply(alloc: Global, tag: u16, msize: u32, name: &str) -> Result<Rmsg
 
 /// No reply.
 fn silence() -> Answered
-    ensures { (result.reply ≡ None) × (result.short ≡ None) }
+    ensures { (result.reply ≡ None) × (result.short ≡ None) × (result.wrote ≡ 0) }
 {
     Answered {
         reply: None,
         short: None,
+        wrote: 0,
     }
 }
 
@@ -112,11 +114,13 @@ fn silence() -> Answered
 fn refuse(alloc: Global, tag: u16, number: u8) -> Result<Answered, Memory>
     ensures reply { IfOk result (λ a. (option_map r_of a.reply ≡ Some (refusal tag number)) × IfSome a.reply (λ reply. FitsR (r_of reply))) }
     ensures whole { IfOk result (λ a. a.short ≡ None) }
+    ensures wrote { IfOk result (λ a. a.wrote ≡ 0) }
 {
     let reply = refusal(alloc, tag, number)?;
     Ok(Answered {
         reply: Some(reply),
         short: None,
+        wrote: 0,
     })
 }
 
@@ -259,43 +263,65 @@ impl Session {
                 count,
             } => {
                 let reply = self.read(alloc, desktop, number, *tag, *fid, *offset, *count)?;
-                Ok(Answered { reply, short: None })
+                Ok(Answered {
+                    reply,
+                    short: None,
+                    wrote: 0,
+                })
             }
             _ => {
                 let reply = self.answer_other(alloc, desktop, number, m)?;
                 Ok(Answered {
                     reply: Some(reply),
                     short: None,
+                    wrote: 0,
                 })
             }
         }
     }
 
-    /// Reads a message, and answers it.
-    fn read_and_answer(
+    /// The serial of the file that a message writes; 0 where it writes none, or its fid is not bound.
+    fn written_by(&self, m: &Tmsg) -> u32
+        ensures { result ≡ written_to self.now (Some (t_of m.now)) }
+    {
+        let Tmsg::Write { fid, .. } = m else {
+            return 0;
+        };
+        match self.fids.get(*fid) {
+            Some(found) => found.node().serial,
+            None => 0,
+        }
+    }
+
+    /// Answers a message that was read, or refuses it.
+    fn answer_or_refuse(
         &mut self,
         alloc: Global,
         desktop: &mut Desktop,
         number: u32,
-        bytes: &[u8],
+        tag: u16,
+        m: &Tmsg,
         mark: Option<u32>,
-    ) -> Result<Answered, Fault>
-        requires long { 7 ≤ length bytes.now }
+    ) -> Result<Answered, Memory>
+        requires fits { FitsT (t_of m.now) }
         requires linked { IsLinked number self.old.made self.old.connections (desktop_of desktop.old).device }
-        requires taken { taking self.old bytes.now ≡ Reads }
-        ensures answer { IsReply mark self.old (desktop_of desktop.old) result self.new (desktop_of desktop.new) (λ k. read_or_not (desktop_for number) self.old (desktop_of desktop.old) k (message_of bytes.now)) }
-        ensures cause { IfOk result (λ a. IfSome a.short (λ k. IsCutSpelled number self.old (desktop_of desktop.old) bytes.now mark k)) }
+        requires fresh { IsNewTag self.old (t_of m.now) }
+        ensures answer { IfOk result (λ a. replied self.old (desktop_of desktop.old) tag (answer_read (desktop_for number) self.old (desktop_of desktop.old) (mark_after mark a.short) (t_of m.now)) ≡ record { session = self.new; rest = desktop_of desktop.new; reply = option_map r_of a.reply }) }
+        ensures fits { IfOk result (λ a. IfSome a.reply (λ reply. FitsR (r_of reply))) }
+        ensures cause { IfOk result (λ a. IfSome a.short (λ k. IsCut number self.old (desktop_of desktop.old) mark k (t_of m.now))) }
         ensures refused { IfOk result (λ a. IsSome a.short → IsRefused no_memory (option_map r_of a.reply)) }
         ensures told { IfOk result (λ a. IsRefused no_memory (option_map r_of a.reply) → IsSome a.short) }
+        ensures linked { OnOk result (IsLinked number self.new.made self.new.connections (desktop_of desktop.new).device) }
+        ensures others { OnOk result (KeepsOthers number (desktop_of desktop.old).device (desktop_of desktop.new).device) }
     {
-        match read_t(alloc, bytes) {
-            Ok(m) => self.answer_read(alloc, desktop, number, &m, mark),
-            Err(WireFault::Malformed(_)) => Err(Fault::Refused(BAD_MESSAGE)),
-            Err(WireFault::Memory) => Err(Fault::Memory),
+        match self.answer_read(alloc, desktop, number, m, mark) {
+            Ok(answered) => Ok(answered),
+            Err(Fault::Refused(refused)) => refuse(alloc, tag, refused),
+            Err(Fault::Memory) => Err(Memory),
         }
     }
 
-    /// Answers a message, or refuses it.
+    /// Reads a message, and answers it or refuses it.
     fn answer_taken(
         &mut self,
         alloc: Global,
@@ -312,13 +338,19 @@ impl Session {
         ensures cause { IfOk result (λ a. IfSome a.short (λ k. IsCutSpelled number self.old (desktop_of desktop.old) bytes.now mark k)) }
         ensures refused { IfOk result (λ a. IsSome a.short → IsRefused no_memory (option_map r_of a.reply)) }
         ensures told { IfOk result (λ a. IsRefused no_memory (option_map r_of a.reply) → IsSome a.short) }
+        ensures wrote { IfOk result (λ a. a.wrote ≡ written_to self.old (message_of bytes.now)) }
         ensures linked { OnOk result (IsLinked number self.new.made self.new.connections (desktop_of desktop.new).device) }
         ensures others { OnOk result (KeepsOthers number (desktop_of desktop.old).device (desktop_of desktop.new).device) }
     {
-        match self.read_and_answer(alloc, desktop, number, bytes, mark) {
-            Ok(answered) => Ok(answered),
-            Err(Fault::Refused(refused)) => refuse(alloc, tag_in(bytes), refused),
-            Err(Fault::Memory) => Err(Memory),
+        let tag = tag_in(bytes);
+        match read_t(alloc, bytes) {
+            Ok(m) => {
+                let wrote = self.written_by(&m);
+                let answered = self.answer_or_refuse(alloc, desktop, number, tag, &m, mark)?;
+                Ok(Answered { wrote, ..answered })
+            }
+            Err(WireFault::Malformed(_)) => refuse(alloc, tag, BAD_MESSAGE),
+            Err(WireFault::Memory) => Err(Memory),
         }
     }
 
@@ -332,7 +364,7 @@ impl Session {
     ) -> Result<Answered, Memory>
         requires { IsLinked number self.old.made self.old.connections (desktop_of desktop.old).device }
         ensures closed { OnOk result (closed_by tag (cleared (desktop_for number) self.old (desktop_of desktop.old)) ≡ left_of self.new (desktop_of desktop.new)) }
-        ensures silent { IfOk result (λ a. (a.reply ≡ None) × (a.short ≡ None)) }
+        ensures silent { IfOk result (λ a. (a.reply ≡ None) × (a.short ≡ None) × (a.wrote ≡ 0)) }
         ensures linked { OnOk result (IsLinked number self.new.made self.new.connections (desktop_of desktop.new).device) }
         ensures others { OnOk result (KeepsOthers number (desktop_of desktop.old).device (desktop_of desktop.new).device) }
     {
@@ -361,6 +393,7 @@ impl Session {
         ensures fits { IfOk result (λ a. IfSome a.reply (λ reply. FitsR (r_of reply))) }
         ensures short { IfOk result (λ a. IfSome a.short (λ k. IsCutMessage number self.old (desktop_of desktop.old) bytes.now mark k)) }
         ensures told { IfOk result (λ a. IsRefused no_memory (option_map r_of a.reply) → IsSome a.short) }
+        ensures wrote { IfOk result (λ a. a.wrote ≡ written_at self.old bytes.now) }
         ensures linked { OnOk result (IsLinked number self.new.made self.new.connections (desktop_of desktop.new).device) }
         ensures others { OnOk result (KeepsOthers number (desktop_of desktop.old).device (desktop_of desktop.new).device) }
     {

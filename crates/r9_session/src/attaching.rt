@@ -10,6 +10,7 @@ ghost use Rattle.r9_tree.specs.View.{node_of, IsNode};
 ghost use Rattle.r9_session.specs.Answers.{IsFree, IsReach};
 
 use crate::session::Session;
+use crate::waking::place_fid;
 use r9_desktop::Desktop;
 use r9_fids::{FidFault, LIMIT};
 use r9_files::{FID_IN_USE, Fault, Fid, NO_AUTHENTICATION, TOO_MANY_FIDS};
@@ -39,6 +40,7 @@ impl Session {
         ensures ok { OnOk result (self.new ≡ and_fid self.old fid (fid_at (node_of node))) }
         ensures memory { (n : ℕ) → IsErrOf result (Fault.Refused n) → ⊥ }
     {
+        place_fid(&self.waiting, &mut self.places, fid, node.serial)?;
         match self.fids.bind(fid, Fid::at(node)) {
             Ok(()) => Ok(()),
             Err(FidFault::Refused(number)) => Err(Fault::Refused(number)),

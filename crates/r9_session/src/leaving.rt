@@ -212,6 +212,7 @@ impl Session {
             return Err(Fault::Refused(UNKNOWN_FID));
         }
         self.settle(alloc, desktop, number, fid)?;
+        self.ascends();
         if let Some(gone) = self.fids.clunk(fid) {
             let_go(desktop, &gone);
             self.leave_root(alloc, desktop, number, gone.node().root)?;

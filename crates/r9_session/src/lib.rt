@@ -12,6 +12,7 @@ mod session;
 mod taking;
 mod wait;
 mod waiting;
+mod waking;
 mod walking;
 mod writing;
 

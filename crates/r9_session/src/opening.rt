@@ -1,13 +1,14 @@
 //! Opening files (open(5)), and beginning connections to the draw device (draw(3)).
 
-ghost use Rattle.std.specs.Prelude.{◌≡◌, ◌≤◌, ◌<◌, ◌==◌, ◌&&◌, Some, IfOk};
+ghost use Rattle.std.specs.Prelude.{◌≡◌, ◌≤◌, ◌<◌, ◌==◌, ◌&&◌, Some, IfOk, false};
 ghost use Rattle.std.specs.List.{list_any};
 ghost use Rattle.model_text.specs.Map.{lookup};
 ghost use Rattle.model_wire.specs.Spelling.{FitsR};
 ghost use Rattle.model_tree.specs.Node as model;
-ghost use Rattle.model_world.specs.Session.{Fid};
+ghost use Rattle.model_world.specs.Session.{Fid, fid_at};
 ghost use Rattle.model_world.specs.Fids.{with_fid, is_open_on};
 ghost use Rattle.model_world.specs.Links.{IsLinked};
+ghost use Rattle.model_world.specs.Sleeping.{has_place};
 ghost use Rattle.model_world.specs.Walking.{ctl_of, is_taken, most_made, open_answer, opened_new};
 ghost use Rattle.model_world.specs.Whole.{desktop_for};
 ghost use Rattle.r9_desktop.specs.World.{desktop_of};
@@ -75,10 +76,11 @@ impl Session {
         }
     }
 
-    /// Opens a fid as another file.
+    /// Opens a fid as another file, at no window.
     fn open_as(&mut self, fid: u32, node: Node, mode: u8)
         requires closed { IsClosed self.old fid }
         requires node { IsNode node }
+        requires nowhere { has_place (fid_at (node_of node)) ≡ false }
         ensures { (found : Fid) → lookup self.old.fids fid ≡ Some found → self.new ≡ with_fid self.old fid (record found { node = node_of node; mode = Some mode }) }
     {
         if let Some(found) = self.fids.get_mut(fid) {

@@ -19,6 +19,7 @@ ghost use Rattle.r9_session.specs.Reads.{IsListed, IsParked, IsReadOf};
 
 use crate::session::Session;
 use crate::wait::Wait;
+use crate::waking::place_read;
 use r9_access::read_file;
 use r9_desktop::Desktop;
 use r9_files::{
@@ -117,10 +118,13 @@ impl Session {
     }
 
     /// A read waits from now on, but for where 64 do.
-    fn park(&mut self, tag: u16, wait: Wait) -> Result<(), Fault>
-        requires { waits_for self.old tag ≡ false }
+    fn park(&mut self, tag: u16, wait: Wait, node: &Node) -> Result<(), Fault>
+        requires fresh { waits_for self.old tag ≡ false }
+        requires node { IsNode node.now }
+        requires of { IfSome (lookup self.old.fids wait.fid) (λ found. found.node ≡ node_of node.now) }
         ensures { IsParked self.old tag wait result self.new }
     {
+        place_read(&self.waiting, &mut self.places, node)?;
         match self.waiting.park(tag, wait) {
             Ok(()) => Ok(()),
             Err(ParkFault::Duplicate | ParkFault::Full) => {
@@ -161,7 +165,7 @@ impl Session {
         match self.read_node(alloc, desktop, number, fid, &node, offset, count)? {
             Some(bytes) => Ok(Some(Rmsg::Read { tag, bytes })),
             None => {
-                self.park(tag, Wait { fid, count })?;
+                self.park(tag, Wait { fid, count }, &node)?;
                 Ok(None)
             }
         }

@@ -26,7 +26,7 @@ pub const MAX_MSIZE: u32 = 65_560;
 
 /// A session: the greatest size of a message in bytes, whether a version is agreed, the tag whose second use closed it, the fids
 /// (intro(5)), the reads that wait, the connections to the draw device that live, in ascending order, and how many it ever made,
-/// whose numbers are from 1 to that (draw(3)).
+/// whose numbers are from 1 to that (draw(3)). The places are serials of windows, among them those where its reads wait.
 #[derive(Drop)]
 pub struct Session {
     pub(crate) msize: u32,
@@ -36,6 +36,7 @@ pub struct Session {
     pub(crate) waiting: Waiting<Wait>,
     pub(crate) connections: Numbers,
     pub(crate) made: u32,
+    pub(crate) places: Numbers,
 }
 
 impl Model for Session {
@@ -65,6 +66,7 @@ impl Session {
             waiting: Waiting::new(alloc),
             connections: Numbers::new(alloc),
             made: 0,
+            places: Numbers::new(alloc),
         }
     }
 
@@ -91,5 +93,19 @@ impl Session {
         ensures { result ≡ not (length self.now.waiting == 0) }
     {
         !self.waiting.is_empty()
+    }
+
+    /// The greatest size in bytes of its next message (version(5)).
+    pub fn msize(&self) -> u32
+        ensures { result ≡ self.now.msize }
+    {
+        self.msize
+    }
+
+    /// The tag whose second use closed it.
+    pub fn closed(&self) -> Option<u16>
+        ensures { result ≡ self.now.closed }
+    {
+        self.closed
     }
 }

@@ -13,6 +13,7 @@ ghost use Rattle.r9_tree.specs.View.{node_of, IsNode};
 ghost use Rattle.r9_session.specs.Answers.{IsAnswer, IsClosed};
 
 use crate::session::Session;
+use crate::waking::place_fid;
 use r9_desktop::Desktop;
 use r9_files::{FID_IS_OPEN, Fault, Fid, PERMISSION_DENIED, UNKNOWN_FID};
 use r9_memory::Memory;
@@ -63,14 +64,16 @@ impl Session {
     }
 
     /// Lets a fid that is bound stand for another file.
-    fn rebind(&mut self, fid: u32, node: Node)
+    fn rebind(&mut self, fid: u32, node: Node) -> Result<(), Memory>
         requires closed { IsClosed self.old fid }
         requires node { IsNode node }
-        ensures { self.new ≡ with_fid self.old fid (fid_at (node_of node)) }
+        ensures { OnOk result (self.new ≡ with_fid self.old fid (fid_at (node_of node))) }
     {
+        place_fid(&self.waiting, &mut self.places, fid, node.serial)?;
         if let Some(found) = self.fids.get_mut(fid) {
             *found = Fid::at(node);
         }
+        Ok(())
     }
 
     /// Binds a fid to the file that a walk came to, where it went all the way; newfid is fid itself, or is free.
@@ -91,7 +94,7 @@ impl Session {
         match walked.refusal {
             Some(refusal) if qids.as_slice().is_empty() => return Err(Fault::Refused(refusal)),
             Some(_) => {}
-            None if newfid == fid => self.rebind(fid, walked.node),
+            None if newfid == fid => self.rebind(fid, walked.node)?,
             None => self.bind(newfid, walked.node)?,
         }
         Ok(Rmsg::Walk { tag, qids })

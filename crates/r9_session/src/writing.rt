@@ -25,6 +25,8 @@ pub struct Answered {
     pub reply: Option<Rmsg>,
     /// Where memory ran out in a data write, or its mark took effect: how many of its draw messages were done.
     pub short: Option<u32>,
+    /// The serial of the window or rio whose file was written; 0 where none was.
+    pub wrote: u32,
 }
 
 /// Whether a mode is for writing (open(5)).
@@ -81,6 +83,7 @@ impl Session {
         Ok(Answered {
             reply: Some(reply),
             short: written.short,
+            wrote: 0,
         })
     }
 }

@@ -14,16 +14,16 @@ answer-requires-clause-linked c =
     let at : lookup c.args.sessions.now.entries c.args.session ≡ Some c.in-Some.found.now = search rules in
     linked_of (desktop_of c.args.desktop.now).device c.args.sessions.now.entries c.args.session c.in-Some.found.now c.requires.linked at
 
-pub returns-in_ok-made-in-Some : goal.returns-in_ok-made-in-Some
-returns-in_ok-made-in-Some c =
+pub returns-in_ok-own-in-Some : goal.returns-in_ok-own-in-Some
+returns-in_ok-own-in-Some c =
     let before = c.args.sessions.now.entries in
     let left = desktop_of c.answer.new.desktop in
     let after = (c.get_mut.follows.lender c.answer.new.found).entries in
     let at : lookup before c.args.session ≡ Some c.in-Some.found.now = sym (lookup_at before c.args.session) ∙ sym c.get_mut.ensures.value ∙ ap option_copied_mut c.in-Some.is in
     let written : after ≡ with before c.args.session c.answer.new.found = with-written before _ c.args.session c.answer.new.found (c.get_mut.follows.holds c.answer.new.found).0 in
-    let served : IsServed c.args.session (Some c.in-Some.found.now) before (desktop_of c.args.desktop.now) c.args.bytes.now c.args.mark (Some c.in_ok-made-in-Some.made) after left =
-    (c.answer.new.found, written, c.in_ok-made-in-Some.ensures) in
+    let served : IsServed c.args.session (Some c.in-Some.found.now) before (desktop_of c.args.desktop.now) c.args.bytes.now c.args.mark (Some c.in_ok-own-in-Some.own) after left =
+    (c.answer.new.found, written, c.in_ok-own-in-Some.ensures) in
     record {
-      served = subst (λ (found : Option Session). IsServed c.args.session found before (desktop_of c.args.desktop.now) c.args.bytes.now c.args.mark (Some c.in_ok-made-in-Some.made) after left) (sym at) served;
-      linked = served_linked c.args.session before (desktop_of c.args.desktop.now) (Some c.in-Some.found.now) c.args.bytes.now c.args.mark (Some c.in_ok-made-in-Some.made) after left c.requires.linked at served;
+      served = subst (λ (found : Option Session). IsServed c.args.session found before (desktop_of c.args.desktop.now) c.args.bytes.now c.args.mark (Some c.in_ok-own-in-Some.own) after left) (sym at) served;
+      linked = served_linked c.args.session before (desktop_of c.args.desktop.now) (Some c.in-Some.found.now) c.args.bytes.now c.args.mark (Some c.in_ok-own-in-Some.own) after left c.requires.linked at served;
     }

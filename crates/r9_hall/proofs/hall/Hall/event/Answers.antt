@@ -10,11 +10,14 @@ use Rattle.model_world.proofs.Marks.{marked_allowed}
 use Rattle.model_world.proofs.Steps.{next_allowed}
 use Rattle.r9_hall.specs.HallView.{AllowedNext, HallValue, entered}
 use Rattle.r9_hall.specs.StateView.{state_of, state_world, IsAfter}
-use Rattle.r9_hall.proofs.Halls.{closed_after, legal_more, notes_after, nothing_done, roll_entered, stop_after, stop_next, stop_told, stopped_after, not_going, not_broken, value_entered, standing, stands_more, replies_after}
+use Rattle.r9_hall.proofs.Halls.{closed_after, legal_more, notes_after, nothing_done, roll_entered, stop_after, stop_next, stop_told, stopped_after, not_going, not_broken, value_entered, standing, stands_more, stands_quiet, replies_after}
 use Rattle.r9_hall.proofs.hall.Hall.event.Goals as goal
 
 pub carry_out-requires-clause-linked : goal.carry_out-requires-clause-linked
 carry_out-requires-clause-linked c = (c.self.invariant.stands (not_broken c.self.inside.broken c.args.event (λ broken. c.requires.can.1 (ap (λ (h : HallValue). h.broken) (sym c.self.view_is) ∙ broken)) c.in_default.not-Stop)).linked
+
+pub carry_out-requires-clause-quiet : goal.carry_out-requires-clause-quiet
+carry_out-requires-clause-quiet c = stands_quiet _ _ _ (c.self.invariant.stands (not_broken c.self.inside.broken c.args.event (λ broken. c.requires.can.1 (ap (λ (h : HallValue). h.broken) (sym c.self.view_is) ∙ broken)) c.in_default.not-Stop))
 
 pub invariant_of-self-in-Stop : goal.invariant_of-self-in-Stop
 invariant_of-self-in-Stop c =

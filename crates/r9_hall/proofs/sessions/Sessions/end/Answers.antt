@@ -1,29 +1,48 @@
-use Rattle.std.proofs.Common.{◌≡◌, ℕ, List, refl, sym, subst, ◌∙◌}
+use Rattle.std.proofs.Common.{ℕ, List, None, refl, sym, subst, ◌∙◌}
 use Rattle.r9_event.specs.declared.event.Event.TheVariants.{End}
-use Rattle.model_text.specs.Map.{lookup, without}
+use Rattle.r9_event.specs.declared.event.Reply.{Reply}
+use Rattle.model_text.specs.Map.{lookup}
 use Rattle.model_map.proofs.Keys.{without_at}
 use Rattle.model_world.specs.Session.{Session}
+use Rattle.model_world.specs.Sleeping.{stirred}
 use Rattle.r9_desktop.specs.World.{desktop_of}
-use Rattle.r9_hall.specs.declared.sessions.Made.{Made}
+use Rattle.r9_hall.specs.Settling.{AreWoken, IsSettled}
+use Rattle.r9_hall.specs.StateView.{IsMade, world_with}
 use Rattle.r9_hall.specs.declared.sessions.Sessions.{Sessions}
-use Rattle.r9_hall.specs.StateView.{IsMade}
-use Rattle.r9_hall.proofs.States.{ended_made, left_linked, unended_made}
+use Rattle.r9_hall.proofs.States.{absent_made, gone_made, left_asked, left_linked}
+use Rattle.r9_hall.proofs.sessions.Sessions.end.Goals.{then-branch+in_ok-asked+in_ok-settle, else-branch}
 use Rattle.r9_hall.proofs.sessions.Sessions.end.Goals as goal
 
-pub settle-requires : goal.settle-requires
-settle-requires c =
+pub settle-requires-clause-linked : goal.settle-requires-clause-linked
+settle-requires-clause-linked c =
     let before : List (ℕ × Session) = c.args.self.now.live.entries in
     left_linked c.args.session before c.remove.new.self.entries (desktop_of c.args.self.now.desktop) (desktop_of c.leave.new.desktop) (lookup before c.args.session) c.in_ok-leave.field-0
-    c.requires refl c.if-not-branch.false c.in_ok-leave.ensures (c.remove.ensures.entries ∙ without_at before c.args.session)
+    c.requires.linked refl c.if-branch.true c.in_ok-leave.ensures (c.remove.ensures.entries ∙ without_at before c.args.session)
 
-pub returns-then-not-branch-clause-made : goal.returns-then-not-branch-clause-made
-returns-then-not-branch-clause-made c = λ opening.
-    let after : Sessions = record { live = c.args.self.now.live; desktop = c.leave.new.desktop } in
-    subst (λ (made : Made). IsMade opening c.args.self.now (End c.args.session) made after) (sym c.silent.ensures)
-    (unended_made opening c.args.self.now after c.args.session (lookup c.args.self.now.live.entries c.args.session) c.in_ok-leave.field-0 refl c.if-not-branch.true c.in_ok-leave.ensures refl)
+pub settle-requires-clause-asked : goal.settle-requires-clause-asked
+settle-requires-clause-asked c =
+    let before : List (ℕ × Session) = c.args.self.now.live.entries in
+    let gone = c.remove.ensures.entries ∙ without_at before c.args.session in
+    let desktop = desktop_of c.args.self.now.desktop in
+    let left = desktop_of c.leave.new.desktop in
+    let lived = c.in_ok-leave.field-0 in
+    left_asked c.args.session before c.remove.new.self.entries desktop left (lookup before c.args.session) lived c.deref.result.now c.requires.linked c.requires.quiet refl c.if-branch.true c.in_ok-leave.ensures gone
+    (left_linked c.args.session before c.remove.new.self.entries desktop left (lookup before c.args.session) lived c.requires.linked refl c.if-branch.true c.in_ok-leave.ensures gone)
+    (subst (λ (l : List ℕ). AreWoken c.args.session (stirred left.notes 0) c.remove.new.self.entries l) (sym c.deref.ensures.value) c.in_ok-asked.ensures)
 
 pub returns-clause-made : goal.returns-clause-made
 returns-clause-made c = λ opening.
-    let before : List (ℕ × Session) = c.args.self.now.live.entries in
-    let gone : c.remove.new.self.entries ≡ without before c.args.session = c.remove.ensures.entries ∙ without_at before c.args.session in
-    ended_made opening c.args.self.now c.settle.new.self c.args.session (lookup before c.args.session) c.in_ok-leave.field-0 c.remove.new.self.entries (desktop_of c.leave.new.desktop) c.new-replies.result c.settle.new.replies refl c.if-not-branch.false c.in_ok-leave.ensures gone c.new-replies.ensures (c.in_ok-settle.ensures opening)
+    let before = c.args.self.now in
+    let session = c.args.session in
+    let P : Sessions × List Reply → Type 0 = λ made. IsMade opening before (End session) (record { replies = made.1; short = None; closed = None }) made.0 in
+    elim c.if-branch.branch [
+      | then-branch+in_ok-asked+in_ok-settle w ↦
+          let gone : Sessions = record { live = w.remove.new.self; desktop = c.leave.new.desktop } in
+          subst P (λ i. (sym w.self-is i, sym w.replies-is i))
+          (gone_made opening before gone w.settle.new.self session (lookup before.live.entries session) c.in_ok-leave.field-0 w.settle.new.replies refl w.if-branch.true c.in_ok-leave.ensures
+          (w.remove.ensures.entries ∙ without_at before.live.entries session)
+          (subst (λ (replies : List Reply). IsSettled (world_with opening gone) replies (world_with opening w.settle.new.self) w.settle.new.replies) c.new-replies.ensures (w.in_ok-settle.ensures opening)))
+      | else-branch w ↦
+          subst P (λ i. (sym w.self-is i, sym (w.replies-is ∙ c.new-replies.ensures) i))
+          (absent_made opening before (record { live = before.live; desktop = c.leave.new.desktop }) session (lookup before.live.entries session) c.in_ok-leave.field-0 refl w.if-branch.false c.in_ok-leave.ensures refl)
+    ]

@@ -1,36 +1,37 @@
-use Rattle.std.proofs.Common.{◌≡◌, Option, Some, None, ◌∷◌, [], List, sym, subst, arith}
-use Rattle.r9_event.specs.declared.event.Reply.{Reply}
-use Rattle.model_world.specs.Replay.{first_answered}
-use Rattle.r9_hall.specs.Settling.{IsNext}
+use Rattle.std.proofs.Common.{◌≡◌, ◌+◌, refl, drop, arith}
+use Rattle.std.proofs.lemmas.List.{drop_more}
+use Rattle.std.proofs.Math.ListN.{drop_of_length-le}
+use Rattle.r9_desktop.specs.World.{desktop_of}
 use Rattle.r9_hall.specs.StateView.{world_with}
-use Rattle.r9_hall.proofs.Waits.{GoesOn, any_opening, ends, goes_on, less}
+use Rattle.r9_hall.proofs.Waits.{ask_next, asked_all, below_first, ends, goes_then}
 use Rattle.r9_hall.proofs.sessions.Sessions.settle.Goals as goal
 
-pub loop-reply-smaller : goal.loop-reply-smaller
-loop-reply-smaller c =
-    let before = world_with any_opening c.loop-reply.self in
-    let after = world_with any_opening c.answer_first.new.self in
-    let next : first_answered before c.loop-reply.self.live.entries ≡ Some (after, c.in-Some.reply ∷ []) =
-    subst (λ (o : Option Reply). IsNext (first_answered before c.loop-reply.self.live.entries) before o after) c.in-Some.is (c.in_ok-reply.ensures.next any_opening) in
-    let fewer = less before after (c.in-Some.reply ∷ []) c.loop-reply.invariant.0.ascending next in
-    omega (arith, fewer)
+pub loop-session-init : goal.loop-session-init
+loop-session-init c = (c.requires.linked, c.requires.asked, λ opening. record { world_is = refl; replies_are = refl })
 
-pub loop-reply-preserved : goal.loop-reply-preserved
-loop-reply-preserved c = (
-  c.in_ok-reply.ensures.linked,
-  λ opening.
-      let before = world_with opening c.loop-reply.self in
-      let after = world_with opening c.answer_first.new.self in
-      let next : first_answered before c.loop-reply.self.live.entries ≡ Some (after, c.in-Some.reply ∷ []) =
-      subst (λ (o : Option Reply). IsNext (first_answered before c.loop-reply.self.live.entries) before o after) c.in-Some.is (c.in_ok-reply.ensures.next opening) in
-      subst (λ (replies : List Reply). GoesOn (world_with opening c.args.self.now) c.args.replies.now after replies) (sym c.in_ok-push.ensures.ok)
-      (goes_on (world_with opening c.args.self.now) before after c.args.replies.now c.loop-reply.replies c.in-Some.reply c.loop-reply.invariant.0.ascending (c.loop-reply.invariant.1 opening) next),
-)
+pub settle_one-requires-clause-below : goal.settle_one-requires-clause-below
+settle_one-requires-clause-below c =
+    let items = c.args.asked.now in
+    below_first c.loop-session.self.live.entries (desktop_of c.loop-session.self.desktop) _ (drop (c.loop-session.session-index + 1) items) (drop c.loop-session.session-index items)
+    c.loop-session.invariant.1 (drop_more items c.loop-session.session-index 0 c.loop-session-test.true)
+
+pub loop-session-preserved : goal.loop-session-preserved
+loop-session-preserved c =
+    let items = c.args.asked.now in
+    let before = c.loop-session.self in
+    let after = c.settle_one.new.self in
+    let made = c.in_ok-settle_one.ensures in (
+      made.linked,
+      ask_next before.live.entries after.live.entries (desktop_of before.desktop) (desktop_of after.desktop) _ (drop (c.loop-session.session-index + 1) items) (drop c.loop-session.session-index items)
+          c.loop-session.invariant.1 (drop_more items c.loop-session.session-index 0 c.loop-session-test.true) made.waits made.others,
+      λ opening. goes_then (world_with opening c.args.self.now) (world_with opening before) (world_with opening after) c.args.replies.now c.loop-session.replies c.settle_one.new.replies
+          (c.loop-session.invariant.2 opening) (made.replies opening),
+    )
 
 pub returns : goal.returns
 returns c = λ opening.
-    let before = world_with opening c.loop-reply.self in
-    let after = world_with opening c.answer_first.new.self in
-    let next : IsNext (first_answered before c.loop-reply.self.live.entries) before None after =
-    subst (λ (o : Option Reply). IsNext (first_answered before c.loop-reply.self.live.entries) before o after) c.in_default.is (c.in_ok-reply.ensures.next opening) in
-    ends (world_with opening c.args.self.now) before after c.args.replies.now c.loop-reply.replies (c.loop-reply.invariant.1 opening) next.0 next.1
+    let world = world_with opening c.loop-session.self in
+    ends (world_with opening c.args.self.now) world world c.args.replies.now c.loop-session.replies (c.loop-session.invariant.2 opening)
+    (asked_all world (drop c.loop-session.session-index c.args.asked.now) c.loop-session.invariant.0.ascending c.loop-session.invariant.1
+    (drop_of_length-le c.args.asked.now (omega (arith, c.loop-session-test.false))))
+    refl

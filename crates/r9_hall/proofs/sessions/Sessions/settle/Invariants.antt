@@ -1,15 +1,13 @@
+use Rattle.std.proofs.Common.{drop}
 use Rattle.r9_event.specs.declared.event.Opening.{Opening}
 use Rattle.model_world.specs.Links.{AreLinked}
 use Rattle.r9_desktop.specs.World.{desktop_of}
-use Rattle.model_world.specs.Replay.{waiting_in}
+use Rattle.r9_hall.specs.Settling.{AreAsked, GoesOn}
 use Rattle.r9_hall.specs.StateView.{world_with}
-use Rattle.r9_hall.proofs.Waits.{GoesOn, any_opening}
 use Rattle.r9_hall.proofs.sessions.Sessions.settle.Given as goal
 
-abbrev pub invariant-loop-reply : goal.invariant-loop-reply
-invariant-loop-reply l =
+abbrev pub invariant-loop-session : goal.invariant-loop-session
+invariant-loop-session l =
     AreLinked (desktop_of l.self.desktop).device l.self.live.entries
+    × AreAsked l.self.live.entries (desktop_of l.self.desktop) (drop l.session-index l.asked)
     × ((opening : Opening) → GoesOn (world_with opening l.fn.self) l.fn.replies (world_with opening l.self) l.replies)
-
-abbrev pub decreases-loop-reply : goal.decreases-loop-reply
-decreases-loop-reply l = waiting_in (world_with any_opening l.self)

@@ -3,13 +3,18 @@ use Rattle.model_world.specs.Cut.{IsCutEvent, IsWantingEvent}
 use Rattle.model_world.specs.Links.{IsNext, begun_after}
 use Rattle.model_world.specs.Replay.{marked, step}
 use Rattle.r9_hall.specs.WorldView.{WorldValue, world_in}
-use Rattle.r9_hall.proofs.Worlds.{turn_begun, turn_known, turn_linked}
+use Rattle.r9_hall.proofs.Worlds.{turn_begun, turn_known, turn_linked, turn_quiet}
 use Rattle.r9_hall.proofs.world.World.step.Goals as goal
 
 pub step-requires-clause-linked : goal.step-requires-clause-linked
 step-requires-clause-linked c =
     let whole : c.self.inside.broken ≡ false = ap (λ (w : WorldValue). w.broken) c.self.view_is ∙ c.requires.going in
     c.self.invariant.linked whole
+
+pub step-requires-clause-quiet : goal.step-requires-clause-quiet
+step-requires-clause-quiet c =
+    let whole : c.self.inside.broken ≡ false = ap (λ (w : WorldValue). w.broken) c.self.view_is ∙ c.requires.going in
+    c.self.invariant.quiet whole
 
 pub invariant_of-self-2 : goal.invariant_of-self-2
 invariant_of-self-2 c =
@@ -21,6 +26,7 @@ invariant_of-self-2 c =
     record {
       linked = λ _. turn_linked c.self.inside.opening c.self.inside.sessions c.step.new.self c.self.inside.begun c.args.event.now c.in_ok-did.did.short _ next linked known turn;
       known = λ _. turn_known c.self.inside.opening c.self.inside.sessions c.step.new.self c.self.inside.begun c.begun_after-self-inside.result c.args.event.now c.in_ok-did.did.short _ next linked known c.begun_after-self-inside.ensures turn;
+      quiet = λ _. turn_quiet c.self.inside.opening c.self.inside.sessions c.step.new.self _ _ linked (c.self.invariant.quiet whole) turn;
     }
 
 pub returns : goal.returns

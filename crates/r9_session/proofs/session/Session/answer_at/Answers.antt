@@ -9,6 +9,8 @@ use Rattle.r9_files.specs.declared.fault.Fault.{Fault}
 use Rattle.r9_wire.specs.View.{r_of}
 use Rattle.r9_desktop.specs.World.{desktop_of}
 use Rattle.r9_session.specs.Reads.{IsAwaited}
+use Rattle.r9_session.specs.Places.{AreCovered}
+use Rattle.r9_session.proofs.Places.{covered_remove}
 use Rattle.r9_session.proofs.Awaited.{gets_bytes, gets_refusal, waiting_read, waiting_without, waits_on}
 use Rattle.r9_session.proofs.session.Session.answer_at.Goals as goal
 use Rattle.r9_session.proofs.session.Session.answer_at.Goals.{in-Ok-Some, in-Err-Refused+in_ok-reply-in-Err-Refused}
@@ -56,3 +58,11 @@ returns c =
             subst (λ (reply : R). FitsR reply) (sym (ap r_of w.reply-is)) w.in_ok-reply-in-Err-Refused.ensures.fits,
           )
     ]
+
+pub invariant_of-self : goal.invariant_of-self
+invariant_of-self c = record {
+  within = c.self-2.invariant.within;
+  kept = c.self-2.invariant.kept;
+  covered = subst (λ (reads : List (ℕ × Wait)). AreCovered c.self-2.inside.fids reads c.self-2.inside.places) (sym c.remove.ensures.rest)
+      (covered_remove c.self-2.inside.fids c.self-2.inside.waiting c.self-2.inside.places c.args.place c.self-2.invariant.covered);
+}

@@ -1,10 +1,14 @@
 use Rattle.std.proofs.Common.{◌≡◌, ◌∙◌, ℕ, List, sym, ap, subst}
 use Rattle.std.specs.Prelude.{filter}
+use Rattle.std.specs.Map.{keys_of}
 use Rattle.model_text.specs.Map.{without}
+use Rattle.model_map.specs.Ascending.{Ascend}
 use Rattle.model_world.specs.Session.{Fid, Session}
 use Rattle.model_world.specs.Fids.{is_kept}
 use Rattle.r9_session.specs.Clients.{without_fid}
 use Rattle.r9_session.specs.SessionView.{AreKept}
+use Rattle.r9_session.specs.Places.{AreCovered}
+use Rattle.r9_session.proofs.Places.{covered_without}
 use Rattle.r9_session.proofs.Keeping.{kept_again}
 use Rattle.r9_session.proofs.session.Session.clunk.Goals as goal
 
@@ -18,4 +22,6 @@ invariant_of-self c =
     record {
       within = c.self-2.invariant.within;
       kept = subst (λ (ns : List ℕ). AreKept c.clunk.new.self ns) (sym connections) (subst (λ (fs : List (ℕ × Fid)). AreKept fs (filter (is_kept gone) session.connections)) (sym fids) (kept_again gone session.connections));
+      covered = subst (λ (fs : List (ℕ × Fid)). AreCovered fs c.self-2.inside.waiting c.self-2.inside.places) (sym c.clunk.ensures.rest)
+          (covered_without c.self-2.inside.fids c.self-2.inside.waiting c.self-2.inside.places c.args.fid (subst (λ (s : Session). Ascend (keys_of s.fids)) (sym c.self-2.view_is) c.ascends.ensures) c.self-2.invariant.covered);
     }

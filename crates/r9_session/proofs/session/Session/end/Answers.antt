@@ -15,4 +15,5 @@ invariant_of-self c =
     record {
       within = subst (λ (ns : List ℕ). AreWithin most_connections ns) (sym is) (within_filter others most_connections c.self.inside.connections c.self.invariant.within);
       kept = subst (λ (ns : List ℕ). AreKept c.self.inside.fids ns) (sym is) (kept_filter others c.self.inside.fids c.self.inside.connections c.self.invariant.kept);
+      covered = c.self.invariant.covered;
     }

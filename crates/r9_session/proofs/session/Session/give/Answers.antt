@@ -6,6 +6,7 @@ use Rattle.model_world.specs.Whole.{desktop_for}
 use Rattle.r9_desktop.specs.World.{desktop_of}
 use Rattle.r9_session.specs.Reads.{IsGivenOf}
 use Rattle.r9_session.proofs.Keeping.{kept_with, same_keeps}
+use Rattle.r9_session.proofs.Places.{covered_same}
 use Rattle.r9_session.proofs.Readings.{given_of}
 use Rattle.r9_session.proofs.session.Session.give.Goals as goal
 
@@ -31,4 +32,5 @@ invariant_of-self c =
     record {
       within = c.self.invariant.within;
       kept = kept_with c.self.inside.fids c.self.inside.connections c.args.fid found c.read_now.new.fid at (λ n. same_keeps n found c.read_now.new.fid c.read_now.ensures.file c.read_now.ensures.mode) c.self.invariant.kept;
+      covered = covered_same c.self.inside.fids c.self.inside.waiting c.self.inside.places c.args.fid found c.read_now.new.fid at c.read_now.ensures.file c.self.invariant.covered;
     }

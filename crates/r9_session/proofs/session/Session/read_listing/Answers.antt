@@ -6,6 +6,7 @@ use Rattle.model_world.specs.Reading.{directory_read}
 use Rattle.r9_tree.specs.View.{view_of}
 use Rattle.r9_session.specs.Reads.{IsListed}
 use Rattle.r9_session.proofs.Keeping.{kept_with, same_keeps}
+use Rattle.r9_session.proofs.Places.{covered_same}
 use Rattle.r9_session.proofs.Readings.{read_of}
 use Rattle.r9_session.proofs.session.Session.read_listing.Goals as goal
 
@@ -27,4 +28,5 @@ invariant_of-self c =
     record {
       within = c.self.invariant.within;
       kept = kept_with c.self.inside.fids c.self.inside.connections c.args.fid found c.read.new.self at (λ n. same_keeps n found c.read.new.self c.read.ensures.file c.read.ensures.mode) c.self.invariant.kept;
+      covered = covered_same c.self.inside.fids c.self.inside.waiting c.self.inside.places c.args.fid found c.read.new.self at c.read.ensures.file c.self.invariant.covered;
     }
