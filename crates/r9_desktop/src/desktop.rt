@@ -3,6 +3,7 @@
 ghost use Rattle.std.specs.Prelude.{◌≡◌, ◌^◌, ◌<ℤ◌, pos, [], IfOk};
 ghost use Rattle.r9_geom.specs.Geometry.{IsOrdered};
 ghost use Rattle.model_draw.specs.Files.{screen_file};
+ghost use Rattle.model_draw.specs.Orders.{picture_of};
 ghost use Rattle.model_world.specs.Desktop.{first_desktop};
 ghost use Rattle.r9_desktop.specs.World.{desktop_of};
 
@@ -73,10 +74,11 @@ impl Desktop {
         std::mem::replace(&mut self.notes, Notes::new(self.alloc))
     }
 
-    /// The display as an image(6) file.
+    /// The display as an image(6) file, which the file `screen` outside of windows has, too.
     #[tactic(auto, unfolding(crate::specs::World::desktop_of))]
     pub fn screen(&self) -> Result<Bytes, Memory>
-        ensures { IfOk result (λ file. file ≡ screen_file (desktop_of self.now).device) }
+        ensures file { IfOk result (λ file. file ≡ screen_file (desktop_of self.now).device) }
+        ensures picture { picture_of (desktop_of self.now).device 0 ≡ screen_file (desktop_of self.now).device }
     {
         self.device.screen()
     }

@@ -11,6 +11,7 @@ ghost use Rattle.r9_desktop.specs.World.{desktop_of};
 
 use crate::desktop::Desktop;
 use crate::telling::set_label;
+use r9_draw::Shown;
 use r9_memory::Memory;
 use r9_pane::Pane;
 use r9_text::Bytes;
@@ -40,7 +41,8 @@ impl Desktop {
         ensures part { IfOk result (λ bytes. bytes ≡ file_part (picture_of (desktop_of self.now).device window) offset count) }
         ensures short { IfOk result (λ bytes. length bytes ≤ count) }
     {
-        self.device.picture_part(window, offset, count)
+        self.device
+            .picture_part(Shown::Window(window), offset, count)
     }
 
     /// The text that was cut last in the rio of a host.

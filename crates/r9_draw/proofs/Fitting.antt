@@ -22,7 +22,10 @@ use Rattle.model_draw.specs.Files.{screen_file}
 use Rattle.model_draw.specs.Making.{farthest, is_near_rect, is_window}
 use Rattle.model_draw.specs.Orders.{has_rio, has_window, image_shown, inside_border, is_window_rect, picture_of, rio_screen}
 use Rattle.r9_draw.specs.Kept.{IsKept}
+use Rattle.r9_draw.specs.Shown.{picture_in, shown_in}
 use Rattle.r9_draw.specs.Spare.{AreSpare}
+use Rattle.r9_draw.specs.declared.shown.Shown.{Shown}
+use Rattle.r9_draw.specs.declared.shown.Shown.TheVariants.{Display, Window}
 use Rattle.r9_draw.proofs.Screens.{kept-screened, spare-screened}
 use Rattle.r9_draw.proofs.Lookups.{fill-of-used, find-any, first_true, image-of-used, shown-used}
 use Rattle.r9_draw.proofs.Rects.{near-of, points-of}
@@ -64,6 +67,12 @@ pub display-picture : (w : World) → IsKept w.images w.book → picture_of w 0 
 unfolding picture_of screen_file
 display-picture w kept =
     ap (λ (i : ℕ). image_file (at_number w i).chan (at_number w i).r (rows_of (at_number w i).r (depth (at_number w i).chan) (paint w.images i))) (shown-is (image_id w.book 0 0) 0 kept.display)
+
+-- what can be looked at is painted
+pub picture-painted : (w : World) (s : Shown) → picture_in w s ≡ image_file (at_number w (shown_in w s)).chan (at_number w (shown_in w s)).r (rows_of (at_number w (shown_in w s)).r (depth (at_number w (shown_in w s)).chan) (paint w.images (shown_in w s)))
+unfolding picture_of screen_file
+picture-painted w Display = refl
+picture-painted w (Window serial) = refl
 
 pub window-lives : (w : World) (window : ℕ) → IsKept w.images w.book → has_window w window ≡ true → is_some (w.images (image_shown w window)) ≡ true
 window-lives w window kept h = shown-lives w window kept (window-known w window h)

@@ -10,3 +10,4 @@ pub mod Steps
 pub mod Described
 pub mod Restacking
 pub mod Ordering
+pub mod Shown

@@ -2,21 +2,19 @@
 
 ghost use Rattle.std.specs.Prelude.{◌≡◌, ◌==◌, ◌≤◌, ◌^◌, ◌++◌, true, false, length, is_some, MatchOption, Ok, Err, IfOk, IfErr, OnOk, OnErr, IsSome};
 ghost use Rattle.std.specs.Int.{w32, from_le_bytes};
-ghost use Rattle.r9_geom.specs.Geometry.{IsRectNearBy};
+ghost use Rattle.r9_geom.specs.Geometry.{IsOrdered, IsRectNearBy};
 ghost use Rattle.r9_layers.specs.Told.{info_of};
 ghost use Rattle.model_text.specs.Map.{lookup};
-ghost use Rattle.model_imgfile.specs.ImageFile.{file_part};
 ghost use Rattle.model_draw.specs.World.{at_number};
 ghost use Rattle.r9_draw.specs.Described.{fields_of};
-ghost use Rattle.model_draw.specs.Files.{read_data, read_ctl, write_ctl, screen_file};
-ghost use Rattle.model_draw.specs.Orders.{picture_of};
+ghost use Rattle.model_draw.specs.Files.{read_data, read_ctl, write_ctl};
 ghost use Rattle.r9_draw.specs.Refused.{IfRefused};
 ghost use Rattle.r9_draw.specs.World.{world_of};
 
 use crate::draw::Draw;
 use crate::fault::DrawFault;
 use r9_client::{describe, described_by, pending_len, replace_pending};
-use r9_imgfile::{header, part, push_rect, touched_rows};
+use r9_imgfile::push_rect;
 use r9_layers::{ImageNo, Info};
 use r9_memory::Memory;
 use r9_text::{Bytes, push_number, push_word};
@@ -84,17 +82,18 @@ impl Draw {
             Ok(image) => image,
             Err(refusal) => return Err(DrawFault::Refused(refusal)),
         };
-        let info = self.info(image);
+        let info = self.image_info(image);
         let bytes = description(self.alloc, number, id, &info)?;
         Ok(bytes)
     }
 
     // What an image tells of itself.
-    pub(crate) fn info(&self, image: ImageNo) -> Info
+    pub(crate) fn image_info(&self, image: ImageNo) -> Info
         requires { is_some ((world_of self.now).images image.0) ≡ true }
         ensures told { result ≡ info_of (at_number (world_of self.now) image.0) }
         ensures near { IsRectNearBy (2 ^ 33) result.r }
         ensures clip { IsRectNearBy (2 ^ 33) result.clipr }
+        ensures ordered { IsOrdered result.r }
     {
         self.forest.info(image)
     }
@@ -116,38 +115,5 @@ impl Draw {
         }
         describe(&mut self.clients, client, id);
         Ok(())
-    }
-
-    /// The display as an image file: what is painted from back to front, on it and on all that stands on it (image(6)).
-    pub fn screen(&self) -> Result<Bytes, Memory>
-        ensures { IfOk result (λ file. file ≡ screen_file (world_of self.now)) }
-    {
-        let display = ImageNo(0);
-        let info = self.info(display);
-        let mut file = header(self.alloc, &info)?;
-        let rows = self.forest.unload(display, info.r)?;
-        file.push_all(rows.as_slice())?;
-        Ok(file)
-    }
-
-    /// The bytes of that file from an offset on, at most `count`. No more rows are put together than hold one of them.
-    pub fn screen_part(&self, offset: u64, count: u32) -> Result<Bytes, Memory>
-        ensures part { IfOk result (λ bytes. bytes ≡ file_part (screen_file (world_of self.now)) offset count) }
-        ensures short { IfOk result (λ bytes. length bytes ≤ count) }
-    {
-        self.picture_part(0, offset, count)
-    }
-
-    /// The same of what a window shows, named by its serial: the display where there is none.
-    pub fn picture_part(&self, window: u32, offset: u64, count: u32) -> Result<Bytes, Memory>
-        ensures part { IfOk result (λ bytes. bytes ≡ file_part (picture_of (world_of self.now) window) offset count) }
-        ensures short { IfOk result (λ bytes. length bytes ≤ count) }
-    {
-        let image = self.image_shown(window);
-        let info = self.info(image);
-        let rows = self
-            .forest
-            .unload(image, touched_rows(&info, offset, count))?;
-        part(self.alloc, &info, rows.as_slice(), offset, count)
     }
 }

@@ -14,10 +14,12 @@ mod orders;
 mod pixels;
 mod plan;
 mod screen;
+mod shown;
 mod string;
 mod window;
 mod write;
 
 pub use draw::Draw;
 pub use fault::DrawFault;
+pub use shown::Shown;
 pub use write::Wrote;

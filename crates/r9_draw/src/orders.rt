@@ -348,8 +348,8 @@ impl Draw {
         requires rect { is_window_rect r.now ≡ true }
         ensures { result ≡ can_keep (world_of self.now) window (rio_screen (world_of self.now) host) r.now }
     {
-        let old = self.info(self.image_shown(window));
-        let parent = self.info(ImageNo(self.book.image_of(self.rio_screen(host))));
+        let old = self.image_info(self.image_shown(window));
+        let parent = self.image_info(ImageNo(self.book.image_of(self.rio_screen(host))));
         is_as_wide(r, &old.r) && is_as_high(r, &old.r) && old.chan.word() == parent.chan.word()
     }
 

@@ -11,8 +11,8 @@ image_of-requires c =
     let w = world_of c.args.self.now in
     ap (λ (s : ℕ). is_some (screen_numbered w.book s)) c.rio_screen.ensures ∙ rio-there w c.args.host c.args.self.now.kept c.requires.rio
 
-pub info-parent-requires : goal.info-parent-requires
-info-parent-requires c =
+pub image_info-parent-requires : goal.image_info-parent-requires
+image_info-parent-requires c =
     let w = world_of c.args.self.now in
     ap (λ (n : ℕ). is_some (w.images n)) (c.image_of.ensures ∙ ap (image_of w.book) c.rio_screen.ensures) ∙ rio-image w c.args.host c.args.self.now.kept c.requires.rio
 
