@@ -9,7 +9,9 @@ import sys
 from dataclasses import dataclass
 from typing import List, Optional, Tuple
 
-HEADER = b"rio9 1"
+# The header that is written, and those that are read: the second kind tells the number of the first entry.
+HEADER, HEADERS = b"rio9 1", re.compile(rb"rio9 1|rio9 2 ([1-9][0-9]{0,18})")
+NUMBER_LIMIT = 2**62
 LEAST_MESSAGE, MOST_OF_A_MESSAGE = 7, 65560
 LAST_SESSION, LAST_MARK = 0xFFFFFFFF, 0xFFFF
 
@@ -122,7 +124,16 @@ def check_message(event):
 
 def is_record(text):
     """Whether a text begins as a record does."""
-    return text.startswith(HEADER)
+    return text.startswith(b"rio9 ")
+
+
+def first_number(header):
+    """The number of the first entry behind a header, or None where a line is no header."""
+    found = HEADERS.fullmatch(header)
+    if not found:
+        return None
+    number = int(found.group(1) or 1)
+    return number if number < NUMBER_LIMIT else None
 
 
 def read_record(text):
@@ -130,8 +141,11 @@ def read_record(text):
     if len(text) >= BYTES_OF_NO_RECORD:
         raise BadText(1, f"a record has fewer than {BYTES_OF_NO_RECORD} bytes, and this one {len(text)}")
     lines = text.split(b"\n")
-    if lines[0] != HEADER:
-        raise BadText(1, "the header is missing: rio9 1")
+    first = first_number(lines[0])
+    if first is None:
+        raise BadText(1, "the header is missing: rio9 1, or rio9 2 1")
+    if len(lines) > 1 and first > 1:
+        raise BadText(1, f"the first entry here is the one of number {first}: what came before it stands elsewhere")
     if lines.pop() != b"":
         raise BadText(len(lines) + 1, "the last newline is missing")
     roll, events = Roll(), []

@@ -179,6 +179,13 @@ NO_RECORDS = [
     (b"rio9 1", 1, None),
     (b"rio9 1\nB 1", 2, None),
     (b"rio9 1 \nB 1\n", 1, None),
+    (b"rio9 2 1", 1, None),
+    (b"rio9 2 0\n", 1, None),
+    (b"rio9 2 01\n", 1, None),
+    (b"rio9 2 5\nB 1\n", 1, None),
+    (b"rio9 2 4611686018427387904\n", 1, None),
+    (b"rio9 2\n", 1, None),
+    (b"rio9 3 1\n", 1, None),
     (b"rio9 1\nB 01\n", 2, 2),
     (b"rio9 1\nB  1\n", 2, 2),
     (b"rio9 1\nB 1 1\n", 2, 3),
@@ -286,6 +293,13 @@ class Tables(unittest.TestCase):
                 record.explain(text)
             with self.assertRaisesRegex(formats.BadText, "^line 2: "):
                 record.write("session 1\nsession 2\n")
+
+    def test_a_header_that_tells_the_number_1(self):
+        self.assertEqual(record.explain(b"rio9 2 1\nB 1\n"), "session 1\n")
+
+    def test_what_comes_before_the_first_entry_stands_elsewhere(self):
+        with self.assertRaisesRegex(formats.BadText, "number 4611686018427387903: "):
+            record.explain(b"rio9 2 4611686018427387903\nE 7\n")
 
     def test_a_take_after_the_end(self):
         text = b"rio9 1\nB 1\nE 1\nT 1\nB 2\nX\n"

@@ -69,3 +69,6 @@ cut_none mark [] others = refl
 cut_none mark (b ∷ text) others =
     let here : b ≢ mark = others 0 (omega arith) in
     rw (not_mark b mark here, cut_none mark text (λ k lt. others (suc k) (omega arith))) refl
+
+pub pair_of : (x y : List ℕ × List ℕ) → Some x ≡ Some y → (x.0 ≡ y.0) × (x.1 ≡ y.1)
+pair_of x y e = let same : x ≡ y = cc in (ap (λ (p : List ℕ × List ℕ). p.0) same, ap (λ (p : List ℕ × List ℕ). p.1) same)

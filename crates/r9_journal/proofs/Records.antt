@@ -1,22 +1,22 @@
 -- Fronts of a text that are records, and where the longest of them ends.
-use Rattle.std.proofs.Common.{◌≡◌, ℕ, zero, suc, ◌+◌, ◌-◌, ◌<◌, ◌≤◌, ◌^◌, inl, inr, Bool, true, false, cond, not, eqb, codes, List, [], ◌∷◌, ◌++◌, length, take, drop, Option, Some, None, IfSome, Result, Err, refl, sym, ap, subst, ◌∙◌, append_assoc, arith}
+use Rattle.std.proofs.Common.{◌≡◌, ℕ, zero, suc, ◌+◌, ◌-◌, ◌<◌, ◌≤◌, ◌^◌, inl, inr, Bool, true, false, cond, not, eqb, codes, List, [], ◌∷◌, ◌++◌, length, take, drop, Option, Some, None, IfSome, Result, Ok, Err, refl, sym, ap, subst, ◌∙◌, append_assoc, arith}
 use Rattle.std.specs.List.{AllByRecursion, Contains, filter, flat_map}
-use Rattle.std.specs.Str.{bytes_eq}
+use Rattle.std.specs.Result.{IsErrAnd}
 use Rattle.std.proofs.lemmas.List.{append-nil, length-append, length-take, take-append-drop, take_at}
 use Rattle.std.proofs.lemmas.Grind.{flat_map-append}
-use Rattle.std.proofs.lemmas.Slice.Eq.{bytes_eq-Decides}
-use Rattle.model_text.proofs.Fields.{want_some, bind_some}
 use Rattle.model_event.specs.Legal.{Roll, Allowed, AllowedFrom, IsLegal, no_sessions, roll_after, roll_from, roll_of}
 use Rattle.model_event.proofs.Rolls.{roll_from-push, AllowedFrom-push}
 use Rattle.model_record.specs.Line.{line, event_text, event_line}
-use Rattle.model_record.specs.Record.{record_of, text_limit, IsRecord, IsFront, IsBadAt}
+use Rattle.model_record.specs.Record.{text_limit, IsRecord, IsFront, IsLate, IsBadAt}
 use Rattle.r9_event.specs.declared.event.Event.{Event}
 use Rattle.r9_event.specs.declared.event.Event.TheVariants.{Begin, Msg, Take, End, Stop}
-use Rattle.r9_journal.specs.Reading.{IsSmall, cut, event_of, behind_header}
-use Rattle.r9_journal.proofs.Cuts.{cut_takes, cut_again}
+use Rattle.r9_journal.specs.Header.{IsHeaded}
+use Rattle.r9_journal.specs.Reading.{IsSmall, cut, event_of}
+use Rattle.r9_journal.proofs.Cuts.{cut_takes, cut_again, pair_of}
+use Rattle.r9_journal.proofs.Headers.{one_header, some_number, headed_length, whole_headed, spelled_headed, headed_spelled, late_headed, headed_not_late, record_not_late, late_once}
 use Rattle.r9_journal.proofs.Texts.{event_text_lacks, event_again, event_takes}
 use Rattle.r9_journal.specs.declared.reading.JournalFault.{JournalFault}
-use Rattle.r9_journal.specs.declared.reading.JournalFault.TheVariants.{Bad}
+use Rattle.r9_journal.specs.declared.reading.JournalFault.TheVariants.{Bad, Late, Memory}
 
 -- ---- small numbers
 
@@ -73,9 +73,6 @@ line_then e more = append_assoc (event_text e) (10 ∷ []) more
 pub cut_line : (e : Event) (more : List ℕ) → IsSmall e → cut 10 (event_line e ++ more) ≡ Some (event_text e, more)
 cut_line e more small = ap (λ (t : List ℕ). cut 10 t) (line_then e more) ∙ cut_again 10 (event_text e) more (event_text_lacks e small)
 
-pub pair_of : (x y : List ℕ × List ℕ) → Some x ≡ Some y → (x.0 ≡ y.0) × (x.1 ≡ y.1)
-pair_of x y e = let same : x ≡ y = cc in (ap (λ (p : List ℕ × List ℕ). p.0) same, ap (λ (p : List ℕ × List ℕ). p.1) same)
-
 event_is : (x y : Event) → Some x ≡ Some y → x ≡ y
 event_is x y e = cc
 
@@ -130,70 +127,80 @@ same_events roll small (x ∷ xs) (y ∷ ys) legal others e =
     let more : xs ≡ ys = same_events (roll_after roll x) (small_after roll x small legal.0) xs ys legal.1 legal_ys same.1 in
     ap (λ (z : Event). z ∷ xs) same.0 ∙ ap (λ (zs : List Event). y ∷ zs) more
 
--- ---- the header
-
-pub header_takes : (text rest : List ℕ) → behind_header text ≡ Some rest → text ≡ line (codes "rio9 1") ++ rest
-unfolding behind_header
-header_takes text rest e =
-    let parts = bind_some (cut 10 text) (λ parts. cond (bytes_eq parts.0 (codes "rio9 1")) (Some parts.1) None) rest e in
-    let is = want_some (bytes_eq parts.0.0 (codes "rio9 1")) parts.0.1 rest parts.2 in
-    let head : parts.0.0 ≡ codes "rio9 1" = (bytes_eq-Decides parts.0.0 (codes "rio9 1")).0 is.0 in
-    cut_takes 10 text parts.0.0 parts.0.1 parts.1 ∙ ap (λ (t : List ℕ). t ++ 10 ∷ parts.0.1) head ∙ ap (λ (r : List ℕ). line (codes "rio9 1") ++ r) is.1
-
-header_again : (rest : List ℕ) → behind_header (line (codes "rio9 1") ++ rest) ≡ Some rest
-unfolding behind_header
-header_again rest = refl
-
-list_is : (x y : List ℕ) → Some x ≡ Some y → x ≡ y
-list_is x y e = cc
-
-pub same_behind : (A B : List ℕ) → line (codes "rio9 1") ++ A ≡ line (codes "rio9 1") ++ B → A ≡ B
-same_behind A B e = list_is A B (sym (header_again A) ∙ ap (λ (t : List ℕ). behind_header t) e ∙ header_again B)
-
-record_then : (events : List Event) (rest : List ℕ) → record_of events ++ rest ≡ line (codes "rio9 1") ++ (flat_map event_line events ++ rest)
-record_then events rest = append_assoc (line (codes "rio9 1")) (flat_map event_line events) rest
-
 -- ---- where a text goes wrong
 
--- a front of the text that is a record's reaches no further than the events that were read
-reaches : (entries events : List Event) (rest rest' : List ℕ) → IsLegal entries → IsLegal events → IsStuck (roll_of entries) rest
-    → record_of entries ++ rest ≡ record_of events ++ rest' → length (record_of events) ≤ length (record_of entries)
-reaches entries events rest rest' legal others stuck e =
-    let FX = flat_map event_line entries in
-    let FY = flat_map event_line events in
-    let behind : FX ++ rest ≡ FY ++ rest' = same_behind _ _ (sym (record_then entries rest) ∙ e ∙ record_then events rest') in
-    let shorter : length FY ≤ length FX = no_longer no_sessions none_small entries events rest rest' legal others behind stuck in
-    omega (arith, length-append (line (codes "rio9 1")) FX, length-append (line (codes "rio9 1")) FY)
+-- a front of the text that is spelled as events are reaches no further than the events that were read
+reaches : (text : List ℕ) (entries events : List Event) (rest rest' : List ℕ) → IsHeaded text 1 (flat_map event_line entries ++ rest) → IsHeaded text 1 (flat_map event_line events ++ rest')
+    → IsLegal entries → IsLegal events → IsStuck (roll_of entries) rest → length (flat_map event_line events) ≤ length (flat_map event_line entries)
+reaches text entries events rest rest' h k legal others stuck =
+    no_longer no_sessions none_small entries events rest rest' legal others (one_header text 1 1 _ _ h k).2 stuck
 
-pub stuck_bad : (text : List ℕ) (entries : List Event) (rest : List ℕ) → length text < text_limit → text ≡ record_of entries ++ rest → IsLegal entries → 0 < length rest
+pub stuck_bad : (text : List ℕ) (entries : List Event) (rest : List ℕ) → length text < text_limit → IsHeaded text 1 (flat_map event_line entries ++ rest) → IsLegal entries → 0 < length rest
     → IsStuck (roll_of entries) rest → IsBadAt text (length text - length rest)
-stuck_bad text entries rest short is legal some stuck =
-    let len : length text ≡ length (record_of entries) + length rest = omega (arith, ap length is, length-append (record_of entries) rest) in
-    let place : length text - length rest ≡ length (record_of entries) = omega (arith, len) in
-    let front : take (length text - length rest) text ≡ record_of entries =
-    ap (λ (n : ℕ). take n text) place ∙ ap (λ (t : List ℕ). take (length (record_of entries)) t) is ∙ take_at (record_of entries) rest (length (record_of entries)) refl in
+stuck_bad text entries rest short h legal some stuck =
     inr (
       short,
       record {
-        within = omega (arith, len);
-        front = inr (entries, front, legal);
-        longest = longest len;
+        within = omega arith;
+        front = inr (entries, headed_spelled (take (length text - length rest) text) entries (h.0, h.1, front), legal);
+        longest = longest;
       },
-      whole len,
+      record {
+        no_record = whole;
+        not_late = λ n late. headed_not_late text (flat_map event_line entries ++ rest) n h late;
+      },
     )
   where
-    longest : length text ≡ length (record_of entries) + length rest → (n : ℕ) → length text - length rest < n → n ≤ length text → IsFront (take n text) → ⊥
-    longest len n more within (inl none) = omega (arith, ap length none, length-take n text, len)
-    longest len n more within (inr (events, front, others)) =
-        let shorter = reaches entries events rest (drop n text) legal others stuck (sym is ∙ sym (take-append-drop n text) ∙ ap (λ (t : List ℕ). t ++ drop n text) front) in
-        omega (arith, ap length front, length-take n text, len, shorter)
+    read : List ℕ
+    read = line h.0 ++ flat_map event_line entries
 
-    whole : length text ≡ length (record_of entries) + length rest → (events : List Event) → IsRecord text events → ⊥
-    whole len events other =
-        let shorter = reaches entries events rest [] legal other.legal stuck (sym is ∙ other.spelled ∙ sym (append-nil (record_of events))) in
-        omega (arith, ap length other.spelled, len, shorter)
+    text_is : text ≡ read ++ rest
+    text_is = h.2 ∙ sym (append_assoc (line h.0) (flat_map event_line entries) rest)
 
-pub headless_bad : (text : List ℕ) → length text < text_limit → behind_header text ≡ None → IsBadAt text 0
+    len : length text ≡ length read + length rest
+    len = omega (arith, ap length text_is, length-append read rest)
+
+    front : take (length text - length rest) text ≡ read
+    front =
+        let place : length text - length rest ≡ length read = omega (arith, len) in
+        ap (λ (n : ℕ). take n text) place ∙ ap (λ (t : List ℕ). take (length read) t) text_is ∙ take_at read rest (length read) refl
+
+    longest : (n : ℕ) → length text - length rest < n → n ≤ length text → IsFront (take n text) → ⊥
+    longest n more within (inl none) = omega (arith, ap length none, length-take n text, len)
+    longest n more within (inr (events, spelled, others)) =
+        let k = spelled_headed (take n text) events spelled in
+        let whole = whole_headed text n 1 (flat_map event_line events) k in
+        let shorter = reaches text entries events rest (drop n text) h (k.0, k.1, whole) legal others stuck in
+        let same : h.0 ≡ k.0 = (one_header text 1 1 _ _ h (k.0, k.1, whole)).0 in
+        omega (
+          arith,
+          headed_length (take n text) 1 (flat_map event_line events) k,
+          length-take n text,
+          len,
+          length-append (line h.0) (flat_map event_line entries),
+          ap (λ (t : List ℕ). length (line t)) same,
+          shorter,
+          more,
+          within,
+        )
+
+    whole : (events : List Event) → IsRecord text events → ⊥
+    whole events other =
+        let k = spelled_headed text events other.spelled in
+        let to_end : text ≡ line k.0 ++ (flat_map event_line events ++ []) = k.2 ∙ ap (λ (l : List ℕ). line k.0 ++ l) (sym (append-nil (flat_map event_line events))) in
+        let shorter = reaches text entries events rest [] h (k.0, k.1, to_end) legal other.legal stuck in
+        let same : h.0 ≡ k.0 = (one_header text 1 1 _ _ h k).0 in
+        omega (
+          arith,
+          headed_length text 1 (flat_map event_line events) k,
+          len,
+          length-append (line h.0) (flat_map event_line entries),
+          ap (λ (t : List ℕ). length (line t)) same,
+          shorter,
+          some,
+        )
+
+pub headless_bad : (text : List ℕ) → length text < text_limit → ((n : ℕ) (rest : List ℕ) → IsHeaded text n rest → ⊥) → IsBadAt text 0
 headless_bad text short none = inr (
   short,
   record {
@@ -201,24 +208,30 @@ headless_bad text short none = inr (
     front = inl refl;
     longest = longest;
   },
-  λ events other. headless (flat_map event_line events) other.spelled,
+  record {
+    no_record = λ events is. none 1 (flat_map event_line events) (spelled_headed text events is.spelled);
+    not_late = λ n late. none n late.rest (late_headed text n late);
+  },
 )
   where
-    headless : (rest : List ℕ) → text ≡ line (codes "rio9 1") ++ rest → ⊥
-    headless rest is = let found : None ≡ Some rest = sym none ∙ ap (λ (t : List ℕ). behind_header t) is ∙ header_again rest in absurd (cc found)
-
     longest : (n : ℕ) → 0 < n → n ≤ length text → IsFront (take n text) → ⊥
     longest n some within (inl nothing) = omega (arith, ap length nothing, length-take n text)
-    longest n some within (inr (events, front, legal)) =
-        headless (flat_map event_line events ++ drop n text)
-        (sym (take-append-drop n text) ∙ ap (λ (t : List ℕ). t ++ drop n text) front ∙ record_then events (drop n text))
+    longest n some within (inr (events, spelled, legal)) =
+        let k = spelled_headed (take n text) events spelled in
+        none 1 (flat_map event_line events ++ drop n text) (k.0, k.1, whole_headed text n 1 (flat_map event_line events) k)
 
 pub one_history : (text : List ℕ) (xs ys : List Event) → IsRecord text xs → IsRecord text ys → xs ≡ ys
-one_history text xs ys a b = same_events no_sessions none_small xs ys a.legal b.legal (same_behind _ _ (sym a.spelled ∙ b.spelled))
+one_history text xs ys a b =
+    same_events no_sessions none_small xs ys a.legal b.legal
+    (one_header text 1 1 _ _ (spelled_headed text xs a.spelled) (spelled_headed text ys b.spelled)).2
 
 pub not_both : (text : List ℕ) (place : ℕ) (events : List Event) → IsBadAt text place → IsRecord text events → ⊥
 not_both text place events (inl long) is = omega (arith, long.0, is.short)
-not_both text place events (inr bad) is = bad.2 events is
+not_both text place events (inr bad) is = bad.2.no_record events is
+
+pub bad_not_late : (text : List ℕ) (place n : ℕ) → IsBadAt text place → IsLate text n → ⊥
+bad_not_late text place n (inl long) late = omega (arith, long.0, late.short)
+bad_not_late text place n (inr bad) late = bad.2.not_late n late
 
 pub small_roll : (entries : List Event) → IsLegal entries → IsSmallRoll (roll_of entries)
 small_roll entries legal = small_from no_sessions entries none_small legal
@@ -228,24 +241,22 @@ small_roll entries legal = small_from no_sessions entries none_small legal
 -- So much of the text was read: these events, which may follow one another, and then the rest.
 pub record IsRead (text : List ℕ) (entries : List Event) (rest : List ℕ) (roll : Roll) : Type 0 where
   pub short : length text < text_limit
-  pub parts : text ≡ record_of entries ++ rest
+  pub headed : IsHeaded text 1 (flat_map event_line entries ++ rest)
   pub legal : IsLegal entries
   pub at : roll ≡ roll_of entries
 
-pub begins : (text rest : List ℕ) (entries : List Event) (roll : Roll) → length text < text_limit → entries ≡ [] → roll ≡ no_sessions → behind_header text ≡ Some rest → IsRead text entries rest roll
-begins text rest entries roll short none at header =
+pub begins : (text rest : List ℕ) (n : ℕ) (entries : List Event) (roll : Roll) → length text < text_limit → entries ≡ [] → roll ≡ no_sessions → IsHeaded text n rest → n ≤ 1 → IsRead text entries rest roll
+begins text rest n entries roll short none at h low =
+    let first : n ≡ 1 = omega (arith, low, some_number text n rest h) in
     subst (λ (es : List Event). IsRead text es rest roll) (sym none)
-    (record { short = short; parts = header_takes text rest header; legal = tt; at = at })
+    (record { short = short; headed = subst (λ (m : ℕ). IsHeaded text m rest) first h; legal = tt; at = at })
 
-record_push : (entries : List Event) (event : Event) (behind : List ℕ) → record_of (entries ++ event ∷ []) ++ behind ≡ record_of entries ++ (event_text event ++ 10 ∷ behind)
-record_push entries event behind =
+lines_push : (entries : List Event) (event : Event) (behind : List ℕ) → flat_map event_line (entries ++ event ∷ []) ++ behind ≡ flat_map event_line entries ++ (event_text event ++ 10 ∷ behind)
+lines_push entries event behind =
     let F = flat_map event_line entries in
     let lines : flat_map event_line (entries ++ event ∷ []) ≡ F ++ event_line event =
     flat_map-append event_line entries (event ∷ []) ∙ ap (λ (l : List ℕ). F ++ l) (append-nil (event_line event)) in
-    record_then (entries ++ event ∷ []) behind
-    ∙ ap (λ (l : List ℕ). line (codes "rio9 1") ++ (l ++ behind)) lines
-    ∙ ap (λ (l : List ℕ). line (codes "rio9 1") ++ l) (append_assoc F (event_line event) behind ∙ ap (λ (l : List ℕ). F ++ l) (line_then event behind))
-    ∙ sym (record_then entries (event_text event ++ 10 ∷ behind))
+    ap (λ (l : List ℕ). l ++ behind) lines ∙ append_assoc F (event_line event) behind ∙ ap (λ (l : List ℕ). F ++ l) (line_then event behind)
 
 pub reads_on : (text : List ℕ) (entries more : List Event) (rest line behind : List ℕ) (roll next : Roll) (event : Event) → IsRead text entries rest roll
     → cut 10 rest ≡ Some (line, behind) → (event_of line ≡ Some event) × Allowed roll event → more ≡ entries ++ event ∷ [] → next ≡ roll_after roll event → IsRead text more behind next
@@ -253,30 +264,97 @@ reads_on text entries more rest line behind roll next event before at fits pushe
     let text_is : line ≡ event_text event = (event_takes line event fits.0).0 in
     let rest_is : rest ≡ event_text event ++ 10 ∷ behind = cut_takes 10 rest line behind at ∙ ap (λ (t : List ℕ). t ++ 10 ∷ behind) text_is in
     let allowed : Allowed (roll_of entries) event = subst (λ (r : Roll). Allowed r event) before.at fits.1 in
+    let lines : flat_map event_line entries ++ rest ≡ flat_map event_line (entries ++ event ∷ []) ++ behind =
+    ap (λ (r : List ℕ). flat_map event_line entries ++ r) rest_is ∙ sym (lines_push entries event behind) in
     subst (λ (es : List Event). IsRead text es behind next) (sym pushed) (record {
       short = before.short;
-      parts = before.parts ∙ ap (λ (r : List ℕ). record_of entries ++ r) rest_is ∙ sym (record_push entries event behind);
+      headed = subst (λ (l : List ℕ). IsHeaded text 1 l) lines before.headed;
       legal = AllowedFrom-push no_sessions entries event before.legal allowed;
       at = entered ∙ ap (λ (r : Roll). roll_after r event) before.at ∙ sym (roll_from-push no_sessions entries event);
     })
 
 pub read_all : (text : List ℕ) (entries : List Event) (rest : List ℕ) (roll : Roll) → IsRead text entries rest roll → length rest ≡ 0 → IsRecord text entries
-read_all text entries [] roll before none = record { spelled = before.parts ∙ append-nil (record_of entries); legal = before.legal; short = before.short }
+read_all text entries [] roll before none = record {
+  spelled = headed_spelled text entries (subst (λ (l : List ℕ). IsHeaded text 1 l) (append-nil (flat_map event_line entries)) before.headed);
+  legal = before.legal;
+  short = before.short;
+}
 read_all text entries (b ∷ rest) roll before none = absurd (omega (arith, none))
+
+pub rest_within : (text : List ℕ) (entries : List Event) (rest : List ℕ) (roll : Roll) → IsRead text entries rest roll → length rest ≤ length text
+rest_within text entries rest roll read =
+    omega (arith, headed_length text 1 (flat_map event_line entries ++ rest) read.headed, length-append (flat_map event_line entries) rest)
 
 pub open_bad : (text : List ℕ) (entries : List Event) (rest : List ℕ) (roll : Roll) → IsRead text entries rest roll → 0 < length rest → cut 10 rest ≡ None → IsBadAt text (length text - length rest)
 open_bad text entries rest roll before some at =
-    stuck_bad text entries rest before.short before.parts before.legal some (stuck_open (roll_of entries) rest (small_roll entries before.legal) at)
+    stuck_bad text entries rest before.short before.headed before.legal some (stuck_open (roll_of entries) rest (small_roll entries before.legal) at)
 
 pub line_bad : (text : List ℕ) (entries : List Event) (rest line behind : List ℕ) (roll : Roll) → IsRead text entries rest roll → 0 < length rest → cut 10 rest ≡ Some (line, behind)
     → ((event : Event) → event_of line ≡ Some event → Allowed roll event → ⊥) → IsBadAt text (length text - length rest)
 line_bad text entries rest line behind roll before some at none =
     let none_of : (event : Event) → event_of line ≡ Some event → Allowed (roll_of entries) event → ⊥ =
     subst (λ (r : Roll). (event : Event) → event_of line ≡ Some event → Allowed r event → ⊥) before.at none in
-    stuck_bad text entries rest before.short before.parts before.legal some (stuck_line (roll_of entries) rest line behind (small_roll entries before.legal) at none_of)
+    stuck_bad text entries rest before.short before.headed before.legal some (stuck_line (roll_of entries) rest line behind (small_roll entries before.legal) at none_of)
 
 pub shorter : (rest line behind : List ℕ) → cut 10 rest ≡ Some (line, behind) → length behind < length rest
 shorter rest line behind at = omega (arith, ap length (cut_takes 10 rest line behind at), length-append line (10 ∷ behind))
+
+-- ---- what is told of a late text
+
+abbrev pub faulty : (E : Type 0) → JournalFault → Result E JournalFault
+faulty E fault = Err fault
+
+-- the text is late exactly where that is told
+abbrev pub TellsLate : (E : Type 0) → List ℕ → Result E JournalFault → Type 0
+TellsLate E text result = (n : ℕ) → (result ≡ faulty E (Late n) → IsLate text n) × (IsLate text n → result ≡ faulty E (Late n))
+
+fault_is : (E : Type 0) (x y : JournalFault) → faulty E x ≡ faulty E y → x ≡ y
+fault_is E x y e = cc
+
+number_is : (m n : ℕ) → Late m ≡ Late n → m ≡ n
+number_is m n e = cc
+
+bad_not_late_fault : (place n : ℕ) → Bad place ≡ Late n → ⊥
+bad_not_late_fault place n e = absurd (cc e)
+
+memory_not_late_fault : (n : ℕ) → Memory ≡ Late n → ⊥
+memory_not_late_fault n e = absurd (cc e)
+
+found_no_fault : (E : Type 0) (found : E) (fault : JournalFault) → Ok found ≡ faulty E fault → ⊥
+found_no_fault E found fault e = absurd (cc e)
+
+pub bad_late : (E : Type 0) (text : List ℕ) (place : ℕ) → IsBadAt text place → TellsLate E text (faulty E (Bad place))
+bad_late E text place bad = λ n. (
+  λ e. absurd (bad_not_late_fault place n (fault_is E (Bad place) (Late n) e)),
+  λ late. absurd (bad_not_late text place n bad late),
+)
+
+pub found_late : (E : Type 0) (text : List ℕ) (events : List Event) (found : E) → IsRecord text events → TellsLate E text (Ok found)
+found_late E text events found is = λ n. (
+  λ e. absurd (found_no_fault E found (Late n) e),
+  λ late. absurd (record_not_late text events n is late),
+)
+
+pub memory_late : (E : Type 0) (text rest : List ℕ) (result : Result E JournalFault) → IsErrAnd result (λ fault. fault ≡ Memory) → IsHeaded text 1 rest → TellsLate E text result
+memory_late E text rest (Ok found) told h = absurd told
+memory_late E text rest (Err fault) told h = λ n. (
+  λ e. absurd (memory_not_late_fault n (sym told ∙ fault_is E fault (Late n) e)),
+  λ late. absurd (headed_not_late text rest n h late),
+)
+
+pub is_late : (E : Type 0) (text : List ℕ) (m : ℕ) → IsLate text m → TellsLate E text (faulty E (Late m))
+is_late E text m late = λ n. (
+  λ e. subst (λ (k : ℕ). IsLate text k) (number_is m n (fault_is E (Late m) (Late n) e)) late,
+  λ other. ap (λ (k : ℕ). faulty E (Late k)) (late_once text m n late other),
+)
+
+pub handed_late : (E F : Type 0) (text : List ℕ) (first : Result E JournalFault) (last : Result F JournalFault) (fault : JournalFault) → first ≡ faulty E fault → IsErrAnd last (λ f. f ≡ fault) → TellsLate E text first
+    → TellsLate F text last
+handed_late E F text first (Ok found) fault was told tells = absurd told
+handed_late E F text first (Err last) fault was told tells = λ n. (
+  λ e. (tells n).0 (was ∙ ap (λ (f : JournalFault). faulty E f) (sym told ∙ fault_is F last (Late n) e)),
+  λ late. ap (λ (f : JournalFault). faulty F f) (told ∙ fault_is E fault (Late n) (sym was ∙ (tells n).1 late)),
+)
 
 pub place_is : (E : Type 0) (a b : ℕ) → (let bad : ℕ → Result E JournalFault = λ n. Err (Bad n) in bad a ≡ bad b) → a ≡ b
 place_is E a b e = cc

@@ -6,10 +6,13 @@ use Rattle.model_event.specs.Legal.{Roll, AllowedFrom, no_sessions, roll_after}
 use Rattle.model_record.specs.Line.{event_line}
 use Rattle.model_record.specs.Record.{IsRecord}
 use Rattle.r9_event.specs.declared.event.Event.{Event}
-use Rattle.r9_journal.specs.Reading.{IsSmall, cut, event_of, behind_header}
+use Rattle.r9_journal.specs.Header.{IsHeaded}
+use Rattle.r9_journal.specs.Reading.{IsSmall, cut, event_of}
 use Rattle.r9_journal.specs.Rest.{events_by, events_in, AreLinesOf}
+use Rattle.r9_journal.proofs.Cuts.{pair_of}
+use Rattle.r9_journal.proofs.Headers.{one_header, spelled_headed}
 use Rattle.r9_journal.proofs.Texts.{event_again}
-use Rattle.r9_journal.proofs.Records.{IsSmallRoll, small_event, small_after, none_small, cut_line, some_line, same_behind, header_takes, pair_of}
+use Rattle.r9_journal.proofs.Records.{IsSmallRoll, small_event, small_after, none_small, cut_line, some_line}
 
 events_again : (most : ℕ) (events : List Event) → AllByRecursion IsSmall events → length events ≤ most → events_by most (flat_map event_line events) ≡ events
 unfolding events_by
@@ -36,9 +39,9 @@ small_events roll (e ∷ events) small legal =
     (small_event roll e small legal.0, small_events (roll_after roll e) events (small_after roll e small legal.0) legal.1)
 
 -- a record is its header and the lines of its events
-pub are_lines : (text lines : List ℕ) (events : List Event) → IsRecord text events → behind_header text ≡ Some lines → AreLinesOf events lines
-are_lines text lines events is header = (
-  same_behind lines (flat_map event_line events) (sym (header_takes text lines header) ∙ is.spelled),
+pub are_lines : (text lines : List ℕ) (n : ℕ) (events : List Event) → IsRecord text events → IsHeaded text n lines → AreLinesOf events lines
+are_lines text lines n events is h = (
+  (one_header text n 1 _ _ h (spelled_headed text events is.spelled)).2,
   small_events no_sessions events none_small is.legal,
 )
 

@@ -53,8 +53,11 @@ digits_lack : (mark : ℕ) → mark < 48 → (ds : List ℕ) → AllDigits 10 ds
 digits_lack mark low [] d = tt
 digits_lack mark low (c ∷ cs) d = (λ e. omega (arith, digit_from_value c d.0, e), digits_lack mark low cs d.1)
 
+pub number_lacks : (mark n : ℕ) → mark < 48 → n < 2 ^ 64 → Lacks mark (decimal n)
+number_lacks mark n low fits = digits_lack mark low (decimal n) (decimal_is_IsNumeral n fits).0.1
+
 decimal_lacks : (mark n : ℕ) → mark < 48 → n < 2 ^ 32 → Lacks mark (decimal n)
-decimal_lacks mark n low small = digits_lack mark low (decimal n) (decimal_is_IsNumeral n (omega arith)).0.1
+decimal_lacks mark n low small = number_lacks mark n low (omega (arith, small))
 
 high_digit : (d : ℕ) → 48 ≤ hex_digit d
 high_digit d = by (ltb d 10) refl

@@ -1,2 +1,3 @@
+pub mod Header
 pub mod Reading
 pub mod Rest

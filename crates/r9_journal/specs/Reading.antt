@@ -64,7 +64,3 @@ event_by_parts line (Some parts) = event_by parts.0 parts.1
 
 abbrev pub event_of : List ℕ → Option Event
 event_of line = event_by_parts line (cut 32 line)
-
--- what stands behind the header of a record
-unfoldable pub behind_header : List ℕ → Option (List ℕ)
-behind_header text = cut 10 text >>= λ parts. if bytes_eq parts.0 (codes "rio9 1") then Some parts.1 else None

@@ -1,12 +1,13 @@
 //! Reading a session record.
 
-ghost use Rattle.std.specs.Prelude.{◌≡◌, ◌≤◌, ◌<◌, ◌-◌, ◌++◌, ◌∷◌, [], ℕ, List, IfOk, OnErr, IfSome, IfNone, MatchResult, Some, length};
-ghost use Rattle.std.specs.Option.{option_copied};
+ghost use Rattle.std.specs.Prelude.{◌≡◌, ◌↔◌, ◌≤◌, ◌<◌, ◌-◌, ◌++◌, ◌∷◌, [], ℕ, List, IfOk, OnErr, IfSome, IfNone, MatchResult, Some, length};
 ghost use Rattle.model_event.specs.Legal.{Allowed, IsLegal, roll_of};
-ghost use Rattle.model_record.specs.Record.{IsRecord, IsBadAt, record_of};
+ghost use Rattle.model_record.specs.Record.{IsRecord, IsBadAt, IsLate};
 ghost use Rattle.r9_event.specs.declared.event.Event.{Event};
-ghost use Rattle.r9_journal.specs.Reading.{event_of, behind_header};
+ghost use Rattle.r9_journal.specs.Header.{IsHeaded};
+ghost use Rattle.r9_journal.specs.Reading.{event_of};
 
+use crate::header::first_number;
 use crate::line::{cut, event_of};
 use crate::roll::Roll;
 use r9_event::{Entries, Event};
@@ -18,14 +19,16 @@ use thiserror::Error;
 /// A text of so many bytes is no record.
 const TEXT_LIMIT: usize = 1 << 30;
 
-const HEADER: &[u8] = b"rio9 1";
-
 /// Why no record was read.
 #[derive(Clone, Copy, Debug, PartialEq, Eq, Error)]
 pub enum JournalFault {
     /// The text is no record, and goes wrong at this place: the offset in bytes of the first line that does not fit.
     #[error("bad record at byte {0}")]
     Bad(u64),
+    /// The header tells that the first entry has this number, which is above 1: what came before it stands elsewhere. What
+    /// follows the header was not looked at.
+    #[error("late record: first entry {0}")]
+    Late(u64),
     /// There was no memory.
     #[error("out of memory")]
     Memory,
@@ -42,13 +45,14 @@ impl From<Memory> for JournalFault {
     }
 }
 
-/// What stands behind the header, where a text begins with it.
-#[tactic(auto, unfolding(crate::specs::Reading::behind_header))]
-fn behind_header(text: &[u8]) -> Option<&[u8]>
-    ensures { option_copied result ≡ behind_header text.now }
+/// The number of the first entry behind the header that a text begins with, and what stands behind the header.
+fn behind_header(text: &[u8]) -> Option<(u64, &[u8])>
+    ensures found { IfSome result (λ parts. IsHeaded text.now parts.0 parts.1.now) }
+    ensures none { IfNone result ((n : ℕ) (rest : List ℕ) → IsHeaded text.now n rest → ⊥) }
 {
     let (header, rest) = cut(b'\n', text)?;
-    if header == HEADER { Some(rest) } else { None }
+    let first = first_number(header)?;
+    Some((first, rest))
 }
 
 /// The event that a line tells, where it may come next.
@@ -62,7 +66,7 @@ fn fitting_event(alloc: Global, roll: &Roll, line: &[u8]) -> Result<Option<Event
     }
 }
 
-/// A text that is the record of a history, from which the events are taken one after the other. Contracts see it as those
+/// A text that is a record of a history, from which the events are taken one after the other. Contracts see it as those
 /// that were not taken. It holds the text and nothing beside.
 #[derive(Debug, Drop)]
 pub struct Record<'a> {
@@ -82,22 +86,28 @@ impl<'a> Model for Record<'a> {
 }
 
 impl<'a> Record<'a> {
-    /// The record that a text is (a header line, and a line for each event). The whole text is checked.
+    /// The record that a text is (a header line, and a line for each event). The whole text is checked, unless the header tells
+    /// a number above 1.
     pub fn check(alloc: Global, text: &'a [u8]) -> Result<Record<'a>, JournalFault>
-        // What is found has this text as its record.
+        // What is found has this text as a record.
         ensures found { IfOk result (IsRecord text.now) }
-        // A record is found, unless memory runs out, and it is the record of no other history.
+        // A record is found, unless memory runs out, and it is a record of no other history.
         ensures only { (events : List Event) → IsRecord text.now events →
             MatchResult result (λ found. found ≡ events) (λ fault. fault ≡ JournalFault.Memory) }
-        // What is no record goes wrong at the place that is told.
+        // What is no record, and not late, goes wrong at the place that is told.
         ensures bad { (place : ℕ) → result ≡ Err (JournalFault.Bad place) → IsBadAt text.now place }
+        // A text is late exactly where that is told.
+        ensures late { (n : ℕ) → (result ≡ Err (JournalFault.Late n)) ↔ IsLate text.now n }
     {
         if text.len() >= TEXT_LIMIT {
             return Err(JournalFault::Bad(TEXT_LIMIT as u64));
         }
-        let Some(lines) = behind_header(text) else {
+        let Some((first, lines)) = behind_header(text) else {
             return Err(JournalFault::Bad(0));
         };
+        if first > 1 {
+            return Err(JournalFault::Late(first));
+        }
         let mut roll = Roll::new(alloc);
         let mut rest = lines;
         'lines: while !rest.is_empty() {
@@ -131,13 +141,15 @@ impl<'a> Record<'a> {
 
 /// The history whose record a text is (a header line, and a line for each event).
 pub fn read_record(alloc: Global, text: &[u8]) -> Result<Entries, JournalFault>
-    // What is read has this text as its record.
+    // What is read has this text as a record.
     ensures found { IfOk result (IsRecord text.now) }
-    // A record is read, unless memory runs out, and it is the record of no other history.
+    // A record is read, unless memory runs out, and it is a record of no other history.
     ensures only { (events : List Event) → IsRecord text.now events →
         MatchResult result (λ read. read ≡ events) (λ fault. fault ≡ JournalFault.Memory) }
-    // What is no record goes wrong at the place that is told.
+    // What is no record, and not late, goes wrong at the place that is told.
     ensures bad { (place : ℕ) → result ≡ Err (JournalFault.Bad place) → IsBadAt text.now place }
+    // A text is late exactly where that is told.
+    ensures late { (n : ℕ) → (result ≡ Err (JournalFault.Late n)) ↔ IsLate text.now n }
 {
     let mut left = Record::check(alloc, text)?;
     let mut entries = Entries::new(alloc);

@@ -1,5 +1,5 @@
 -- Words ask for one command.
-use Rattle.std.proofs.Common.{◌≡◌, ◌∙◌, ℕ, Bool, true, false, true≢false, refl, sym, ap, List, [], ◌∷◌, codes, Bor}
+use Rattle.std.proofs.Common.{◌≡◌, ◌∙◌, ℕ, Bool, true, false, true≢false, refl, sym, ap, List, [], ◌∷◌, codes, Bor, String, Global}
 use Rattle.std.specs.Str.{bytes_eq}
 use Rattle.r9_event.specs.declared.event.Opening.{Opening}
 use Rattle.r9_opts.specs.declared.job.Job.{Job}
@@ -24,7 +24,7 @@ not_both words number (Alone opening session, ask, is) made = absurd is
 not_both words number (Gen other, ask, is) made = absurd is
 
 -- a command that is not served is no job that is done
-pub serve_alone : (words : List (Bor (List ℕ))) (opening : Opening) (listen : List ℕ) (workers conns : ℕ) → AskFor (texts_of words) (Serve opening listen workers conns) → (job : Job) → Ask words job → ⊥
+pub serve_alone : (words : List (Bor (List ℕ))) (opening : Opening) (listen : String Global) (workers conns : ℕ) → AskFor (texts_of words) (Serve opening listen workers conns) → (job : Job) → Ask words job → ⊥
 serve_alone words opening listen workers conns serves (Replay shown screen) ask = apart (codes "serve") (codes "replay") (texts_of words) _ _ refl refl serves.begins ask.0.begins
 serve_alone words opening listen workers conns serves (Gen number) ask = apart (codes "serve") (codes "gen") (texts_of words) _ _ refl refl serves.begins ask.0.begins
 serve_alone words opening listen workers conns serves (Serve o l w c) ask = ask.1

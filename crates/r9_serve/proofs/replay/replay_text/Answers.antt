@@ -18,3 +18,6 @@ returns-clause-replies c = record { events = _; is_record = c.in_ok-left.ensures
 
 pub returns-in_err-left-clause-bad : goal.returns-in_err-left-clause-bad
 returns-in_err-left-clause-bad c = λ place e. c.check.ensures.bad place (same_fault _ _ _ _ c.in_err-left.was c.from_residual.ensures.1 e)
+
+pub returns-in_err-left-clause-late : goal.returns-in_err-left-clause-late
+returns-in_err-left-clause-late c = λ first e. (c.check.ensures.late first).0 (same_fault _ _ _ _ c.in_err-left.was c.from_residual.ensures.1 e)
