@@ -1,5 +1,5 @@
 -- What contracts see of a lock and of a pass.
-use Rattle.std.specs.Prelude.{◌≡◌, ◌≢◌, ℕ, ◌+◌, ◌≤◌, ◌-◌, max, List, [], ◌++◌, length, All, AllPairs, Contains}
+use Rattle.std.specs.Prelude.{◌≡◌, ◌≢◌, ℕ, ◌+◌, ◌≤◌, ◌-◌, max, List, [], ◌++◌, length, sum_by, All, AllPairs, Contains}
 use Rattle.atomic_table.specs.Seated.{TableId}
 use Rattle.r9_lock.specs.Histories.{IsPrefix, numbered, longer}
 
@@ -54,7 +54,8 @@ pub record IsTurn {T K A E : Type 0} (stands : T → List E → Type 0) (first :
   pub made : new.made ≡ old.made ++ numbered (length before + 1) entry
   pub later : All (λ m. m.0 ≤ length before) old.made
 
--- the end of a lock: the history that the value stands for, and a pass that has all shares. It made each entry, with its number, once
+-- the end of a lock: the history that the value stands for, and a pass that has all shares. It made each entry, with its
+-- number, once: so says every way to weigh entries too
 pub record IsWhole {T E : Type 0} (stands : T → List E → Type 0) (value : T) (history : List E) (pass : Known E) : Type 0 where
   pub fits : stands value history
   pub seen : IsPrefix pass.seen history
@@ -62,3 +63,4 @@ pub record IsWhole {T E : Type 0} (stands : T → List E → Type 0) (value : T)
   pub made : All (Contains (numbered 1 history)) pass.made
   pub apart : AllPairs (λ x y. x.0 ≢ y.0) pass.made
   pub all_made : length pass.made ≡ length history
+  pub weighed : (weight : ℕ × E → ℕ) → sum_by weight pass.made ≡ sum_by weight (numbered 1 history)

@@ -10,4 +10,4 @@ mod view;
 
 pub use chronicle::{Acted, Chronicle};
 pub use pass::Pass;
-pub use shared::{Shared, Spent};
+pub use shared::{Refused, Shared, Spent};

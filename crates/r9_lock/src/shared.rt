@@ -4,12 +4,17 @@ use crate::chronicle::{Acted, Chronicle};
 use crate::pass::Pass;
 use crate::rule::{Compare, Cut, End, Glue, Look, Portion, Take, Told, Turns};
 use crate::view::{Place, View};
-use atomic_table::{Refused, Table};
-use r9_memory::Memory;
+use atomic_table::Table;
 use std::alloc::Global;
 use std::marker::{Brand, Model};
 use std::snapshot::Snapshot;
 use std::sync::Wait;
+
+/// There was no memory. The value comes back.
+#[derive(Drop)]
+pub struct Refused<T> {
+    pub value: T,
+}
 
 /// The lock's word was `count`, 2^62 or more, which is too large for another turn. What was asked comes back.
 #[derive(Drop)]
@@ -55,22 +60,30 @@ impl<T: Chronicle> Model for Shared<T> {
 }
 
 impl<T: Chronicle + Drop> Shared<T> {
-    ghost use Rattle.std.specs.Prelude.{◌≡◌, ◌<◌, [], IfOk};
+    ghost use Rattle.std.specs.Prelude.{◌≡◌, ◌<◌, [], IfOk, IfErr};
     ghost use Rattle.r9_lock.specs.Passes.{opening};
 
-    /// A lock over a value that stands for the empty history, and a pass with all shares, which has seen and made nothing. On
-    /// `Memory` the value is dropped.
-    pub fn start(alloc: Global, value: T, shares: u32) -> Result<(Shared<T>, Pass<T>), Memory>
+    /// A lock over a value that stands for the empty history, and a pass with all shares, which has seen and made nothing.
+    pub fn start(alloc: Global, value: T, shares: u32) -> Result<(Shared<T>, Pass<T>), Refused<T>>
         requires history { T.stands value [] }
         requires first { T.first value ≡ 1 }
         requires shares { 0 < shares }
         ensures lock { IfOk result (λ r. r.0.shares ≡ shares) }
         ensures pass { IfOk result (λ r. r.1 ≡ opening r.0.id shares) }
+        ensures refused { IfErr result (λ refused. refused.value ≡ value) }
     {
-        let mut slots = Vec::with_capacity(alloc, 1)?;
+        let Ok(mut slots) = Vec::with_capacity(alloc, 1) else {
+            return Err(Refused { value });
+        };
         slots.push_reserved(value);
-        let Ok((table, seat)) = Table::new(alloc, &[0], slots, &u64::from(shares)) else {
-            return Err(Memory);
+        let (table, seat) = match Table::new(alloc, &[0], slots, &u64::from(shares)) {
+            Ok(made) => made,
+            Err(mut refused) => {
+                let Some(value) = refused.slots.pop() else {
+                    unreachable!()
+                };
+                return Err(Refused { value });
+            }
         };
         let shared = Shared {
             table,
