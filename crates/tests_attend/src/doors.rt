@@ -69,7 +69,9 @@ fn a_door_fails_by_a_list(rt: HostRuntime) -> Result<(), Fail> {
 #[test]
 fn no_session_begins(rt: HostRuntime) -> Result<(), Fail> {
     let alloc = rt.alloc();
-    let (lock, mut one) = Shared::start(alloc, Echo::new(alloc), 2)?;
+    let Ok((lock, mut one)) = Shared::start(alloc, Echo::new(alloc), 2) else {
+        return Err(Memory.into());
+    };
     let mut two = lock.split(&mut one, 1);
     let mut output = MemSink::new(alloc, Vec::new(alloc));
     let mut input = MemSource::new(STREAM.to_vec(alloc)?, Vec::new(alloc));

@@ -1,4 +1,4 @@
-//! Tests of sessions and of doors, with a server that replies to each message with its bytes.
+//! Tests of sessions, of doors and of workers, with a server that replies to each message with its bytes.
 #![tactic(auto)]
 
 #[cfg(test)]
@@ -9,3 +9,5 @@ mod echo;
 mod ends;
 #[cfg(test)]
 mod sessions;
+#[cfg(test)]
+mod workers;

@@ -21,7 +21,9 @@ pub fn attended<R: Threads + Wait + Sync, S: Source + Send, O: Sink + Send>(
     input: &mut S,
     output: &mut O,
 ) -> Result<Attended, Memory> {
-    let (lock, mut reader) = Shared::start(alloc, Echo::new(alloc), 2)?;
+    let Ok((lock, mut reader)) = Shared::start(alloc, Echo::new(alloc), 2) else {
+        return Err(Memory);
+    };
     let mut writer = lock.split(&mut reader, 1);
     Ok(attend(rt, alloc, &lock, &mut reader, &mut writer, input, output))
 }

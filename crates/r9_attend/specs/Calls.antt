@@ -1,0 +1,90 @@
+-- What a call of `attend` is, and what it says.
+use Rattle.std.specs.Prelude.{◌≡◌, ◌≤◌, ◌⊎◌, ℕ, Bool, true, false, List, Option, All, IfSome, IfNone}
+use Rattle.r9_event.specs.declared.event.Event.{Event}
+use Rattle.r9_event.specs.declared.event.Event.TheVariants as event
+use Rattle.r9_event.specs.declared.event.Entry.{Entry}
+use Rattle.r9_lock.specs.Passes.{Known}
+use Rattle.r9_outside.specs.Count.{Rose}
+use Rattle.model_event.specs.Journal.{events_of}
+use Rattle.model_session.specs.Server.{Server}
+use Rattle.r9_attend.specs.declared.ends.Attended.{Attended}
+use Rattle.r9_attend.specs.declared.ends.ReadEnd.TheVariants.{Closed, ReadFault}
+use Rattle.r9_attend.specs.declared.ends.WriteEnd.TheVariants as writer_end
+use Rattle.r9_attend.specs.Passes.{GoesOn, made_since}
+use Rattle.r9_attend.specs.Sessions.{Reads, EndsAt, IsRead, IsWritten, HasEnded, IsSessions, IsMade, IsTheirs, IsPlain, EndsPlainly}
+use Rattle.r9_attend.specs.Steps.{IsTold, IsSpent, NotBegun}
+
+-- what sources and sinks tell: the bytes left and the faults, the bytes held, whether some are unflushed, and the faults
+pub record Tells (I O : Type 0) : Type 0 where
+  pub left : I → Option (List ℕ)
+  pub read_faults : I → ℕ
+  pub held : O → Option (List ℕ)
+  pub unflushed : O → Bool
+  pub write_faults : O → ℕ
+
+module _ {I O : Type 0} where
+  abbrev pub told_ends : (left : I → Option (List ℕ)) (read_faults : I → ℕ) (held : O → Option (List ℕ)) (unflushed : O → Bool) (write_faults : O → ℕ) → Tells I O
+  told_ends left read_faults held unflushed write_faults = record { left = left; read_faults = read_faults; held = held; unflushed = unflushed; write_faults = write_faults }
+
+-- how a session went, and both passes and both ends before and after
+pub record Call (I O : Type 0) : Type 0 where
+  pub attended : Attended
+  pub reader_old : Known Entry
+  pub reader : Known Entry
+  pub writer_old : Known Entry
+  pub writer : Known Entry
+  pub input_old : I
+  pub input : I
+  pub output_old : O
+  pub output : O
+
+module _ {I O : Type 0} where
+  abbrev pub reader_made : Call I O → List (ℕ × Entry)
+  reader_made k = made_since k.reader_old k.reader
+
+  abbrev pub writer_made : Call I O → List (ℕ × Entry)
+  writer_made k = made_since k.writer_old k.writer
+
+module _ {I O : Type 0} (tells : Tells I O) (s : Server) where
+  -- A call in a history: the messages of its session c are those of the bytes that were read, and the bytes that were put are
+  -- what was taken for it. It is closed where the writer ended it, and what is whole and meets no fault ends plainly.
+  pub record Holds (k : Call I O) (c : ℕ) (history : List Event) : Type 0 where
+    pub bytes : List ℕ
+    pub reads : Reads (tells.left k.input_old) bytes (tells.left k.input)
+    pub at_end : EndsAt k.attended.reader (tells.left k.input_old) bytes
+    pub read : IsRead s c k.attended.reader bytes history
+    pub written : IsWritten s c k.attended.writer (tells.held k.output_old) (tells.held k.output) history
+    pub told : IsTold s c k.attended.reader k.reader × IsSpent k.attended.writer k.writer
+    pub closed : k.attended.reader ≡ Closed → IsMade (writer_made k) (event.End c) × ((k.attended.writer ≡ writer_end.WriteFault) ⊎ (k.attended.writer ≡ writer_end.Memory))
+    pub complete : (Rose (tells.read_faults k.input_old) (tells.read_faults k.input) → ⊥) → (Rose (tells.write_faults k.output_old) (tells.write_faults k.output) → ⊥)
+        → IsPlain s c (tells.left k.input_old) history → EndsPlainly k.attended.reader k.attended.writer
+
+  -- Session c began. What the passes made is its begin, other entries of it, and stops, and it has ended. In a history whose
+  -- entries of the session are these, the call holds.
+  pub record IsOfSession (k : Call I O) (c : ℕ) : Type 0 where
+    pub began : IsMade (reader_made k) (event.Begin c)
+    pub reader_made : All (IsSessions c) (reader_made k)
+    pub writer_made : All (IsSessions c) (writer_made k)
+    pub ended : HasEnded c k.reader
+    pub told : IsTold s c k.attended.reader k.reader × IsSpent k.attended.writer k.writer
+    pub holds : (history : List Entry) → IsTheirs c k.reader_old k.reader k.writer_old k.writer history → Holds k c (events_of history)
+
+  -- No session began, and both ends name the cause. Nothing was read or put, and only stops were made.
+  pub record IsOfNone (k : Call I O) : Type 0 where
+    pub cause : NotBegun s k.attended.reader k.attended.writer k.reader_old k.reader
+    pub reader_made : All (λ m. m.1.event ≡ event.Stop) (reader_made k)
+    pub writer_same : k.writer ≡ k.writer_old
+    pub input_same : k.input ≡ k.input_old
+    pub output_same : k.output ≡ k.output_old
+
+  -- all that `attend` says
+  pub record Attends (k : Call I O) : Type 0 where
+    pub reader_goes : GoesOn k.reader_old k.reader
+    pub writer_goes : GoesOn k.writer_old k.writer
+    pub none : IfNone k.attended.session (IsOfNone k)
+    pub some : IfSome k.attended.session (IsOfSession k)
+    pub read_failed : k.attended.reader ≡ ReadFault → Rose (tells.read_faults k.input_old) (tells.read_faults k.input)
+    pub write_failed : k.attended.writer ≡ writer_end.WriteFault → Rose (tells.write_faults k.output_old) (tells.write_faults k.output)
+    pub read_counted : tells.read_faults k.input_old ≤ tells.read_faults k.input
+    pub write_counted : tells.write_faults k.output_old ≤ tells.write_faults k.output
+    pub flushed : k.attended.writer ≡ writer_end.Done → (tells.unflushed k.output ≡ false) ⊎ (k.output ≡ k.output_old)

@@ -1,0 +1,4 @@
+pub mod Lines
+pub mod Shifts
+pub mod Serving
+pub mod Steps
