@@ -1,5 +1,5 @@
 -- The words that ask for a job are those that clap takes, and whose matches give it.
-use Rattle.std.proofs.Common.{◌≡◌, ◌∙◌, ℕ, ◌==◌, ◌&&◌, ◌||◌, Bool, true, false, true≢false, not, refl, sym, ap, subst, List, [], ◌∷◌, codes, length, Option, Some, None, cond}
+use Rattle.std.proofs.Common.{◌≡◌, ◌∙◌, ℕ, ◌==◌, ◌&&◌, ◌||◌, Bool, true, false, true≢false, not, refl, sym, ap, subst, List, [], ◌∷◌, codes, length, Option, Some, None, cond, string_bytes}
 use Rattle.std.specs.List.{list_all}
 use Rattle.std.specs.Prelude.{nat_le, nat_lt}
 use Rattle.std.specs.Str.{bytes_eq}
@@ -75,7 +75,7 @@ by_front words name rows (Replay opening screen) (serves rest) fit fault sub (e,
 by_front words name rows (Serve opening listen workers conns) (serves rest) fit fault sub (e, of) =
     let same = command_same _ _ _ _ (sym (serve_is.sub rest) ∙ sub) in
     let got = matches (codes "serve") serve_rules serve_syntax serve_table serve_names serve_optional rest fit (sym (serve_is.fault rest) ∙ fault) in
-    serve_found rest rows opening listen workers conns (subst (Matches serve_syntax serve_rules rest) (sym same.1) got) of
+    serve_found rest rows opening (string_bytes listen) workers conns (subst (Matches serve_syntax serve_rules rest) (sym same.1) got) of
 by_front words name rows (Alone opening session) (serves rest) fit fault sub (e, of) =
     let same = command_same _ _ _ _ (sym (serve_is.sub rest) ∙ sub) in apart (codes "serve") (codes "alone") refl refl (sym same.0 ∙ e)
 by_front words name rows (Gen n) (serves rest) fit fault sub (e, of) =
@@ -133,7 +133,7 @@ taken words (Serve opening listen workers conns) asks =
       name = codes "serve";
       rows = rows_in serve_rules asks.rest;
       sub = serve_is.sub asks.rest;
-      gives = (refl, serve_asked words (rows_in serve_rules asks.rest) opening listen workers conns asks got.2);
+      gives = (refl, serve_asked words (rows_in serve_rules asks.rest) opening (string_bytes listen) workers conns asks got.2);
     })
 taken words (Alone opening session) asks =
     let got = matched (codes "alone") alone_rules alone_syntax alone_table alone_names alone_optional asks.rest asks.given asks.gives in

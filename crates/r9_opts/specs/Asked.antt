@@ -1,5 +1,5 @@
 -- The job that words ask for, and the job that clap's matches give.
-use Rattle.std.specs.Prelude.{◌≡◌, ℕ, List, codes, map}
+use Rattle.std.specs.Prelude.{◌≡◌, ℕ, List, codes, map, string_bytes}
 use Rattle.std.specs.Borrow.{Bor}
 use Rattle.clap.specs.Walk.{Row}
 use Rattle.r9_opts.specs.declared.job.Job.{Job}
@@ -16,14 +16,14 @@ texts_of words = map (λ word. word.now) words
 -- the words ask for this job
 abbrev pub AskFor : List (List ℕ) → Job → Type 0
 AskFor words (job.Replay opening screen) = AsksForReplay words opening screen
-AskFor words (job.Serve opening listen workers conns) = AsksToServe words opening listen workers conns
+AskFor words (job.Serve opening listen workers conns) = AsksToServe words opening (string_bytes listen) workers conns
 AskFor words (job.Alone opening session) = AsksForAlone words opening session
 AskFor words (job.Gen number) = AsksToGenerate words number
 
 -- the matches of a command give this job
 abbrev pub JobOf : (command : List ℕ) → List Row → Job → Type 0
 JobOf command rows (job.Replay opening screen) = (command ≡ codes "replay") × IsReplayOf rows opening screen
-JobOf command rows (job.Serve opening listen workers conns) = (command ≡ codes "serve") × IsServeOf rows opening listen workers conns
+JobOf command rows (job.Serve opening listen workers conns) = (command ≡ codes "serve") × IsServeOf rows opening (string_bytes listen) workers conns
 JobOf command rows (job.Alone opening session) = (command ≡ codes "alone") × IsAloneOf rows opening session
 JobOf command rows (job.Gen number) = (command ≡ codes "gen") × IsCountOf rows (codes "number") 100000 number
 

@@ -2,7 +2,6 @@
 
 use r9_event::Opening;
 use r9_memory::Memory;
-use r9_text::Bytes;
 use std::alloc::AllocError;
 
 /// What the words ask for.
@@ -16,7 +15,7 @@ pub enum Job {
     /// Serves so many connections at an address, by so many workers.
     Serve {
         opening: Opening,
-        listen: Bytes,
+        listen: String,
         workers: u32,
         conns: u32,
     },

@@ -20,7 +20,6 @@ use clap::error::ErrorKind;
 use clap::{ArgMatches, Error};
 use r9_event::Opening;
 use r9_memory::Memory;
-use r9_text::Bytes;
 use std::alloc::Global;
 
 /// The sides of the display where no others are asked for.
@@ -124,7 +123,7 @@ fn serve(alloc: Global, given: &ArgMatches<'_>) -> Result<Option<Job>, Memory>
     let Some(conns) = count(given, "conns", MOST_CONNECTIONS) else {
         return Ok(None);
     };
-    let listen = Bytes::from_slice(alloc, listen.as_bytes())?;
+    let listen = String::from_str(alloc, listen)?;
     Ok(Some(Job::Serve {
         opening,
         listen,

@@ -72,7 +72,7 @@ fn a_server_has_an_address_and_a_count(rt: HostRuntime) -> Result<(), Fail> {
     else {
         return Err("a server")?;
     };
-    assert_eq!(rt; listen.as_slice(), b"a=-b".as_slice());
+    assert_eq!(rt; listen.as_str(), "a=-b");
     assert_eq!(rt; (workers, conns), (1, 3));
     Ok(())
 }
