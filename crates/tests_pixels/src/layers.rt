@@ -61,36 +61,6 @@ fn window(
     Ok(i)
 }
 
-// Raises one window.
-fn raise(forest: &mut Forest, i: ImageNo) -> Result<(), Fail>
-    requires live { IsLive (world forest.old) i.0 }
-    ensures kept { (j : ℕ) → IsLive (world forest.old) j → IsLive (world forest.new) j }
-{
-    forest.keeps();
-    if forest.info(i).parent.is_none() {
-        return Err("no window")?;
-    }
-    let Ok(()) = forest.raise(&[i]) else {
-        return Err("memory")?;
-    };
-    Ok(())
-}
-
-// Lowers one window.
-fn lower(forest: &mut Forest, i: ImageNo) -> Result<(), Fail>
-    requires live { IsLive (world forest.old) i.0 }
-    ensures kept { (j : ℕ) → IsLive (world forest.old) j → IsLive (world forest.new) j }
-{
-    forest.keeps();
-    if forest.info(i).parent.is_none() {
-        return Err("no window")?;
-    }
-    let Ok(()) = forest.lower(&[i]) else {
-        return Err("memory")?;
-    };
-    Ok(())
-}
-
 // Moves a window on its parent.
 fn move_to(forest: &mut Forest, i: ImageNo, min: Point, corner: Point) -> Result<(), Fail>
     requires live { IsLive (world forest.old) i.0 }
@@ -205,35 +175,24 @@ fn draw_unmasked(
     Ok(())
 }
 
-// A screen of 1s, a fill of 9s, and two windows.
+// A screen of 1s, and a window that is not its topmost one.
 #[derive(Clone, Copy)]
 struct Stage {
     screen: ImageNo,
-    full: ImageNo,
-    fill: ImageNo,
     below: ImageNo,
 }
 
-// A window of 2s stands from column 1 on, and over it one of 3s from column 2 on.
+// A window of 2s stands from column 1 on, and over it one of 3s from column 2 on. The fill is of 9s.
 fn staged(forest: &mut Forest) -> Result<Stage, Fail>
     ensures screen { IfOk result (λ stage. IsLive (world forest.new) stage.screen.0) }
-    ensures full { IfOk result (λ stage. IsLive (world forest.new) stage.full.0) }
-    ensures fill { IfOk result (λ stage. IsLive (world forest.new) stage.fill.0) }
     ensures below { IfOk result (λ stage. IsLive (world forest.new) stage.below.0) }
 {
     let screen = made(forest, rect(0, 0, 6, 1), "k8", 1)?;
-    let full = made(forest, rect(0, 0, 1, 1), "k1", 1)?;
     let fill = made(forest, rect(0, 0, 1, 1), "k8", 9)?;
-    repeat(forest, full, WIDE)?;
     repeat(forest, fill, WIDE)?;
     let below = window(forest, screen, fill, rect(1, 0, 4, 1), 2)?;
     window(forest, screen, fill, rect(2, 0, 5, 1), 3)?;
-    Ok(Stage {
-        screen,
-        full,
-        fill,
-        below,
-    })
+    Ok(Stage { screen, below })
 }
 
 #[test]
@@ -254,55 +213,6 @@ fn a_drawing_reads_what_was_before(rt: HostRuntime) -> Result<(), Fail> {
     )?;
     let shown = rows(&forest, column, rect(0, 0, 1, 4))?;
     assert_eq!(rt; shown.as_slice(), [1, 1, 2, 3].as_slice());
-    Ok(())
-}
-
-#[test]
-fn half_red_goes_over_white(rt: HostRuntime) -> Result<(), Fail> {
-    let mut forest = Forest::new(rt.alloc());
-    forest.room(2)?;
-    let screen = made(&mut forest, rect(0, 0, 2, 1), "x8r8g8b8", 0xFFFFFF)?;
-    let full = made(&mut forest, rect(0, 0, 1, 1), "k1", 1)?;
-    let red = made(&mut forest, rect(0, 0, 1, 1), "a8r8g8b8", 0x80800000)?;
-    repeat(&mut forest, full, WIDE)?;
-    repeat(&mut forest, red, WIDE)?;
-    draw(
-        &mut forest,
-        screen,
-        rect(1, 0, 9, 9),
-        red,
-        ORIGIN,
-        full,
-        Op::SoverD,
-    )?;
-    let shown = rows(&forest, screen, rect(0, 0, 2, 1))?;
-    assert_eq!(rt;
-        shown.as_slice(),
-        [0xFF, 0xFF, 0xFF, 0, 0x7F, 0x7F, 0xFF, 0].as_slice()
-    );
-    Ok(())
-}
-
-#[test]
-fn a_source_repeats_within_its_clip_rectangle(rt: HostRuntime) -> Result<(), Fail> {
-    let mut forest = Forest::new(rt.alloc());
-    let line = made(&mut forest, rect(0, 0, 5, 1), "k8", 0)?;
-    let full = made(&mut forest, rect(0, 0, 1, 1), "k1", 1)?;
-    let pair = made(&mut forest, rect(0, 0, 2, 1), "k8", 0)?;
-    repeat(&mut forest, full, WIDE)?;
-    load(&mut forest, pair, rect(0, 0, 2, 1), &[5, 6])?;
-    repeat(&mut forest, pair, rect(0, 0, 4, 1))?;
-    draw(
-        &mut forest,
-        line,
-        WIDE,
-        pair,
-        Point { x: -99, y: -100 },
-        full,
-        Op::S,
-    )?;
-    let shown = rows(&forest, line, rect(0, 0, 5, 1))?;
-    assert_eq!(rt; shown.as_slice(), [6, 5, 6, 0, 0].as_slice());
     Ok(())
 }
 
@@ -341,59 +251,6 @@ fn a_number_comes_back(rt: HostRuntime) -> Result<(), Fail> {
         rows(&forest, b, rect(0, 0, 1, 1))?.as_slice(),
         [9].as_slice()
     );
-    Ok(())
-}
-
-#[test]
-fn a_window_is_raised_moved_and_lowered(rt: HostRuntime) -> Result<(), Fail> {
-    let mut forest = Forest::new(rt.alloc());
-    let stage = staged(&mut forest)?;
-    let (screen, all) = (stage.screen, rect(0, 0, 6, 1));
-    let shown = rows(&forest, screen, all)?;
-    assert_eq!(rt; shown.as_slice(), [1, 2, 3, 3, 3, 1].as_slice());
-    raise(&mut forest, stage.below)?;
-    let shown = rows(&forest, screen, all)?;
-    assert_eq!(rt; shown.as_slice(), [1, 2, 2, 2, 3, 1].as_slice());
-    // The fill shows where it stood alone, and what passes the edge of the screen does not.
-    move_to(&mut forest, stage.below, ORIGIN, Point { x: 4, y: 0 })?;
-    let shown = rows(&forest, screen, all)?;
-    assert_eq!(rt; shown.as_slice(), [1, 9, 3, 3, 2, 2].as_slice());
-    lower(&mut forest, stage.below)?;
-    let shown = rows(&forest, screen, all)?;
-    assert_eq!(rt; shown.as_slice(), [1, 9, 3, 3, 3, 2].as_slice());
-    Ok(())
-}
-
-#[test]
-fn a_drawing_goes_beside_windows_and_reads_through_them(rt: HostRuntime) -> Result<(), Fail> {
-    let mut forest = Forest::new(rt.alloc());
-    let stage = staged(&mut forest)?;
-    let (screen, full, all) = (stage.screen, stage.full, rect(0, 0, 6, 1));
-    draw(
-        &mut forest,
-        screen,
-        rect(0, 0, 2, 1),
-        stage.fill,
-        ORIGIN,
-        full,
-        Op::S,
-    )?;
-    let shown = rows(&forest, screen, all)?;
-    assert_eq!(rt; shown.as_slice(), [9, 2, 3, 3, 3, 1].as_slice());
-    // From its own coordinates, and from the screen that it stands on.
-    draw(
-        &mut forest,
-        stage.below,
-        rect(1, 0, 4, 1),
-        screen,
-        ORIGIN,
-        full,
-        Op::S,
-    )?;
-    let shown = rows(&forest, stage.below, rect(1, 0, 4, 1))?;
-    assert_eq!(rt; shown.as_slice(), [9, 2, 3].as_slice());
-    let shown = rows(&forest, screen, all)?;
-    assert_eq!(rt; shown.as_slice(), [9, 9, 3, 3, 3, 1].as_slice());
     Ok(())
 }
 

@@ -8,7 +8,7 @@ use std::test::Fail;
 const TVERSION: &[u8] = b"\x13\0\0\0\x64\xff\xff\x18\0\x01\0\x06\09P2000";
 
 #[test]
-fn a_hall_answers_in_order(rt: HostRuntime) -> Result<(), Fail> {
+fn a_hall_keeps_its_journal_and_what_waits(rt: HostRuntime) -> Result<(), Fail> {
     let Ok(chan) = Chan::from_text("x8r8g8b8") else {
         return Err("channels")?;
     };
@@ -19,20 +19,15 @@ fn a_hall_answers_in_order(rt: HostRuntime) -> Result<(), Fail> {
     };
     let mut hall = Hall::start(rt.alloc(), opening)?;
     let event = Event::Begin { session: 1 };
-    assert!(rt; !hall.can(&Event::End { session: 1 }));
     assert!(rt; hall.can(&event));
     hall.event(event)?;
-    assert_eq!(rt; hall.journal().len(), 1);
     let event = Event::Msg {
         session: 1,
         bytes: Bytes::from_slice(rt.alloc(), TVERSION)?,
         mark: None,
     };
     assert!(rt; hall.can(&event));
-    let did = hall.event(event)?;
-    assert_eq!(rt; did.replies.as_slice().len(), 1);
-    assert_eq!(rt; hall.outbox(1).len(), 19);
-    // 60 bytes of header, and four for each point of the display.
-    assert_eq!(rt; hall.screen()?.len(), 12348);
+    hall.event(event)?;
+    assert_eq!(rt; (hall.journal().len(), hall.outbox(1).len()), (2, 19));
     Ok(())
 }

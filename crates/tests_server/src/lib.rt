@@ -8,6 +8,4 @@ mod journal;
 #[cfg(test)]
 mod serve;
 #[cfg(test)]
-mod tree;
-#[cfg(test)]
 mod wire;

@@ -1,6 +1,5 @@
-use r9_event::{Note, Order};
+use r9_event::Order;
 use r9_geom::{Point, Rect};
-use r9_mouse::Mouse;
 use r9_wctl::{Wctl, read_wctl};
 use r9_wmgr::{Act, ActFault, Manager, Step};
 use std::alloc::Global;
@@ -30,46 +29,6 @@ fn make(alloc: Global, manager: &mut Manager, rio: u32, text: &str) -> Result<St
         Ok(step) => Ok(step),
         Err(_) => Err("refused")?,
     }
-}
-
-fn event(x: i32, buttons: u8) -> Mouse {
-    Mouse {
-        x,
-        y: 5,
-        buttons,
-        msec: 0,
-    }
-}
-
-// The windows that were told of an event of the mouse.
-fn told(step: &Step) -> Option<u32> {
-    for (window, note) in step.notes.as_slice() {
-        if matches!(note, Note::Mouse { .. }) {
-            return Some(*window);
-        }
-    }
-    None
-}
-
-#[test]
-fn a_drag_goes_to_its_holder(rt: HostRuntime) -> Result<(), Fail> {
-    let alloc = rt.alloc();
-    let mut manager = display(alloc);
-    make(alloc, &mut manager, 0, "new -r 0 0 20 20")?;
-    make(alloc, &mut manager, 0, "new -r 30 0 50 20")?;
-    for (x, buttons, window) in [
-        (5, 1, Some(1)),
-        (35, 1, Some(1)),
-        (35, 0, Some(1)),
-        (35, 0, None),
-        (5, 0, Some(1)),
-    ] {
-        let Ok(step) = manager.step(Act::Mouse(event(x, buttons))) else {
-            return Err("refused")?;
-        };
-        assert_eq!(rt; told(&step), window);
-    }
-    Ok(())
 }
 
 #[test]

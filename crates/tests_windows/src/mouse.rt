@@ -11,27 +11,6 @@ fn event(x: i32, buttons: u8, msec: u32) -> Mouse {
 }
 
 #[test]
-fn reads_give_clicks_then_the_move(rt: HostRuntime) -> Result<(), Fail> {
-    let mut queue = MouseQueue::new(rt.alloc())?;
-    queue.resized();
-    let nothing = Mouse {
-        x: 0,
-        y: 0,
-        buttons: 0,
-        msec: 0,
-    };
-    assert_eq!(rt; queue.answer(), Some((b'r', nothing)));
-    for (x, buttons) in [(5, 1), (35, 1), (35, 0), (36, 0)] {
-        queue.feed(event(x, buttons, 7));
-    }
-    for given in [(5, 1), (35, 0), (36, 0)] {
-        assert_eq!(rt; queue.answer(), Some((b'm', event(given.0, given.1, 7))));
-    }
-    assert_eq!(rt; queue.answer(), None);
-    Ok(())
-}
-
-#[test]
 fn sixteen_clicks_wait(rt: HostRuntime) -> Result<(), Fail> {
     let mut queue = MouseQueue::new(rt.alloc())?;
     for n in 1..=17u32 {
