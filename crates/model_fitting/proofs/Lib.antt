@@ -1,0 +1,9 @@
+pub mod Lists
+pub mod Stepping
+pub mod Rects
+pub mod Acting
+pub mod Deleting
+pub mod Acts
+pub mod Opening
+pub mod Spelled
+pub mod Carried

@@ -1,0 +1,38 @@
+-- What a table of windows and a draw device have to do with each other, and orders that fit one after the other.
+use Rattle.std.specs.Prelude.{◌≡◌, ◌<◌, ℕ, true, List, [], ◌∷◌, None, All}
+use Rattle.r9_event.specs.declared.rio.Order.{Order}
+use Rattle.model_wctl.specs.declared.Choice.{Choice}
+use Rattle.model_wctl.specs.declared.Choice.TheVariants.{Minx, Miny}
+use Rattle.model_wctl.specs.Command as wctl
+use Rattle.model_rio.specs.Table.{Table}
+use Rattle.model_rio.specs.Act.{Act}
+use Rattle.model_rio.specs.Act as act
+use Rattle.model_images.specs.Book.{image_id}
+use Rattle.model_draw.specs.World.{World}
+use Rattle.model_draw.specs.Orders.{fits, manager, ordered}
+use Rattle.model_shown.specs.Showing.{ShowsRio, ShowsWindow}
+
+-- The windows and the rios of a table are there, and no serial that was not given has an image.
+pub record Shows (device : World) (table : Table) : Type 0 where
+  pub rooted : table.root.host ≡ 0
+  pub windows : All (λ w. ShowsWindow device w.serial w.r) table.windows
+  pub rios : All (λ rio. ShowsRio device rio.host) (table.root ∷ table.rios)
+  pub fresh : (serial : ℕ) → table.serials < serial → image_id device.book manager serial ≡ None
+
+-- ---- acts
+
+-- each order fits the device to which those before it were carried out
+abbrev pub AllFit : World → List Order → Type 0
+AllFit device [] = Unit {0}
+AllFit device (order ∷ orders) = (fits device order ≡ true) × AllFit (ordered device order) orders
+
+-- an option that moves a rectangle and leaves its size
+abbrev pub IsWay : Choice → Type 0
+IsWay (Minx amount) = Unit {0}
+IsWay (Miny amount) = Unit {0}
+IsWay _ = ⊥
+
+-- a command to move has only such options, as those have that texts spell
+abbrev pub IsSpelled : Act → Type 0
+IsSpelled (act.Command window (wctl.Move options)) = All IsWay options
+IsSpelled _ = Unit {0}

@@ -1,0 +1,37 @@
+-- A desktop that is drawn, and to which another leads.
+use Rattle.std.proofs.Common.{◌≡◌, refl, sym, subst}
+use Rattle.model_rio.specs.Table.{Table}
+use Rattle.model_rio.specs.Sound.{IsSound}
+use Rattle.model_draw.specs.World.{World}
+use Rattle.model_world.specs.Desktop.{Desktop}
+use Rattle.model_shown.specs.Showing.{IsOrderly}
+use Rattle.model_fitting.specs.Fitting.{Shows}
+use Rattle.model_orders.specs.Leading.{IsDrawn}
+use Rattle.model_orders.specs.Leading.{Leads, Uses, rests, there, uses}
+use Rattle.model_shown.proofs.Messages.{Still}
+use Rattle.model_fitting.proofs.Stepping.{shows_follow}
+
+pub record IsLed (start desktop : Desktop) : Type 0 where
+  pub drawn : IsDrawn desktop
+  pub leads : Leads start desktop
+
+pub led_itself : (desktop : Desktop) → IsDrawn desktop → IsLed desktop desktop
+led_itself desktop drawn = record { drawn = drawn; leads = there }
+
+-- something else than the table and the device may change
+pub led_beside : (start desktop after : Desktop) → after.table ≡ desktop.table → after.device ≡ desktop.device → IsLed start desktop → IsLed start after
+led_beside start desktop after table device is = record {
+  drawn = record {
+    sound = subst IsSound (sym table) is.drawn.sound;
+    orderly = subst IsOrderly (sym device) is.drawn.orderly;
+    shows = subst (λ (t : Table). Shows after.device t) (sym table) (subst (λ (d : World). Shows d desktop.table) (sym device) is.drawn.shows);
+  };
+  leads = uses desktop after is.leads table (subst (Uses desktop.device) (sym device) rests);
+}
+
+-- and the device by a use of it
+pub led_by : (start desktop : Desktop) (device : World) → IsLed start desktop → Uses desktop.device device → Still desktop.device device → IsLed start (record desktop { device = device })
+led_by start desktop device is used still = record {
+  drawn = record { sound = is.drawn.sound; orderly = still.orderly; shows = shows_follow desktop.device device desktop.table still is.drawn.shows };
+  leads = uses desktop (record desktop { device = device }) is.leads refl used;
+}

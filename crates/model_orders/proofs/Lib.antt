@@ -1,0 +1,5 @@
+pub mod Leading
+pub mod Desktops
+pub mod Answers
+pub mod Between
+pub mod Histories
