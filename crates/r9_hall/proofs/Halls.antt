@@ -1,92 +1,72 @@
--- A journal and one event more.
-use Rattle.std.proofs.Common.{◌≡◌, ℕ, ◌+◌, Bool, true, false, List, [], ◌∷◌, ◌++◌, Option, Some, None, length, refl, sym, ap, subst, ◌∙◌, arith}
-use Rattle.std.specs.Prelude.{IsFalse}
-use Rattle.std.proofs.lemmas.List.{map-append, append-nil}
+-- A hall and one event more.
+use Rattle.std.proofs.Common.{◌≡◌, ◌+◌, ◌-◌, ℕ, Bool, true, false, List, [], ◌∷◌, ◌++◌, Option, Some, None, length, drop, refl, sym, ap, subst, ◌∙◌, append-nil, arith, length-append, length-drop}
+use Rattle.std.proofs.lemmas.List.{map-append, drop-append-le}
 use Rattle.r9_event.specs.declared.event.Event.{Event}
 use Rattle.r9_event.specs.declared.event.Event.TheVariants.{Begin, Msg, Take, End, Stop}
 use Rattle.r9_event.specs.declared.event.Entry.{Entry}
 use Rattle.r9_event.specs.declared.event.Opening.{Opening}
 use Rattle.r9_event.specs.declared.event.Did.{Did}
-use Rattle.r9_event.specs.declared.event.Reply.{Reply}
 use Rattle.model_event.specs.Legal.{Allowed, IsLegal, Roll, no_sessions, roll_after, roll_of}
 use Rattle.model_event.proofs.Rolls.{AllowedFrom-push, roll_from-push}
-use Rattle.model_event.specs.Journal.{Journal, events_of, AreNumbered}
+use Rattle.model_event.specs.Journal.{events_of, AreNumbered}
 use Rattle.model_world.specs.World.{World, opened}
 use Rattle.model_text.specs.Map.{lookup}
-use Rattle.model_world.specs.Desktop.{Desktop}
 use Rattle.model_world.specs.Session.{Session}
-use Rattle.model_world.specs.Replay.{step, served, ended, world_at, world_from, waiting_from, waiting_after}
-use Rattle.model_world.proofs.Histories.{world_from-push, waiting_from-push, world_from-opening}
-use Rattle.r9_hall.specs.HallView.{HallValue, Stands, entered}
-use Rattle.model_world.specs.Desktop.{first_desktop}
-use Rattle.model_world.specs.World.{display_of}
-use Rattle.model_world.specs.Links.{AreKnown, AreLinked, IsNext, begun_after}
-use Rattle.model_world.specs.Standing.{AllWaitOn}
-use Rattle.model_world.proofs.Standing.{history_waits}
-use Rattle.model_world.proofs.Waking.{waits_each}
-use Rattle.model_world.proofs.Steps.{begun_rolled, opened_linked, step_linked, step_known}
-use Rattle.r9_hall.specs.Settling.{WaitsAt}
-use Rattle.r9_hall.specs.StateView.{State, IsAfter, state_world, waiting}
+use Rattle.model_world.specs.Replay.{step, served, ended, outbox, replay, world_from, waiting_after}
+use Rattle.model_world.proofs.Histories.{world_from-push, waiting_from-push}
+use Rattle.model_served.specs.Served.{journal_of}
+use Rattle.r9_hall.specs.Acts.{IsMadeOf}
+use Rattle.r9_hall.specs.HallView.{AllowedNext, HallValue, HasLed, OfHistories, StandsFor, StandsForMore}
+use Rattle.r9_hall.specs.Outboxes.{waiting}
+use Rattle.model_world.specs.Links.{begun_after}
+use Rattle.r9_hall.specs.WorldView.{IsFirst, WorldValue, world_in}
 
 pub events_of-push : (entries : List Entry) (entry : Entry) → events_of (entries ++ entry ∷ []) ≡ events_of entries ++ entry.event ∷ []
 events_of-push entries entry = map-append (λ (e : Entry). e.event) entries (entry ∷ [])
 
-pub AreNumbered-push : (first : ℕ) (entries : List Entry) (entry : Entry) → AreNumbered first entries → entry.number ≡ first + length entries → AreNumbered first (entries ++ entry ∷ [])
+AreNumbered-push : (first : ℕ) (entries : List Entry) (entry : Entry) → AreNumbered first entries → entry.number ≡ first + length entries → AreNumbered first (entries ++ entry ∷ [])
 AreNumbered-push first [] entry numbered next = (omega (arith, next), tt)
 AreNumbered-push first (e ∷ entries) entry numbered next = (numbered.0, AreNumbered-push (first + 1) entries entry numbered.1 (omega (arith, next)))
 
--- a state that stands is the journal's world
-pub standing : (opening : Opening) (events : List Event) (s : State) → Stands (record { opening = opening; events = events }) s
-    → state_world opening s ≡ world_at (record { opening = opening; events = events })
-standing opening events s stands = λ i. record {
-  opening = sym (world_from-opening (opened opening) events) i;
-  desktop = stands.desktop i;
-  sessions = stands.sessions i;
+pub roll_next : (history : List Entry) (entry : Entry) → roll_of (events_of (history ++ entry ∷ [])) ≡ roll_after (roll_of (events_of history)) entry.event
+roll_next history entry = ap (λ (es : List Event). roll_of es) (events_of-push history entry) ∙ roll_from-push no_sessions (events_of history) entry.event
+
+-- ---- nothing has happened
+
+pub stands_first : (opening : Opening) (h : HallValue) → h.opening ≡ opening → h.first ≡ 1 → h.stored ≡ [] → h.roll ≡ no_sessions → IsFirst opening h.world → ((c : ℕ) → waiting h.outboxes c ≡ []) → StandsFor h []
+stands_first opening h opened_as first stored roll world outboxes = record {
+  numbered = tt;
+  legal = tt;
+  from = omega (arith, first);
+  to = omega (arith, first);
+  stored = stored ∙ (λ i. drop (sym first i - 1) []);
+  roll = roll;
+  led = λ _. record {
+    world = world.world ∙ (λ i. opened (sym opened_as i));
+    outboxes = outboxes;
+  };
 }
 
--- no read waits in it that can be answered
-pub stands_quiet : (opening : Opening) (events : List Event) (s : State) → Stands (record { opening = opening; events = events }) s → (c : ℕ) → WaitsAt s.sessions s.desktop c
-stands_quiet opening events s stands c session =
-    waits_each (state_world opening s) c session (subst (λ (w : World). AllWaitOn w) (sym (standing opening events s stands)) (history_waits opening events))
+-- ---- one event more in the history that a hall stands for
 
-roll_next : (events : List Event) (event : Event) → roll_of (events ++ event ∷ []) ≡ roll_after (roll_of events) event
-roll_next events event = roll_from-push no_sessions events event
+-- as many sessions have begun in the world as the roll says
+pub begun_more : (begun : ℕ) (roll : Roll) (event : Event) → begun ≡ roll.begun → begun_after begun event ≡ (roll_after roll event).begun
+begun_more begun roll (Begin c) is = refl
+begun_more begun roll (Msg c bytes mark) is = is
+begun_more begun roll (Take c) is = is
+begun_more begun roll (End c) is = is
+begun_more begun roll Stop is = is
 
-pub stands_after : (opening : Opening) (events : List Event) (event : Event) (did : Did) (s after : State) → Stands (record { opening = opening; events = events }) s
-    → IsNext (roll_of events).begun event → IsAfter opening s event did after → Stands (record { opening = opening; events = events ++ event ∷ [] }) after
-stands_after opening events event did s after stands next is =
-    let at = standing opening events s stands in
-    let world : (step (world_at (record { opening = opening; events = events })) event).world ≡ state_world opening after =
-    ap (λ (w : World). (step w event).world) (sym at) ∙ is.world in
-    let given : did.replies ≡ (step (world_at (record { opening = opening; events = events })) event).replies =
-    sym is.replies_are ∙ ap (λ (w : World). (step w event).replies) at in
-    let before : World = state_world opening s in
-    record {
-      sessions = ap (λ (w : World). w.sessions) (sym world ∙ sym (world_from-push (opened opening) events event));
-      desktop = ap (λ (w : World). w.desktop) (sym world ∙ sym (world_from-push (opened opening) events event));
-      outboxes = λ c. is.outboxes c
-          ∙ ap (λ (x : List ℕ). waiting_after c x event did.replies) (stands.outboxes c)
-          ∙ ap (λ (r : List Reply). waiting_after c (waiting_from (opened opening) events c []) event r) given
-          ∙ sym (waiting_from-push (opened opening) events event c []);
-      linked = subst (λ (w : World). AreLinked w.desktop.device w.sessions) is.world (step_linked before (roll_of events).begun event next stands.known stands.linked);
-      known = subst (λ (begun : ℕ). AreKnown begun after.sessions) (sym (ap (λ (r : Roll). r.begun) (roll_next events event) ∙ begun_rolled (roll_of events) event))
-          (subst (λ (w : World). AreKnown (begun_after (roll_of events).begun event) w.sessions) is.world (step_known before (roll_of events).begun event next stands.linked.ascending stands.known));
-    }
-
-pub replies_after : (opening : Opening) (events : List Event) (event : Event) (did : Did) (s after : State) → Stands (record { opening = opening; events = events }) s
-    → IsAfter opening s event did after → did.replies ≡ (step (world_at (record { opening = opening; events = events })) event).replies
-replies_after opening events event did s after stands is =
-    sym is.replies_are ∙ ap (λ (w : World). (step w event).replies) (standing opening events s stands)
-
-pub notes_after : (opening : Opening) (events : List Event) (event : Event) (did : Did) (s after : State) → Stands (record { opening = opening; events = events }) s
-    → IsAfter opening s event did after → did.notes ≡ (step (world_at (record { opening = opening; events = events })) event).notes
-notes_after opening events event did s after stands is =
-    sym is.notes_are ∙ ap (λ (w : World). (step w event).notes) (standing opening events s stands)
-
-pub closed_after : (opening : Opening) (events : List Event) (event : Event) (did : Did) (s after : State) → Stands (record { opening = opening; events = events }) s
-    → IsAfter opening s event did after → did.closed ≡ (step (world_at (record { opening = opening; events = events })) event).closed
-closed_after opening events event did s after stands is =
-    sym is.closed_is ∙ ap (λ (w : World). (step w event).closed) (standing opening events s stands)
+-- The event is one entry more, and its step of the world was made.
+pub record HasTurned (h : HallValue) (event : Event) (after : HallValue) : Type 0 where
+  pub opening : after.opening ≡ h.opening
+  pub first : after.first ≡ h.first
+  pub stored : after.stored ≡ h.stored ++ record { number = h.first + length h.stored; event = event } ∷ []
+  pub roll : after.roll ≡ roll_after h.roll event
+  pub allowed : Allowed h.roll event
+  pub whole : after.broken ≡ false → h.broken ≡ false
+  pub world : after.broken ≡ false → (world_in h.world).desktop.notes ≡ [] → world_in after.world ≡ (step (world_in h.world) event).world
+  pub outboxes : after.broken ≡ false → (c : ℕ) → waiting after.outboxes c ≡ waiting_after c (waiting h.outboxes c) event (step (world_in h.world) event).replies
 
 -- ---- what was told in a turn is told
 
@@ -109,73 +89,98 @@ world_from_told : (world : World) (events : List Event) → world.desktop.notes 
 world_from_told world [] told = told
 world_from_told world (e ∷ events) told = world_from_told (step world e).world events (step_told world e)
 
--- so a journal ends with nothing that is still to be told
-pub journal_told : (journal : Journal) → (world_at journal).desktop.notes ≡ []
-journal_told journal = world_from_told (opened journal.opening) journal.events refl
+-- so a history ends with nothing that is still to be told
+history_told : (opening : Opening) (events : List Event) → (replay opening events).desktop.notes ≡ []
+history_told opening events = world_from_told (opened opening) events refl
 
-pub roll_entered : (events more : List Event) (event : Event) (roll next : Roll) → roll ≡ roll_of events → next ≡ roll_after roll event → more ≡ events ++ event ∷ [] → next ≡ roll_of more
-roll_entered events more event roll next rolled entered pushed =
-    entered ∙ ap (λ (r : Roll). roll_after r event) rolled ∙ sym (roll_from-push no_sessions events event) ∙ ap (λ (es : List Event). roll_of es) (sym pushed)
+-- ---- the hall stands for one entry more
 
--- a journal that is legal stays so
-pub legal_more : (events more : List Event) (event : Event) → IsLegal events → Allowed (roll_of events) event → more ≡ events ++ event ∷ [] → IsLegal more
-legal_more events more event legal allowed pushed = subst (λ (es : List Event). IsLegal es) (sym pushed) (AllowedFrom-push no_sessions events event legal allowed)
+entry_after : List Entry → Event → Entry
+entry_after history event = record { number = length history + 1; event = event }
 
-pub stop_told : (journal : Journal) (event : Event) → event ≡ Stop → (step (world_at journal) event).notes ≡ []
-stop_told journal event is = ap (λ (e : Event). (step (world_at journal) e).notes) is ∙ journal_told journal
+stored_more : (h : HallValue) (event : Event) (history : List Entry) → StandsFor h history
+    → h.stored ++ record { number = h.first + length h.stored; event = event } ∷ [] ≡ drop (h.first - 1) (history ++ record { number = length history + 1; event = event } ∷ [])
+stored_more h event history stands =
+    let entry : ℕ → Entry = λ n. record { number = n; event = event } in
+    let number : h.first + length h.stored ≡ length history + 1 = omega (arith, stands.from, stands.to, ap length stands.stored, length-drop (h.first - 1) history) in
+    (λ i. stands.stored i ++ entry (number i) ∷ []) ∙ sym (drop-append-le (h.first - 1) history (entry (length history + 1) ∷ []) (omega (arith, stands.from, stands.to)))
 
--- a Stop gives nothing, and changes nothing
+led_more : (h after : HallValue) (event : Event) (history : List Entry) (entry : Entry) → HasTurned h event after → HasLed h (events_of history) → entry.event ≡ event → after.broken ≡ false
+    → HasLed after (events_of (history ++ entry ∷ []))
+led_more h after event history entry turned led is whole =
+    let es = events_of history in
+    let pushed : es ++ event ∷ [] ≡ events_of (history ++ entry ∷ []) = ap (λ (e : Event). es ++ e ∷ []) (sym is) ∙ sym (events_of-push history entry) in
+    let told : (world_in h.world).desktop.notes ≡ [] = ap (λ (w : World). w.desktop.notes) led.world ∙ history_told h.opening es in
+    record {
+      world = turned.world whole told ∙ ap (λ (w : World). (step w event).world) led.world ∙ sym (world_from-push (opened h.opening) es event) ∙ (λ i. replay (sym turned.opening i) (pushed i));
+      outboxes = λ c. turned.outboxes whole c
+          ∙ ap (λ (x : List ℕ). waiting_after c x event (step (world_in h.world) event).replies) (led.outboxes c)
+          ∙ ap (λ (w : World). waiting_after c (outbox (journal_of h.opening es) c) event (step w event).replies) led.world
+          ∙ sym (waiting_from-push (opened h.opening) es event c [])
+          ∙ (λ i. outbox (journal_of (sym turned.opening i) (pushed i)) c);
+    }
+
+pub stands_more : (h after : HallValue) (event : Event) → HasTurned h event after → StandsForMore h event after
+stands_more h after event turned history stands =
+    let entry : Entry = record { number = length history + 1; event = event } in
+    let legal : IsLegal (events_of history ++ event ∷ []) =
+    AllowedFrom-push no_sessions (events_of history) event stands.legal (subst (λ (r : Roll). Allowed r event) stands.roll turned.allowed) in
+    record {
+      numbered = AreNumbered-push 1 history entry stands.numbered (omega arith);
+      legal = subst (λ (es : List Event). IsLegal es) (sym (events_of-push history entry)) legal;
+      from = omega (arith, turned.first, stands.from);
+      to = omega (arith, turned.first, stands.to, length-append history (entry ∷ []));
+      stored = turned.stored ∙ stored_more h event history stands ∙ ap (λ (n : ℕ). drop (n - 1) (history ++ entry ∷ [])) (sym turned.first);
+      roll = turned.roll ∙ ap (λ (r : Roll). roll_after r event) stands.roll ∙ sym (roll_next history entry);
+      led = λ whole. led_more h after event history entry turned (stands.led (turned.whole whole)) refl whole;
+    }
+
+-- ---- what an event gives
+
+-- what is so of the hall's world is so of each history's
+pub of_histories : (h : HallValue) (P : World → Type 0) → P (world_in h.world) → OfHistories h (λ events. P (replay h.opening events))
+of_histories h P holds whole history stands = subst P (stands.led whole).world holds
+
+-- a Stop gives nothing
 abbrev pub nothing_done : Did
 nothing_done = record { replies = []; notes = []; short = None; closed = None }
 
-pub stop_after : (opening : Opening) (events : List Event) (s : State) → Stands (record { opening = opening; events = events }) s → IsAfter opening s Stop nothing_done s
-stop_after opening events s stands =
-    let told : s.desktop.notes ≡ [] = ap (λ (d : Desktop). d.notes) stands.desktop ∙ journal_told (record { opening = opening; events = events }) in
-    record {
-      world = λ i. record { opening = opening; desktop = record s.desktop { notes = sym told i }; sessions = s.sessions };
-      replies_are = refl;
-      notes_are = told;
-      closed_is = refl;
-      outboxes = λ c. sym (append-nil (waiting s.outboxes c));
-    }
+silent_same : (world : World) → world.desktop.notes ≡ [] → world ≡ (step world Stop).world
+silent_same world told = λ i. record { opening = world.opening; desktop = record world.desktop { notes = told i }; sessions = world.sessions }
 
--- and may come next
-pub stop_next : (begun : ℕ) (event : Event) → event ≡ Stop → IsNext begun event
-stop_next begun event is = subst (λ (e : Event). IsNext begun e) (sym is) tt
+stop_turned : (h after : HallValue) → AllowedNext h Stop → after.opening ≡ h.opening → after.first ≡ h.first → after.stored ≡ h.stored ++ record { number = h.first + length h.stored; event = Stop } ∷ []
+    → after.roll ≡ roll_after h.roll Stop → after.broken ≡ h.broken → after.world ≡ h.world → after.outboxes ≡ h.outboxes → HasTurned h Stop after
+stop_turned h after allowed opening first stored roll broken world outboxes = record {
+  opening = opening;
+  first = first;
+  stored = stored;
+  roll = roll;
+  allowed = allowed.0;
+  whole = λ now. sym broken ∙ now;
+  world = λ now told. ap (λ (w : WorldValue). world_in w) world ∙ silent_same (world_in h.world) told;
+  outboxes = λ now c. ap (λ (o : List (ℕ × List ℕ)). waiting o c) outboxes ∙ sym (append-nil (waiting h.outboxes c));
+}
 
-pub stopped_after : (event : Event) (roll next : Roll) → event ≡ Stop → next ≡ roll_after roll event → next.stopped ≡ true
-stopped_after event roll next is entered = ap (λ (r : Roll). r.stopped) (entered ∙ ap (λ (e : Event). roll_after roll e) is)
-
-pub not_going : (stopped : Bool) → stopped ≡ true → IsFalse stopped → ⊥
-not_going true e going = cc
-not_going false e going = cc
+pub stop_made : (h after : HallValue) (event : Event) (did : Did) → event ≡ Stop → did ≡ nothing_done → AllowedNext h event → after.opening ≡ h.opening → after.first ≡ h.first
+    → after.stored ≡ h.stored ++ record { number = h.first + length h.stored; event = event } ∷ [] → after.roll ≡ roll_after h.roll event → after.broken ≡ h.broken → after.world ≡ h.world
+    → after.outboxes ≡ h.outboxes → IsMadeOf h event did after
+stop_made h after event did is none allowed opening first stored roll broken world outboxes =
+    let next : AllowedNext h Stop = subst (λ (e : Event). AllowedNext h e) is allowed in
+    let turned : HasTurned h Stop after = stop_turned h after next opening first (stored ∙ ap (λ (e : Event). h.stored ++ record { number = h.first + length h.stored; event = e } ∷ []) is)
+    (roll ∙ ap (λ (e : Event). roll_after h.roll e) is) broken world outboxes in
+    subst (λ (e : Event). IsMadeOf h e did after) (sym is) (subst (λ (d : Did). IsMadeOf h Stop d after) (sym none) (record {
+      entered = stands_more h after Stop turned;
+      allowed = next;
+      replies = λ whole history stands. refl;
+      notes = λ whole history stands. sym (history_told h.opening (events_of history));
+      closed = λ whole history stands. refl;
+      short = λ whole history stands. tt;
+      told = λ whole history stands wants. absurd wants;
+    }))
 
 pub not_broken : (broken : Bool) (event : Event) → (broken ≡ true → event ≡ Stop) → (event ≡ Stop → ⊥) → broken ≡ false
 not_broken true event allowed other = absurd (other (allowed refl))
 not_broken false event allowed other = refl
 
-pub value_entered : (opening : Opening) (events more : List Event) (event : Event) (before after : Bool) → before ≡ after → more ≡ events ++ event ∷ []
-    → (let value : Bool → List Event → HallValue = λ b es. record { journal = record { opening = opening; events = es }; broken = b } in value after more ≡ entered (value before events) event)
-value_entered opening events more event before after same pushed = λ i. record {
-  journal = record { opening = opening; events = pushed i };
-  broken = sym same i;
-}
-
-pub stands_more : (opening : Opening) (events more : List Event) (event : Event) (did : Did) (s after : State) → Stands (record { opening = opening; events = events }) s
-    → IsNext (roll_of events).begun event → IsAfter opening s event did after → more ≡ events ++ event ∷ [] → Stands (record { opening = opening; events = more }) after
-stands_more opening events more event did s after stands next is pushed =
-    subst (λ (es : List Event). Stands (record { opening = opening; events = es }) after) (sym pushed) (stands_after opening events event did s after stands next is)
-
--- a hall in which nothing has happened
-pub stands_first : (opening : Opening) (events : List Event) (s : State) → events ≡ [] → s ≡ record { sessions = []; outboxes = []; desktop = first_desktop (display_of opening) }
-    → Stands (record { opening = opening; events = events }) s
-stands_first opening events s none is =
-    let journal : List Event → Journal = λ es. record { opening = opening; events = es } in
-    subst (λ (es : List Event). Stands (journal es) s) (sym none)
-    (subst (λ (x : State). Stands (journal []) x) (sym is) (record {
-      sessions = refl;
-      desktop = refl;
-      outboxes = λ c. refl;
-      linked = opened_linked opening;
-      known = λ c later. refl;
-    }))
+pub unbroken : (broken : Bool) {P : Type 0} → broken ≡ false → broken ≡ true → P
+unbroken broken whole is = let two : false ≡ true = sym whole ∙ is in absurd (cc two)

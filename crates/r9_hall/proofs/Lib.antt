@@ -1,5 +1,8 @@
 mod States
+mod Posts
 mod Halls
+mod Acting
 mod Worlds
 mod Waits
 mod Cuts
+pub mod Stored

@@ -1,10 +1,9 @@
 -- The state after an event.
 use Rattle.std.specs.Prelude.{◌||◌}
-use Rattle.std.proofs.Common.{◌≡◌, ℕ, Bool, true, false, cond, eqb, List, [], ◌∷◌, ◌++◌, Option, Some, None, Result, Ok, Err, IfOk, IfSome, refl, sym, ap, subst, ◌∙◌, append_assoc}
-use Rattle.std.specs.Option.{unwrap_or}
+use Rattle.std.proofs.Common.{◌≡◌, ℕ, Bool, true, false, eqb, List, [], Option, Some, None, Result, Ok, Err, IfOk, IfSome, refl, sym, ap, subst, ◌∙◌}
 use Rattle.std.proofs.lemmas.Bool.{eqb-true, eqb-false}
 use Rattle.r9_event.specs.declared.event.Event.{Event}
-use Rattle.r9_event.specs.declared.event.Event.TheVariants.{Begin, Msg, Take, End, Stop}
+use Rattle.r9_event.specs.declared.event.Event.TheVariants.{End}
 use Rattle.r9_event.specs.declared.event.Opening.{Opening}
 use Rattle.r9_event.specs.declared.event.Reply.{Reply}
 use Rattle.r9_event.specs.declared.event.Did.{Did}
@@ -21,7 +20,7 @@ use Rattle.model_world.specs.Sleeping.{may_wake, stirred, told_windows}
 use Rattle.model_world.specs.Standing.{AllWaitOn}
 use Rattle.model_world.specs.Waiting.{one_answered}
 use Rattle.model_world.specs.Whole.{desktop_for}
-use Rattle.model_world.specs.Replay.{Turn, bytes_for, ended, marked, settled_after, turned, waiting_after}
+use Rattle.model_world.specs.Replay.{Turn, ended, marked, settled_after, turned}
 use Rattle.model_world.specs.World.{World}
 use Rattle.model_world.proofs.Answers.{answer_holds}
 use Rattle.model_world.proofs.Steps.{gone_linked, linked_of, replied_linked}
@@ -29,7 +28,7 @@ use Rattle.model_world.proofs.Waking.{all_wait, end_spares, fewer_wake, message_
 use Rattle.r9_desktop.specs.Words.{mark_after}
 use Rattle.r9_desktop.specs.World.{desktop_of}
 use Rattle.r9_hall.specs.Settling.{world_of, AreAsked, AreWoken, IsSettled, IsSkipped, WaitsAt}
-use Rattle.r9_hall.specs.StateView.{IsLeft, IsMade, IsServed, IsTurn, waiting, world_with}
+use Rattle.r9_hall.specs.StateView.{IsLeft, IsMade, IsServed, IsTurn, world_with}
 use Rattle.r9_hall.proofs.Waits.{any_opening, none_waits, woken_ascend, woken_skips}
 use Rattle.r9_hall.specs.declared.sessions.Made.{Made}
 use Rattle.r9_hall.specs.declared.sessions.Own.{Own}
@@ -154,44 +153,3 @@ turn_of opening before kept after event made did is replies closed told left liv
   notes_are = ap (λ (t : Turn). t.notes) is.step_is ∙ sym told;
   closed_is = ap (λ (t : Turn). t.closed) is.step_is ∙ sym closed;
 }
-
--- ---- what waits
-
--- a reply waits behind what waited
-pub kept_more : (c : ℕ) (reply : Reply) (others : List Reply) (before after : List (ℕ × List ℕ)) → waiting after reply.session ≡ waiting before reply.session ++ reply.bytes
-    → ((other : ℕ) → (other ≡ reply.session → ⊥) → waiting after other ≡ waiting before other) → waiting after c ++ bytes_for c others ≡ waiting before c ++ bytes_for c (reply ∷ others)
-kept_more c reply others before after kept apart = by (eqb reply.session c) refl
-  where
-    by : (b : Bool) → eqb reply.session c ≡ b → waiting after c ++ bytes_for c others ≡ waiting before c ++ bytes_for c (reply ∷ others)
-    by true at =
-        let is : reply.session ≡ c = eqb-true reply.session c at in
-        let here : waiting after c ≡ waiting before c ++ reply.bytes = subst (λ (d : ℕ). waiting after d ≡ waiting before d ++ reply.bytes) is kept in
-        rw at (ap (λ (w : List ℕ). w ++ bytes_for c others) here ∙ append_assoc (waiting before c) reply.bytes (bytes_for c others))
-    by false at =
-        let other : waiting after c ≡ waiting before c = apart c (λ is. eqb-false reply.session c at (sym is)) in
-        rw at (ap (λ (w : List ℕ). w ++ bytes_for c others) other)
-
--- all events but a Take leave what waits
-pub posted : (c : ℕ) (waits : List ℕ) (event : Event) (replies : List Reply) → ((session : ℕ) → event ≡ Take session → ⊥) → waiting_after c waits event replies ≡ waits ++ bytes_for c replies
-posted c waits (Begin d) replies other = refl
-posted c waits (Msg d bytes mark) replies other = refl
-posted c waits (Take d) replies other = absurd (other d refl)
-posted c waits (End d) replies other = refl
-posted c waits Stop replies other = refl
-
-pub taken : (outboxes : List (ℕ × List ℕ)) (session c : ℕ) → lookup (without outboxes session) session ≡ None → (b : Bool) → eqb session c ≡ b
-    → waiting (without outboxes session) c ≡ cond b [] (waiting outboxes c)
-taken outboxes session c gone true at =
-    let is : session ≡ c = eqb-true session c at in
-    ap (λ (o : Option (List ℕ)). unwrap_or o []) (ap (λ (d : ℕ). lookup (without outboxes session) d) (sym is) ∙ gone)
-taken outboxes session c gone false at =
-    ap (λ (o : Option (List ℕ)). unwrap_or o []) (without-others outboxes session c (λ is. eqb-false session c at (sym is)))
-
--- the mark of an event leaves what waits
-pub waiting_marked : (c : ℕ) (waits : List ℕ) (event : Event) (short : Option ℕ) (replies : List Reply) → waiting_after c waits (marked event short) replies ≡ waiting_after c waits event replies
-waiting_marked c waits event None replies = refl
-waiting_marked c waits (Begin d) (Some k) replies = refl
-waiting_marked c waits (Msg d bytes mark) (Some k) replies = refl
-waiting_marked c waits (Take d) (Some k) replies = refl
-waiting_marked c waits (End d) (Some k) replies = refl
-waiting_marked c waits Stop (Some k) replies = refl

@@ -1,4 +1,6 @@
 pub mod StateView
+pub mod Outboxes
 pub mod HallView
+pub mod Acts
 pub mod WorldView
 pub mod Settling

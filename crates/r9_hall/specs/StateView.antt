@@ -1,11 +1,10 @@
--- The state of the server, and what an event makes of it.
-use Rattle.std.specs.Prelude.{◌≡◌, ◌≤◌, ℕ, Bool, true, false, List, [], length, Option, Some, None, IfSome, IsSome}
-use Rattle.std.specs.Option.{unwrap_or}
+-- What an event makes of the sessions and of what they share.
+use Rattle.std.specs.Prelude.{◌≡◌, ◌≤◌, ℕ, Bool, true, false, List, length, Option, Some, None, IfSome, IsSome}
 use Rattle.r9_event.specs.declared.event.Event.{Event}
 use Rattle.r9_event.specs.declared.event.Event.TheVariants.{Msg}
 use Rattle.r9_event.specs.declared.event.Opening.{Opening}
 use Rattle.r9_event.specs.declared.event.Did.{Did}
-use Rattle.model_text.specs.Map.{lookup, with}
+use Rattle.model_text.specs.Map.{with}
 use Rattle.model_draw.specs.Act.{no_memory}
 use Rattle.model_world.specs.Session.{Session}
 use Rattle.model_world.specs.Fids.{cleared}
@@ -16,26 +15,12 @@ use Rattle.model_world.specs.Desktop.{Desktop}
 use Rattle.model_world.specs.Sleeping.{written_at}
 use Rattle.model_world.specs.Whole.{desktop_for}
 use Rattle.model_world.specs.World.{World}
-use Rattle.model_world.specs.Replay.{closing_tag, reply_to, step, turned, waiting_after}
+use Rattle.model_world.specs.Replay.{closing_tag, reply_to, step, turned}
 use Rattle.r9_desktop.specs.Words.{mark_after}
 use Rattle.r9_desktop.specs.World.{desktop_of}
 use Rattle.r9_hall.specs.declared.sessions.Made.{Made}
 use Rattle.r9_hall.specs.declared.sessions.Own.{Own}
 use Rattle.r9_hall.specs.declared.sessions.Sessions.{Sessions}
-use Rattle.r9_hall.specs.declared.state.State.{State as Kept}
-
--- the sessions that live, and what waits to be taken, by session; and what the sessions share
-pub record State : Type 0 where
-  pub sessions : List (ℕ × Session)
-  pub outboxes : List (ℕ × List ℕ)
-  pub desktop : Desktop
-
-abbrev pub state_of : Kept → State
-state_of s = record { sessions = s.sessions.live.entries; outboxes = s.outboxes.entries; desktop = desktop_of s.sessions.desktop }
-
--- what waits for a session; nothing where it has no outbox
-abbrev pub waiting : List (ℕ × List ℕ) → ℕ → List ℕ
-waiting outboxes c = unwrap_or (lookup outboxes c) []
 
 -- A message of a session was answered: what it gave is its reply, if it has one, and the session and the desktop are what the
 -- message left, with the mark with which it stands in the history.
@@ -67,9 +52,6 @@ IsLeft c (Some session) desktop false left = ⊥
 abbrev pub world_with : Opening → Sessions → World
 world_with opening s = record { opening = opening; desktop = desktop_of s.desktop; sessions = s.live.entries }
 
-abbrev pub state_world : Opening → State → World
-state_world opening s = record { opening = opening; desktop = s.desktop; sessions = s.sessions }
-
 -- a message has a size, a kind and a tag
 abbrev pub IsWhole : Event → Type 0
 IsWhole (Msg c bytes mark) = 7 ≤ length bytes
@@ -85,11 +67,3 @@ pub record IsTurn (opening : Opening) (before : Sessions) (event : Event) (did :
   pub replies_are : (step (world_with opening before) event).replies ≡ did.replies
   pub notes_are : (step (world_with opening before) event).notes ≡ did.notes
   pub closed_is : (step (world_with opening before) event).closed ≡ did.closed
-
--- the state after an event, and what it gave, are those of a step of the world
-pub record IsAfter (opening : Opening) (before : State) (event : Event) (did : Did) (after : State) : Type 0 where
-  pub world : (step (state_world opening before) event).world ≡ state_world opening after
-  pub replies_are : (step (state_world opening before) event).replies ≡ did.replies
-  pub notes_are : (step (state_world opening before) event).notes ≡ did.notes
-  pub closed_is : (step (state_world opening before) event).closed ≡ did.closed
-  pub outboxes : (c : ℕ) → waiting after.outboxes c ≡ waiting_after c (waiting before.outboxes c) event did.replies

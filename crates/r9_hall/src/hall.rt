@@ -1,33 +1,40 @@
-//! The hall: a journal of events, and the state in which it ends.
+//! The hall: what its history led to, and the entries of it that are still stored.
 
-ghost use Rattle.std.specs.Prelude.{◌≡◌, ◌<◌, ◌≤◌, ◌+◌, ◌^◌, ◌++◌, ◌∷◌, ◌↔◌, ℕ, [], false, length, None, IsTrue, IfOk, IfSome, OnOk, OnErr, IsOk, IsSome};
+ghost use Rattle.std.specs.Prelude.{◌≡◌, ◌<◌, ◌≤◌, ◌+◌, ◌^◌, ◌++◌, ◌∷◌, ◌↔◌, [], false, length, None, IsTrue, IfOk, OnOk, OnErr, IsOk};
 ghost use Rattle.std.specs.Vec.{vec_len, vec_capacity};
 ghost use Rattle.r9_event.specs.declared.event.Event.{Event};
 ghost use Rattle.model_draw.specs.Files.{screen_file};
-ghost use Rattle.model_event.specs.Legal.{roll_after, IsLegal};
-ghost use Rattle.model_event.specs.Journal.{events_of, AreNumbered};
-ghost use Rattle.model_world.specs.Cut.{IsCutEvent, IsWantingEvent};
-ghost use Rattle.model_world.specs.Replay.{marked, step, world_at, outbox};
-ghost use Rattle.r9_hall.specs.HallView.{AllowedNext, entered};
+ghost use Rattle.model_draw.specs.Orders.{picture_of};
+ghost use Rattle.model_event.specs.Legal.{roll_after};
+ghost use Rattle.model_served.specs.Served.{journal_of};
+ghost use Rattle.model_world.specs.Replay.{marked, outbox};
+ghost use Rattle.r9_hall.specs.Acts.{IsMadeOf};
+ghost use Rattle.r9_hall.specs.HallView.{AllowedNext, IsAsStored, OfHistories, StandsFor, StandsOn, entries};
+ghost use Rattle.r9_hall.specs.Outboxes.{taken};
+ghost use Rattle.r9_hall.specs.WorldView.{world_in};
 
-use crate::state::State;
+use crate::outboxes::{post, waiting_for};
+use crate::world::World;
 use r9_event::{Did, Entry, Event, Notes, Opening, Replies};
 use r9_journal::Roll;
 use r9_memory::Memory;
 use r9_text::Bytes;
 use std::alloc::Global;
+use std::collections::BTreeMap;
 use std::marker::Model;
 
-/// The server: an opening, the journal of what has happened since, and the state to which that led. Contracts see it as
-/// the journal, and whether it is broken: once memory ran out in the middle of an event it takes no event but a Stop.
+/// The server: an opening, what has happened since, and to what that led. It stands for a whole history, whose entries are numbered
+/// from 1, and stores those from the number `first` on; those before were forgotten. Once memory ran out in the middle of an event
+/// it is broken, and takes no event but a Stop.
 #[derive(Drop)]
 pub struct Hall {
     alloc: Global,
-    opening: Opening,
-    entries: Vec<Entry>,
+    pub(crate) world: World,
+    outboxes: BTreeMap<u32, Bytes>,
     roll: Roll,
-    state: State,
-    broken: bool,
+    first: u64,
+    stored: Vec<Entry>,
+    pub(crate) broken: bool,
 }
 
 impl Model for Hall {
@@ -35,26 +42,37 @@ impl Model for Hall {
 
     ghost Value = { HallValue };
 
+    ghost use Rattle.r9_hall.specs.contracts.sessions.Sessions as kept;
+    ghost use Rattle.std.specs.Coded.{codes};
+
+    ghost coded = { Prim.hlevel (codes, kept.the_row.coded) };
+
     ghost view = { value_of };
 
     ghost invariant = { IsHall };
 }
 
-/// Enters an event at the end of a journal that has room for it.
-fn enter(roll: &mut Roll, entries: &mut Vec<Entry>, event: Event) -> Result<(), Memory>
-    requires room { vec_len entries.old < vec_capacity entries.old }
-    requires numbered { AreNumbered 1 entries.old.items }
+/// What an event gave, and the bytes that it took of what waited for its session.
+#[derive(Drop)]
+pub(crate) struct Given {
+    did: Did,
+    pub(crate) taken: Bytes,
+}
+
+/// Enters an event at the end of entries that have room for it, the first of which has this number.
+fn enter(roll: &mut Roll, stored: &mut Vec<Entry>, first: u64, event: Event) -> Result<(), Memory>
+    requires room { vec_len stored.old < vec_capacity stored.old }
+    requires few { first + length stored.old.items < 2 ^ 62 }
     ensures roll { OnOk result (roll.new ≡ roll_after roll.old event) }
-    ensures events { OnOk result (events_of entries.new.items ≡ events_of entries.old.items ++ event ∷ []) }
-    ensures numbered { AreNumbered 1 entries.new.items }
-    ensures len { OnOk result (vec_len entries.new ≡ vec_len entries.old + 1) }
-    ensures capacity { vec_capacity entries.old ≤ vec_capacity entries.new }
-    ensures err { OnErr result ((roll.new ≡ roll.old) × (entries.new.items ≡ entries.old.items) × (vec_len entries.new ≡ vec_len entries.old)) }
+    ensures stored { OnOk result (stored.new.items ≡ stored.old.items ++ record { number = first + length stored.old.items; event = event } ∷ []) }
+    ensures len { OnOk result (vec_len stored.new ≡ vec_len stored.old + 1) }
+    ensures capacity { vec_capacity stored.old ≤ vec_capacity stored.new }
+    ensures err { OnErr result ((roll.new ≡ roll.old) × (stored.new.items ≡ stored.old.items) × (vec_len stored.new ≡ vec_len stored.old)) }
     ensures stop { event ≡ Event.Stop → IsOk result }
 {
     roll.enter(&event)?;
-    let number = entries.len() as u64 + 1;
-    entries.push(Entry { number, event })?;
+    let number = first + stored.len() as u64;
+    stored.push(Entry { number, event })?;
     Ok(())
 }
 
@@ -75,45 +93,84 @@ fn marked(event: Event, short: Option<u32>) -> Event
     }
 }
 
+/// What a Stop gives.
+fn nothing(alloc: Global) -> Given
+    ensures did { result.did ≡ record { replies = []; notes = []; short = None; closed = None } }
+    ensures taken { result.taken ≡ [] }
+{
+    Given {
+        did: Did {
+            replies: Replies::new(alloc),
+            notes: Notes::new(alloc),
+            short: None,
+            closed: None,
+        },
+        taken: Bytes::new(alloc),
+    }
+}
+
 impl Hall {
     /// A hall in which nothing has happened.
     pub fn start(alloc: Global, opening: Opening) -> Result<Self, Memory>
-        ensures { IfOk result (λ hall. hall ≡ record { journal = record { opening = opening; events = [] }; broken = false }) }
+        ensures opening { IfOk result (λ hall. hall.opening ≡ opening) }
+        ensures first { IfOk result (λ hall. hall.first ≡ 1) }
+        ensures whole { IfOk result (λ hall. hall.broken ≡ false) }
+        ensures stands { IfOk result (λ hall. StandsFor hall []) }
     {
-        let mut entries = Vec::new(alloc);
-        entries.reserve(1)?;
-        let state = State::start(alloc, &opening)?;
+        let mut stored = Vec::new(alloc);
+        stored.reserve(1)?;
+        let world = World::start(alloc, opening)?;
         Ok(Hall {
             alloc,
-            opening,
-            entries,
+            world,
+            outboxes: BTreeMap::new(alloc),
             roll: Roll::new(alloc),
-            state,
+            first: 1,
+            stored,
             broken: false,
         })
     }
 
-    /// The entries so far, numbered from 1. They are a legal history, also those of a broken hall.
+    /// The entries that are stored, in order.
     pub fn journal(&self) -> &[Entry]
-        ensures events { events_of result.now ≡ self.now.journal.events }
-        ensures legal { IsLegal self.now.journal.events }
-        ensures numbered { AreNumbered 1 result.now }
+        ensures { result.now ≡ self.now.stored }
     {
-        &self.entries
+        &self.stored
+    }
+
+    /// The number of the first entry that is stored, and 1 more than `entries` where none is.
+    pub fn first(&self) -> u64
+        ensures { result ≡ self.now.first }
+    {
+        self.first
+    }
+
+    /// How many entries the history has, with those that were forgotten.
+    pub fn entries(&self) -> u64
+        ensures count { result ≡ entries self.now }
+        ensures few { result ≤ 2 ^ 61 }
+    {
+        self.first - 1 + self.stored.len() as u64
+    }
+
+    /// Where its memory comes from.
+    pub fn alloc(&self) -> Global {
+        self.alloc
     }
 
     /// The bytes of the replies to a session that no Take has handed out. Nothing is said of a broken hall.
     pub fn outbox(&self, session: u32) -> &[u8]
-        ensures { self.now.broken ≡ false → result.now ≡ outbox self.now.journal session }
+        ensures { OfHistories self.now (λ events. result.now ≡ outbox (journal_of self.now.opening events) session) }
     {
-        self.state.outbox(session)
+        waiting_for(&self.outboxes, session)
     }
 
-    /// The display as an image(6) file. Nothing is said of that of a broken hall.
+    /// The display as an image(6) file, which the file `screen` outside of windows has, too. Nothing is said of that of a broken hall.
     pub fn screen(&self) -> Result<Bytes, Memory>
-        ensures { IfOk result (λ file. self.now.broken ≡ false → file ≡ screen_file (world_at self.now.journal).desktop.device) }
+        ensures file { IfOk result (λ file. self.now.broken ≡ false → file ≡ screen_file (world_in self.now.world).desktop.device) }
+        ensures picture { self.now.broken ≡ false → picture_of (world_in self.now.world).desktop.device 0 ≡ screen_file (world_in self.now.world).desktop.device }
     {
-        self.state.screen()
+        self.world.screen()
     }
 
     /// Whether an event may come next.
@@ -123,38 +180,63 @@ impl Hall {
         self.roll.allows(event) && (!self.broken || matches!(event, Event::Stop))
     }
 
-    /// Makes an event: adds its entry to the journal, and answers what it gave. A data write in which memory ran out has in the
-    /// journal the mark that the answer tells, with which it may come next as well. For want of memory elsewhere the journal stays
-    /// as it was, and the hall is as before or broken. A Stop takes no memory.
-    pub fn event(&mut self, event: Event) -> Result<Did, Memory>
+    /// Makes an event, and gives as well what it took of what waited.
+    pub(crate) fn make(&mut self, event: Event) -> Result<Given, Memory>
         requires can { AllowedNext self.old event }
-        requires room { length self.old.journal.events < 2 ^ 61 }
-        ensures entered { IfOk result (λ did. self.new ≡ entered self.old (marked event did.short)) }
-        ensures allowed { IfOk result (λ did. AllowedNext self.old (marked event did.short)) }
-        ensures replies { IfOk result (λ did. self.old.broken ≡ false → did.replies ≡ (step (world_at self.old.journal) (marked event did.short)).replies) }
-        ensures notes { IfOk result (λ did. self.old.broken ≡ false → did.notes ≡ (step (world_at self.old.journal) (marked event did.short)).notes) }
-        ensures closed { IfOk result (λ did. self.old.broken ≡ false → did.closed ≡ (step (world_at self.old.journal) (marked event did.short)).closed) }
-        // A mark is told only of a write of an open `data` file, where its own mark took effect or the message may want memory.
-        ensures short { IfOk result (λ did. self.old.broken ≡ false → IfSome did.short (λ k. IsCutEvent (world_at self.old.journal) event k)) }
-        // A reply that is the refusal of want of memory tells one.
-        ensures told { IfOk result (λ did. self.old.broken ≡ false → IsWantingEvent (world_at self.old.journal) (marked event did.short) → IsSome did.short) }
-        ensures stop { event ≡ Event.Stop → IfOk result (λ did. (did.replies ≡ []) × (did.notes ≡ []) × (did.short ≡ None) × (did.closed ≡ None)) × IsOk result }
-        ensures err { OnErr result (self.new.journal ≡ self.old.journal) }
+        requires room { entries self.old < 2 ^ 61 }
+        ensures opening { self.new.opening ≡ self.old.opening }
+        ensures first { self.new.first ≡ self.old.first }
+        ensures made { IfOk result (λ given. IsMadeOf self.old event given.did self.new) }
+        ensures taken { IfOk result (λ given. given.taken ≡ taken self.old.outboxes event) }
+        ensures whole { OnOk result (self.new.broken ≡ self.old.broken) }
+        ensures stop { event ≡ Event.Stop → IsOk result }
+        ensures stopped { event ≡ Event.Stop → IfOk result (λ given. given.did ≡ record { replies = []; notes = []; short = None; closed = None }) }
+        ensures err { OnErr result (IsAsStored self.old self.new) }
     {
         if let Event::Stop = event {
-            enter(&mut self.roll, &mut self.entries, event)?;
-            return Ok(Did {
-                replies: Replies::new(self.alloc),
-                notes: Notes::new(self.alloc),
-                short: None,
-                closed: None,
-            });
+            enter(&mut self.roll, &mut self.stored, self.first, event)?;
+            return Ok(nothing(self.alloc));
         }
-        self.entries.reserve(2)?;
+        self.stored.reserve(2)?;
         self.broken = true;
-        let did = self.state.carry_out(self.alloc, &event)?;
-        enter(&mut self.roll, &mut self.entries, marked(event, did.short))?;
+        let did = self.world.step(&event)?;
+        let taken = post(
+            self.alloc,
+            &mut self.outboxes,
+            &event,
+            did.replies.as_slice(),
+        )?;
+        let event = marked(event, did.short);
+        enter(&mut self.roll, &mut self.stored, self.first, event)?;
         self.broken = false;
-        Ok(did)
+        Ok(Given { did, taken })
+    }
+
+    /// Makes an event: its entry is one more in the history, and the answer is what it gave. A data write in which memory ran out has
+    /// in the history the mark that the answer tells, with which it may come next as well. For want of memory elsewhere the history
+    /// stays as it was, and the hall is as before or broken. A Stop takes no memory.
+    pub fn event(&mut self, event: Event) -> Result<Did, Memory>
+        requires can { AllowedNext self.old event }
+        requires room { entries self.old < 2 ^ 61 }
+        ensures opening { self.new.opening ≡ self.old.opening }
+        ensures first { self.new.first ≡ self.old.first }
+        ensures made { IfOk result (λ did. IsMadeOf self.old event did self.new) }
+        ensures whole { OnOk result (self.new.broken ≡ self.old.broken) }
+        ensures stop { event ≡ Event.Stop → IsOk result }
+        ensures stopped { event ≡ Event.Stop → IfOk result (λ did. did ≡ record { replies = []; notes = []; short = None; closed = None }) }
+        ensures err { OnErr result (IsAsStored self.old self.new) }
+    {
+        let given = self.make(event)?;
+        Ok(given.did)
+    }
+
+    /// Forgets all stored entries. The history that the hall stands for stays, and all else. It takes no memory.
+    pub fn forget(&mut self)
+        ensures forgotten { self.new ≡ record self.old { first = entries self.old + 1; stored = [] } }
+        ensures first { self.new.first ≡ self.old.first + length self.old.stored }
+        ensures stands { StandsOn self.old self.new }
+    {
+        self.first += self.stored.len() as u64;
+        self.stored.clear();
     }
 }

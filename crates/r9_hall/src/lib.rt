@@ -1,10 +1,11 @@
-//! The core of the server: a journal of events, and the state in which it ends; and that state alone.
+//! The core of the server: the world to which a history leads, and the hall, which keeps of the history and answers sessions.
 #![tactic(auto)]
 
+mod acts;
 mod hall;
+mod outboxes;
 mod sessions;
 mod settling;
-mod state;
 mod world;
 
 pub use hall::Hall;

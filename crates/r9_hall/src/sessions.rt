@@ -3,6 +3,7 @@
 ghost use Rattle.std.specs.Prelude.{◌≡◌, ◌≤◌, ℕ, [], length, None, Option, IfOk, OnOk, IfSome, IsSome};
 ghost use Rattle.model_text.specs.Map.{lookup};
 ghost use Rattle.model_draw.specs.Files.{screen_file};
+ghost use Rattle.model_draw.specs.Orders.{picture_of};
 ghost use Rattle.model_world.specs.Cut.{IsCutEvent, IsWantingEvent};
 ghost use Rattle.model_world.specs.Desktop.{first_desktop};
 ghost use Rattle.model_world.specs.Links.{AreLinked, IsLinked};
@@ -257,9 +258,10 @@ impl Sessions {
         })
     }
 
-    /// The display as an image(6) file.
+    /// The display as an image(6) file, which the file `screen` outside of windows has, too.
     pub fn screen(&self) -> Result<Bytes, Memory>
-        ensures { IfOk result (λ file. file ≡ screen_file (desktop_of self.now.desktop).device) }
+        ensures file { IfOk result (λ file. file ≡ screen_file (desktop_of self.now.desktop).device) }
+        ensures picture { picture_of (desktop_of self.now.desktop).device 0 ≡ screen_file (desktop_of self.now.desktop).device }
     {
         self.desktop.screen()
     }

@@ -1,7 +1,10 @@
 //! The world, without the history that led to it.
 
-ghost use Rattle.std.specs.Prelude.{◌≡◌, false, IfOk, IfSome, IsSome};
+ghost use Rattle.std.specs.Prelude.{◌≡◌, false, None, option_map, IfOk, IfSome, IsSome};
+ghost use Rattle.std.specs.Option.{option_map_or};
+ghost use Rattle.model_text.specs.Map.{lookup};
 ghost use Rattle.model_draw.specs.Files.{screen_file};
+ghost use Rattle.model_draw.specs.Orders.{picture_of};
 ghost use Rattle.model_world.specs.Cut.{IsCutEvent, IsWantingEvent};
 ghost use Rattle.model_world.specs.Links.{IsNext, begun_after};
 ghost use Rattle.model_world.specs.Replay.{marked, step};
@@ -73,6 +76,7 @@ impl World {
         requires whole { IsWhole event.now }
         requires next { IsNext self.old.begun event.now }
         requires going { self.old.broken ≡ false }
+        ensures opening { self.new.opening ≡ self.old.opening }
         ensures world { IfOk result (λ did. IsStepped self.old (marked event.now did.short) self.new) }
         ensures replies { IfOk result (λ did. did.replies ≡ (step (world_in self.old) (marked event.now did.short)).replies) }
         ensures notes { IfOk result (λ did. did.notes ≡ (step (world_in self.old) (marked event.now did.short)).notes) }
@@ -89,9 +93,37 @@ impl World {
         Ok(did)
     }
 
-    /// The display as an image(6) file.
+    /// How many sessions have begun. Nothing is said of a broken world.
+    pub fn begun(&self) -> u32
+        ensures { result ≡ self.now.begun }
+    {
+        self.begun
+    }
+
+    /// The greatest size in bytes of a session's next message; None where the session does not live.
+    pub fn session_size(&self, session: u32) -> Option<u32>
+        ensures { result ≡ option_map (λ found. found.msize) (lookup (world_in self.now).sessions session) }
+    {
+        match self.sessions.live.get(&session) {
+            Some(found) => Some(found.msize()),
+            None => None,
+        }
+    }
+
+    /// The tag by which a session that lives was closed; None where it is open, or does not live.
+    pub fn closed_by(&self, session: u32) -> Option<u16>
+        ensures { result ≡ option_map_or (λ found. found.closed) (lookup (world_in self.now).sessions session) None }
+    {
+        match self.sessions.live.get(&session) {
+            Some(found) => found.closed(),
+            None => None,
+        }
+    }
+
+    /// The display as an image(6) file, which the file `screen` outside of windows has, too.
     pub fn screen(&self) -> Result<Bytes, Memory>
-        ensures { IfOk result (λ file. file ≡ screen_file (world_in self.now).desktop.device) }
+        ensures file { IfOk result (λ file. file ≡ screen_file (world_in self.now).desktop.device) }
+        ensures picture { picture_of (world_in self.now).desktop.device 0 ≡ screen_file (world_in self.now).desktop.device }
     {
         self.sessions.screen()
     }

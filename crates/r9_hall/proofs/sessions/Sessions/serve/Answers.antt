@@ -1,4 +1,4 @@
-use Rattle.std.proofs.Common.{◌≡◌, ℕ, List, Option, Some, refl, sym, subst}
+use Rattle.std.proofs.Common.{ℕ, List, Option, refl, sym, subst}
 use Rattle.model_text.specs.Map.{lookup}
 use Rattle.model_world.specs.Session.{Session}
 use Rattle.model_world.specs.Sleeping.{stirred}

@@ -1,4 +1,4 @@
-use Rattle.std.proofs.Common.{◌≡◌, ◌+◌, refl, drop, arith}
+use Rattle.std.proofs.Common.{◌+◌, refl, drop, arith}
 use Rattle.std.proofs.lemmas.List.{drop_more}
 use Rattle.std.proofs.Math.ListN.{drop_of_length-le}
 use Rattle.r9_desktop.specs.World.{desktop_of}

@@ -1,11 +1,10 @@
-use Rattle.std.proofs.Common.{◌≡◌, ℕ, Bool, true, false, List, [], ◌∷◌, ◌++◌, not, eqb, length, refl, sym, ap, subst, ◌∙◌, arith}
-use Rattle.std.specs.Prelude.{◌==◌}
+use Rattle.std.proofs.Common.{◌≡◌, ℕ, false, List, [], ◌++◌, refl, sym, ap, subst, ◌∙◌, arith}
 use Rattle.std.proofs.lemmas.List.{append-nil}
 use Rattle.r9_event.specs.declared.rio.Note.{Note}
 use Rattle.model_world.specs.Session.{Session}
 use Rattle.model_world.specs.Sleeping.{may_wake, stirred}
 use Rattle.r9_desktop.specs.World.{desktop_of}
-use Rattle.r9_hall.specs.Settling.{AreWoken, IsSkipped}
+use Rattle.r9_hall.specs.Settling.{AreWoken}
 use Rattle.r9_hall.proofs.Waits.{woken_none, woken_passed, woken_taken}
 use Rattle.r9_hall.proofs.sessions.Sessions.woken.Goals.{then-number-session, else-number-session}
 use Rattle.r9_hall.proofs.sessions.Sessions.woken.Goals as goal

@@ -35,6 +35,7 @@ returns c =
     let event = marked c.args.event.now c.in_ok-did.did.short in
     let turn = c.in_ok-did.ensures.turn opening in
     record {
+      opening = ap (λ (w : WorldValue). w.opening) c.self.view_is;
       world = record {
         world = sym turn.world ∙ ap (λ (w : WorldValue). (step (world_in w) event).world) c.self.view_is;
         begun = turn_begun _ _ c.args.event.now c.in_ok-did.did.short (c.begun_after-self-inside.ensures ∙ ap (λ (w : WorldValue). begun_after w.begun c.args.event.now) c.self.view_is);

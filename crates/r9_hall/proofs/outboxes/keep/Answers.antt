@@ -6,8 +6,8 @@ use Rattle.std.specs.Ordering.{nat_cmp}
 use Rattle.std.specs.Option.{unwrap_or}
 use Rattle.model_text.specs.Map.{is_key}
 use Rattle.model_map.proofs.Maps.{with-others, and-others}
-use Rattle.r9_hall.specs.StateView.{waiting}
-use Rattle.r9_hall.proofs.state.keep.Goals as goal
+use Rattle.r9_hall.specs.Outboxes.{waiting}
+use Rattle.r9_hall.proofs.outboxes.keep.Goals as goal
 
 on_ok : {A E P : Type 0} (r : Result A E) → P → OnOk r P
 on_ok (Ok x) p = p

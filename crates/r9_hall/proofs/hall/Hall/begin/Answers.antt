@@ -1,0 +1,23 @@
+use Rattle.std.proofs.Common.{◌≡◌, ◌+◌, ◌^◌, ◌<◌, false, sym, ap, subst, ◌∙◌, arith}
+use Rattle.r9_event.specs.declared.ask.Ask.TheVariants as ask
+use Rattle.r9_event.specs.declared.ask.Answer.{Answer}
+use Rattle.r9_lock.specs.declared.chronicle.Acted.{Acted}
+use Rattle.r9_hall.specs.Acts.{IsAct}
+use Rattle.r9_hall.specs.HallView.{HallValue}
+use Rattle.r9_hall.proofs.Acting.{all_live_act, gave_up_act, refused}
+use Rattle.r9_hall.proofs.hall.Hall.begin.Goals as goal
+
+pub returns-then-not-can-clause-history : goal.returns-then-not-can-clause-history
+returns-then-not-can-clause-history c =
+    let h = c.args.self.now in
+    let whole : c.self.inside.broken ≡ false = ap (λ (v : HallValue). v.broken) c.self.view_is ∙ c.requires.whole in
+    let begun : c.begun.result ≡ h.roll.begun = c.begun.ensures ∙ c.self.invariant.begun whole ∙ ap (λ (v : HallValue). v.roll.begun) c.self.view_is in
+    let session : c.in-Some.session ≡ h.roll.begun + 1 = omega (arith, begun, c.in-Some.ensures.1) in
+    let fits : c.in-Some.session < 2 ^ 32 = omega (arith, c.in-Some.ensures.0, c.in-Some.ensures.1) in
+    subst (λ (a : Acted Answer). IsAct h ask.Begin a h) (sym c.told-then-not-can.ensures)
+    (all_live_act h c.in-Some.session c.requires.going c.requires.whole session fits (refused c.can.result c.if-not-can.true c.can.ensures.1))
+
+pub returns-in_default-event-clause-history : goal.returns-in_default-event-clause-history
+returns-in_default-event-clause-history c =
+    gave_up_act c.args.self.now c.event.new.self c.give_up.new.self ask.Begin c.give_up.result (λ before after given. given) c.give_up.ensures.answer c.requires.going
+    c.in_default-event.ensures.err c.give_up.ensures.entered

@@ -1,0 +1,191 @@
+//! What a session may ask of the hall in a turn.
+
+ghost use Rattle.std.specs.Prelude.{◌≡◌, ◌<◌, ◌^◌, ◌↔◌, true, false, IsFalse, IsTrue};
+ghost use Rattle.model_text.specs.Map.{lookup};
+ghost use Rattle.r9_event.specs.declared.ask.Ask.{Ask};
+ghost use Rattle.r9_event.specs.declared.ask.Answer.{Answer};
+ghost use Rattle.r9_event.specs.declared.event.Event.{Event};
+ghost use Rattle.r9_hall.specs.Acts.{HasGivenUp, IsAct, IsDone, IsHeard};
+ghost use Rattle.r9_hall.specs.HallView.{StandsForMore, entries};
+ghost use Rattle.r9_hall.specs.WorldView.{world_in};
+
+use crate::hall::Hall;
+use r9_event::{Answer, Ask, Event};
+use r9_lock::Acted;
+use r9_text::Bytes;
+
+/// An answer to an ask that made no event.
+fn told(answer: Answer) -> Acted<Answer>
+    ensures { result ≡ record { answer = answer; entered = false } }
+{
+    Acted {
+        answer,
+        entered: false,
+    }
+}
+
+/// An answer to an ask that made an event.
+fn made(answer: Answer) -> Acted<Answer>
+    ensures { result ≡ record { answer = answer; entered = true } }
+{
+    Acted {
+        answer,
+        entered: true,
+    }
+}
+
+impl Hall {
+    /// Does what a session asks: it makes the event, or for want of memory a Stop, or none. It makes a Stop where the event broke the
+    /// hall, and always where memory ran out in the end of a session. After a Stop each ask is answered by `Memory`.
+    pub fn act(&mut self, ask: Ask) -> Acted<Answer>
+        requires { entries self.old < 2 ^ 61 }
+        ensures opening { self.new.opening ≡ self.old.opening }
+        ensures first { self.new.first ≡ self.old.first }
+        ensures history { IsAct self.old ask result self.new }
+    {
+        if !self.can(&Event::Stop) {
+            return told(Answer::Memory);
+        }
+        if self.broken {
+            return self.stop();
+        }
+        match ask {
+            Ask::Begin => self.begin(),
+            Ask::Msg { session, bytes } => self.hear(session, bytes),
+            Ask::Look { session } => self.look(session),
+            Ask::End { session } => self.end(session),
+        }
+    }
+
+    /// Makes a Stop.
+    fn stop(&mut self) -> Acted<Answer>
+        requires going { IsFalse self.old.roll.stopped }
+        requires room { entries self.old < 2 ^ 61 }
+        ensures opening { self.new.opening ≡ self.old.opening }
+        ensures first { self.new.first ≡ self.old.first }
+        ensures answer { result ≡ record { answer = Answer.Memory; entered = true } }
+        ensures entered { StandsForMore self.old Event.Stop self.new }
+    {
+        let _ = self.event(Event::Stop);
+        made(Answer::Memory)
+    }
+
+    /// After want of memory in an event: makes a Stop where the hall is broken, and else nothing.
+    fn give_up(&mut self) -> Acted<Answer>
+        requires going { IsFalse self.old.roll.stopped }
+        requires room { entries self.old < 2 ^ 61 }
+        ensures opening { self.new.opening ≡ self.old.opening }
+        ensures first { self.new.first ≡ self.old.first }
+        ensures answer { result.answer ≡ Answer.Memory }
+        ensures entered { HasGivenUp self.old self.new result.entered }
+    {
+        if self.broken {
+            return self.stop();
+        }
+        told(Answer::Memory)
+    }
+
+    fn begin(&mut self) -> Acted<Answer>
+        requires going { IsFalse self.old.roll.stopped }
+        requires whole { self.old.broken ≡ false }
+        requires room { entries self.old < 2 ^ 61 }
+        ensures opening { self.new.opening ≡ self.old.opening }
+        ensures first { self.new.first ≡ self.old.first }
+        ensures history { IsAct self.old Ask.Begin result self.new }
+    {
+        let Some(session) = self.world.begun().checked_add(1) else {
+            return told(Answer::Crowded);
+        };
+        let event = Event::Begin { session };
+        if !self.can(&event) {
+            return told(Answer::Crowded);
+        }
+        let Ok(_) = self.event(event) else {
+            return self.give_up();
+        };
+        made(Answer::Began(session))
+    }
+
+    /// The answer to a message that was taken.
+    fn heard(&self, session: u32) -> Answer
+        ensures { IsHeard (lookup (world_in self.now.world).sessions session) result }
+    {
+        match self.world.closed_by(session) {
+            Some(tag) => Answer::Duplicate(tag),
+            None => Answer::Went {
+                msize: self.world.session_size(session).unwrap_or(0),
+            },
+        }
+    }
+
+    fn hear(&mut self, session: u32, bytes: Bytes) -> Acted<Answer>
+        requires going { IsFalse self.old.roll.stopped }
+        requires whole { self.old.broken ≡ false }
+        requires room { entries self.old < 2 ^ 61 }
+        ensures opening { self.new.opening ≡ self.old.opening }
+        ensures first { self.new.first ≡ self.old.first }
+        ensures history { IsAct self.old (Ask.Msg session bytes) result self.new }
+    {
+        let event = Event::Msg {
+            session,
+            bytes,
+            mark: None,
+        };
+        if !self.can(&event) {
+            return told(Answer::Closed);
+        }
+        let Ok(_) = self.event(event) else {
+            return self.give_up();
+        };
+        made(self.heard(session))
+    }
+
+    /// Whether a session that has begun gets no more messages.
+    fn is_done(&self, session: u32) -> bool
+        ensures { IsTrue result ↔ IsDone (lookup (world_in self.now.world).sessions session) }
+    {
+        self.world.session_size(session).is_none() || self.world.closed_by(session).is_some()
+    }
+
+    fn look(&mut self, session: u32) -> Acted<Answer>
+        requires going { IsFalse self.old.roll.stopped }
+        requires whole { self.old.broken ≡ false }
+        requires room { entries self.old < 2 ^ 61 }
+        ensures opening { self.new.opening ≡ self.old.opening }
+        ensures first { self.new.first ≡ self.old.first }
+        ensures history { IsAct self.old (Ask.Look session) result self.new }
+    {
+        let event = Event::Take { session };
+        if !self.can(&event) {
+            return told(Answer::Nothing);
+        }
+        if self.outbox(session).is_empty() {
+            if self.is_done(session) {
+                return told(Answer::Over);
+            }
+            return told(Answer::Nothing);
+        }
+        let Ok(given) = self.make(event) else {
+            return self.give_up();
+        };
+        made(Answer::Taken(given.taken))
+    }
+
+    fn end(&mut self, session: u32) -> Acted<Answer>
+        requires going { IsFalse self.old.roll.stopped }
+        requires whole { self.old.broken ≡ false }
+        requires room { entries self.old < 2 ^ 61 }
+        ensures opening { self.new.opening ≡ self.old.opening }
+        ensures first { self.new.first ≡ self.old.first }
+        ensures history { IsAct self.old (Ask.End session) result self.new }
+    {
+        let event = Event::End { session };
+        if !self.can(&event) {
+            return told(Answer::Closed);
+        }
+        let Ok(_) = self.event(event) else {
+            return self.stop();
+        };
+        made(Answer::Ended)
+    }
+}
