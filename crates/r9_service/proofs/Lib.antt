@@ -1,0 +1,6 @@
+mod Lines
+mod Doors
+mod Ran
+mod Outcomes
+pub mod Whole
+mod Fresh
