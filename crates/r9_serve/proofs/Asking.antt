@@ -5,7 +5,7 @@ use Rattle.r9_event.specs.declared.event.Opening.{Opening}
 use Rattle.r9_opts.specs.declared.job.Job.{Job}
 use Rattle.r9_opts.specs.declared.job.Job.TheVariants.{Replay, Serve, Alone, Gen}
 use Rattle.r9_opts.specs.Asked.{AskFor, texts_of}
-use Rattle.r9_serve.specs.Run.{Ask, AskForReplay}
+use Rattle.r9_serve.specs.Run.{Ask, AskForReplay, AskToServe}
 
 -- the first word is this one
 abbrev begins_with : List ℕ → List (List ℕ) → Bool
@@ -23,15 +23,28 @@ not_both words number (Serve opening listen workers conns, ask, is) made = absur
 not_both words number (Alone opening session, ask, is) made = absurd is
 not_both words number (Gen other, ask, is) made = absurd is
 
--- a command that is not served is no job that is done
-pub serve_alone : (words : List (Bor (List ℕ))) (opening : Opening) (listen : String Global) (workers conns : ℕ) → AskFor (texts_of words) (Serve opening listen workers conns) → (job : Job) → Ask words job → ⊥
-serve_alone words opening listen workers conns serves (Replay shown screen) ask = apart (codes "serve") (codes "replay") (texts_of words) _ _ refl refl serves.begins ask.0.begins
-serve_alone words opening listen workers conns serves (Gen number) ask = apart (codes "serve") (codes "gen") (texts_of words) _ _ refl refl serves.begins ask.0.begins
-serve_alone words opening listen workers conns serves (Serve o l w c) ask = ask.1
-serve_alone words opening listen workers conns serves (Alone o session) ask = ask.1
+pub serve_not_replay : {A : Type 0} (words : List (Bor (List ℕ))) → AskForReplay words → AskToServe words → A
+serve_not_replay words (Replay opening screen, ask, is) (Serve o listen workers conns, asked, serves) = apart (codes "replay") (codes "serve") (texts_of words) _ _ refl refl ask.0.begins asked.0.begins
+serve_not_replay words (Replay opening screen, ask, is) (Replay o s, asked, serves) = absurd serves
+serve_not_replay words (Replay opening screen, ask, is) (Gen number, asked, serves) = absurd serves
+serve_not_replay words (Replay opening screen, ask, is) (Alone o session, asked, serves) = absurd serves
+serve_not_replay words (Serve opening listen workers conns, ask, is) serves = absurd is
+serve_not_replay words (Alone opening session, ask, is) serves = absurd is
+serve_not_replay words (Gen other, ask, is) serves = absurd is
 
+pub serve_not_gen : {A : Type 0} (words : List (Bor (List ℕ))) (number : ℕ) → Ask words (Gen number) → AskToServe words → A
+serve_not_gen words number made (Serve o listen workers conns, asked, serves) = apart (codes "gen") (codes "serve") (texts_of words) _ _ refl refl made.0.begins asked.0.begins
+serve_not_gen words number made (Replay o s, asked, serves) = absurd serves
+serve_not_gen words number made (Gen other, asked, serves) = absurd serves
+serve_not_gen words number made (Alone o session, asked, serves) = absurd serves
+
+-- words that ask to serve
+pub asks_to_serve : (words : List (Bor (List ℕ))) (opening : Opening) (listen : String Global) (workers conns : ℕ) → AskFor (texts_of words) (Serve opening listen workers conns) → AskToServe words
+asks_to_serve words opening listen workers conns asked = (Serve opening listen workers conns, (asked, tt), tt)
+
+-- a command that is not done asks for no job that is
 pub alone_alone : (words : List (Bor (List ℕ))) (opening : Opening) (session : ℕ) → AskFor (texts_of words) (Alone opening session) → (job : Job) → Ask words job → ⊥
 alone_alone words opening session asks (Replay shown screen) ask = apart (codes "alone") (codes "replay") (texts_of words) _ _ refl refl asks.begins ask.0.begins
 alone_alone words opening session asks (Gen number) ask = apart (codes "alone") (codes "gen") (texts_of words) _ _ refl refl asks.begins ask.0.begins
-alone_alone words opening session asks (Serve o l w c) ask = ask.1
+alone_alone words opening session asks (Serve o listen workers conns) ask = apart (codes "alone") (codes "serve") (texts_of words) _ _ refl refl asks.begins ask.0.begins
 alone_alone words opening session asks (Alone o other) ask = ask.1

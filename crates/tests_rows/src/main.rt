@@ -2,20 +2,29 @@
 //! case is two equals signs and a blank, a line that says what it shows, a line with the words of the command, and the input.
 #![tactic(auto)]
 
-use r9_outside::{SureSource, WriteSink};
-use r9_serve::run;
-use std::io;
+use r9_outside::{MemSink, MemSource, Sink, SureDoor, SureSource, WriteSink};
+use r9_serve::{DOORS, run};
+use std::alloc::Global;
+use std::sync::Wait;
+use std::thread::Threads;
+use std::{array, io};
 
-/// Runs a command on its input, and gives its exit status.
-fn run_case(rt: &HostRuntime, command: &str, input: &str) -> io::Result<u8> {
-    let mut words = Vec::new(rt.alloc());
+/// Runs a command on its input, with doors to which nobody comes, and gives its exit status.
+fn run_case<R: Threads + Wait + Sync, O: Sink + Send>(
+    rt: &R,
+    alloc: Global,
+    command: &str,
+    input: &str,
+    out: &mut O,
+    err: &mut O,
+) -> io::Result<u8> {
+    let mut words = Vec::new(alloc);
     for word in command.split(' ') {
         words.push(word)?;
     }
-    let mut input = SureSource::new(input.as_bytes().to_vec(rt.alloc())?);
-    let mut out = WriteSink::new(rt.stdout());
-    let mut err = WriteSink::new(rt.stdout());
-    Ok(run(rt.alloc(), &words, &mut input, &mut out, &mut err).code())
+    let mut input = SureSource::new(input.as_bytes().to_vec(alloc)?);
+    let mut doors: [SureDoor<MemSource, MemSink>; DOORS] = array::from_fn(|_| SureDoor::new(alloc));
+    Ok(run(rt, alloc, &words, &mut input, out, err, &mut doors).code())
 }
 
 fn main(rt: HostRuntime) -> io::Result<()> {
@@ -24,7 +33,9 @@ fn main(rt: HostRuntime) -> io::Result<()> {
         let (title, lines) = case.split_once('\n').unwrap_or((case, ""));
         let (command, input) = lines.split_once('\n').unwrap_or((lines, ""));
         println!(rt; "== {title}")?;
-        let status = run_case(&rt, command, input)?;
+        let mut out = WriteSink::new(rt.stdout());
+        let mut err = WriteSink::new(rt.stdout());
+        let status = run_case(&rt, rt.alloc(), command, input, &mut out, &mut err)?;
         println!(rt; "status {status}")?;
     }
     Ok(())

@@ -1,29 +1,76 @@
+use Rattle.std.proofs.Common.{◌≤◌, ◌⊎◌, inl, inr, ℕ, arith}
+use Rattle.r9_attend.specs.Calls.{told_ends}
+use Rattle.r9_workers.specs.Shifts.{told_doors}
 use Rattle.r9_opts.specs.declared.job.Job.TheVariants.{Gen}
+use Rattle.r9_serve.specs.Run.{Ask}
+use Rattle.r9_serve.proofs.Asking.{serve_not_gen, serve_not_replay}
+use Rattle.r9_serve.proofs.Served.{served_door, served_spent, served_well}
 use Rattle.r9_serve.proofs.Statuses.{done_by, late_by, made_by, refused_by}
 use Rattle.r9_serve.proofs.call.run.Goals as goal
 
+either : {A B C : Type 0} → (B → A) → (C → A) → B ⊎ C → A
+either f g (inl b) = f b
+either f g (inr c) = g c
+
+later : (n a b : ℕ) → n ≤ a → a ≤ b → n ≤ b
+later n a b first then = omega (arith, first, then)
+
+pub returns-clause-serves : goal.returns-clause-serves
+returns-clause-serves g c = λ asks. record {
+  told = c.do_job-ending.result.told;
+  between = _;
+  served = c.do_job-ending.ensures.serves asks;
+  line = c.tell_ending.ensures.line;
+  silent = c.tell_ending.ensures.silent;
+  counted = c.tell_ending.ensures.counted;
+}
+
+pub returns-clause-write_fault : goal.returns-clause-write_fault
+returns-clause-write_fault g c =
+    λ is. either inl (λ rose. inr (rose.0, later _ _ _ rose.1 c.tell_ending.ensures.counted)) (c.do_job-ending.ensures.write_fault is)
+
+pub returns-clause-door_fault : goal.returns-clause-door_fault
+returns-clause-door_fault g c =
+    let job = c.do_job-ending.ensures in
+    let doors = told_doors g.D.Door.ended g.D.Door.over g.D.Door.faults (told_ends g.D.In.Source.left g.D.In.Source.faults g.D.Out.Sink.held g.D.Out.Sink.unflushed g.D.Out.Sink.faults) in
+    λ worker is. (job.serving worker is, served_door doors (Ask c.args.words.now) _ _ _ _ _ _ _ _ (job.serves (job.serving worker is)) worker is)
+
+pub returns-clause-spent : goal.returns-clause-spent
+returns-clause-spent g c =
+    let job = c.do_job-ending.ensures in
+    let doors = told_doors g.D.Door.ended g.D.Door.over g.D.Door.faults (told_ends g.D.In.Source.left g.D.In.Source.faults g.D.Out.Sink.held g.D.Out.Sink.unflushed g.D.Out.Sink.faults) in
+    λ count is. (job.turns count is, served_spent doors (Ask c.args.words.now) _ _ _ _ _ _ _ _ (job.serves (job.turns count is)) count is)
+
 pub returns-clause-complete : goal.returns-clause-complete
 returns-clause-complete g c =
-    let job = c.do_job-status.ensures in
+    let job = c.do_job-ending.ensures in
+    let words = c.args.words.now in
     λ asks input out text events told is.
     done_by _ _ text events told is (λ u. job.usage u asks.0 asks.1) (λ place b. (job.bad_record place b).1) (λ first l. (job.late_record first l).1) (λ r. input (job.read_fault r).1)
-    (λ w. out (job.write_fault w))
+    (λ w. either out (λ serves. serve_not_replay words asks serves.0) (job.write_fault w)) (λ worker d. serve_not_replay words asks (job.serving worker d)) (λ count s. serve_not_replay words asks (job.turns count s))
 
 pub returns-clause-refuses : goal.returns-clause-refuses
 returns-clause-refuses g c =
-    let job = c.do_job-status.ensures in
+    let job = c.do_job-ending.ensures in
     λ asks input text told none.
     refused_by c.args.words.now _ _ _ _ text told none asks (λ u. job.usage u asks.0 asks.1) job.out (λ first l. (job.late_record first l).1) (λ r. input (job.read_fault r).1)
 
 pub returns-clause-late : goal.returns-clause-late
 returns-clause-late g c =
-    let job = c.do_job-status.ensures in
+    let job = c.do_job-ending.ensures in
     λ asks input text first told is.
     late_by c.args.words.now _ _ _ _ text first told is asks (λ u. job.usage u asks.0 asks.1) job.out (λ place b. (job.bad_record place b).1) (λ n l. (job.late_record n l).1)
     (λ r. input (job.read_fault r).1)
 
 pub returns-clause-makes : goal.returns-clause-makes
 returns-clause-makes g c =
-    let job = c.do_job-status.ensures in
-    λ number ask out. made_by c.args.words.now number _ ask (λ u. job.usage u (Gen number) ask) (λ place b. (job.bad_record place b).0) (λ first l. (job.late_record first l).0)
-    (λ r. (job.read_fault r).0) (λ w. out (job.write_fault w))
+    let job = c.do_job-ending.ensures in
+    let words = c.args.words.now in
+    λ number ask out. made_by words number _ ask (λ u. job.usage u (Gen number) ask) (λ place b. (job.bad_record place b).0) (λ first l. (job.late_record first l).0)
+    (λ r. (job.read_fault r).0) (λ w. either out (λ serves. serve_not_gen words number ask serves.0) (job.write_fault w)) job.serving job.turns
+
+pub returns-clause-completes : goal.returns-clause-completes
+returns-clause-completes g c =
+    let job = c.do_job-ending.ensures in
+    let doors = told_doors g.D.Door.ended g.D.Door.over g.D.Door.faults (told_ends g.D.In.Source.left g.D.In.Source.faults g.D.Out.Sink.held g.D.Out.Sink.unflushed g.D.Out.Sink.faults) in
+    λ asks out err steady. served_well doors (Ask c.args.words.now) _ _ _ _ _ _ _ _ (job.serves asks) out (λ rose. err (later _ _ _ rose c.tell_ending.ensures.counted)) steady

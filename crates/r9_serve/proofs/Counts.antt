@@ -1,0 +1,54 @@
+-- A count in words is from 1 to its most.
+use Rattle.std.proofs.Common.{◌≡◌, ◌≤◌, ◌+◌, ◌-◌, ◌*◌, ◌==◌, ◌&&◌, ◌||◌, ℕ, Bool, true, false, refl, subst, List, [], ◌∷◌, codes, length, Some, None, cond, arith}
+use Rattle.std.specs.Prelude.{nat_le, nat_lt}
+use Rattle.std.specs.List.{fold}
+use Rattle.std.specs.Char.{is_ascii_digit}
+use Rattle.std.specs.Str.{all_ascii_digits}
+use Rattle.std.proofs.lemmas.Bool.{eqb-false, leb-true, leb-false}
+use Rattle.model_text.specs.Field.{is_digits, value}
+use Rattle.model_text.specs.Reading.{◌>>=◌}
+use Rattle.r9_event.specs.declared.event.Opening.{Opening}
+use Rattle.model_words.specs.Options.{or, value_of}
+use Rattle.model_words.specs.Values.{counted}
+use Rattle.model_words.specs.Commands.{AsksToServe}
+use Rattle.r9_opts.proofs.Options.{none_some, some_inj}
+
+both : (p q : Bool) → (p && q) ≡ true → (p ≡ true) × (q ≡ true)
+both true q is = (refl, is)
+both false q is = absurd (cc is)
+
+grown : (n : ℕ) (digits : List ℕ) → 1 ≤ n → 1 ≤ fold (λ m digit. 10 * m + (digit - 48)) n digits
+grown n [] is = is
+grown n (digit ∷ digits) is = grown (10 * n + (digit - 48)) digits (omega (arith, is))
+
+reads : (most : ℕ) (digits short zero : Bool) (v n : ℕ) → ((cond (digits && short) (Some v) None) >>= λ m. cond (zero || nat_lt most m) None (Some m)) ≡ Some n
+    → (digits ≡ true) × (zero ≡ false) × (nat_lt most v ≡ false) × (v ≡ n)
+reads most false short zero v n is = none_some n is
+reads most true false zero v n is = none_some n is
+reads most true true true v n is = none_some n is
+reads most true true false v n is = by (nat_lt most v) refl is
+  where
+    by : (b : Bool) → nat_lt most v ≡ b → cond b None (Some v) ≡ Some n → (true ≡ true) × (false ≡ false) × (nat_lt most v ≡ false) × (v ≡ n)
+    by true at none = none_some n none
+    by false at some = (refl, refl, at, some_inj some)
+
+not_below : (m v : ℕ) → nat_lt m v ≡ false → v ≤ m
+not_below m v at = let lower = leb-false _ _ at in omega (arith, lower)
+
+pub counts : (most : ℕ) (text : List ℕ) (n : ℕ) → counted most text ≡ Some n → (1 ≤ n) × (n ≤ most)
+counts most [] n is = none_some n is
+counts most (byte ∷ bytes) n is =
+    let read = reads most (is_digits (byte ∷ bytes)) (nat_le (length (byte ∷ bytes)) 10) (byte == 48) (value (byte ∷ bytes)) n is in
+    let digits = both (nat_le 1 (length (byte ∷ bytes))) (all_ascii_digits (byte ∷ bytes)) read.0 in
+    let digit = both (is_ascii_digit byte) (all_ascii_digits bytes) digits.1 in
+    let low = both (nat_le 48 byte) (nat_le byte 57) digit.0 in
+    let from : 48 ≤ byte = leb-true 48 byte low.0 in
+    let other : byte ≡ 48 → ⊥ = eqb-false byte 48 read.1 in
+    let first : 1 ≤ 10 * 0 + (byte - 48) = omega (arith, from, other) in
+    let least : 1 ≤ value (byte ∷ bytes) = grown (10 * 0 + (byte - 48)) bytes first in
+    let upper : value (byte ∷ bytes) ≤ most = not_below most (value (byte ∷ bytes)) read.2 in
+    (subst (λ (v : ℕ). 1 ≤ v) read.3 least, subst (λ (v : ℕ). v ≤ most) read.3 upper)
+
+-- words that ask to serve name 1 to 16 workers
+pub workers_within : (words : List (List ℕ)) (opening : Opening) (listen : List ℕ) (workers conns : ℕ) → AsksToServe words opening listen workers conns → (1 ≤ workers) × (workers ≤ 16)
+workers_within words opening listen workers conns asked = counts 16 (or (value_of (codes "workers") asked.given) (codes "1")) workers asked.shared
