@@ -1,15 +1,18 @@
 #!/usr/bin/env python3
 """Times `rio9 replay` where much is alive, beside a peer: a plain program with the same words, which is given by its path.
 
-    bench/growth/beside.py PEER [--program PATH] [--only WORD]...
+    bench/growth/beside.py PEER [--program PATH] [--only WORD]... [--instructions]
 
 Wants Python 3 and the built program (`cd crates/rio9 && rt run -- replay < stdin` builds it; --program names another one).
 With --only, only the rows that have one of the words in their name. The replies of both programs have to be equal. It prints
 one table: user seconds, the least of three runs, of both programs, their ratio, and the bar that the ratio is not to pass;
 peak memory of both; and what one message costs with 100,000 images alive beside what it costs with 10, in microseconds of
 user time, for each program. The kernel counts user time in ticks, so what takes less than 20 ms counts as 20 ms in a ratio.
-On a machine that has something else to do the rows of single messages tell little. Status 1 tells that replies differ or
-that a ratio is above its bar, 2 that a word or a file is wrong.
+A machine that has something else to do makes user seconds longer, by half or more, so the rows of single messages run until
+the three least of their runs agree to 5 in 100, at most 15 times; one that never did so is told of as unsteady, and its ratio
+tells little. With --instructions, which wants valgrind, only these rows, by the instructions that a message takes in place of
+its microseconds: they are the same on a machine that is busy, but a miss of a cache or of a branch is not seen in them.
+Status 1 tells that replies differ or that a ratio is above its bar, 2 that a word or a file is wrong.
 """
 import os
 import re
@@ -25,12 +28,13 @@ import formats
 from run import PROGRAM, message, most_memory, number, string
 from times import K1, POINT, WIDE, X8R8G8B8, allocate, draw, rect, topen, walk
 
-ROUNDS = 3
+ROUNDS, MOST_ROUNDS = 3, 15
+STEADY = 1.05  # how much the third least of some runs may be above the least
 PEER_BAR, GROWTH_BAR = 2.0, 1.5
 SMALL, LARGE = ["--size", "64x64"], ["--size", "2048x2048"]
 MOST_OF_A_WRITE = 65000
 FULL, COLOUR, FIRST = 1, 2, 10  # image ids: the full mask, a colour, and the first of those that are made in numbers
-FEW, MANY, REPEATS = 10, 100_000, 400_000
+FEW, MANY, REPEATS, COUNTED_REPEATS = 10, 100_000, 400_000, 20_000
 LEAST_SECONDS = 0.02  # what the ticks can tell
 
 
@@ -148,8 +152,12 @@ def alive(count):
     return begin(1) + writes(1, PALETTE + [tie(1, b"tied")] + images(count))
 
 
-def repeated(messages):
-    return writes(1, (again for i in range(REPEATS) for again in messages(i)))
+def repeated(messages, times):
+    return writes(1, (again for i in range(times) for again in messages(i)))
+
+
+def record_of(lines):
+    return b"\n".join([b"rio9 1", *lines, b""])
 
 
 # Runs.
@@ -173,6 +181,16 @@ def run(program, words, text):
         return usage.ru_utime, memory, out.read()
 
 
+def instructions(program, text):
+    """How many instructions a run takes, and its output."""
+    words = ["valgrind", "--tool=cachegrind", "--cache-sim=no", "--cachegrind-out-file=/dev/null", program, "replay", *SMALL]
+    ended = subprocess.run(words, input=text, capture_output=True, check=False)
+    told = re.search(rb"I +refs: +([0-9,]+)", ended.stderr)
+    if ended.returncode != 0 or not told:
+        raise Differ(f"{program} ended with status {ended.returncode} under valgrind")
+    return int(told[1].replace(b",", b"")), ended.stdout
+
+
 class Differ(Exception):
     """The programs do not answer the same, or do not answer what is asked."""
 
@@ -182,26 +200,37 @@ class Best:
 
     def __init__(self, programs, lines, words=SMALL):
         self.programs, self.words = programs, words
-        self.text = b"\n".join([b"rio9 1", *lines, b""])
-        self.seconds, self.memory = [float("inf")] * 2, [0, 0]
+        self.text = record_of(lines)
+        self.runs, self.memory = [[], []], [0, 0]
 
     def round(self):
         outputs = []
         for which, program in enumerate(self.programs):
             seconds, memory, out = run(program, self.words, self.text)
-            self.seconds[which] = min(self.seconds[which], seconds)
+            self.runs[which].append(seconds)
             self.memory[which] = max(self.memory[which], memory)
             outputs.append(out)
         compare(*outputs)
+
+    @property
+    def seconds(self):
+        return [min(runs) for runs in self.runs]
+
+    def is_steady(self):
+        """Whether the three least runs of each program agree, or differ by less than the ticks can tell."""
+        leasts = [sorted(runs)[:3] for runs in self.runs]
+        return all(third <= max(STEADY * least, least + LEAST_SECONDS) for least, _, third in leasts)
 
     def beyond(self, other):
         """How much longer both programs took than on another record."""
         return [max(0.0, mine - theirs) for mine, theirs in zip(self.seconds, other.seconds)]
 
 
-def in_turn(*records):
-    """Runs records in turn, so that what else the machine does meets all of them."""
-    for _ in range(ROUNDS):
+def in_turn(*records, most=ROUNDS):
+    """Runs records in turn, so that what else the machine does meets all of them: so often, or until all are steady."""
+    for done in range(most):
+        if done >= ROUNDS and all(record.is_steady() for record in records):
+            break
         for record in records:
             record.round()
     return records
@@ -225,11 +254,11 @@ class Table:
         self.is_within = True
         print(f"{'':<64} {'rio9':>10} {'peer':>10} {'ratio':>7} {'bar':>5}")
 
-    def row(self, name, form, ours, theirs, bar, least=0.0):
+    def row(self, name, form, ours, theirs, bar, least=0.0, note=""):
         ratio = max(ours, least) / max(theirs, least)
         over = bar is not None and ratio > bar
         self.is_within = self.is_within and not over
-        told = "" if bar is None else f"{bar:5.1f}{'  above it' if over else ''}"
+        told = ("" if bar is None else f"{bar:5.1f}{'  above it' if over else ''}") + note
         print(f"{name:<64} {form(ours):>10} {form(theirs):>10} {ratio:7.2f} {told}".rstrip(), flush=True)
 
     def heading(self, measured, beside):
@@ -246,6 +275,10 @@ def megabytes_of(value):
 
 def microseconds_of(value):
     return f"{value:.3f} us"
+
+
+def instructions_of(value):
+    return f"{value:,.0f}"
 
 
 WHOLE_RUNS = [
@@ -270,20 +303,39 @@ def compare_with_peer(table, programs, wanted):
         table.row("peak memory of 1,000 fonts of 4,096 characters", megabytes_of, *best.memory, None)
 
 
-def compare_few_and_many(table, programs, wanted):
-    chosen = {name: messages for name, messages in AGAIN.items() if wanted(name)}
-    if not chosen:
-        return
-    table.heading(f"{MANY:,}", f"{FEW:,}")
+def rows_of_growth(table, name, form, costs, least=0.0, note=""):
+    """What a message costs where many images are alive beside where few are, of both programs."""
+    for who, bar, one, other in zip(("rio9", "the peer"), (GROWTH_BAR, None), *costs):
+        table.row(f"{name}, by {who}, by the images alive", form, one, other, bar, least, note)
+
+
+def compare_few_and_many(table, programs, chosen):
     before = [alive(count) for count in (MANY, FEW)]
-    many_alone, few_alone = in_turn(*[Best(programs, lines) for lines in before])
+    many_alone, few_alone = in_turn(*[Best(programs, lines) for lines in before], most=MOST_ROUNDS)
     for name, messages in chosen.items():
-        again = repeated(messages)
-        many, few = in_turn(*[Best(programs, lines + again) for lines in before])
+        again = repeated(messages, REPEATS)
+        many, few = in_turn(*[Best(programs, lines + again) for lines in before], most=MOST_ROUNDS)
         costs = [[seconds / REPEATS * 1e6 for seconds in both] for both in (many.beyond(many_alone), few.beyond(few_alone))]
-        for who, bar, one, other in zip(("rio9", "the peer"), (GROWTH_BAR, None), *costs):
-            told = f"{name}, by {who}, by the images alive"
-            table.row(told, microseconds_of, one, other, bar, LEAST_SECONDS / REPEATS * 1e6)
+        steady = all(record.is_steady() for record in (many_alone, few_alone, many, few))
+        note = "" if steady else "  unsteady"
+        rows_of_growth(table, name, microseconds_of, costs, LEAST_SECONDS / REPEATS * 1e6, note)
+
+
+def counted(programs, lines):
+    """The instructions of both programs on a record; their replies are compared."""
+    (ours, our_out), (theirs, their_out) = [instructions(program, record_of(lines)) for program in programs]
+    compare(our_out, their_out)
+    return ours, theirs
+
+
+def count_few_and_many(table, programs, chosen):
+    before = [alive(count) for count in (MANY, FEW)]
+    alone = [counted(programs, lines) for lines in before]
+    for name, messages in chosen.items():
+        again = repeated(messages, COUNTED_REPEATS)
+        whole = [counted(programs, lines + again) for lines in before]
+        costs = [[(of - without) / COUNTED_REPEATS for of, without in zip(*both)] for both in zip(whole, alone)]
+        rows_of_growth(table, name, instructions_of, costs)
 
 
 def main(words):
@@ -291,6 +343,7 @@ def main(words):
     parser.add_argument("peer", help="the path of the peer")
     parser.add_argument("--program", default=PROGRAM, help="another program than the built one")
     parser.add_argument("--only", action="append", metavar="WORD", help="only the rows that have this in their name")
+    parser.add_argument("--instructions", action="store_true", help="only the rows of single messages, by instructions")
     options = parser.parse_args(words)
     programs = [options.program, options.peer]
     for program in programs:
@@ -301,9 +354,13 @@ def main(words):
     def wanted(name):
         return options.only is None or any(word in name for word in options.only)
 
+    chosen = {name: messages for name, messages in AGAIN.items() if wanted(name)}
     try:
-        compare_with_peer(table, programs, wanted)
-        compare_few_and_many(table, programs, wanted)
+        if not options.instructions:
+            compare_with_peer(table, programs, wanted)
+        if chosen:
+            table.heading(f"{MANY:,}", f"{FEW:,}")
+            (count_few_and_many if options.instructions else compare_few_and_many)(table, programs, chosen)
     except Differ as error:
         sys.stderr.write(f"beside.py: {error}\n")
         return 1
