@@ -4,6 +4,7 @@ use Rattle.std.specs.Prelude.{Bool, IsSome, find, filter, min, slice_index_or, s
 use Rattle.std.proofs.lemmas.List.{get_or_default}
 use Rattle.std.proofs.lemmas.List.Sums.{length-filter, count_by-le-length}
 use Rattle.r9_sorted.specs.declared.key.Key.{Key}
+use Rattle.r9_sorted.specs.declared.piece.TheConstants.{MOST}
 use Rattle.r9_sorted.specs.Pieces.{joined, AreFilled, place, slot}
 use Rattle.r9_sorted.specs.Rows.{has_key, without_key, first_from, set_row, Ascend}
 use Rattle.r9_sorted.proofs.Pieced.{first-in-place, find-in, find-in-place, found-in-place, filled-at, filled-set, remove-in-place, set-in-place, slot-is}
@@ -34,7 +35,7 @@ module _ {T : Type 0} (key_of : T → Key) where
   pub absent-in : (k : Key) (ps : List (List T)) (at : ℕ) (p : List T) → at < length ps → p ≡ slice_index_or ps at p → find (has_key key_of k) (joined ps) ≡ None → find (has_key key_of k) p ≡ None
   absent-in k ps at p l here none = ap (find (has_key key_of k)) (at-place ps at at p refl l here) ∙ find-in (has_key key_of k) ps at l none
 
-  pub fits-in : (ps : List (List T)) (at : ℕ) (p : List T) → at < length ps → p ≡ slice_index_or ps at p → AreFilled ps → length p < 256
+  pub fits-in : (ps : List (List T)) (at : ℕ) (p : List T) → at < length ps → p ≡ slice_index_or ps at p → AreFilled ps → length p < MOST
   fits-in ps at p l here filled =
       let same : length p ≡ length (slice_index_or ps at []) = ap length (at-place ps at at p refl l here) in
       let few = filled-at ps at filled l in
@@ -59,7 +60,7 @@ module _ {T : Type 0} (key_of : T → Key) where
       ∙ ap (λ (r : List T). joined (slice_set ps (place key_of k ps) r)) (made ∙ ap (without_key key_of k) (at-place ps at (place key_of k ps) p is l here))
       ∙ remove-in-place key_of k ps a less
 
-  pub removed-few : (k : Key) (ps : List (List T)) (at : ℕ) (p q : List T) → at < length ps → p ≡ slice_index_or ps at p → AreFilled ps → q ≡ without_key key_of k p → length q < 256
+  pub removed-few : (k : Key) (ps : List (List T)) (at : ℕ) (p q : List T) → at < length ps → p ≡ slice_index_or ps at p → AreFilled ps → q ≡ without_key key_of k p → length q < MOST
   removed-few k ps at p q l here filled made =
       let few = fits-in ps at p l here filled in
       let fewer : length q ≤ length p = subst (λ (r : List T). length r ≤ length p) (sym made) (length-filter-le _ p) in

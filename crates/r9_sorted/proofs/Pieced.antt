@@ -11,6 +11,7 @@ use Rattle.std.proofs.lemmas.List.{append-nil, append_assoc}
 use Rattle.std.proofs.lemmas.List.Folds.{find-append, list_any-append}
 use Rattle.std.proofs.lemmas.List.Elements.{filter-append}
 use Rattle.r9_sorted.specs.declared.key.Key.{Key}
+use Rattle.r9_sorted.specs.declared.piece.TheConstants.{MOST}
 use Rattle.r9_sorted.specs.Order.{comes_before}
 use Rattle.r9_sorted.specs.Pieces.{joined, AreFilled, ends_before, leading, place, slot}
 use Rattle.r9_sorted.specs.Rows.{has_key, is_before, put_in_order, without_key, first_from, set_row, AreAfter, Ascend}
@@ -283,17 +284,17 @@ joined-split [] i low high l both = absurd (omega (arith, l))
 joined-split (p ∷ ps) zero low high l both = sym (append_assoc low high (joined ps)) ∙ ap (λ ys. ys ++ joined ps) both
 joined-split (p ∷ ps) (suc i) low high l both = ap (λ ys. p ++ ys) (joined-split ps i low high (omega (arith, l)) both)
 
-pub filled-at : {X : Type 0} (ps : List (List X)) (i : ℕ) → AreFilled ps → i < length ps → (0 < length (slice_index_or ps i [])) × (length (slice_index_or ps i []) < 256)
+pub filled-at : {X : Type 0} (ps : List (List X)) (i : ℕ) → AreFilled ps → i < length ps → (0 < length (slice_index_or ps i [])) × (length (slice_index_or ps i []) < MOST)
 filled-at [] i filled l = absurd (omega (arith, l))
 filled-at (p ∷ ps) zero filled l = (filled.0, filled.1)
 filled-at (p ∷ ps) (suc i) filled l = filled-at ps i filled.2 (omega (arith, l))
 
-pub filled-set : {X : Type 0} (ps : List (List X)) (i : ℕ) (p : List X) → AreFilled ps → 0 < length p → length p < 256 → AreFilled (slice_set ps i p)
+pub filled-set : {X : Type 0} (ps : List (List X)) (i : ℕ) (p : List X) → AreFilled ps → 0 < length p → length p < MOST → AreFilled (slice_set ps i p)
 filled-set [] i p filled some few = tt
 filled-set (q ∷ qs) zero p filled some few = (some, few, filled.2)
 filled-set (q ∷ qs) (suc i) p filled some few = (filled.0, filled.1, filled-set qs i p filled.2 some few)
 
-pub filled-insert : {X : Type 0} (ps : List (List X)) (i : ℕ) (p : List X) → i ≤ length ps → AreFilled ps → 0 < length p → length p < 256 → AreFilled (insert ps i p)
+pub filled-insert : {X : Type 0} (ps : List (List X)) (i : ℕ) (p : List X) → i ≤ length ps → AreFilled ps → 0 < length p → length p < MOST → AreFilled (insert ps i p)
 filled-insert ps zero p l filled some few = (some, few, filled)
 filled-insert [] (suc i) p l filled some few = absurd (omega (arith, l))
 filled-insert (q ∷ qs) (suc i) p l filled some few = (filled.0, filled.1, filled-insert qs i p (omega (arith, l)) filled.2 some few)

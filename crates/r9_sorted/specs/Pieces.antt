@@ -2,6 +2,7 @@
 use Rattle.std.specs.Prelude.{◌≡◌, ℕ, zero, suc, ◌<◌, Bool, cond, List, [], ◌∷◌, length, Option, is_some, nat_lt, ◌&&◌, IfSome}
 use Rattle.std.specs.List.{list_all, flat_map}
 use Rattle.r9_sorted.specs.declared.key.Key.{Key}
+use Rattle.r9_sorted.specs.declared.piece.TheConstants.{MOST}
 use Rattle.r9_sorted.specs.Rows.{is_before}
 
 abbrev pub joined : {T : Type 0} → List (List T) → List T
@@ -10,7 +11,7 @@ joined pieces = flat_map (λ piece. piece) pieces
 -- a piece among others: it is not empty, and has place for one more row
 abbrev pub AreFilled : {T : Type 0} → List (List T) → Type 0
 AreFilled [] = Unit {0}
-AreFilled (p ∷ ps) = (0 < length p) × (length p < 256) × AreFilled ps
+AreFilled (p ∷ ps) = (0 < length p) × (length p < MOST) × AreFilled ps
 
 -- how many pass a test, from the front on
 abbrev pub leading : {X : Type 0} → (X → Bool) → List X → ℕ

@@ -10,7 +10,9 @@ use std::alloc::Global;
 use std::marker::Model;
 
 // How many rows a piece has place for. One that has so many splits.
-const MOST: usize = 256;
+pub(crate) const MOST: usize = 64;
+// How many rows stay where it splits.
+pub(crate) const HALF: usize = MOST / 2;
 
 #[derive(Drop)]
 pub(crate) struct Piece<T: Keyed> {
@@ -20,12 +22,13 @@ pub(crate) struct Piece<T: Keyed> {
 impl<T: Keyed> Model for Piece<T> {
     ghost use Rattle.std.specs.Prelude.{List, vec_capacity, length, ◌≤◌};
     ghost use Rattle.r9_sorted.specs.Rows.{Ascend};
+    ghost use Rattle.r9_sorted.specs.declared.piece.TheConstants.{MOST};
 
     ghost Value = { List T };
 
     ghost view = { λ p. p.rows.items };
 
-    ghost invariant = { λ p. Ascend T.key_of p.rows.items × (256 ≤ vec_capacity p.rows) };
+    ghost invariant = { λ p. Ascend T.key_of p.rows.items × (MOST ≤ vec_capacity p.rows) };
 }
 
 impl<T: Keyed> Piece<T> {
@@ -44,7 +47,7 @@ impl<T: Keyed> Piece<T> {
     }
 
     pub(crate) fn is_full(&self) -> bool
-        ensures { result ≡ (length self.now == 256) }
+        ensures { result ≡ (length self.now == MOST) }
     {
         self.rows.len() == MOST
     }
@@ -78,7 +81,7 @@ impl<T: Keyed> Piece<T> {
 
     pub(crate) fn put(&mut self, row: T)
         requires absent { find (has_key T.key_of (T.key_of row)) self.old ≡ None }
-        requires room { length self.old < 256 }
+        requires room { length self.old < MOST }
         ensures { self.new ≡ put_in_order T.key_of row self.old }
     {
         let at = self.place(row.key());
@@ -108,15 +111,15 @@ impl<T: Keyed> Piece<T> {
 
     // Moves its upper half into an empty piece.
     pub(crate) fn split(&mut self, upper: &mut Piece<T>)
-        requires whole { length self.old ≡ 256 }
+        requires whole { length self.old ≡ MOST }
         requires empty { upper.old ≡ [] }
-        ensures lower { self.new ≡ take 128 self.old }
-        ensures upper { upper.new ≡ drop 128 self.old }
+        ensures lower { self.new ≡ take HALF self.old }
+        ensures upper { upper.new ≡ drop HALF self.old }
     {
-        match upper.rows.extend_from_slice(&self.rows[MOST / 2..]) {
+        match upper.rows.extend_from_slice(&self.rows[HALF..]) {
             Ok(()) => {}
             Err(_) => unreachable!(),
         }
-        self.rows.truncate(MOST / 2);
+        self.rows.truncate(HALF);
     }
 }

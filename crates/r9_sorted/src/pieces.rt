@@ -4,6 +4,7 @@ ghost use Rattle.std.specs.Prelude.{◌≡◌, ◌+◌, ◌<◌, ◌≤◌, [], 
 ghost use Rattle.std.specs.List.{insert};
 ghost use Rattle.r9_sorted.specs.Rows.{Ascend, has_key, first_from, put_in_order, without_key, set_row};
 ghost use Rattle.r9_sorted.specs.Pieces.{AreFilled, joined, place, slot};
+ghost use Rattle.r9_sorted.specs.declared.piece.TheConstants.{HALF, MOST};
 
 use crate::key::{Key, Keyed};
 use crate::piece::Piece;
@@ -96,10 +97,10 @@ pub(crate) fn put_first<T: Keyed>(pieces: &mut Vec<Piece<T>>, spare: &mut Option
 // Moves the upper half of a full piece into the one that was kept, which follows it then.
 pub(crate) fn split<T: Keyed>(pieces: &mut Vec<Piece<T>>, at: usize, spare: &mut Option<Piece<T>>)
     requires within { at < vec_len pieces.old }
-    requires full { length (slice_index_or pieces.old.items at []) ≡ 256 }
+    requires full { length (slice_index_or pieces.old.items at []) ≡ MOST }
     requires room { vec_len pieces.old < vec_capacity pieces.old }
     requires kept { spare.old ≡ Some [] }
-    ensures pieces { pieces.new.items ≡ insert (slice_set pieces.old.items at (take 128 (slice_index_or pieces.old.items at []))) (suc at) (drop 128 (slice_index_or pieces.old.items at [])) }
+    ensures pieces { pieces.new.items ≡ insert (slice_set pieces.old.items at (take HALF (slice_index_or pieces.old.items at []))) (suc at) (drop HALF (slice_index_or pieces.old.items at [])) }
     ensures spare { spare.new ≡ None }
 {
     let Some(mut upper) = spare.take() else {

@@ -10,7 +10,7 @@ use r9_memory::Memory;
 use std::alloc::Global;
 use std::marker::Model;
 
-/// Rows in ascending order of their keys, each key once. They lie in pieces of fewer than 256 rows: a row is found by halving
+/// Rows in ascending order of their keys, each key once. They lie in pieces of fewer than 64 rows: a row is found by halving
 /// over the pieces and then within one, and one that comes or goes moves the rows of one piece and, rarely, the list of the
 /// pieces.
 #[derive(Drop)]

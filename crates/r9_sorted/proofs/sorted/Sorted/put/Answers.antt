@@ -1,5 +1,6 @@
 use Rattle.std.proofs.Common.{◌≡◌, ◌+◌, ◌<◌, List, [], None, Option, find, length, false, sym, ap, subst, ◌∙◌, arith}
 use Rattle.std.specs.Prelude.{◌==◌, IfSome, slice_index_or}
+use Rattle.r9_sorted.specs.declared.piece.TheConstants.{MOST}
 use Rattle.r9_sorted.specs.Rows.{Rows, Ascend, has_key, put_in_order}
 use Rattle.r9_sorted.specs.Pieces.{joined}
 use Rattle.r9_sorted.proofs.Ascending.{ascend-put, length-put}
@@ -71,7 +72,7 @@ invariant_of-self-else-is_full g c =
     let rows : joined ps ≡ c.args.self.now.rows = ap (λ (v : Rows _). v.rows) c.self.view_is in
     let absent : find (has_key key_of (key_of c.args.row)) (joined ps) ≡ None = ap (find (has_key key_of (key_of c.args.row))) rows ∙ c.requires.absent in
     let done : joined qs ≡ put_in_order key_of c.args.row (joined ps) = put-rows key_of c.args.row ps qs c.put_among-at.result some absent c.put_among-at.ensures.place c.put_among-at.ensures.pieces in
-    let few : (length (slice_index_or qs c.put_among-at.result []) == 256) ≡ false =
+    let few : (length (slice_index_or qs c.put_among-at.result []) == MOST) ≡ false =
     full-is qs c.put_among-at.result c.index.result.now within c.index.ensures ∙ sym c.is_full.ensures ∙ c.if-is_full.false in (
       subst (λ (xs : List _). Ascend key_of xs) (sym done) (ascend-put key_of c.args.row (joined ps) c.self.invariant.0 absent),
       record {
@@ -92,7 +93,7 @@ invariant_of-self-then-is_full g c =
     let rows : joined ps ≡ c.args.self.now.rows = ap (λ (v : Rows _). v.rows) c.self.view_is in
     let absent : find (has_key key_of (key_of c.args.row)) (joined ps) ≡ None = ap (find (has_key key_of (key_of c.args.row))) rows ∙ c.requires.absent in
     let done : joined qs ≡ put_in_order key_of c.args.row (joined ps) = put-rows key_of c.args.row ps qs c.put_among-at.result some absent c.put_among-at.ensures.place c.put_among-at.ensures.pieces in
-    let full : length (slice_index_or qs c.put_among-at.result []) ≡ 256 =
+    let full : length (slice_index_or qs c.put_among-at.result []) ≡ MOST =
     whole-is _ (full-is qs c.put_among-at.result c.index.result.now within c.index.ensures ∙ sym c.is_full.ensures ∙ c.if-is_full.true) in
     let same : joined c.split.new.pieces.items ≡ put_in_order key_of c.args.row (joined ps) =
     split-rows key_of qs c.split.new.pieces.items c.put_among-at.result within c.split.ensures.pieces ∙ done in (
