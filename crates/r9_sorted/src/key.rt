@@ -17,10 +17,13 @@ impl Key {
     pub fn comes_before(self, other: Key) -> bool
         ensures { result ≡ comes_before self other }
     {
-        self.first < other.first
-            || self.first == other.first
-                && (self.second < other.second
-                    || self.second == other.second && self.third < other.third)
+        if self.first != other.first {
+            return self.first < other.first;
+        }
+        if self.second != other.second {
+            return self.second < other.second;
+        }
+        self.third < other.third
     }
 
     /// Whether it is the other.
