@@ -39,11 +39,8 @@ fn take(rows: &mut Sorted<Size>, id: u32) -> u32
     ensures sum { total_of rows.new.rows + result ≡ total_of rows.old.rows }
     ensures room { rows.old.room ≤ rows.new.room }
 {
-    match rows.get(key_of_id(id)) {
-        Some(row) => {
-            rows.remove(key_of_id(id));
-            row.size
-        }
+    match rows.remove(key_of_id(id)) {
+        Some(row) => row.size,
         None => 0,
     }
 }

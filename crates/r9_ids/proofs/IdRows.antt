@@ -1,7 +1,6 @@
 -- Ids as rows, which ascend by the connection and then by the id.
 use Rattle.std.proofs.Common.{◌≡◌, ℕ, Bool, true, false, List, [], ◌∷◌, Option, Some, None, refl, sym, ap, subst, ◌∙◌, arith}
 use Rattle.std.proofs.lemmas.Bool.Decides.{nat_tests}
-use Rattle.r9_sorted.proofs.Ascending.{none-kept}
 use Rattle.std.specs.Prelude.{not, ◌==◌, ◌&&◌, find, filter, map, option_map, if◌then◌else◌, IfSome}
 use Rattle.model_images.specs.Book.{comes_before as model_before}
 use Rattle.r9_sorted.specs.declared.key.Key.{Key}
@@ -142,9 +141,6 @@ module _ {T E : Type 0} (kind : Kind T E) where
       let P : List E → Type 0 = λ es. IfSome (find (is_id client id) es) (λ e. kind.put_id e (entries left) ≡ es) in
       let Q : List T → Type 0 = λ rs. IfSome (find (is_id client id) (entries rows)) (λ e. kind.put_id e (entries rs) ≡ entries rows) in
       subst P view (subst Q (sym (h ∙ ap (λ (j : Key). without_key key_in j rows) is)) (back client id rows a))
-
-  pub kept-done : (client id : ℕ) (ids : List E) → None ≡ find (is_id client id) ids → ids ≡ filter (λ e. not (is_id client id e)) ids
-  kept-done client id ids h = sym (none-kept (is_id client id) ids (sym h))
 
   pub own-rest : (c : ℕ) (rows : List T) (row : T) (ids : List E) → entries rows ≡ ids → Ascend key_in rows → first_from key_in (key c 0 0) rows ≡ Some row
       → (client_in row == c) ≡ true → filter (λ e. kind.client e == c) ids ≡ kind.entry row ∷ filter (λ e. kind.client e == c) (filter (λ e. not (is_id (client_in row) (id_in row) e)) ids)

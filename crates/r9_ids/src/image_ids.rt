@@ -127,12 +127,6 @@ impl ImageIds {
         ensures room { self.old.room ≤ self.new.room }
         ensures back { IfSome (find (is_image_id client id) self.old.ids) (λ e. put_image_id e self.new.ids ≡ self.old.ids) }
     {
-        let key = key_of_id(client, id);
-        match self.rows.get(key) {
-            Some(_) => {
-                let _ = self.rows.remove(key);
-            }
-            None => {}
-        }
+        let _ = self.rows.remove(key_of_id(client, id));
     }
 }

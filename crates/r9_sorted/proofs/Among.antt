@@ -47,10 +47,13 @@ module _ {T : Type 0} (key_of : T → Key) where
       let less : place key_of k ps < length ps = found-in-place key_of k ps found.0 found.1 in
       omega (arith, is, less)
 
-  pub there-in : (k : Key) (ps : List (List T)) (at : ℕ) (p : List T) → Ascend key_of (joined ps) → at ≡ place key_of k ps → at < length ps → p ≡ slice_index_or ps at p → IsSome (find (has_key key_of k) (joined ps)) → IsSome (find (has_key key_of k) p)
-  there-in k ps at p a is l here there =
+  pub found-in : (k : Key) (ps : List (List T)) (at : ℕ) (p : List T) → Ascend key_of (joined ps) → at ≡ place key_of k ps → at < length ps → p ≡ slice_index_or ps at p → find (has_key key_of k) (joined ps) ≡ find (has_key key_of k) p
+  found-in k ps at p a is l here =
       let less : place key_of k ps < length ps = omega (arith, is, l) in
-      subst (λ (o : Option T). IsSome o) (find-in-place key_of k ps a less ∙ ap (find (has_key key_of k)) (sym (at-place ps at (place key_of k ps) p is l here))) there
+      find-in-place key_of k ps a less ∙ ap (find (has_key key_of k)) (sym (at-place ps at (place key_of k ps) p is l here))
+
+  pub there-in : (k : Key) (ps : List (List T)) (at : ℕ) (p : List T) → Ascend key_of (joined ps) → at ≡ place key_of k ps → at < length ps → p ≡ slice_index_or ps at p → IsSome (find (has_key key_of k) (joined ps)) → IsSome (find (has_key key_of k) p)
+  there-in k ps at p a is l here there = subst (λ (o : Option T). IsSome o) (found-in k ps at p a is l here) there
 
   pub removed-rows : (k : Key) (ps : List (List T)) (at : ℕ) (p q : List T) → Ascend key_of (joined ps) → at ≡ place key_of k ps → at < length ps → p ≡ slice_index_or ps at p → q ≡ without_key key_of k p
       → joined (slice_set ps at q) ≡ without_key key_of k (joined ps)

@@ -1,12 +1,13 @@
 -- What the calls of a piece find and change.
-use Rattle.std.proofs.Common.{◌≡◌, ℕ, ◌-◌, ◌<◌, List, [], ◌∷◌, ◌++◌, length, take, drop, Option, Some, None, refl, sym, ap, subst, ◌∙◌, arith}
+use Rattle.std.proofs.Common.{◌≡◌, ℕ, true, false, ◌-◌, ◌<◌, List, [], ◌∷◌, ◌++◌, length, take, drop, Option, Some, None, refl, sym, ap, subst, ◌∙◌, arith}
 use Rattle.std.specs.Prelude.{IsSome, find, slice_index_or, slice_set}
 use Rattle.std.specs.List.{insert, remove}
 use Rattle.std.proofs.lemmas.List.{take_all, take-append-drop, length-drop}
 use Rattle.r9_sorted.specs.declared.key.Key.{Key}
+use Rattle.r9_sorted.specs.Order.{is_key}
 use Rattle.r9_sorted.specs.Pieces.{ends_before, place_in}
 use Rattle.r9_sorted.specs.Rows.{has_key, is_before, put_in_order, without_key, first_from, set_row, Ascend}
-use Rattle.r9_sorted.proofs.Ascending.{first-at, put-here, remove-here, set-here, ascend-append}
+use Rattle.r9_sorted.proofs.Ascending.{first-at, found-is, found-other, put-here, remove-here, set-here, ascend-append}
 use Rattle.r9_sorted.proofs.Pieced.{ends-last}
 
 module _ {T : Type 0} (key_of : T → Key) where
@@ -20,6 +21,15 @@ module _ {T : Type 0} (key_of : T → Key) where
   piece-first k xs ys at row same is l here =
       let within : place_in key_of k xs < length xs = omega (arith, is, l) in
       ap (λ (x : T). Some x) (here ∙ ap (λ (zs : List T). slice_index_or zs at row) same ∙ ap (λ (n : ℕ). slice_index_or xs n row) is) ∙ sym (first-at key_of k xs row within)
+
+  pub piece-has : (k j : Key) (xs ys : List T) (at : ℕ) (row : T) → ys ≡ xs → at ≡ place_in key_of k xs → at < length xs → row ≡ slice_index_or ys at row → j ≡ key_of row → is_key j k ≡ true
+      → find (has_key key_of k) xs ≡ Some row
+  piece-has k j xs ys at row same is l here of has = found-is key_of k xs row (sym (piece-first k xs ys at row same is l here)) (sym (ap (λ (i : Key). is_key i k) of) ∙ has)
+
+  pub piece-lacks : (k j : Key) (xs ys : List T) (at : ℕ) (row : T) → ys ≡ xs → at ≡ place_in key_of k xs → at < length xs → row ≡ slice_index_or ys at row → j ≡ key_of row → is_key j k ≡ false → Ascend key_of xs
+      → find (has_key key_of k) xs ≡ None
+  piece-lacks k j xs ys at row same is l here of other a =
+      found-other key_of k xs row a (sym (piece-first k xs ys at row same is l here)) (sym (ap (λ (i : Key). is_key i k) of) ∙ other)
 
   pub put-done : (row : T) (xs ys zs : List T) (k : Key) (at : ℕ) → ys ≡ xs → k ≡ key_of row → at ≡ place_in key_of k xs → find (has_key key_of (key_of row)) xs ≡ None → zs ≡ insert ys at row → zs ≡ put_in_order key_of row xs
   put-done row xs ys zs k at same of is none made =

@@ -91,13 +91,22 @@ impl<T: Keyed> Piece<T> {
         }
     }
 
-    // Takes out the row with the key, which is there.
-    pub(crate) fn remove(&mut self, key: Key)
-        requires { IsSome (find (has_key T.key_of key) self.old) }
-        ensures { self.new ≡ without_key T.key_of key self.old }
+    // Takes out the row with the key, where there is one, and gives it.
+    pub(crate) fn remove(&mut self, key: Key) -> Option<T>
+        ensures found { result ≡ find (has_key T.key_of key) self.old }
+        ensures rows { self.new ≡ without_key T.key_of key self.old }
     {
         let at = self.place(key);
-        self.rows.remove(at);
+        if at == self.rows.len() {
+            return None;
+        }
+        let row = self.rows[at];
+        if row.key().is(key) {
+            self.rows.remove(at);
+            Some(row)
+        } else {
+            None
+        }
     }
 
     // Puts the row in the place of that with its key, which is there.

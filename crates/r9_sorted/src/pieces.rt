@@ -46,22 +46,26 @@ pub(crate) fn put_among<T: Keyed>(pieces: &mut Vec<Piece<T>>, row: T) -> usize
     at
 }
 
-// Takes the row with a key, which is there, out of its piece, which goes where no row is left.
-pub(crate) fn remove_among<T: Keyed>(pieces: &mut Vec<Piece<T>>, key: Key)
+// Takes the row with a key, where there is one, out of its piece, which goes where no row is left.
+pub(crate) fn remove_among<T: Keyed>(pieces: &mut Vec<Piece<T>>, key: Key) -> Option<T>
     requires ascend { Ascend T.key_of (joined pieces.old.items) }
     requires filled { AreFilled pieces.old.items }
-    requires there { IsSome (find (has_key T.key_of key) (joined pieces.old.items)) }
+    ensures found { result ≡ find (has_key T.key_of key) (joined pieces.old.items) }
     ensures rows { joined pieces.new.items ≡ without_key T.key_of key (joined pieces.old.items) }
     ensures filled { AreFilled pieces.new.items }
     ensures len { vec_len pieces.new ≤ vec_len pieces.old }
     ensures capacity { vec_capacity pieces.new ≡ vec_capacity pieces.old }
 {
     let at = place(pieces, key);
+    if at == pieces.len() {
+        return None;
+    }
     let piece = &mut pieces[at];
-    piece.remove(key);
+    let found = piece.remove(key);
     if piece.len() == 0 {
         pieces.remove(at);
     }
+    found
 }
 
 // Puts the row in the place of that with its key, which is there.

@@ -119,12 +119,12 @@ impl<T: Keyed> Sorted<T> {
     /// Takes out the row with a key, and gives it. Takes no memory.
     pub fn remove(&mut self, key: Key) -> Option<T>
         ensures found { result ≡ find (has_key T.key_of key) self.old.rows }
+        ensures order { Ascend T.key_of self.old.rows }
         ensures rows { self.new.rows ≡ without_key T.key_of key self.old.rows }
         ensures room { self.old.room ≤ self.new.room }
     {
-        let found = self.get(key)?;
+        let found = remove_among(&mut self.pieces, key)?;
         self.count -= 1;
-        remove_among(&mut self.pieces, key);
         Some(found)
     }
 

@@ -1,4 +1,4 @@
-use Rattle.std.proofs.Common.{◌≡◌, ◌+◌, Some, None, sym, ap, ◌∙◌}
+use Rattle.std.proofs.Common.{◌≡◌, ◌+◌, Some, None, sym, ap, ◌∙◌, arith}
 use Rattle.std.specs.Prelude.{find}
 use Rattle.r9_sorted.specs.declared.key.Key.{Key}
 use Rattle.r9_sorted.specs.Order.{key}
@@ -12,11 +12,12 @@ pub returns-in-Some-clause-sum : goal.returns-in-Some-clause-sum
 returns-in-Some-clause-sum c =
     let rows = c.args.rows.now.rows in
     let found : find (has_key key_of (key c.args.id 0 0)) rows ≡ Some c.in-Some.row = ap (λ (k : Key). find (has_key key_of k) rows) (sym c.key_of_id.ensures) ∙ sym c.in-Some.ensures.found in
-    let left : c.remove.new.self.rows ≡ without_key key_of (key c.args.id 0 0) rows = c.remove.ensures.rows ∙ ap (λ (k : Key). without_key key_of k rows) c.key_of_id-in-Some.ensures in
-    ap (λ rest. total_of rest + c.in-Some.row.size) left ∙ without-total c.args.id rows c.in-Some.row c.get.ensures.order found
+    let left : c.remove.new.self.rows ≡ without_key key_of (key c.args.id 0 0) rows = c.remove.ensures.rows ∙ ap (λ (k : Key). without_key key_of k rows) c.key_of_id.ensures in
+    ap (λ rest. total_of rest + c.in-Some.row.size) left ∙ without-total c.args.id rows c.in-Some.row c.remove.ensures.order found
 
-pub returns-in-None-clause-rows : goal.returns-in-None-clause-rows
-returns-in-None-clause-rows c =
+pub returns-in-None-clause-sum : goal.returns-in-None-clause-sum
+returns-in-None-clause-sum c =
     let rows = c.args.rows.now.rows in
-    let none : find (has_key key_of (key c.args.id 0 0)) rows ≡ None = ap (λ (k : Key). find (has_key key_of k) rows) (sym c.key_of_id.ensures) ∙ sym c.in-None.ensures.found in
-    sym (none-kept (has_key key_of (key c.args.id 0 0)) rows none)
+    let left : c.remove.new.self.rows ≡ rows = c.remove.ensures.rows ∙ none-kept (has_key key_of c.key_of_id.result) rows (sym c.in-None.ensures.found) in
+    let same : total_of c.remove.new.self.rows ≡ total_of rows = ap total_of left in
+    omega (arith, same)
