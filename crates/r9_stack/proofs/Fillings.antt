@@ -6,7 +6,7 @@ use Rattle.std.proofs.lemmas.Int.{ints}
 use Rattle.r9_geom.specs.declared.Point.{Point}
 use Rattle.r9_geom.specs.declared.Rect.{Rect}
 use Rattle.r9_geom.specs.Geometry.{distance, holds, is_empty, strip, width, IsNear, IsOrdered, IsRectNear, IsRectNearBy}
-use Rattle.r9_geom.proofs.GeometryLemmas.{bounds_of, distance_is, holds_from, int_le_false, near_point, near_wider, same_point, same_tests}
+use Rattle.r9_geom.proofs.GeometryLemmas.{bounds_of, distance_is, holds_from, int_le_false, near_point, near_wider, rect_near_wider, same_point, same_tests}
 use Rattle.r9_plane.specs.Pixels.{along}
 use Rattle.model_forest.specs.declared.Window.{Window}
 use Rattle.model_forest.specs.Draw.{with_canvas}
@@ -15,7 +15,7 @@ use Rattle.model_forest.specs.World.{Image, World, image_at, no_image, with_imag
 use Rattle.model_forest.proofs.Changes.{World-changed}
 use Rattle.r9_stack.specs.Fills.{IsCovered}
 use Rattle.r9_stack.proofs.Carrying.{strip_column}
-use Rattle.r9_stack.proofs.Runs.{is_within}
+use Rattle.r9_stack.proofs.Runs.{is_within, near_part}
 
 -- nothing that is written where windows cover an image shows
 pub with_canvas-covered : (world : World) (i : ℕ) (area : Point → Bool) (new : Point → ℕ) → IsLive world i → IsCovered world i area → with_canvas world i area new ≡ world
@@ -93,28 +93,26 @@ filled_more a b c fill old mid new both here before =
     by_cases true = refl
     by_cases false = refl
 
--- the points of an image are near
+-- one fill is another where it is taken
+pub filled_same : (b : Bool) (fill other old : ℕ) → (b ≡ true → fill ≡ other) → (if b then fill else old) ≡ (if b then other else old)
+filled_same true fill other old same = same refl
+filled_same false fill other old same = refl
+
+-- an image is near
+pub near_image : (world : World) (i : ℕ) → IsForest world → IsLive world i → IsRectNearBy (2 ^ 36) (image_at world i).r
+near_image world i ok live =
+    let image = ok.images i live in
+    record { min = near_wider (2 ^ 34) (2 ^ 36) (image_at world i).r.min (lit≤ tt) image.near_min; max = image.near_max }
+
+-- and so are its points
 pub near_own : (world : World) (i : ℕ) (p : Point) → IsForest world → IsLive world i → holds (image_at world i).r p ≡ true → IsNear p
 near_own world i p ok live inside =
-    let image = ok.images i live in
-    let rect : IsRectNearBy (2 ^ 36) (image_at world i).r = record { min = near_wider (2 ^ 34) (2 ^ 36) (image_at world i).r.min (lit≤ tt) image.near_min; max = image.near_max } in
-    near_wider (2 ^ 36) (2 ^ 40) p (lit≤ tt) (near_point (2 ^ 36) (image_at world i).r p rect inside)
+    near_wider (2 ^ 36) (2 ^ 40) p (lit≤ tt) (near_point (2 ^ 36) (image_at world i).r p (near_image world i ok live) inside)
 
 -- a rectangle with points within an image is near
 pub near_within : (world : World) (i : ℕ) (r : Rect) → IsForest world → IsLive world i → is_empty r ≡ false → ((p : Point) → holds r p ≡ true → holds (image_at world i).r p ≡ true) → IsRectNear r
 near_within world i r ok live solid inside =
-    let is = is_within r (image_at world i).r solid inside in
-    let low = near_own world i r.min ok live is.first in
-    let far = (ok.images i live).near_max in
-    record {
-      min = low;
-      max = record {
-        left = omega (arith, ints, low.left, is.across);
-        right = omega (arith, ints, is.high.right, far.right);
-        top = omega (arith, ints, low.top, is.down);
-        bottom = omega (arith, ints, is.high.bottom, far.bottom);
-      };
-    }
+    rect_near_wider (2 ^ 36) (2 ^ 40) r (lit≤ tt) (near_part (2 ^ 36) r (image_at world i).r (near_image world i ok live) solid inside)
 
 -- a rectangle with points is ordered
 pub solid_ordered : (r : Rect) → is_empty r ≡ false → IsOrdered r

@@ -1,6 +1,7 @@
 mod Attached
 pub mod Carrying
 mod Changed
+mod Copies
 mod Fillings
 pub mod Grids
 mod Groups

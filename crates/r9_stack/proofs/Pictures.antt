@@ -1,4 +1,4 @@
--- What an image shows in a row: its own pixels, and over them what its windows show, from the last to the first.
+-- What an image shows: its own pixels, and over them what its windows show, from the last to the first.
 use Rattle.std.proofs.Common.{◌≡◌, ◌∙◌, ℕ, suc, zero, pos, ◌+◌, ◌-◌, ◌<◌, ◌≤◌, ◌^◌, ◌&&◌, ◌||◌, ◌≤ℤ◌, ◌<ℤ◌, ◌+ℤ◌, Bool, true, false, List, [], ◌∷◌, Option, Some, None, drop, get_or, length, refl, sym, ap, ⊎_elim, arith}
 use Rattle.std.specs.Prelude.{if◌then◌else◌, is_none, nat_le, nat_lt}
 use Rattle.std.specs.Option.{option_map_or}
@@ -7,7 +7,7 @@ use Rattle.std.proofs.lemmas.List.{nil_from_length}
 use Rattle.std.proofs.lemmas.Int.{ints}
 use Rattle.r9_geom.specs.declared.Point.{Point}
 use Rattle.r9_geom.specs.declared.Rect.{Rect}
-use Rattle.r9_geom.specs.Geometry.{carried, distance, height, holds, is_empty, meet, point_at, strip, width, IsNearBy, IsOrdered}
+use Rattle.r9_geom.specs.Geometry.{carried, distance, height, holds, is_empty, meet, point_at, strip, width, IsNearBy, IsOrdered, IsRectNear}
 use Rattle.r9_geom.proofs.GeometryLemmas.{band, band_more, bounds_of, corner, distance_is, empty_holds, holds-meet, holds_from, same_point, same_tests, strip_here}
 use Rattle.r9_geom.proofs.MinusLemmas.{inner_of}
 use Rattle.r9_plane.specs.Pixels.{along}
@@ -15,20 +15,26 @@ use Rattle.model_forest.specs.declared.Window.{Window}
 use Rattle.model_forest.specs.Paint.{paint}
 use Rattle.model_forest.specs.Stack.{seen}
 use Rattle.model_forest.specs.View.{inward, is_bare, top_window, view}
-use Rattle.model_forest.specs.World.{Image, World, image_at, deepest, IsForest, IsLive, IsWindowOf, SameSize}
+use Rattle.model_forest.specs.World.{Image, World, image_at, deepest, no_rect, IsForest, IsLive, IsWindowOf, SameSize}
 use Rattle.r9_stack.specs.declared.kept.Kept.{Kept}
 use Rattle.r9_stack.specs.Images.{image_of, pixels_of}
 use Rattle.model_forest.proofs.Views.{holds-carried, paint_within-is_view, view-step}
 use Rattle.r9_stack.proofs.Carrying.{strip_column}
+use Rattle.r9_stack.proofs.Fillings.{near_own}
+use Rattle.r9_stack.proofs.Uncovered.{near_places}
 use Rattle.r9_stack.proofs.Parts.{put_mid_before, put_mid_behind, put_mid_inside}
 use borrow.Rule.Slice.PartMut.{put_mid}
+
+-- what a list gives past its end
+abbrev pub no_window : Window
+no_window = record { image = 0; place = no_rect }
 
 -- a picture with those of windows over it
 abbrev pub shown_over : World → List Window → (Point → ℕ) → Point → ℕ
 shown_over world ws pixels p = option_map_or (λ w. view world w.image (inward world w p)) (top_window ws p) (pixels p)
 
 -- one more window in front
-pub shown_more : (world : World) (w : Window) (ws : List Window) (pixels : Point → ℕ) (p : Point) → shown_over world (w ∷ ws) pixels p ≡ (if holds w.place p then view world w.image (inward world w p) else shown_over world ws pixels p)
+shown_more : (world : World) (w : Window) (ws : List Window) (pixels : Point → ℕ) (p : Point) → shown_over world (w ∷ ws) pixels p ≡ (if holds w.place p then view world w.image (inward world w p) else shown_over world ws pixels p)
 shown_more world w ws pixels p = by_cases (holds w.place p) refl
   where
     by_cases : (b : Bool) → holds w.place p ≡ b → shown_over world (w ∷ ws) pixels p ≡ (if holds w.place p then view world w.image (inward world w p) else shown_over world ws pixels p)
@@ -36,19 +42,18 @@ shown_more world w ws pixels p = by_cases (holds w.place p) refl
     by_cases false e = rw e refl
 
 -- the windows from one on
-pub drop_one : (ws : List Window) (k : ℕ) (d : Window) → k < length ws → drop k ws ≡ get_or ws k d ∷ drop (suc k) ws
+drop_one : (ws : List Window) (k : ℕ) (d : Window) → k < length ws → drop k ws ≡ get_or ws k d ∷ drop (suc k) ws
 drop_one [] k d below = absurd (omega arith)
 drop_one (w ∷ ws) zero d below = refl
 drop_one (w ∷ ws) (suc k) d below = drop_one ws k d (omega arith)
 
-pub drop_all : (ws : List Window) (k : ℕ) → length ws ≤ k → drop k ws ≡ []
-drop_all [] zero past = refl
-drop_all [] (suc k) past = refl
-drop_all (w ∷ ws) zero past = absurd (omega arith)
-drop_all (w ∷ ws) (suc k) past = drop_all ws k (omega arith)
+-- the windows from one on, over a picture: that window over the picture with those behind it
+pub shown_next : (world : World) (ws : List Window) (k : ℕ) (d : Window) (pixels : Point → ℕ) (p : Point) → k < length ws → (if holds (get_or ws k d).place p then view world (get_or ws k d).image (inward world (get_or ws k d) p) else shown_over world (drop (suc k) ws) pixels p) ≡ shown_over world (drop k ws) pixels p
+shown_next world ws k d pixels p below =
+    sym (shown_more world (get_or ws k d) (drop (suc k) ws) pixels p) ∙ ap (λ vs. shown_over world vs pixels p) (sym (drop_one ws k d below))
 
 -- its own pixels with all its windows over them are what it shows
-pub view-shown : (world : World) → IsForest world → (i : ℕ) (p : Point) (r : Rect) (ws : List Window) (pixels : Point → ℕ) → IsLive world i → (image_at world i).windows ≡ ws → (image_at world i).canvas p ≡ seen r ws pixels p → holds r p ≡ true → shown_over world ws pixels p ≡ view world i p
+view-shown : (world : World) → IsForest world → (i : ℕ) (p : Point) (r : Rect) (ws : List Window) (pixels : Point → ℕ) → IsLive world i → (image_at world i).windows ≡ ws → (image_at world i).canvas p ≡ seen r ws pixels p → holds r p ≡ true → shown_over world ws pixels p ≡ view world i p
 view-shown world ok i p r ws pixels live windows canvas inside =
     sym (view-step world ok i p live
     ∙ (λ j. option_map_or (λ w. view world w.image (inward world w p)) (top_window (windows j) p) (canvas j))
@@ -180,44 +185,45 @@ read_over_row world w from at xs ys start end k are within some long at_is read 
     (cases_lt k end))
     (cases_lt k start)
 
--- what reading a window rests on
-pub record IsReadable (world : World) (i : ℕ) (w : Window) (from : Point) (n : ℕ) : Type 0 where
+-- what reading a window of an image rests on
+pub record IsReadable (world : World) (i : ℕ) (w : Window) : Type 0 where
   pub live : IsLive world w.image
   pub size : SameSize w.place (image_at world w.image).r
-  pub place : IsNearBy (2 ^ 40) w.place.min
-  pub near : IsNearBy (2 ^ 40) from
-  pub columns : n ≤ 2 ^ 40
+  pub place : IsRectNear w.place
+  pub chan : (image_at world w.image).chan ≡ (image_at world i).chan
   pub above : (image_at world w.image).depth ≡ (image_at world i).depth + 1
   pub shallow : (image_at world w.image).depth < 2 ^ 32
 
-pub readable : (world : World) → IsForest world → (i k : ℕ) (d : Window) (from : Point) (n : ℕ) → IsLive world i → k < length (image_at world i).windows → 0 < n → ((p : Point) → holds (strip from n) p ≡ true → holds (image_at world i).r p ≡ true) → IsReadable world i (get_or (image_at world i).windows k d) from n
+pub readable : (world : World) → IsForest world → (i k : ℕ) (d : Window) → IsLive world i → k < length (image_at world i).windows → IsReadable world i (get_or (image_at world i).windows k d)
 unfolding deepest
-readable world ok i k d from n live below some inside =
-    let image = image_at world i in
-    let is = ok.images i live in
-    let w = get_or image.windows k d in
+readable world ok i k d live below =
+    let w = get_or (image_at world i).windows k d in
     let stands : IsWindowOf world i w = ok.windows i live k d below in
     let own = ok.images w.image stands.live in
-    let first = bounds_of image.r from (inside from (strip_here from from 0 n (omega (arith, ints)) refl some)) in
-    let last = bounds_of image.r (along from (n - 1)) (inside (along from (n - 1)) (strip_here from (along from (n - 1)) (n - 1) n refl refl (omega arith))) in
     record {
       live = stands.live;
       size = stands.size;
-      place = record {
-        left = omega (arith, ints, stands.reach.left, is.near_min.left);
-        right = omega (arith, ints, stands.reach.right, is.near_min.right);
-        top = omega (arith, ints, stands.reach.top, is.near_min.top);
-        bottom = omega (arith, ints, stands.reach.bottom, is.near_min.bottom);
-      };
-      near = record {
-        left = omega (arith, ints, first.left, is.near_min.left);
-        right = omega (arith, ints, first.right, is.near_max.right);
-        top = omega (arith, ints, first.top, is.near_min.top);
-        bottom = omega (arith, ints, first.bottom, is.near_max.bottom);
-      };
-      columns = omega (arith, ints, first.left, is.near_min.left, last.right, is.near_max.right);
+      place = near_places world i ok live k d below;
+      chan = stands.chan;
       above = stands.above;
       shallow = omega (arith, own.shallow);
+    }
+
+-- a row of points of an image
+pub record IsNearRow (from : Point) (n : ℕ) : Type 0 where
+  pub near : IsNearBy (2 ^ 40) from
+  pub columns : n ≤ 2 ^ 40
+
+pub near_row_own : (world : World) → IsForest world → (i : ℕ) (from : Point) (n : ℕ) → IsLive world i → 0 < n → ((p : Point) → holds (strip from n) p ≡ true → holds (image_at world i).r p ≡ true) → IsNearRow from n
+near_row_own world ok i from n live some inside =
+    let image = image_at world i in
+    let is = ok.images i live in
+    let start = inside from (strip_here from from 0 n (omega (arith, ints)) refl some) in
+    let first = bounds_of image.r from start in
+    let last = bounds_of image.r (along from (n - 1)) (inside (along from (n - 1)) (strip_here from (along from (n - 1)) (n - 1) n refl refl (omega arith))) in
+    record {
+      near = near_own world i from ok live start;
+      columns = omega (arith, ints, first.left, is.near_min.left, last.right, is.near_max.right);
     }
 
 -- ---- a kept image

@@ -5,7 +5,7 @@ use Rattle.std.proofs.lemmas.Bool.{and_parts, cases_lt, or_parts}
 use Rattle.std.proofs.lemmas.Int.{ints}
 use Rattle.r9_geom.specs.declared.Point.{Point}
 use Rattle.r9_geom.specs.declared.Rect.{Rect}
-use Rattle.r9_geom.specs.Geometry.{distance, holds, is_empty, strip}
+use Rattle.r9_geom.specs.Geometry.{distance, holds, is_empty, strip, IsRectNearBy}
 use Rattle.r9_geom.proofs.GeometryLemmas.{bounds_of, corner, distance_is, holds_from, int_le_false, same_point, same_tests, Bounds}
 use Rattle.r9_plane.specs.Pixels.{along}
 use Rattle.r9_plane.proofs.PlaneLemmas.{along_holds}
@@ -39,6 +39,25 @@ is_within r own solid all =
       first = first;
       low = bounds_of own r.min first;
       high = bounds_of own last (all last last_holds);
+    }
+
+-- a rectangle with points within a near one is near
+pub near_part : (n : ℕ) (r own : Rect) → IsRectNearBy n own → is_empty r ≡ false → ((p : Point) → holds r p ≡ true → holds own p ≡ true) → IsRectNearBy n r
+near_part n r own near solid all =
+    let is = is_within r own solid all in
+    record {
+      min = record {
+        left = omega (arith, ints, near.min.left, is.low.left);
+        right = omega (arith, ints, near.max.right, is.low.right);
+        top = omega (arith, ints, near.min.top, is.low.top);
+        bottom = omega (arith, ints, near.max.bottom, is.low.bottom);
+      };
+      max = record {
+        left = omega (arith, ints, near.min.left, is.low.left, is.across);
+        right = omega (arith, ints, near.max.right, is.high.right);
+        top = omega (arith, ints, near.min.top, is.low.top, is.down);
+        bottom = omega (arith, ints, near.max.bottom, is.high.bottom);
+      };
     }
 
 pub run_of : (at : Point) (n : ℕ) (given : Rect) → is_empty given ≡ false → ((p : Point) → holds given p ≡ true → holds (strip at n) p ≡ true) → IsRun at n given (distance at.x given.min.x) (distance at.x given.max.x)

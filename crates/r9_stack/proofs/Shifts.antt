@@ -31,7 +31,8 @@ changed_at f [] k d lt = absurd (omega arith)
 changed_at f (x ∷ xs) zero d lt = refl
 changed_at f (x ∷ xs) (suc k) d lt = changed_at f xs k d (omega arith)
 
-holds-carried_rect : (r : Rect) (from to p : Point) → holds (carried_rect r from to) p ≡ holds r (carried p to from)
+-- a carried rectangle holds the points that were carried with it
+pub holds-carried_rect : (r : Rect) (from to p : Point) → holds (carried_rect r from to) p ≡ holds r (carried p to from)
 holds-carried_rect r from to p =
     same_tests _ _
     (λ h. let m = bounds_of (carried_rect r from to) p h in

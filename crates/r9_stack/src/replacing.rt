@@ -1,28 +1,25 @@
 //! A window that takes the place of another, or comes with what another shows.
 
-ghost use Rattle.std.specs.Prelude.{◌≡◌, ◌≢◌, ◌+◌, ◌^◌, ◌<◌, ◌≤◌, [], true, Some, None, length, vec_capacity, IfOk, IsSome, IsTrue, OnErr, OnOk, if◌then◌else◌};
+ghost use Rattle.std.specs.Prelude.{◌≡◌, ◌≢◌, ◌+◌, ◌^◌, ◌<◌, ◌&&◌, [], true, Some, None, length, vec_capacity, IfOk, IsSome, IsTrue, OnErr, OnOk, if◌then◌else◌};
 ghost use Rattle.r9_geom.specs.declared.Point.{Point as Spot};
-ghost use Rattle.r9_geom.specs.Geometry.{carried, holds, strip, IsNear, IsNearBy, IsOrdered, IsRectNearBy};
+ghost use Rattle.r9_geom.specs.Geometry.{carried, holds, IsNearBy, IsOrdered, IsRectNear, IsRectNearBy};
 ghost use Rattle.model_pixel.specs.Channels as channels;
 ghost use Rattle.model_forest.specs.Numbers.{next_number, taken};
 ghost use Rattle.model_forest.specs.World.{image_at, parent_of, IsForest, IsLive, SameSize};
 ghost use Rattle.model_forest.specs.Stack.{seen, with_windows};
 ghost use Rattle.model_forest.specs.Steps.{after_replace, after_replace_on, new_image, put_above};
 ghost use Rattle.model_forest.specs.View as model;
+ghost use Rattle.model_forest.specs.View.{inward};
 ghost use Rattle.r9_stack.specs.Images.{image_of, pixels_of};
 ghost use Rattle.r9_stack.specs.Lists.{copied, stood};
 
 use super::images::Images;
 use super::kept::{Kept, carried_rect};
-use super::reading::along;
 use super::{lists, slots};
 use model_forest::{Standing, Window};
 use r9_chan::Chan;
 use r9_geom::{Point, Rect};
 use r9_memory::Memory;
-
-// How many pixels of a row are copied at a time.
-const BLOCK: usize = 256;
 
 // Far outside of every image.
 const OUTSIDE: Point = Point {
@@ -180,53 +177,50 @@ impl Images {
         ensures image { image_of kept.new ≡ record (image_of kept.old) { canvas = seen r.now (image_of kept.old).windows (pixels_of kept.new) } }
         ensures pixels { (p : Spot) → pixels_of kept.new p ≡ (if holds r.now p then model.view (world self.now) old (carried p r.now.min (image_at (world self.now) old).r.min) else pixels_of kept.old p) }
     {
-        let shown = self.get(old);
-        if shown.windows().is_empty() {
-            kept.copy(*r, shown, shown.rect().min);
-        } else {
-            self.copy_rows(old, r, kept);
-        }
+        self.copy_view(old, *r, self.get(old).rect().min, kept);
     }
 
-    // The same where windows stand on it, row by row, block by block.
-    fn copy_rows(&self, old: u32, r: &Rect, kept: &mut Kept)
-        requires live { IsLive (world self.now) old }
-        requires near { IsRectNearBy (2 ^ 34) r.now }
-        requires ordered { IsOrdered r.now }
-        requires size { SameSize r.now (image_at (world self.now) old).r }
-        requires rect { (image_of kept.old).r ≡ r.now }
-        requires chan { (image_of kept.old).chan ≡ (image_at (world self.now) old).chan }
-        ensures image { image_of kept.new ≡ record (image_of kept.old) { canvas = seen r.now (image_of kept.old).windows (pixels_of kept.new) } }
-        ensures pixels { (p : Spot) → pixels_of kept.new p ≡ (if holds r.now p then model.view (world self.now) old (carried p r.now.min (image_at (world self.now) old).r.min) else pixels_of kept.old p) }
-    {
-        let from = self.get(old).rect().min;
-        let width = r.width() as usize;
-        for row in 0..r.height() {
-            let at = r.point_at(0, row);
-            self.copy_row(old, at.carried(r.min, from), at, width, kept);
-        }
-    }
-
-    // The same of points side by side, from `from` and `at` to the right.
-    fn copy_row(&self, old: u32, from: Point, at: Point, count: usize, kept: &mut Kept)
-        requires live { IsLive (world self.now) old }
-        requires near { IsNear at }
-        requires near_from { IsNear from }
-        requires width { count ≤ 2 ^ 41 }
-        requires inside { (p : Spot) → IsTrue (holds (strip at count) p) → IsTrue (holds (image_of kept.old).r p) }
-        requires inside_from { (p : Spot) → IsTrue (holds (strip from count) p) → IsTrue (holds (image_at (world self.now) old).r p) }
-        requires chan { (image_of kept.old).chan ≡ (image_at (world self.now) old).chan }
+    // Copies what an image shows into a rectangle, whose min stands at `from` there: its own pixels, and over them what its
+    // windows show, from the last to the first.
+    #[cycle(copying)]
+    fn copy_view(&self, i: u32, r: Rect, from: Point, kept: &mut Kept)
+        requires live { IsLive (world self.now) i }
+        requires near { IsRectNearBy (2 ^ 34) r }
+        requires ordered { IsOrdered r }
+        requires near_from { IsNearBy (2 ^ 36) from }
+        requires inside { (p : Spot) → IsTrue (holds r p) → IsTrue (holds (image_of kept.old).r p) }
+        requires inside_from { (p : Spot) → IsTrue (holds r p) → IsTrue (holds (image_at (world self.now) i).r (carried p r.min from)) }
+        requires chan { (image_of kept.old).chan ≡ (image_at (world self.now) i).chan }
         ensures image { image_of kept.new ≡ record (image_of kept.old) { canvas = seen (image_of kept.old).r (image_of kept.old).windows (pixels_of kept.new) } }
-        ensures pixels { (p : Spot) → pixels_of kept.new p ≡ (if holds (strip at count) p then model.view (world self.now) old (carried p at from) else pixels_of kept.old p) }
+        ensures pixels { (p : Spot) → pixels_of kept.new p ≡ (if holds r p then model.view (world self.now) i (carried p r.min from) else pixels_of kept.old p) }
     {
-        let mut block = [0; BLOCK];
-        let mut done = 0;
-        while done < count {
-            let size = (count - done).min(BLOCK);
-            let part = &mut block[..size];
-            self.read_view(old, along(from, done), part);
-            kept.put_row(along(at, done), part);
-            done += size;
+        let shown = self.get(i);
+        kept.copy(r, shown, from);
+        let windows = shown.windows();
+        for k in (0..windows.len()).rev() {
+            self.copy_over(&windows[k], r, from, kept);
+        }
+    }
+
+    // Copies what a window shows over the part of a rectangle that its place covers. The min of the rectangle stands at `from`
+    // of the image that the window stands on.
+    #[cycle(copying)]
+    fn copy_over(&self, window: &Window, r: Rect, from: Point, kept: &mut Kept)
+        requires live { IsLive (world self.now) window.now.image }
+        requires size { SameSize window.now.place (image_at (world self.now) window.now.image).r }
+        requires place { IsRectNear window.now.place }
+        requires near { IsRectNearBy (2 ^ 34) r }
+        requires near_from { IsNearBy (2 ^ 36) from }
+        requires inside { (p : Spot) → IsTrue (holds r p) → IsTrue (holds (image_of kept.old).r p) }
+        requires chan { (image_of kept.old).chan ≡ (image_at (world self.now) window.now.image).chan }
+        ensures image { image_of kept.new ≡ record (image_of kept.old) { canvas = seen (image_of kept.old).r (image_of kept.old).windows (pixels_of kept.new) } }
+        ensures pixels { (p : Spot) → pixels_of kept.new p ≡ (if holds r p && holds window.now.place (carried p r.min from) then model.view (world self.now) window.now.image (inward (world self.now) window.now (carried p r.min from)) else pixels_of kept.old p) }
+    {
+        let place = carried_rect(&window.place, from, r.min);
+        let part = r.meet(&place);
+        if !part.is_empty() {
+            let own = self.get(window.image).rect().min;
+            self.copy_view(window.image, part, part.min.carried(place.min, own), kept);
         }
     }
 }

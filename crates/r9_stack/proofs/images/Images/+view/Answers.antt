@@ -1,23 +1,19 @@
-use Rattle.std.proofs.Common.{◌≡◌, ◌∙◌, ◌+◌, ◌-◌, ◌*◌, ◌<◌, ◌≤◌, ◌^◌, ℕ, suc, true, List, ◌∷◌, length, get_or, drop, take, lit≤, refl, sym, ap, subst, arith}
+use Rattle.std.proofs.Common.{◌≡◌, ◌∙◌, ◌+◌, ◌-◌, ◌*◌, ◌<◌, ◌≤◌, ◌^◌, ℕ, suc, true, List, length, get_or, drop, take, lit≤, refl, sym, ap, subst, arith}
 use Rattle.std.specs.Prelude.{if◌then◌else◌}
 use Rattle.std.proofs.lemmas.Int.{ints}
 use Rattle.r9_geom.specs.declared.Point.{Point as Spot}
 use Rattle.r9_geom.specs.Geometry.{carried, holds}
 use Rattle.r9_geom.proofs.GeometryLemmas.{near_wider, strip_here}
-use Rattle.r9_plane.specs.Pixels.{along, rect_of}
+use Rattle.r9_plane.specs.Pixels.{along}
 use Rattle.r9_plane.proofs.PlaneLemmas.{some_of}
 use Rattle.model_forest.specs.declared.Window.{Window}
-use Rattle.model_forest.specs.World.{Image, image_at, no_rect}
-use Rattle.model_forest.specs.Stack.{seen}
+use Rattle.model_forest.specs.World.{Image, image_at}
 use Rattle.model_forest.specs.View.{inward, view}
 use Rattle.r9_stack.specs.Table.{beneath, world}
 use Rattle.r9_stack.proofs.Parts.{length-part}
-use Rattle.r9_stack.proofs.Pictures.{drop_one, read_over_row, readable, shown_more, shown_over, view-shown, window_row_inside, IsReadable}
+use Rattle.r9_stack.proofs.Pictures.{near_row_own, no_window, read_over_row, readable, shown_next, shown_over, view-kept, window_row_inside, IsReadable}
 use Rattle.r9_stack.proofs.images.Images.+view.Goals as goal
 use Rattle.r9_stack.proofs.images.Images.+view.Goals.{read_over-After-carried-at}
-
-abbrev no_window : Window
-no_window = record { image = 0; place = no_rect }
 
 pub read_over-along-requires-clause-near : goal.read_over-along-requires-clause-near
 read_over-along-requires-clause-near t c = near_wider (2 ^ 40) (2 ^ 42) c.args.from (lit≤ tt) c.requires.near
@@ -69,20 +65,17 @@ unfolding world
 read_view-read_over-requires t c =
     let table = c.args.self.now in
     let here = world table in
-    let from = c.args.from in
     let i = c.args.i in
     let n = length c.args.raws.now in
     let k = c.loop-k.k - 1 in
-    let kept = c.get-kept.result.now in
     let listed : c.windows-windows.result.now ≡ (image_at here i).windows = c.windows-windows.ensures.items ∙ ap (λ (im : Image). im.windows) (sym c.get-kept.ensures.image) in
-    let some = some_of n c.is_empty.ensures c.if-is_empty.false in
     let count = ap length listed in
     let below : k < length (image_at here i).windows = omega (arith, count, c.loop-k-test.true, c.loop-k.auto.k) in
-    let is = readable here table.forest i k no_window from n c.requires.live below some c.requires.inside in
-    let R : List Window → Type 0 = λ ws. IsReadable here i (get_or ws k no_window) from n in
-    let ok = subst R (sym listed) is in
+    let R : List Window → Type 0 = λ ws. IsReadable here i (get_or ws k no_window) in
+    let ok = subst R (sym listed) (readable here table.forest i k no_window c.requires.live below) in
+    let row = near_row_own here table.forest i c.args.from n c.requires.live (some_of n c.is_empty.ensures c.if-is_empty.false) c.requires.inside in
     let long : length c.loop-k.raws ≡ n = c.loop-k.auto.raws ∙ c.get_row.auto.raws in
-    (subst (λ m. 2 * (2 ^ 32 - (image_at here (get_or c.windows-windows.result.now k no_window).image).depth) + 1 < m) c.decreases (omega (arith, ok.above, ok.shallow)), (ok.live, (ok.size, (ok.place, (ok.near, omega (arith, long, ok.columns))))))
+    (subst (λ m. 2 * (2 ^ 32 - (image_at here (get_or c.windows-windows.result.now k no_window).image).depth) + 1 < m) c.decreases (omega (arith, ok.above, ok.shallow)), (ok.live, (ok.size, (ok.place.min, (row.near, omega (arith, long, row.columns))))))
 
 pub read_view-loop-k-preserved : goal.read_view-loop-k-preserved
 read_view-loop-k-preserved t c m below =
@@ -94,15 +87,13 @@ read_view-loop-k-preserved t c m below =
     let ws = (image_at here i).windows in
     let listed : c.windows-windows.result.now ≡ ws = c.windows-windows.ensures.items ∙ ap (λ (im : Image). im.windows) (sym c.get-kept.ensures.image) in
     let count = ap length listed in
-    let w = get_or c.windows-windows.result.now k no_window in
     let inside : m < length c.loop-k.raws = omega (arith, below, c.read_over.auto.raws) in
-    let next : suc k ≡ c.loop-k.k = omega (arith, c.loop-k-test.true) in
-    let front = drop_one ws k no_window (omega (arith, count, c.loop-k-test.true, c.loop-k.auto.k)) in
+    let next : c.loop-k.k ≡ suc k = omega (arith, c.loop-k-test.true) in
+    let over = λ (w : Window) (n : ℕ). if holds w.place p then view here w.image (inward here w p) else n in
     c.read_over.ensures m inside
-    ∙ ap (λ n. if holds w.place p then view here w.image (inward here w p) else n) (c.loop-k.invariant m inside)
-    ∙ sym (shown_more here w (drop c.loop-k.k ws) (beneath table i) p)
-    ∙ (λ j. shown_over here (get_or (listed j) k no_window ∷ drop (sym next j) ws) (beneath table i) p)
-    ∙ ap (λ vs. shown_over here vs (beneath table i) p) (sym front)
+    ∙ ap (over (get_or c.windows-windows.result.now k no_window)) (c.loop-k.invariant m inside)
+    ∙ (λ j. over (get_or (listed j) k no_window) (shown_over here (drop (next j) ws) (beneath table i) p))
+    ∙ shown_next here ws k no_window (beneath table i) p (omega (arith, count, c.loop-k-test.true, c.loop-k.auto.k))
 
 pub read_view-returns : goal.read_view-returns
 unfolding world
@@ -110,18 +101,10 @@ read_view-returns t c k below =
     let table = c.args.self.now in
     let here = world table in
     let i = c.args.i in
-    let n = length c.args.raws.now in
     let p = along c.args.from k in
-    let kept = c.get-kept.result.now in
-    let image = c.get-kept.ensures.image in
-    let r = rect_of kept.plane in
     let ws = (image_at here i).windows in
     let none : c.loop-k.k ≡ 0 = omega (arith, c.loop-k-test.false) in
-    let own : holds (image_at here i).r p ≡ true = c.requires.inside p (strip_here c.args.from p k n refl refl below) in
-    let inside : holds r p ≡ true = ap (λ (im : Image). holds im.r p) (sym image) ∙ own in
-    let canvas : (image_at here i).canvas p ≡ seen r ws (beneath table i) p =
-    ap (λ (im : Image). im.canvas p) image
-    ∙ (λ j. seen r (ap (λ (im : Image). im.windows) (sym image) j) (sym c.get-kept.ensures.beneath j) p) in
+    let own : holds (image_at here i).r p ≡ true = c.requires.inside p (strip_here c.args.from p k (length c.args.raws.now) refl refl below) in
     c.loop-k.invariant k (omega (arith, below, c.loop-k.auto.raws, c.get_row.auto.raws))
-    ∙ ap (λ m. shown_over here (drop m ws) (beneath table i) p) none
-    ∙ view-shown here table.forest i p r ws (beneath table i) c.requires.live refl canvas inside
+    ∙ (λ j. shown_over here (drop (none j) ws) (c.get-kept.ensures.beneath j) p)
+    ∙ view-kept here table.forest i c.get-kept.result.now p c.requires.live c.get-kept.ensures.image own

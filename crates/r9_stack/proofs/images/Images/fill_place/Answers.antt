@@ -1,11 +1,10 @@
-use Rattle.std.proofs.Common.{◌≡◌, ◌∙◌, ◌<◌, ◌^◌, ℕ, Bool, true, false, refl, sym, subst, ap}
-use Rattle.std.specs.Prelude.{if◌then◌else◌}
+use Rattle.std.proofs.Common.{◌∙◌, ◌<◌, ◌^◌, sym, subst, ap}
 use Rattle.r9_geom.specs.Geometry.{holds}
 use Rattle.model_pixel.specs.Channels.{depth}
 use Rattle.model_forest.specs.World.{Image, image_at}
 use Rattle.r9_stack.specs.Fills.{fill_at}
 use Rattle.r9_stack.specs.Table.{beneath, world}
-use Rattle.r9_stack.proofs.Fillings.{near_within, solid_ordered, with_canvas-covered}
+use Rattle.r9_stack.proofs.Fillings.{filled_same, near_within, solid_ordered, with_canvas-covered}
 use Rattle.r9_stack.proofs.images.Images.fill_place.Goals as goal
 
 pub fill_points-requires-clause-near : goal.fill_points-requires-clause-near
@@ -39,9 +38,5 @@ returns-in-Some-clause-beneath c p =
     let w = world c.args.self.now in
     let chan = c.chan-chan.ensures ∙ sym (ap (λ (im : Image). im.chan) c.get.ensures.image) in
     c.fill_points.ensures.beneath p
-    ∙ by_cases (holds c.args.area.now p) c.in-Some.raw (fill_at w (image_at w c.args.i).chan c.args.fill p) (beneath c.args.self.now c.args.i p)
+    ∙ filled_same (holds c.args.area.now p) c.in-Some.raw (fill_at w (image_at w c.args.i).chan c.args.fill p) (beneath c.args.self.now c.args.i p)
     (λ h. sym (c.in-Some.ensures.value p h) ∙ ap (λ n. fill_at w n c.args.fill p) chan)
-  where
-    by_cases : (b : Bool) (x y z : ℕ) → (b ≡ true → x ≡ y) → (if b then x else z) ≡ (if b then y else z)
-    by_cases true x y z same = same refl
-    by_cases false x y z same = refl
