@@ -239,3 +239,38 @@ fn a_window_comes_on_another_image_with_what_it_showed(rt: HostRuntime) -> Resul
     assert_eq!(rt; images.info(inner).parent, Some(ImageNo(below)));
     Ok(())
 }
+
+// On a window one reaches past its right and upper edge, with one on it that reaches past the left and lower edge, and another
+// past the left and lower edge of the first. A copy shows of each what lies within all that it stands on.
+#[test]
+fn a_copy_shows_what_lies_within_of_each_window(rt: HostRuntime) -> Result<(), Fail> {
+    let mut images = Images::new(rt.alloc());
+    let all = rect(0, 0, 8, 6);
+    let field = made(&mut images, all, 0)?;
+    let fill = made(&mut images, all, 9)?;
+    let old = window(&mut images, field, fill, rect(1, 1, 5, 4), 1)?;
+    let above = window(&mut images, old, fill, rect(3, 0, 7, 3), 2)?;
+    load(&mut images, above, rect(3, 1, 7, 2), &[21, 22, 23, 24])?;
+    let inner = window(&mut images, above, fill, rect(2, 2, 4, 5), 3)?;
+    load(&mut images, inner, rect(2, 2, 4, 3), &[31, 32])?;
+    // Its place is the same, in other coordinates of its own.
+    replace(
+        &mut images,
+        inner,
+        rect(20, 20, 22, 23),
+        Point { x: 2, y: 2 },
+    )?;
+    let _ = window(&mut images, old, fill, rect(0, 3, 2, 6), 4)?;
+    replace(&mut images, old, rect(10, 20, 14, 23), Point { x: 4, y: 3 })?;
+    let shown = rows(&images, field, rect(0, 1, 8, 3))?;
+    assert_eq!(rt;
+        shown.as_slice(),
+        [0, 9, 9, 9, 9, 0, 0, 0, 0, 9, 9, 9, 9, 0, 0, 0].as_slice()
+    );
+    let shown = rows(&images, field, rect(4, 3, 8, 6))?;
+    assert_eq!(rt;
+        shown.as_slice(),
+        [1, 1, 21, 22, 1, 1, 32, 2, 4, 1, 1, 1].as_slice()
+    );
+    Ok(())
+}
