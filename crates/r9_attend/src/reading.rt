@@ -74,7 +74,8 @@ fn are_bytes(bytes: &[u8])
     ensures { AreBytes bytes.now }
 {}
 
-/// Sends the messages that come from the source, in order, until an end.
+/// Sends the messages that come from the source, in order, until an end. The writer is woken once nothing more is at hand, not for
+/// each message: so replies to messages that come together go out together.
 fn read_on<T: Serves, S: Source, R: Wait>(
     room: &Room<'_, '_, T, R>,
     pass: &mut Pass<T>,
@@ -98,10 +99,13 @@ fn read_on<T: Serves, S: Source, R: Wait>(
                     Err(end) => return end,
                 }
             }
-            Ok(Next::NeedMore) => match fill(input, &mut framer) {
-                None => {}
-                Some(end) => return end,
-            },
+            Ok(Next::NeedMore) => {
+                room.lock.ring(pass, room.session);
+                match fill(input, &mut framer) {
+                    None => {}
+                    Some(end) => return end,
+                }
+            }
             Ok(Next::BadSize(size)) => return ReadEnd::BadSize(size),
             Err(Memory) => return ReadEnd::Memory,
         }
@@ -123,5 +127,6 @@ pub(crate) fn read_in<T: Serves, S: Source, R: Wait>(
         return end;
     }
     end_session(room, pass);
+    room.lock.ring(pass, room.session);
     end
 }

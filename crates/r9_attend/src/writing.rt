@@ -76,7 +76,7 @@ fn write_on<T: Serves, O: Sink, R: Wait>(
                 None => {}
                 Some(end) => return end,
             },
-            Ok(None) => room.lock.wait(room.rt, pass),
+            Ok(None) => room.lock.wait(room.rt, pass, room.session),
             Err(end) => return end,
         }
     }

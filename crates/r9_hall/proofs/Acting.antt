@@ -45,11 +45,12 @@ refused b is test holds = let two : false ≡ true = sym is ∙ test holds in cc
 pub none_waits : (waits : List ℕ) (b : Bool) → b ≡ (length waits == 0) → b ≡ true → waits ≡ []
 none_waits waits b is empty = nil_from_length waits (eqb-true (length waits) 0 (sym is ∙ empty))
 
+-- what an act is does not turn on what it rings
 abbrev pub told : Answer → Acted Answer
-told answer = record { answer = answer; entered = false }
+told answer = record { answer = answer; entered = false; rings = 0 }
 
 abbrev pub made : Answer → Acted Answer
-made answer = record { answer = answer; entered = true }
+made answer = record { answer = answer; entered = true; rings = 0 }
 
 enters : (h : HallValue) (event : Event) (before : List Entry) → StandsFor h before → Allowed h.roll event → Enters event before (before ++ record { number = length before + 1; event = event } ∷ [])
 enters h event before stands allowed = record { allowed = subst (λ (r : Roll). Allowed r event) stands.roll allowed; one_more = refl }

@@ -1,6 +1,6 @@
 //! What a session may ask of the hall in a turn.
 
-ghost use Rattle.std.specs.Prelude.{◌≡◌, ◌<◌, ◌^◌, ◌↔◌, true, false, IsFalse, IsTrue};
+ghost use Rattle.std.specs.Prelude.{◌≡◌, ◌<◌, ◌-◌, ◌^◌, ◌↔◌, true, false, IsFalse, IsTrue};
 ghost use Rattle.model_text.specs.Map.{lookup};
 ghost use Rattle.r9_event.specs.declared.ask.Ask.{Ask};
 ghost use Rattle.r9_event.specs.declared.ask.Answer.{Answer};
@@ -10,28 +10,41 @@ ghost use Rattle.r9_hall.specs.HallView.{StandsForMore, entries};
 ghost use Rattle.r9_hall.specs.WorldView.{world_in};
 
 use crate::hall::Hall;
-use r9_event::{Answer, Ask, Event};
-use r9_lock::Acted;
+use r9_event::{Answer, Ask, Did, Event};
+use r9_lock::{Acted, bell_of};
 use r9_text::Bytes;
 
 /// An answer to an ask that made no event.
 fn told(answer: Answer) -> Acted<Answer>
-    ensures { result ≡ record { answer = answer; entered = false } }
+    ensures { result ≡ record { answer = answer; entered = false; rings = 0 } }
 {
     Acted {
         answer,
         entered: false,
+        rings: 0,
     }
 }
 
-/// An answer to an ask that made an event.
-fn made(answer: Answer) -> Acted<Answer>
-    ensures { result ≡ record { answer = answer; entered = true } }
+/// An answer to an ask that made an event, and the bells that are to be rung for it.
+fn made(answer: Answer, rings: u64) -> Acted<Answer>
+    ensures { result ≡ record { answer = answer; entered = true; rings = rings } }
 {
     Acted {
         answer,
         entered: true,
+        rings,
     }
+}
+
+/// The bells of the other sessions to which an event of a session gave replies. Who asked rings its own bell.
+fn bells_of_others(session: u32, did: &Did) -> u64 {
+    let mut bells = 0;
+    for reply in did.replies.as_slice() {
+        if reply.session != session {
+            bells |= bell_of(reply.session);
+        }
+    }
+    bells
 }
 
 impl Hall {
@@ -57,17 +70,17 @@ impl Hall {
         }
     }
 
-    /// Makes a Stop.
+    /// Makes a Stop. All are rung for it: from now on each look is answered otherwise.
     fn stop(&mut self) -> Acted<Answer>
         requires going { IsFalse self.old.roll.stopped }
         requires room { entries self.old < 2 ^ 61 }
         ensures opening { self.new.opening ≡ self.old.opening }
         ensures first { self.new.first ≡ self.old.first }
-        ensures answer { result ≡ record { answer = Answer.Memory; entered = true } }
+        ensures answer { result ≡ record { answer = Answer.Memory; entered = true; rings = 2 ^ 64 - 1 } }
         ensures entered { StandsForMore self.old Event.Stop self.new }
     {
         let _ = self.event(Event::Stop);
-        made(Answer::Memory)
+        made(Answer::Memory, u64::MAX)
     }
 
     /// After want of memory in an event: makes a Stop where the hall is broken, and else nothing.
@@ -103,7 +116,7 @@ impl Hall {
         let Ok(_) = self.event(event) else {
             return self.give_up();
         };
-        made(Answer::Began(session))
+        made(Answer::Began(session), 0)
     }
 
     /// The answer to a message that was taken.
@@ -134,10 +147,10 @@ impl Hall {
         if !self.can(&event) {
             return told(Answer::Closed);
         }
-        let Ok(_) = self.event(event) else {
+        let Ok(did) = self.event(event) else {
             return self.give_up();
         };
-        made(self.heard(session))
+        made(self.heard(session), bells_of_others(session, &did))
     }
 
     /// Whether a session that has begun gets no more messages.
@@ -168,7 +181,7 @@ impl Hall {
         let Ok(given) = self.make(event) else {
             return self.give_up();
         };
-        made(Answer::Taken(given.taken))
+        made(Answer::Taken(given.taken), 0)
     }
 
     fn end(&mut self, session: u32) -> Acted<Answer>
@@ -183,9 +196,9 @@ impl Hall {
         if !self.can(&event) {
             return told(Answer::Closed);
         }
-        let Ok(_) = self.event(event) else {
+        let Ok(did) = self.event(event) else {
             return self.stop();
         };
-        made(Answer::Ended)
+        made(Answer::Ended, bells_of_others(session, &did))
     }
 }

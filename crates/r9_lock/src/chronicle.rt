@@ -8,6 +8,9 @@ pub struct Acted<A> {
     pub answer: A,
     /// Whether it made an entry.
     pub entered: bool,
+    /// The bells that are to be rung for its entry, as a set of bits (`bell_of`). Who waits at another bell sleeps on. No promise
+    /// rests on it.
+    pub rings: u64,
 }
 
 /// A value that answers what it is asked, and stands for a history of entries, numbered from 1. It may have dropped the

@@ -1,5 +1,6 @@
 //! The lock.
 use crate::bell::{Bell, Patience};
+use crate::bells::Bells;
 use crate::chronicle::{Acted, Chronicle};
 use crate::pass::Pass;
 use crate::rule::{Compare, Cut, End, Glue, Look, Portion, Take, Told, Turns};
@@ -26,10 +27,8 @@ pub struct Spent<K> {
 // From this word on there are no more turns.
 const MOST: u64 = 1 << 62;
 
-// The longest pauses of a thread that waits for a turn, which is mostly short, and for an entry, in spins.
+// The longest pause of a thread that waits for a turn, which is mostly short, in spins.
 const TURN_PAUSE: u32 = 2048;
-
-const ENTRY_PAUSE: u32 = 32;
 
 /// A value that threads take turns at.
 #[derive(Drop)]
@@ -37,8 +36,8 @@ pub struct Shared<T: Chronicle> {
     table: Table<T, View<T::Entry>, u64, Turns<T, T::Ask, T::Answer>, Global>,
     // Rung when a turn ends.
     free: Bell,
-    // Rung when the history has an entry more.
-    grown: Bell,
+    // Rung when the history has an entry more that may concern who waits at them.
+    grown: Bells,
 }
 
 // How a try to take the turn ended: with the word that it found, or in vain, since another thread has the turn.
@@ -72,6 +71,9 @@ impl<T: Chronicle + Drop> Shared<T> {
         ensures pass { IfOk result (λ r. r.1 ≡ opening r.0.id shares) }
         ensures refused { IfErr result (λ refused. refused.value ≡ value) }
     {
+        let Ok(grown) = Bells::start(alloc) else {
+            return Err(Refused { value });
+        };
         let Ok(mut slots) = Vec::with_capacity(alloc, 1) else {
             return Err(Refused { value });
         };
@@ -88,7 +90,7 @@ impl<T: Chronicle + Drop> Shared<T> {
         let shared = Shared {
             table,
             free: Bell::new(TURN_PAUSE),
-            grown: Bell::new(ENTRY_PAUSE),
+            grown,
         };
         Ok((shared, Pass { seat, seen: 0 }))
     }
@@ -151,7 +153,8 @@ impl<T: Chronicle> Shared<T> {
         seat.slot_mut(&self.table.shared, 0).act(ask)
     }
 
-    // Puts the value back, and wakes who waits where there is one entry more. Answers how many there are.
+    // Puts the value back, and then, where there is one entry more, wakes who waits at the bells of a set. Answers how many
+    // entries there are.
     fn end<J: Told<T::Ask, T::Answer>>(
         &self,
         seat: &mut Place<T>,
@@ -159,6 +162,7 @@ impl<T: Chronicle> Shared<T> {
         _answer: &T::Answer,
         found: u64,
         entered: bool,
+        rings: u64,
     ) -> u64
         requires lock { seat.old.table_id ≡ self.now.id }
         requires told { J.told ≡ Some (_asked.now.value, _answer.now) }
@@ -173,7 +177,7 @@ impl<T: Chronicle> Shared<T> {
         self.table.shared.store::<End<J>>(seat, 0, word);
         self.free.ring();
         if entered {
-            self.grown.ring_all();
+            self.grown.ring(rings, word / 2);
         }
         word / 2
     }
@@ -199,38 +203,51 @@ impl<T: Chronicle> Shared<T> {
             Err(count) => return Err(Spent { count, ask }),
         };
         let asked = Snapshot::of(&ask);
-        let Acted { answer, entered } = self.act(&mut pass.seat, ask);
-        pass.seen = self.end::<Brand>(&mut pass.seat, &asked, &answer, found, entered);
+        let Acted {
+            answer,
+            entered,
+            rings,
+        } = self.act(&mut pass.seat, ask);
+        pass.seen = self.end::<Brand>(&mut pass.seat, &asked, &answer, found, entered, rings);
         Ok(answer)
     }
 
-    // Looks until the history has more than so many entries.
-    fn watch<R: Wait>(&self, rt: &R, seat: &mut Place<T>, seen: u64)
+    // Looks until the bell of a listener has rung for more than so many entries, and the history has more.
+    fn watch<R: Wait>(&self, rt: &R, seat: &mut Place<T>, seen: u64, listener: u32)
         requires lock { seat.old.table_id ≡ self.now.id }
         requires rests { Rests seat.old.me }
         ensures seat { IsSameSeat seat.old seat.new }
         ensures looks { Looks seat.old.me seat.new.me }
         ensures more { seen < seat.new.me.0.least }
     {
+        let growth = self.grown.of(listener);
         let mut patience = Patience::Pause(1);
         for _ in rt.forever() {
-            let found = self.table.shared.load::<Look>(seat, 0);
-            if found / 2 > seen {
-                return;
+            if growth.has_rung_after(seen) {
+                let found = self.table.shared.load::<Look>(seat, 0);
+                if found / 2 > seen {
+                    return;
+                }
             }
-            patience = self.grown.pause(rt, patience);
+            patience = growth.bell.pause(rt, patience);
         }
     }
 
-    /// Waits until the history has an entry that the pass has not seen, and so has more entries than those.
-    pub fn wait<R: Wait>(&self, rt: &R, pass: &mut Pass<T>)
+    /// Waits until the history has an entry that the pass has not seen, and so has more entries than those, and the bell of a
+    /// listener was rung for it. So it may wait on where there are such entries, but none of them rang that bell.
+    pub fn wait<R: Wait>(&self, rt: &R, pass: &mut Pass<T>, listener: u32)
         requires { pass.old.lock ≡ self.now.id }
         ensures pass { pass.new ≡ known_of pass.old pass.new.least }
         ensures least { pass.old.least ≤ pass.new.least }
         ensures more { length pass.old.seen < pass.new.least }
     {
         let seen = pass.seen;
-        self.watch(rt, &mut pass.seat, seen);
+        self.watch(rt, &mut pass.seat, seen, listener);
+    }
+
+    /// Rings the bell of a listener, who then wakes where the pass has seen an entry that the listener has not.
+    pub fn ring(&self, pass: &Pass<T>, listener: u32) {
+        self.grown.of(listener).ring(pass.seen);
     }
 
     fn cut<J: Portion>(&self, seat: &mut Place<T>, _shares: u32) -> Place<T>

@@ -1,5 +1,5 @@
 -- What the echo enters.
-use Rattle.std.proofs.Common.{◌≡◌, ◌≢◌, ℕ, zero, suc, ◌+◌, ◌^◌, ◌<◌, ◌≤◌, Bool, true, false, List, [], ◌∷◌, ◌++◌, length, refl, sym, ap, ◌∙◌, subst, arith, ⊎_elim, inl, inr}
+use Rattle.std.proofs.Common.{◌≡◌, ◌≢◌, ℕ, zero, suc, ◌+◌, ◌-◌, ◌^◌, ◌<◌, ◌≤◌, Bool, true, false, List, [], ◌∷◌, ◌++◌, length, refl, sym, ap, ◌∙◌, subst, arith, ⊎_elim, inl, inr}
 use Rattle.std.specs.Prelude.{◌⊎◌, ◌==◌, Contains, MatchBool, IsFalse, Option, Some, None}
 use Rattle.std.proofs.lemmas.Bool.{eq-eqb, eqb-true}
 use Rattle.std.proofs.lemmas.List.{map-append, length-append, nil_from_length}
@@ -28,10 +28,10 @@ abbrev entry_of : List Entry → Event → Entry
 entry_of before event = record { number = length before + 1; event = event }
 
 abbrev entered : Answer → Acted Answer
-entered a = record { answer = a; entered = true }
+entered a = record { answer = a; entered = true; rings = 2 ^ 64 - 1 }
 
 abbrev answered : Answer → Acted Answer
-answered a = record { answer = a; entered = false }
+answered a = record { answer = a; entered = false; rings = 0 }
 
 -- one event more
 entered_at : (m : ℕ) (b e : Bool) (w : List ℕ) (b' e' : Bool) (w' : List ℕ) (event : Event) → roll_after (roll_in b e) event ≡ roll_in b' e'

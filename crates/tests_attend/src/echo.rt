@@ -1,5 +1,5 @@
 // A server of one session, which replies to each message with its bytes. It keeps no entry.
-ghost use Rattle.std.specs.Prelude.{◌≡◌, ◌<◌, ◌≤◌, ◌^◌, ◌↔◌, [], false, true, IsTrue};
+ghost use Rattle.std.specs.Prelude.{◌≡◌, ◌<◌, ◌≤◌, ◌-◌, ◌^◌, ◌↔◌, [], false, true, IsTrue};
 ghost use Rattle.std.proofs.Common.{arith, sym};
 ghost use Rattle.std.proofs.lemmas.List.{drop_all};
 ghost use Rattle.r9_event.specs.declared.ask.Ask.TheVariants as ask;
@@ -47,20 +47,22 @@ fn is_message(bytes: &[u8]) -> bool
 }
 
 fn entered(answer: Answer) -> Acted<Answer>
-    ensures { result ≡ record { answer = answer; entered = true } }
+    ensures { result ≡ record { answer = answer; entered = true; rings = 2 ^ 64 - 1 } }
 {
     Acted {
         answer,
         entered: true,
+        rings: u64::MAX,
     }
 }
 
 fn answered(answer: Answer) -> Acted<Answer>
-    ensures { result ≡ record { answer = answer; entered = false } }
+    ensures { result ≡ record { answer = answer; entered = false; rings = 0 } }
 {
     Acted {
         answer,
         entered: false,
+        rings: 0,
     }
 }
 

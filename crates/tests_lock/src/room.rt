@@ -46,7 +46,7 @@ fn read_in<T: Chronicle<Ask = Option<u32>, Answer = Option<u64>>, S: Source, R: 
     }
 }
 
-// Looks after each wait, and writes how many entries there are, until there are so many.
+// Looks after each wait at the bell 0, and writes how many entries there are, until there are so many.
 fn write_in<T: Chronicle<Ask = Option<u32>, Answer = Option<u64>>, O: Sink, R: Wait>(
     room: &Room<'_, '_, T, R>,
     pass: &mut Pass<T>,
@@ -58,7 +58,7 @@ fn write_in<T: Chronicle<Ask = Option<u32>, Answer = Option<u64>>, O: Sink, R: W
     ensures output { length (O.held output.old) ≤ length (O.held output.new) }
 {
     for _ in room.rt.forever() {
-        room.lock.wait(room.rt, pass);
+        room.lock.wait(room.rt, pass, 0);
         let Ok(Some(number)) = room.lock.turn(room.rt, pass, None) else {
             return;
         };

@@ -109,7 +109,7 @@ fn a_reader_and_a_writer_take_turns(rt: HostRuntime) -> Result<(), Fail> {
         panic!(rt; "memory")
     };
     let mut writer = lock.split(&mut reader, 1);
-    let mut input = Numbers::new(vec![in rt.alloc(); 5, 3, 8]?);
+    let mut input = Numbers::new(vec![in rt.alloc(); 0, 64, 192]?);
     let mut output = Counts {
         counts: Vec::new(rt.alloc()),
     };
@@ -125,7 +125,7 @@ fn a_reader_and_a_writer_take_turns(rt: HostRuntime) -> Result<(), Fail> {
     assert!(rt; reader.seen() == 3 && writer.seen() == 3 && input.at == 3);
     assert!(rt; output.counts.last() == Some(&3) && output.counts.is_sorted());
     lock.join(&mut reader, writer);
-    assert!(rt; lock.close(reader).notes.as_slice() == [5, 3, 8].as_slice());
+    assert!(rt; lock.close(reader).notes.as_slice() == [0, 64, 192].as_slice());
     Ok(())
 }
 
@@ -220,7 +220,7 @@ fn passes_see_what_they_and_others_made(rt: HostRuntime) -> Result<(), Fail> {
     let Ok(one) = lock.turn(&rt, &mut mine, Some(7)) else {
         panic!(rt; "spent")
     };
-    lock.wait(&rt, &mut theirs);
+    lock.wait(&rt, &mut theirs, 7);
     assert!(rt; one == Some(1) && mine.seen() == 1 && theirs.seen() == 0);
     let Ok(two) = lock.turn(&rt, &mut theirs, Some(8)) else {
         panic!(rt; "spent")
@@ -233,6 +233,71 @@ fn passes_see_what_they_and_others_made(rt: HostRuntime) -> Result<(), Fail> {
     assert!(rt; mine.seen() == 2);
     let tape = lock.close(mine);
     assert!(rt; tape.notes.as_slice() == [7, 8].as_slice());
+    Ok(())
+}
+
+// Waits at a bell, and then looks how many notes there are.
+fn look_when_rung<R: Wait>(
+    rt: &R,
+    lock: &Shared<Tape>,
+    mut pass: Pass<Tape>,
+    listener: u32,
+) -> (Pass<Tape>, u64)
+    requires { pass.lock ≡ lock.now.id }
+    ensures { (result.0.lock ≡ pass.lock) × (result.0.shares ≡ pass.shares) }
+{
+    lock.wait(rt, &mut pass, listener);
+    match lock.turn(rt, &mut pass, None) {
+        Ok(Some(count)) => (pass, count),
+        Ok(None) => (pass, 0),
+        Err(Spent { count: _, ask: _ }) => (pass, 0),
+    }
+}
+
+// Notes three numbers. Only the last rings the bell 7.
+fn note_three<R: Wait>(rt: &R, lock: &Shared<Tape>, mut pass: Pass<Tape>) -> Pass<Tape>
+    requires { pass.lock ≡ lock.now.id }
+    ensures { (result.lock ≡ pass.lock) × (result.shares ≡ pass.shares) }
+{
+    let _ = lock.turn(rt, &mut pass, Some(3));
+    let _ = lock.turn(rt, &mut pass, Some(70));
+    let _ = lock.turn(rt, &mut pass, Some(71));
+    pass
+}
+
+fn look_while_noted<R: Threads + Wait + Sync>(
+    rt: &R,
+    lock: &Shared<Tape>,
+    mut mine: Pass<Tape>,
+) -> (Pass<Tape>, u64)
+    requires { (mine.lock ≡ lock.now.id) × (2 ≤ mine.shares) }
+    ensures { (result.0.lock ≡ mine.lock) × (result.0.shares ≡ mine.shares) }
+{
+    let theirs = lock.split(&mut mine, 1);
+    let (a, b) = join(
+        rt,
+        || -> (Pass<Tape>, u64)
+            requires { mine.lock ≡ lock.now.id }
+            ensures { (result.0.lock ≡ mine.lock) × (result.0.shares ≡ mine.shares) }
+        { look_when_rung(rt, lock, mine, 7) },
+        || -> Pass<Tape>
+            requires { theirs.lock ≡ lock.now.id }
+            ensures { (result.lock ≡ theirs.lock) × (result.shares ≡ theirs.shares) }
+        { note_three(rt, lock, theirs) },
+    );
+    let (mut all, count) = a;
+    lock.join(&mut all, b);
+    (all, count)
+}
+
+#[test]
+fn who_waits_at_a_bell_sleeps_on_at_other_rings(rt: HostRuntime) -> Result<(), Fail> {
+    let Ok((lock, pass)) = Shared::start(rt.alloc(), Tape::new(rt.alloc()), 2) else {
+        panic!(rt; "memory")
+    };
+    let (pass, count) = look_while_noted(&rt, &lock, pass);
+    assert!(rt; count == 3);
+    assert!(rt; lock.close(pass).notes.as_slice() == [3, 70, 71].as_slice());
     Ok(())
 }
 

@@ -3,10 +3,10 @@ ghost use Rattle.std.specs.Prelude.{◌≡◌, ◌+◌, ◌-◌, ◌^◌, ◌<�
 ghost use Rattle.std.proofs.Common.{sym, ap, arith};
 ghost use Rattle.std.proofs.lemmas.List.{drop_all};
 
-use r9_lock::{Acted, Chronicle};
+use r9_lock::{Acted, Chronicle, bell_of};
 use std::alloc::Global;
 
-// The numbers that were noted. It answers how many there are, and `None` for want of memory.
+// The numbers that were noted. It answers how many there are, and `None` for want of memory. A note rings the bell of its number.
 #[derive(Drop)]
 pub struct Tape {
     pub notes: Vec<u32>,
@@ -47,12 +47,17 @@ impl Chronicle for Tape {
             Some(note) => self.notes.push(note).is_ok(),
             None => false,
         };
+        let rings = bell_of(ask.unwrap_or(0));
         let answer = if entered || ask.is_none() {
             Some(self.notes.len() as u64)
         } else {
             None
         };
-        Acted { answer, entered }
+        Acted {
+            answer,
+            entered,
+            rings,
+        }
     }
 
     fn entries(&self) -> u64 {
@@ -103,6 +108,7 @@ impl Chronicle for Count {
         Acted {
             answer: (),
             entered: true,
+            rings: 0,
         }
     }
 

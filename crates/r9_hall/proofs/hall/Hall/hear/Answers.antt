@@ -9,7 +9,7 @@ use Rattle.r9_hall.proofs.hall.Hall.hear.Goals as goal
 pub returns-clause-history : goal.returns-clause-history
 returns-clause-history c =
     subst (λ (a : Acted Answer). IsAct c.args.self.now (ask.Msg c.args.session c.args.bytes) a c.event.new.self) (sym c.made.ensures)
-    (heard_act c.args.self.now c.event.new.self c.args.session c.args.bytes c.in-Ok.field-0 c.heard.result c.in-Ok.ensures.made c.event.ensures.opening (c.in-Ok.ensures.whole ∙ c.requires.whole) c.heard.ensures)
+    (heard_act c.args.self.now c.event.new.self c.args.session c.args.bytes c.in-Ok.did c.heard.result c.in-Ok.ensures.made c.event.ensures.opening (c.in-Ok.ensures.whole ∙ c.requires.whole) c.heard.ensures)
 
 pub returns-in_default-clause-history : goal.returns-in_default-clause-history
 returns-in_default-clause-history c =
