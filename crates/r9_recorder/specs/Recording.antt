@@ -20,7 +20,7 @@ pub record IsPut (before : Option (List ℕ)) (next part : ℕ) (history : List 
 
 module _ {H O : Type 0} (first : H → ℕ) (stands : H → List Entry → Type 0) (held : O → Option (List ℕ)) (faults : O → ℕ) where
   -- A recorder stands for a history of which its hall stores all entries that were not put, the sink has a front of its record, and the
-  -- count of its faults has risen where a put has failed.
+  -- count of its faults has risen where a put or a flush has failed.
   pub record Records (loan : Loan) (r : Recorder H O) (history : List Entry) : Type 0 where
     pub named : r.out.ghost_name ≡ loan.name
     pub stood : stands r.hall history
@@ -30,6 +30,6 @@ module _ {H O : Type 0} (first : H → ℕ) (stands : H → List Entry → Type 
     pub counted : loan.faults ≤ faults r.out.now
     pub failed : r.failed ≡ true → Rose loan.faults (faults r.out.now)
 
--- the lines of the entries are few, unless a put has failed or there was no memory
+-- the lines of the entries are few, unless a put or a flush has failed or there was no memory
 abbrev pub IsBounded : {H O : Type 0} → (H → List Entry) → Recorder H O → Type 0
 IsBounded {H} {O} stored r = (r.failed ≡ true) ⊎ (r.stuck ≡ true) ⊎ (size_of (stored r.hall) < size_limit)

@@ -56,9 +56,9 @@ pub struct Recorder<'a, H, O> {
     part: usize,
     // How many bytes the lines of the stored entries have, at most 2^64-1.
     size: u64,
-    // Whether a put has failed.
+    // Whether a put or a flush has failed.
     failed: bool,
-    // Whether memory was refused or a put failed in the last act.
+    // Whether memory was refused or a put or a flush failed in the last act.
     stuck: bool,
 }
 
@@ -163,8 +163,24 @@ impl<'a, H: Keeps, O: Sink> Recorder<'a, H, O> {
         Ok(())
     }
 
-    /// Where the lines of the stored entries are many: puts all that is left, and then forgets the entries. Once a put has failed it does
-    /// nothing.
+    /// Sends on what was put.
+    fn send_on(&mut self) -> Result<(), RecordFault>
+        ensures same { self.new.out.ghost_name ≡ self.old.out.ghost_name }
+        ensures hall { self.new.hall ≡ self.old.hall }
+        ensures next { self.new.next ≡ self.old.next }
+        ensures records { (loan : Loan) (history : List Entry) → Records H.first H.stands O.held O.faults loan self.old history → Records H.first H.stands O.held O.faults loan self.new history }
+        ensures flushed { OnOk result (O.unflushed self.new.out.now ≡ false) }
+        ensures failed { IsErrOf result RecordFault.WriteFault → self.new.failed ≡ true }
+    {
+        if self.out.flush().is_err() {
+            self.failed = true;
+            return Err(RecordFault::WriteFault);
+        }
+        Ok(())
+    }
+
+    /// Where the lines of the stored entries are many: puts and sends on all that is left, and then forgets the entries. Once a put or a
+    /// flush has failed it does nothing.
     fn settle(&mut self) -> Result<(), RecordFault>
         ensures same { self.new.out.ghost_name ≡ self.old.out.ghost_name }
         ensures opening { H.opening self.new.hall ≡ H.opening self.old.hall }
@@ -177,6 +193,7 @@ impl<'a, H: Keeps, O: Sink> Recorder<'a, H, O> {
             return Ok(());
         }
         self.write()?;
+        self.send_on()?;
         self.hall.forget();
         self.size = 0;
         Ok(())
@@ -221,7 +238,7 @@ impl<'a, H: Keeps, O: Sink> Recorder<'a, H, O> {
         ensures history { (loan : Loan) (before : List Entry) → Records H.first H.stands O.held O.faults loan self.old before
             → (after : List Entry) × Records H.first H.stands O.held O.faults loan self.new after × May (served (H.opening self.old.hall)) before ask result.answer after
             × MatchBool result.entered ((entry : Entry) × (after ≡ before ++ entry ∷ [])) (after ≡ before) }
-        // The stored lines have few bytes, unless a put has failed or memory was refused in this act.
+        // The stored lines have few bytes, unless a put or a flush has failed or memory was refused in this act.
         ensures bounded { (loan : Loan) (before : List Entry) → Records H.first H.stands O.held O.faults loan self.old before → IsBounded H.stored self.new }
     {
         let acted = self.make(ask);
@@ -250,10 +267,7 @@ impl<'a, H: Keeps, O: Sink> Recorder<'a, H, O> {
             return Err(RecordFault::WriteFault);
         }
         self.write()?;
-        match self.out.flush() {
-            Ok(()) => Ok(()),
-            Err(_) => Err(RecordFault::WriteFault),
-        }
+        self.send_on()
     }
 }
 
