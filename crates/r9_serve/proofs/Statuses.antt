@@ -7,7 +7,8 @@ use Rattle.r9_serve.specs.declared.status.Status.{Status}
 use Rattle.r9_serve.specs.declared.status.Status.TheVariants as status
 use Rattle.r9_opts.specs.declared.job.Job.{Job}
 use Rattle.r9_opts.specs.declared.job.Job.TheVariants.{Replay, Serve, Alone, Gen}
-use Rattle.r9_serve.specs.Run.{Ask, AskForReplay, AskToServe, HadRecord, IsOutput, LeftInput, WasBadAt, WasLate, WrotePart, IsInputAfter, IsOutAfter, IsDone, IsRefused, IsToldLate}
+use Rattle.r9_replay.specs.Replays.{HadRecord, WasBadAt, WasLate}
+use Rattle.r9_serve.specs.Run.{Ask, AskForReplay, AskToServe, IsOutput, LeftInput, WrotePart, IsInputAfter, IsOutAfter, IsDone, IsRefused, IsToldLate}
 use Rattle.r9_journal.proofs.Headers.{late_once, record_not_late}
 use Rattle.r9_journal.proofs.Records.{bad_not_late, not_both}
 use Rattle.r9_serve.proofs.Asking.{not_both as not_both_asked, serve_not_gen, serve_not_replay}

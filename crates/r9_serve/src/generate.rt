@@ -11,7 +11,6 @@ ghost use Rattle.r9_outside.specs.Count.{Rose};
 ghost use Rattle.r9_outside.specs.Sink.{Appends, AppendsPart};
 ghost use Rattle.r9_serve.specs.Run.{IsDone, IsInputAfter, IsOutAfter, count_lines, generated_output, made_for};
 
-use crate::replay::make_event;
 use crate::status::Status;
 use r9_chan::Chan;
 use r9_event::{Entries, Opening};
@@ -19,6 +18,7 @@ use r9_gen::make;
 use r9_hall::World;
 use r9_memory::Memory;
 use r9_outside::{Sink, SinkFault, put_all};
+use r9_replay::make_event;
 use r9_text::{Bytes, push_decimal};
 use std::alloc::Global;
 

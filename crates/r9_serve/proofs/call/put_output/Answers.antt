@@ -1,5 +1,5 @@
 use Rattle.r9_hall.specs.WorldView.{world_in}
-use Rattle.r9_serve.proofs.Screens.{output_part}
+use Rattle.r9_replay.proofs.Screens.{output_part}
 use Rattle.r9_serve.proofs.call.put_output.Goals as goal
 
 pub returns-in_err-put_screen-clause-part : goal.returns-in_err-put_screen-clause-part

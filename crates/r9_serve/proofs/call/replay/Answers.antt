@@ -1,7 +1,7 @@
 use Rattle.std.proofs.Common.{refl}
 use Rattle.r9_opts.specs.declared.job.Job.TheVariants.{Replay}
 use Rattle.r9_hall.specs.WorldView.{world_in}
-use Rattle.r9_serve.specs.Replayed.{output}
+use Rattle.r9_replay.specs.Replayed.{output}
 use Rattle.r9_serve.proofs.call.replay.Goals as goal
 
 pub returns-in-Ok-put_output-clause-out : goal.returns-in-Ok-put_output-clause-out

@@ -3,7 +3,7 @@ use Rattle.r9_event.specs.declared.event.Event.{Event}
 use Rattle.r9_event.specs.declared.event.Reply.{Reply}
 use Rattle.model_world.specs.World.{World}
 use Rattle.model_world.specs.Replay.{replies_from}
-use Rattle.r9_serve.proofs.Replaying.{count_after, first_next, goes_on, may_start}
+use Rattle.r9_replay.proofs.Replaying.{count_after, first_next, goes_on, may_start}
 use Rattle.r9_serve.proofs.generate.run_counted.Goals as goal
 
 pub events-init : goal.events-init

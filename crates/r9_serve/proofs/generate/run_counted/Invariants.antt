@@ -1,7 +1,7 @@
 use Rattle.std.proofs.Common.{◌≡◌, ◌+◌, length}
 use Rattle.model_world.specs.Replay.{replies, replies_from}
 use Rattle.r9_hall.specs.WorldView.{world_in}
-use Rattle.r9_serve.specs.Replayed.{MayRun}
+use Rattle.r9_replay.specs.Replayed.{MayRun}
 use Rattle.r9_serve.proofs.generate.run_counted.Given as goal
 
 abbrev pub invariant-events : goal.invariant-events

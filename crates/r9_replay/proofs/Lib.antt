@@ -1,0 +1,4 @@
+pub mod Taking
+pub mod Replaying
+pub mod Lines
+pub mod Screens

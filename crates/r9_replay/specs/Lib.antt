@@ -1,0 +1,4 @@
+pub mod Taken
+pub mod Replayed
+pub mod Log
+pub mod Replays

@@ -1,0 +1,83 @@
+//! Reading all of the input.
+
+ghost use Rattle.std.specs.Prelude.{◌≡◌, ◌≤◌, ◌<◌, ◌+◌, ◌^◌, ◌++◌, [], length, take, drop, IfOk, IfSome, IsErrOf, Some};
+ghost use Rattle.r9_outside.specs.Count.{Rose};
+ghost use Rattle.r9_replay.specs.Taken.{HasRead};
+
+use r9_memory::Memory;
+use r9_outside::{Failed, Source};
+use r9_text::Bytes;
+use std::alloc::Global;
+
+/// So many bytes are taken at most. An input that has them is no record.
+const MAX_LEN: usize = 1 << 30;
+
+/// So many bytes are asked for at once.
+const CHUNK: usize = 4096;
+
+/// Why the input was not read.
+#[derive(Clone, Copy, Debug, PartialEq, Eq)]
+pub enum InputFault {
+    /// A take failed.
+    Failed,
+    /// There was no memory.
+    Memory,
+}
+
+impl From<Memory> for InputFault {
+    ghost use Rattle.std.specs.Prelude.{◌≡◌};
+    ghost use Rattle.r9_replay.specs.declared.input.InputFault.TheVariants as fault;
+
+    ghost from_gives = { λ _ e. e ≡ fault.Memory };
+
+    fn from(_: Memory) -> Self {
+        InputFault::Memory
+    }
+}
+
+impl From<Failed> for InputFault {
+    ghost use Rattle.std.specs.Prelude.{◌≡◌};
+    ghost use Rattle.r9_replay.specs.declared.input.InputFault.TheVariants as fault;
+
+    ghost from_gives = { λ _ e. e ≡ fault.Failed };
+
+    fn from(_: Failed) -> Self {
+        InputFault::Failed
+    }
+}
+
+/// Takes some bytes, and adds them to a text.
+fn take_piece<S: Source>(
+    input: &mut S,
+    buffer: &mut [u8],
+    text: &mut Bytes,
+) -> Result<usize, InputFault>
+    ensures within { IfOk result (λ n. n ≤ length buffer.old) }
+    ensures len { IfOk result (λ n. length text.new ≡ length text.old + n) }
+    ensures taken { IfOk result (λ n. IfSome (S.left input.old) (λ bytes.
+        (text.new ≡ text.old ++ take n bytes) × (S.left input.new ≡ Some (drop n bytes)))) }
+    ensures end { IfOk result (λ n. n ≡ 0 → 0 < length buffer.old → IfSome (S.left input.old) (λ bytes. bytes ≡ [])) }
+    ensures failed { IsErrOf result InputFault.Failed → Rose (S.faults input.old) (S.faults input.new) }
+    ensures counted { S.faults input.old ≤ S.faults input.new }
+{
+    let count = input.take(buffer)?;
+    text.push_all(&buffer[..count])?;
+    Ok(count)
+}
+
+/// What the input has left up to its end, or its first 2^30 bytes.
+pub fn read_input<S: Source>(alloc: Global, input: &mut S) -> Result<Bytes, InputFault>
+    ensures read { IfOk result (λ text. HasRead (S.left input.old) text (S.left input.new)) }
+    ensures failed { IsErrOf result InputFault.Failed → Rose (S.faults input.old) (S.faults input.new) }
+    ensures counted { S.faults input.old ≤ S.faults input.new }
+{
+    let mut text = Bytes::new(alloc);
+    let mut buffer = [0u8; CHUNK];
+    'taking: while text.len() < MAX_LEN {
+        let room = (MAX_LEN - text.len()).min(CHUNK);
+        if take_piece(input, &mut buffer[..room], &mut text)? == 0 {
+            return Ok(text);
+        }
+    }
+    Ok(text)
+}

@@ -1,0 +1,147 @@
+//! The command `replay`.
+
+ghost use Rattle.std.specs.Prelude.{◌≡◌, ◌++◌, ℕ, Bool, false, IsTrue, IfOk, OnOk, IsErrOf, Err};
+ghost use Rattle.r9_outside.specs.Count.{Rose};
+ghost use Rattle.model_event.specs.Legal.{IsLegal};
+ghost use Rattle.model_world.specs.Links.{IsNext};
+ghost use Rattle.model_world.specs.Replay.{marked, step, replay, replies};
+ghost use Rattle.model_record.specs.Record.{IsBadAt, IsLate};
+ghost use Rattle.r9_hall.specs.StateView.{IsWhole};
+ghost use Rattle.r9_hall.specs.WorldView.{IsStepped, world_in};
+ghost use Rattle.r9_replay.specs.Replays.{WasBadAt, WasLate, WasRead, AreReplyLines};
+ghost use Rattle.r9_replay.specs.Replayed.{output, AreRepliesTo};
+
+use crate::input::{InputFault, read_input};
+use crate::log::ReplyLog;
+use r9_event::{Event, Opening, Replies, Reply};
+use r9_hall::World;
+use r9_journal::{JournalFault, Record};
+use r9_memory::Memory;
+use r9_outside::Source;
+use std::alloc::Global;
+
+/// Why there are no replies.
+#[derive(Clone, Copy, Debug, PartialEq, Eq)]
+pub enum ReplayFault {
+    /// The input is no record, and goes wrong at this place.
+    BadRecord(u64),
+    /// The input is a part of a record, which begins with the entry of this number.
+    LateRecord(u64),
+    /// The input failed.
+    ReadFault,
+    /// There was no memory.
+    Memory,
+}
+
+/// What a history led to: the replies to it, and the world after it.
+#[derive(Drop)]
+pub struct Ended {
+    pub log: ReplyLog,
+    pub world: World,
+}
+
+/// Adds replies at the end. For want of memory some may be there.
+fn keep_all(replies: &[Reply], log: &mut ReplyLog) -> Result<(), Memory>
+    ensures { OnOk result (log.new ≡ log.old ++ replies.now) }
+{
+    for reply in replies {
+        log.push(reply)?;
+    }
+    Ok(())
+}
+
+/// Whether an event stands in the history as it is: no mark came in a data write, or its own.
+fn is_as_made(event: &Event, short: Option<u32>) -> bool
+    ensures { IsTrue result → marked event.now short ≡ event.now }
+{
+    let Some(done) = short else {
+        return true;
+    };
+    if let Event::Msg {
+        mark: Some(own),
+        ..
+    } = event
+    {
+        return *own == done;
+    }
+    false
+}
+
+/// Makes an event, and gives the replies to it. Where memory ran out in a data write, that is told as want of memory.
+pub fn make_event(world: &mut World, event: Event) -> Result<Replies, Memory>
+    requires whole { IsWhole event }
+    requires next { IsNext world.old.begun event }
+    requires going { world.old.broken ≡ false }
+    ensures world { OnOk result (IsStepped world.old event world.new) }
+    ensures replies { IfOk result (λ replies. replies ≡ (step (world_in world.old) event).replies) }
+{
+    let did = world.step(&event)?;
+    if !is_as_made(&event, did.short) {
+        return Err(Memory);
+    }
+    Ok(did.replies)
+}
+
+/// Makes an event, and adds the replies to it at the end.
+fn run_event(world: &mut World, event: Event, log: &mut ReplyLog) -> Result<(), Memory>
+    requires whole { IsWhole event }
+    requires next { IsNext world.old.begun event }
+    requires going { world.old.broken ≡ false }
+    ensures world { OnOk result (IsStepped world.old event world.new) }
+    ensures replies { OnOk result (log.new ≡ log.old ++ (step (world_in world.old) event).replies) }
+{
+    let replies = make_event(world, event)?;
+    keep_all(replies.as_slice(), log)
+}
+
+/// What a history leads to, which is run event by event as its record is read.
+fn replayed(alloc: Global, opening: Opening, mut left: Record) -> Result<Ended, Memory>
+    requires { IsLegal left }
+    ensures replies { IfOk result (λ ended. ended.log ≡ replies opening left.entry) }
+    ensures world { IfOk result (λ ended. world_in ended.world ≡ replay opening left.entry) }
+{
+    let mut world = World::start(alloc, opening)?;
+    let mut log = ReplyLog::new(alloc);
+    'events: while let Some(event) = left.pop_first(alloc)? {
+        run_event(&mut world, event, &mut log)?;
+    }
+    Ok(Ended { log, world })
+}
+
+/// What the history leads to whose record a text is.
+fn replay_text(alloc: Global, opening: Opening, text: &[u8]) -> Result<Ended, JournalFault>
+    ensures replies { IfOk result (λ ended. AreRepliesTo opening text.now ended.log (world_in ended.world)) }
+    ensures bad { (place : ℕ) → result ≡ Err (JournalFault.Bad place) → IsBadAt text.now place }
+    ensures late { (first : ℕ) → result ≡ Err (JournalFault.Late first) → IsLate text.now first }
+{
+    let left = Record::check(alloc, text)?;
+    let ended = replayed(alloc, opening, left)?;
+    Ok(ended)
+}
+
+/// What the history leads to whose record the input has. The text is gone once that is reached.
+pub fn replay_input<S: Source>(
+    alloc: Global,
+    opening: Opening,
+    input: &mut S,
+) -> Result<Ended, ReplayFault>
+    ensures lines { IfOk result (λ ended. (screen : Bool) → AreReplyLines opening screen (S.left input.old) (output screen ended.log (world_in ended.world))) }
+    ensures read { OnOk result (WasRead (S.left input.old) (S.left input.new)) }
+    ensures bad_record { (place : ℕ) → result ≡ Err (ReplayFault.BadRecord place) → WasBadAt (S.left input.old) place }
+    ensures bad_read { (place : ℕ) → result ≡ Err (ReplayFault.BadRecord place) → WasRead (S.left input.old) (S.left input.new) }
+    ensures late_record { (first : ℕ) → result ≡ Err (ReplayFault.LateRecord first) → WasLate (S.left input.old) first }
+    ensures late_read { (first : ℕ) → result ≡ Err (ReplayFault.LateRecord first) → WasRead (S.left input.old) (S.left input.new) }
+    ensures read_fault { IsErrOf result ReplayFault.ReadFault → Rose (S.faults input.old) (S.faults input.new) }
+{
+    let text = match read_input(alloc, input) {
+        Ok(text) => text,
+        Err(InputFault::Failed) => return Err(ReplayFault::ReadFault),
+        Err(InputFault::Memory) => return Err(ReplayFault::Memory),
+    };
+    match replay_text(alloc, opening, text.as_slice()) {
+        Ok(ended) => Ok(ended),
+        Err(JournalFault::Bad(place)) => Err(ReplayFault::BadRecord(place)),
+        Err(JournalFault::Late(first)) => Err(ReplayFault::LateRecord(first)),
+        Err(JournalFault::Memory) => Err(ReplayFault::Memory),
+    }
+}
