@@ -30,7 +30,7 @@ use Rattle.model_fitting.proofs.Lists.{Each, all_of, each_append, each_filter, e
 use Rattle.model_fitting.proofs.Rects.{applied_rect, applied_size, shifted_rect, shifted_size}
 use Rattle.model_shown.proofs.Frames.{sizes, turned}
 use Rattle.model_shown.proofs.Following.{Follows, none, only}
-use Rattle.model_shown.proofs.Ordering.{host_follows, host_rect, lower_follows, make_follows, near_corner, place_follows, raise_follows, replace_follows, shows_has, shows_keeps, shows_rio}
+use Rattle.model_lasting.proofs.Ordering.{host_follows, host_rect, lower_follows, make_follows, near_corner, place_follows, raise_follows, replace_follows, shows_has, shows_keeps, shows_rio}
 use Rattle.model_fitting.proofs.Stepping.{Fits, IsFit, current_fit, each_in_place, each_lowered, each_raised, fits_more, next_fit, now, one_more, retired_fit, rios_of, root_shown, shows_follow, shows_windows, windows_of}
 
 -- ---- orders that change no window's image

@@ -16,7 +16,7 @@ use Rattle.model_fitting.specs.Fitting.{Shows}
 use Rattle.model_shown.proofs.Tests.{not-true, turned}
 use Rattle.model_fitting.proofs.Lists.{Apart, Each, IsOther, all_of, apart_filter, each_both, each_filter, fold_apart, fold_each}
 use Rattle.model_shown.proofs.Following.{Follows, only}
-use Rattle.model_shown.proofs.Ordering.{drop_follows, shows_has}
+use Rattle.model_lasting.proofs.Ordering.{drop_follows, shows_has}
 use Rattle.model_fitting.proofs.Stepping.{IsFit, fits_more, now, one_more, retired_fit, retired_orders, retired_windows, rios_of, windows_of}
 
 -- a window is one deeper than the window that hosts its rio

@@ -6,7 +6,7 @@ use Rattle.model_draw.specs.World.{World}
 use Rattle.model_world.specs.Desktop.{Desktop}
 use Rattle.model_shown.specs.Showing.{IsOrderly}
 use Rattle.model_shown.proofs.Following.{follows_itself, none}
-use Rattle.model_shown.proofs.Messages.{Still, connect_still, leave_still, written_still}
+use Rattle.model_lasting.proofs.Messages.{Still, connect_still, leave_still, written_still}
 use Rattle.model_fitting.specs.Fitting.{Shows}
 use Rattle.model_fitting.proofs.Stepping.{shows_follow}
 use Rattle.model_orders.specs.Leading.{IsDrawn, Leads, Uses, acts, begins, chooses, ends, reads, rests, there, uses, writes}

@@ -32,7 +32,7 @@ use Rattle.model_orders.specs.Leading.{IsDrawn}
 use Rattle.model_orders.specs.Leading.{acts, begins, chooses, ends, reads, writes}
 use Rattle.model_orders.proofs.Leading.{IsLed, led_beside, led_by}
 use Rattle.model_fitting.proofs.Acts.{act_fits}
-use Rattle.model_shown.proofs.Messages.{Still, StillIf, connect_still, leave_still, read_data_still, write_ctl_still, written_still}
+use Rattle.model_lasting.proofs.Messages.{Still, StillIf, connect_still, leave_still, read_data_still, write_ctl_still, written_still}
 use Rattle.model_fitting.proofs.Spelled.{command_spelled}
 
 pub read_is : (k : ℕ) (device : draw.World) (most : ℕ) (got : List ℕ × draw.World) → IsOrderly device → read_data k device most ≡ Ok got → Still device got.1

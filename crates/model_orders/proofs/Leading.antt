@@ -8,7 +8,7 @@ use Rattle.model_shown.specs.Showing.{IsOrderly}
 use Rattle.model_fitting.specs.Fitting.{Shows}
 use Rattle.model_orders.specs.Leading.{IsDrawn}
 use Rattle.model_orders.specs.Leading.{Leads, Uses, rests, there, uses}
-use Rattle.model_shown.proofs.Messages.{Still}
+use Rattle.model_lasting.proofs.Messages.{Still}
 use Rattle.model_fitting.proofs.Stepping.{shows_follow}
 
 pub record IsLed (start desktop : Desktop) : Type 0 where

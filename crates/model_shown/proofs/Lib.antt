@@ -3,8 +3,4 @@ pub mod Tests
 pub mod Spare
 pub mod Numbers
 pub mod Following
-pub mod Freeing
-pub mod Adding
-pub mod Ordering
 pub mod Sizes
-pub mod Messages

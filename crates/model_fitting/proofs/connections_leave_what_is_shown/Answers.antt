@@ -1,6 +1,6 @@
 use Rattle.model_draw.specs.World.{after_connect, after_leave}
 use Rattle.model_draw.specs.Act.{written}
-use Rattle.model_shown.proofs.Messages.{connect_still, leave_still, written_still}
+use Rattle.model_lasting.proofs.Messages.{connect_still, leave_still, written_still}
 use Rattle.model_fitting.proofs.Stepping.{shows_follow}
 use Rattle.model_fitting.proofs.connections_leave_what_is_shown.Goals as goal
 

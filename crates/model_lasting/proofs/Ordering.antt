@@ -30,8 +30,8 @@ use Rattle.model_shown.proofs.Tests.{not-true, same_Some, split, turned}
 use Rattle.model_shown.proofs.Numbers.{gone-book, gone-frames, gone-opening, gone-out, next_in, next_out, out_apart, out_taken, spare_next}
 use Rattle.model_shown.proofs.Frames.{AllLast, AllSame, Comes, OthersSame, all_framed, border_same, comes_then, fill_same, framed, itself, lower_same, origin_comes, origin_last, raise_same, replace_comes, replace_on_comes, same_size, sizes, window_comes}
 use Rattle.model_shown.proofs.Following.{Follows, fill_used, follows, follows_but, follows_itself, follows_then, keeps_same, none, only, screen_used, shown_used}
-use Rattle.model_shown.proofs.Freeing.{free_id-screen_ids, free_id-there, free_screen-image_ids, free_screen-unknown, free_screen_follows, freed_beside, window_freed, window_unknown}
-use Rattle.model_shown.proofs.Adding.{added_follows, added_found, screened_found, screened_follows, tie_follows}
+use Rattle.model_lasting.proofs.Freeing.{free_id-screen_ids, free_id-there, free_screen-image_ids, free_screen-unknown, free_screen_follows, freed_beside, window_freed, window_unknown}
+use Rattle.model_lasting.proofs.Adding.{added_follows, added_found, screened_found, screened_follows, tie_follows}
 
 -- ---- what is shown fits
 

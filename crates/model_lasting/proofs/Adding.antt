@@ -22,7 +22,7 @@ use Rattle.model_shown.proofs.Tests.{either_true, first_true, not-true, not_both
 use Rattle.model_shown.proofs.Spare.{has-new, next-free, spare-taken}
 use Rattle.model_shown.proofs.Frames.{framed, itself}
 use Rattle.model_shown.proofs.Following.{Follows, KeepsBook, follows, none}
-use Rattle.model_shown.proofs.Freeing.{owner_manager}
+use Rattle.model_lasting.proofs.Freeing.{owner_manager}
 
 -- a book in place of another, where the images are the same
 pub book_follows : (gone closed : ℕ → Bool) (w : World) (book : Book) → KeepsBook gone closed w.book book → IsOrderly (with_book w book) → Follows gone closed w (with_book w book)

@@ -39,9 +39,9 @@ use Rattle.model_shown.proofs.Numbers.{next_out}
 use Rattle.model_shown.proofs.Frames.{AllLast, AllSame, OthersSame, all_framed, all_then, draw_same, framed, image_comes, itself, load_same, lower_same, origin_last, others_then, raise_same, set_same, shifted_size, turned, window_comes}
 use Rattle.model_shown.proofs.Sizes.{resized}
 use Rattle.model_shown.proofs.Following.{Follows, follows, follows_itself, follows_then, keeps_same, none, screen_used, shown_used}
-use Rattle.model_shown.proofs.Freeing.{free_id_follows, free_screen_follows, leave_follows}
-use Rattle.model_shown.proofs.Adding.{added_follows, named_follows, screened_follows, shared_follows, tie_follows, untie_follows}
-use Rattle.model_shown.proofs.Ordering.{taken_follows}
+use Rattle.model_lasting.proofs.Freeing.{free_id_follows, free_screen_follows, leave_follows}
+use Rattle.model_lasting.proofs.Adding.{added_follows, named_follows, screened_follows, shared_follows, tie_follows, untie_follows}
+use Rattle.model_lasting.proofs.Ordering.{taken_follows}
 
 -- what is left shows what the device showed
 abbrev pub Still : World → World → Type 0

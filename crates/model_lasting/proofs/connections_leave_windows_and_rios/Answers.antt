@@ -1,6 +1,6 @@
 use Rattle.std.proofs.Common.{refl}
-use Rattle.model_shown.proofs.Messages.{leave_still, written_still}
-use Rattle.model_shown.proofs.connections_leave_windows_and_rios.Goals as goal
+use Rattle.model_lasting.proofs.Messages.{leave_still, written_still}
+use Rattle.model_lasting.proofs.connections_leave_windows_and_rios.Goals as goal
 
 pub returns : goal.returns
 returns c = record {

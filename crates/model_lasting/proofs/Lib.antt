@@ -1,0 +1,4 @@
+pub mod Freeing
+pub mod Adding
+pub mod Ordering
+pub mod Messages
