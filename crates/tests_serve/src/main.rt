@@ -2,10 +2,10 @@
 //! signs and a blank, a line that says what it shows, and a line with the words of the command. A line `in`, `out` or `err` has the
 //! numbers of its calls that fail, and behind a line `record` stands the input. A line `door` with the numbers of the calls that fail, or none, begins the next worker's door; a
 //! line `session` is a session that comes to it, with the bytes that it sends in hexadecimal, and behind a bar each the numbers of the
-//! takes and of the puts and flushes that fail.
+//! takes and of the puts and flushes that fail. Where a line `fronts` stands before `record`, each front of the record is an input.
 //!
 //! Printed are the status, what err got, the record without the lines of takes, whose places differ from run to run, and what the
-//! sink of each session got.
+//! sink of each session got; of fronts, for each length the status and what err got.
 #![tactic(auto)]
 
 use r9_outside::{MemDoor, MemSink, MemSource, SureDoor};
@@ -102,6 +102,50 @@ fn push_sinks(text: &mut String, number: usize, door: &CaseDoor) -> io::Result<(
     Ok(())
 }
 
+/// Adds how a command ends on an input, where nobody comes and no call fails.
+fn push_ending<R: Threads + Wait + Sync>(
+    rt: &R,
+    alloc: Global,
+    words: &[&str],
+    input: &Vec<u8>,
+    text: &mut String,
+) -> io::Result<()> {
+    let mut doors = doors_of(alloc, "")?;
+    let mut source = MemSource::new(input.clone()?, Vec::new(alloc));
+    let mut out = MemSink::new(alloc, Vec::new(alloc));
+    let mut err = MemSink::new(alloc, Vec::new(alloc));
+    let status = run(
+        rt,
+        alloc,
+        words,
+        &mut source,
+        &mut out,
+        &mut err,
+        &mut doors,
+    );
+    let line = str::from_utf8(err.bytes()).unwrap_or("?");
+    let gap = if line.is_empty() { "\n" } else { " " };
+    write!(text, "{}: {}{gap}{line}", input.len(), status.code())?;
+    Ok(())
+}
+
+/// Tells how a command ends on each front of a record.
+fn run_fronts<R: Threads + Wait + Sync>(
+    rt: &R,
+    alloc: Global,
+    words: &[&str],
+    record: &str,
+) -> io::Result<String> {
+    let mut text = String::new(alloc);
+    let mut front = Vec::new(alloc);
+    push_ending(rt, alloc, words, &front, &mut text)?;
+    for byte in record.bytes() {
+        front.push(byte)?;
+        push_ending(rt, alloc, words, &front, &mut text)?;
+    }
+    Ok(text)
+}
+
 /// Serves a case, and tells how it ended.
 fn run_case<R: Threads + Wait + Sync>(
     rt: &R,
@@ -114,6 +158,9 @@ fn run_case<R: Threads + Wait + Sync>(
         words.push(word)?;
     }
     let (lines, record) = lines.split_once("record\n").unwrap_or((lines, ""));
+    if lines == "fronts\n" {
+        return run_fronts(rt, alloc, &words, record);
+    }
     let mut doors = doors_of(alloc, lines)?;
     let record = record.as_bytes().to_vec(alloc)?;
     let mut input = MemSource::new(record, failing(alloc, lines, "in ")?);

@@ -21,7 +21,7 @@ pub struct Ending {
     pub err: Vec<u8>,
 }
 
-/// Does what the words ask for, with these bytes as input.
+/// Does what the words ask for, with these bytes as input, which come one a take where out takes one a put.
 pub fn called<R: Threads + Wait + Sync, D: Door + Send>(
     rt: &R,
     alloc: Global,
@@ -32,7 +32,7 @@ pub fn called<R: Threads + Wait + Sync, D: Door + Send>(
 ) -> Ending
     requires { 16 ≤ length doors.old }
 {
-    let mut input = TestSource::new(input, None, Vec::new(alloc), false);
+    let mut input = TestSource::new(input, None, Vec::new(alloc), out.slow);
     let mut err = TestSink::new(alloc, None, false);
     let status = run(rt, alloc, words, &mut input, &mut out, &mut err, doors);
     Ending {

@@ -90,7 +90,8 @@ impl Source for TestSource {
 pub struct TestSink {
     pub bytes: Vec<u8>,
     tells: Option<Held>,
-    slow: bool,
+    /// Whether it takes one byte a put.
+    pub slow: bool,
     fails: bool,
     unflushed: bool,
     pub faults: u64,

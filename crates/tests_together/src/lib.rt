@@ -9,6 +9,8 @@ mod door;
 #[cfg(test)]
 mod ends;
 #[cfg(test)]
+mod flushes;
+#[cfg(test)]
 mod long;
 #[cfg(test)]
 mod network;

@@ -79,7 +79,7 @@ fn two_sessions_are_served_at_the_same_moment(rt: HostRuntime) -> Result<(), Fai
     Ok(())
 }
 
-// A session alone, of which all that happens is known but when its replies are taken.
+// A session alone, of which all that happens is known but when its replies are taken; and its record.
 #[test]
 fn one_byte_comes_and_goes_a_call(rt: HostRuntime) -> Result<(), Fail> {
     let alloc = rt.alloc();
@@ -95,6 +95,13 @@ fn one_byte_comes_and_goes_a_call(rt: HostRuntime) -> Result<(), Fail> {
         assert_eq!(rt; (ending.status, ending.err.len()), (Status::Done, 0));
         assert!(rt; without_takes(alloc, &ending.out)? == record);
         assert!(rt; alone.got.ok_or("an ended session")? == replies);
+        let mut doors: [_; DOORS] = array::from_fn(|_| TestDoor::nobody());
+        let out = TestSink::new(alloc, None, slow);
+        let input = record.as_bytes().to_vec(alloc)?;
+        let replayed = called(&rt, alloc, &["replay"], input, out, &mut doors);
+        assert_eq!(rt; (replayed.status, replayed.err.len()), (Status::Done, 0));
+        let lines = str::from_utf8(&replayed.out).unwrap_or("?");
+        assert_eq!(rt; behind(alloc, lines, "R 1 ")?.as_str(), REPLIES[0]);
     }
     Ok(())
 }

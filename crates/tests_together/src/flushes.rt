@@ -1,0 +1,94 @@
+//! Reads that wait and are taken back, again and again.
+
+use crate::calls::served_alone;
+use crate::ends::{TestSink, TestSource};
+use crate::talks::{REPLIES, SENT, bytes_of, record_of, without_takes};
+use r9_serve::Status;
+use std::alloc::Global;
+use std::fmt::Write;
+use std::io;
+use std::test::Fail;
+
+/// Four connections of the draw device, and the file `refresh` of each, open as fids 17 to 20.
+const OPENING: &str = "1c0000006e01000000000001000000020004006472617703006e6577
+0c0000007001000100000002
+230000006e010000000000110000000300040064726177010031070072656672657368
+0c0000007001001100000000
+1c0000006e01000000000002000000020004006472617703006e6577
+0c0000007001000200000002
+230000006e010000000000120000000300040064726177010032070072656672657368
+0c0000007001001200000000
+1c0000006e01000000000003000000020004006472617703006e6577
+0c0000007001000300000002
+230000006e010000000000130000000300040064726177010033070072656672657368
+0c0000007001001300000000
+1c0000006e01000000000004000000020004006472617703006e6577
+0c0000007001000400000002
+230000006e010000000000140000000300040064726177010034070072656672657368
+0c0000007001001400000000
+";
+
+/// What they are replied: the qids that walks meet, and those of each `ctl` and `refresh`.
+const OPENED: &str = "230000006f010002008000000000020000000000000000000000000300000000000000
+180000007101000000000000450000000000000000000000
+300000006f01000300800000000002000000000000008000000000440000000000000000000000004700000000000000
+180000007101000000000000470000000000000000000000
+230000006f010002008000000000020000000000000000000000000300000000000000
+180000007101000000000000850000000000000000000000
+300000006f01000300800000000002000000000000008000000000840000000000000000000000008700000000000000
+180000007101000000000000870000000000000000000000
+230000006f010002008000000000020000000000000000000000000300000000000000
+180000007101000000000000c50000000000000000000000
+300000006f01000300800000000002000000000000008000000000c4000000000000000000000000c700000000000000
+180000007101000000000000c70000000000000000000000
+230000006f010002008000000000020000000000000000000000000300000000000000
+180000007101000000000000050100000000000000000000
+300000006f01000300800000000002000000000000008000000000040100000000000000000000000701000000000000
+180000007101000000000000070100000000000000000000
+";
+
+/// How often all reads are taken back.
+const ROUNDS: u32 = 100;
+
+/// Adds 64 reads that wait, a quarter of them on each connection, and flushes of them all.
+fn push_round(messages: &mut String) -> io::Result<()> {
+    for tag in 100..164u8 {
+        let fid = 17 + tag % 4;
+        write!(
+            messages,
+            "1700000074{tag:02x}00{fid:02x}0000000000000000000000ffff0000\n"
+        )?;
+    }
+    for tag in 100..164u8 {
+        write!(messages, "090000006c0100{tag:02x}00\n")?;
+    }
+    Ok(())
+}
+
+// A place among the reads that wait is free again after each flush.
+#[test]
+fn reads_are_flushed_again_and_again(rt: HostRuntime) -> Result<(), Fail> {
+    let alloc = rt.alloc();
+    let mut messages = String::new(alloc);
+    messages.push_str(SENT[0])?;
+    messages.push_str(OPENING)?;
+    let mut replies = String::new(alloc);
+    replies.push_str(REPLIES[0])?;
+    replies.push_str(OPENED)?;
+    for _ in 0..ROUNDS {
+        push_round(&mut messages)?;
+        for _ in 0..64 {
+            replies.push_str("070000006d0100\n")?;
+        }
+    }
+    let sent = bytes_of(alloc, &messages)?;
+    let source = TestSource::new(sent, None, Vec::new(alloc), false);
+    let sink = TestSink::new(alloc, None, false);
+    let out = TestSink::new(alloc, None, false);
+    let alone = served_alone(&rt, alloc, source, sink, out);
+    let ending = alone.ending;
+    assert_eq!(rt; (ending.status, ending.err.len()), (Status::Done, 0));
+    assert!(rt; alone.got.ok_or("an ended session")? == bytes_of(alloc, &replies)?);
+    assert!(rt; without_takes(alloc, &ending.out)? == record_of(alloc, &messages)?);
+    Ok(())
+}
