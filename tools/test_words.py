@@ -31,6 +31,12 @@ CASES = [
     ("wireshark.py", b"", 2, "record"),
     (f"wireshark.py {NOT_THERE} {EXAMPLES}/first.replies OUT", b"", 2, NOT_THERE),
     (f"wireshark.py {EXAMPLES}/first.record {EXAMPLES}/first.record OUT", b"", 1, "line 1, word 1 `rio9`: "),
+    ("soak.py", b"", 2, "PEER"),
+    (f"soak.py {NOT_THERE} --program /bin/true", b"", 2, NOT_THERE),
+    (f"soak.py /bin/true --program {NOT_THERE}", b"", 2, NOT_THERE),
+    ("soak.py /bin/true --junk -1", b"", 2, "--junk"),
+    ("refused_memory.py --every 0", b"", 2, "0"),
+    (f"refused_memory.py --program {NOT_THERE}", b"", 2, NOT_THERE),
 ]
 
 
