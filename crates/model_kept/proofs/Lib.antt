@@ -1,0 +1,9 @@
+pub mod Storing
+pub mod Relisting
+pub mod Restacking
+pub mod Worlds
+pub mod Hiding
+pub mod Coming
+pub mod Shifting
+pub mod Putting
+pub mod Once

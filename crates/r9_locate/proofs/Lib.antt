@@ -1,0 +1,5 @@
+pub mod Rowed
+pub mod Slots
+pub mod Locating
+pub mod Apart
+pub mod Parts

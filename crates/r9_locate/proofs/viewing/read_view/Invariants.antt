@@ -1,0 +1,14 @@
+use Rattle.std.proofs.Common.{◌≡◌, ◌<◌, ◌≤◌, ◌-◌, ℕ, get_or, length}
+use Rattle.r9_plane.specs.Pixels.{along}
+use Rattle.model_kept.specs.Keeping.{keeping}
+use Rattle.r9_locate.specs.Table.{shape}
+use Rattle.r9_locate.proofs.viewing.read_view.Given as goal
+
+abbrev pub invariant-loop-done : goal.invariant-loop-done
+invariant-loop-done g l = record {
+  within : l.done ≤ length l.raws;
+  read : (k : ℕ) → k < l.done → get_or l.raws k 0 ≡ g.P.Pixels.kept l.pixels (keeping (shape l.lists) l.i (along l.from k));
+}
+
+abbrev pub decreases-loop-done : goal.decreases-loop-done
+decreases-loop-done g l = length l.initial.raws - l.done

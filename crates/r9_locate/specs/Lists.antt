@@ -1,0 +1,34 @@
+-- Images without their pixels, as a world.
+use Rattle.std.specs.Prelude.{◌^◌, ℕ, Bool, false, ◌&&◌, List, Option, None, option_map, slice_index_or, All}
+use Rattle.r9_geom.specs.declared.Point.{Point}
+use Rattle.r9_geom.specs.Geometry.{holds, IsRectNearBy}
+use Rattle.model_forest.specs.World.{Image, World, image_at, IsLive}
+use Rattle.model_kept.specs.Keeping.{is_top}
+use Rattle.r9_locate.specs.declared.lists.Frame.{Frame}
+
+-- an image whose pixels are all 0
+abbrev pub frame_image : Frame → Image
+frame_image frame = record {
+  r = frame.r;
+  clipr = frame.r;
+  repl = false;
+  chan = 0;
+  standing = frame.standing;
+  depth = frame.depth;
+  canvas = λ _. 0;
+  windows = frame.windows.items;
+}
+
+abbrev pub frame_at : List (Option Frame) → ℕ → Option Frame
+frame_at slots n = slice_index_or slots n None
+
+abbrev pub shape_of : List (Option Frame) → World
+shape_of slots = λ n. option_map frame_image (frame_at slots n)
+
+-- all coordinates are far from the ends of 64 bits
+abbrev pub IsNearby : World → Type 0
+IsNearby world = (i : ℕ) → IsLive world i → IsRectNearBy (2 ^ 40) (image_at world i).r × All (λ w. IsRectNearBy (2 ^ 40) w.place) (image_at world i).windows
+
+-- an image shows a window of it
+abbrev pub shows : Frame → ℕ → Point → Bool
+shows frame i q = holds frame.r q && is_top frame.windows.items i q

@@ -1,0 +1,85 @@
+//! Pixels read and written by rows, where they are kept.
+
+ghost use Rattle.std.specs.Prelude.{◌≡◌, ◌≢◌, ◌+◌, ◌^◌, ◌<◌, ◌≤◌, ℕ, Bool, true, length, slice_index, IsTrue};
+ghost use Rattle.r9_geom.specs.declared.Point.{Point as Spot};
+ghost use Rattle.r9_geom.specs.Geometry.{holds, strip, IsNear};
+ghost use Rattle.r9_plane.specs.Pixels.{along};
+ghost use Rattle.model_forest.specs.World.{image_at, IsLive};
+ghost use Rattle.model_forest.specs.View as view;
+ghost use Rattle.model_kept.specs.Keeping.{keeping, own, Place};
+ghost use Rattle.r9_locate.specs.Table.{shape};
+
+use super::lists::Lists;
+use super::runs::along;
+use model_forest::Window;
+use r9_geom::Point;
+
+/// Pixels by the image that keeps them, and the point of it.
+pub trait Pixels {
+    // The pixel at a place.
+    ghost kept: { Self → Place → ℕ };
+    // Whether there is such a place.
+    ghost has: { Self → Place → Bool };
+    // How many pixels were written.
+    ghost written: { Self → ℕ };
+
+    /// Reads pixels that an image keeps side by side.
+    fn read(&self, i: u32, from: Point, raws: &mut [u32])
+        requires { (k : ℕ) → k < length raws.old → has self.now (own i (along from k)) ≡ true }
+        ensures { (k : ℕ) → k < length raws.old → slice_index raws.new k ≡ kept self.now (own i (along from k)) };
+
+    /// Writes pixels that an image keeps side by side.
+    fn write(&mut self, i: u32, at: Point, raws: &[u32])
+        requires { (k : ℕ) → k < length raws.now → has self.old (own i (along at k)) ≡ true }
+        ensures at { (k : ℕ) → k < length raws.now → kept self.new (own i (along at k)) ≡ slice_index raws.now k }
+        ensures others { (place : Place) → ((k : ℕ) → k < length raws.now → place ≢ own i (along at k)) → kept self.new place ≡ kept self.old place }
+        ensures has { has self.new ≡ has self.old }
+        ensures written { written self.new ≡ written self.old + length raws.now };
+}
+
+/// The point of a window that stands at a point of the image below it.
+pub fn inward(lists: &Lists, w: &Window, q: Point) -> Point
+    requires live { IsLive (shape lists.now) w.now.image }
+    requires place { IsNear w.now.place.min }
+    requires point { IsNear q }
+    ensures { result ≡ view.inward (shape lists.now) w.now q }
+{
+    q.carried(w.place.min, lists.get(w.image).r.min)
+}
+
+/// Reads what an image shows side by side, from where it is kept.
+pub fn read_view<P: Pixels>(lists: &Lists, pixels: &P, i: u32, from: Point, raws: &mut [u32])
+    requires live { IsLive (shape lists.now) i }
+    requires near { IsNear from }
+    requires width { length raws.old ≤ 2 ^ 40 }
+    requires inside { (p : Spot) → IsTrue (holds (strip from (length raws.old)) p) → IsTrue (holds (image_at (shape lists.now) i).r p) }
+    requires has { (k : ℕ) → k < length raws.old → P.has pixels.now (keeping (shape lists.now) i (along from k)) ≡ true }
+    ensures { (k : ℕ) → k < length raws.old → slice_index raws.new k ≡ P.kept pixels.now (keeping (shape lists.now) i (along from k)) }
+{
+    let mut done = 0;
+    while done < raws.len() {
+        let run = lists.locate(i, along(from, done), raws.len() - done);
+        pixels.read(run.image, run.at, &mut raws[done..done + run.len]);
+        done += run.len;
+    }
+}
+
+/// Writes what an image shows side by side, where it is kept.
+pub fn write_view<P: Pixels>(lists: &Lists, pixels: &mut P, i: u32, at: Point, raws: &[u32])
+    requires live { IsLive (shape lists.now) i }
+    requires near { IsNear at }
+    requires width { length raws.now ≤ 2 ^ 40 }
+    requires inside { (p : Spot) → IsTrue (holds (strip at (length raws.now)) p) → IsTrue (holds (image_at (shape lists.now) i).r p) }
+    requires has { (k : ℕ) → k < length raws.now → P.has pixels.old (keeping (shape lists.now) i (along at k)) ≡ true }
+    ensures at { (k : ℕ) → k < length raws.now → P.kept pixels.new (keeping (shape lists.now) i (along at k)) ≡ slice_index raws.now k }
+    ensures others { (place : Place) → ((k : ℕ) → k < length raws.now → place ≢ keeping (shape lists.now) i (along at k)) → P.kept pixels.new place ≡ P.kept pixels.old place }
+    ensures has { P.has pixels.new ≡ P.has pixels.old }
+    ensures written { P.written pixels.new ≡ P.written pixels.old + length raws.now }
+{
+    let mut done = 0;
+    while done < raws.len() {
+        let run = lists.locate(i, along(at, done), raws.len() - done);
+        pixels.write(run.image, run.at, &raws[done..done + run.len]);
+        done += run.len;
+    }
+}

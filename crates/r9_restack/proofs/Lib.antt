@@ -1,0 +1,4 @@
+pub mod Orders
+pub mod Parting
+pub mod Changes
+pub mod Raised

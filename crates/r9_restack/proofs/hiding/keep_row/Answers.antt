@@ -1,0 +1,59 @@
+use Rattle.std.proofs.Common.{◌≡◌, ◌∙◌, ◌+◌, ◌-◌, ◌<◌, ◌≤◌, ℕ, false, length-append, length-drop, drop, ⊎_elim, sym, ap, arith}
+use Rattle.std.specs.Prelude.{◌&&◌}
+use Rattle.std.proofs.lemmas.Bool.{cases_lt}
+use Rattle.std.proofs.lemmas.List.{length-take-le}
+use Rattle.r9_geom.specs.Geometry.{holds}
+use Rattle.r9_plane.specs.Pixels.{along}
+use Rattle.model_kept.specs.Keeping.{is_top, own, Place}
+use Rattle.r9_locate.proofs.Locating.{along-along, along-apart}
+use Rattle.r9_restack.proofs.hiding.keep_row.Goals as goal
+
+pub keep_part-requires : goal.keep_part-requires
+keep_part-requires g c is k below =
+    let done = c.loop-done.done in
+    let len = c.shown_over-over.result.len in
+    let long = length-take-le len c.loop-done.block (omega (arith, c.shown_over-over.ensures.most, c.min.ensures, c.loop-done.invariant.long)) in
+    let short : k < len = omega (arith, below, long) in
+    let at : along c.along.result k ≡ along c.args.q (done + k) = ap (λ p. along p k) c.along.ensures ∙ along-along c.args.q done k in
+    let from : along c.along-in-loop-done.result k ≡ along c.args.x (done + k) = ap (λ p. along p k) c.along-in-loop-done.ensures ∙ along-along c.args.x done k in
+    let hid = sym (ap (λ p. holds c.args.below.now p && is_top c.args.new.now c.args.w p) at) ∙ c.shown_over-over.ensures.same k short ∙ is in
+    ap (λ h. h (own c.args.w (along c.along-in-loop-done.result k))) c.loop-done.invariant.has
+    ∙ ap (λ p. g.P.Pixels.has c.args.pixels.now (own c.args.w p)) from
+    ∙ c.requires.places (done + k) (omega (arith, short, c.shown_over-over.ensures.most, c.min.ensures, c.loop-done.invariant.within)) hid
+
+pub loop-done-preserved : goal.loop-done-preserved
+loop-done-preserved g c =
+    let done = c.loop-done.done in
+    let len = c.shown_over-over.result.len in
+    let kept = g.P.Pixels.kept in
+    let fits : done + len ≤ c.args.n = omega (arith, c.shown_over-over.ensures.most, c.min.ensures, c.loop-done.invariant.within) in
+    let long = length-take-le len c.loop-done.block (omega (arith, c.shown_over-over.ensures.most, c.min.ensures, c.loop-done.invariant.long)) in
+    let from : (j : ℕ) → along c.along-in-loop-done.result j ≡ along c.args.x (done + j) = λ j. ap (λ p. along p j) c.along-in-loop-done.ensures ∙ along-along c.args.x done j in
+    record {
+      within = fits;
+      kept = λ k below hid.
+          ⊎_elim
+          (λ (early : k < done).
+          c.keep_part.ensures.others (own c.args.w (along c.args.x k))
+          (λ j lower same.
+          let points : along c.args.x k ≡ along c.args.x (done + j) = ap (λ (l : Place). l.at) same ∙ from j in
+          absurd (omega (arith, early, along-apart c.args.x k (done + j) points)))
+          ∙ c.loop-done.invariant.kept k early hid)
+          (λ (late : done ≤ k).
+          let j = k - done in
+          let place : k ≡ done + j = omega arith in
+          let short : j < len = omega (arith, below, late) in
+          let at : along c.along.result j ≡ along c.args.q k = ap (λ p. along p j) c.along.ensures ∙ along-along c.args.q done j ∙ ap (along c.args.q) (sym place) in
+          let is : c.shown_over-over.result.is ≡ false = sym (c.shown_over-over.ensures.same j short) ∙ ap (λ p. holds c.args.below.now p && is_top c.args.new.now c.args.w p) at ∙ hid in
+          let here : along c.args.x k ≡ along c.along-in-loop-done.result j = ap (along c.args.x) place ∙ sym (from j) in
+          ap (λ p. kept c.keep_part.new.pixels (own c.args.w p)) here
+          ∙ c.keep_part.ensures.kept is j (omega (arith, short, long))
+          ∙ ap (g.S.Source.given c.args.source.now) (sym here))
+          (cases_lt k done);
+      others = λ place apart.
+          c.keep_part.ensures.others place (λ j lower same. apart (done + j) (omega (arith, lower, long)) (same ∙ ap (own c.args.w) (from j)))
+          ∙ c.loop-done.invariant.others place (λ k lower. apart k (omega (arith, lower)));
+      long = omega (arith, length-append c.keep_part.new.raws (drop len c.loop-done.block), length-drop len c.loop-done.block, c.keep_part.auto.raws, long, c.loop-done.invariant.long, c.shown_over-over.ensures.most, c.min.ensures);
+      has = c.keep_part.ensures.has ∙ c.loop-done.invariant.has;
+      written = omega (arith, c.keep_part.ensures.written, c.loop-done.invariant.written, long);
+    }

@@ -1,0 +1,32 @@
+use Rattle.r9_geom.specs.Geometry.{holds}
+use Rattle.r9_locate.specs.Table.{shape}
+use Rattle.r9_restack.proofs.Orders.{moved-all, moved-changed}
+use Rattle.r9_restack.proofs.Parting.{near_all, nearby, setting}
+use Rattle.r9_restack.proofs.ordering.reorder.Goals as goal
+
+pub change_area-requires-clause-change : goal.change_area-requires-clause-change
+change_area-requires-clause-change g c = record {
+  live = c.requires.order.live;
+  places = λ i other. c.requires.order.places i;
+  stand = c.requires.order.stand;
+  one = c.requires.order.one;
+}
+
+pub change_area-requires-clause-near_new : goal.change_area-requires-clause-near_new
+change_area-requires-clause-near_new g c = near_all (shape c.args.lists.now) c.args.p c.args.new.now c.requires.order (nearby c.args.lists.now)
+
+pub change_area-requires-clause-places : goal.change_area-requires-clause-places
+change_area-requires-clause-places g c = record {
+  surface = c.requires.places.surface;
+  old_own = λ i x other. c.requires.places.old_own i x;
+  new_own = λ i x other. c.requires.places.new_own i x;
+}
+
+pub returns-clause-moved : goal.returns-clause-moved
+returns-clause-moved g c fill =
+    let world = shape c.args.lists.now in
+    let kept = g.P.Pixels.kept in
+    let ok = setting c.args.lists.now c.args.p c.args.new.now c.requires.order in
+    moved-all world c.args.p c.args.new.now (kept c.args.pixels.now) (kept c.change_area.new.pixels) (holds c.args.area.now) fill ok
+    c.requires.inside c.requires.outside
+    (moved-changed world c.args.p c.args.new.now (kept c.args.pixels.now) (kept c.change_area.new.pixels) (holds c.args.area.now) ok c.change_area.ensures.moved)

@@ -1,0 +1,30 @@
+use Rattle.std.proofs.Common.{◌≡◌, ◌∙◌, sym, subst, ap}
+use Rattle.std.specs.Prelude.{◌&&◌}
+use Rattle.r9_geom.specs.declared.Rect.{Rect}
+use Rattle.r9_geom.specs.Geometry.{carried, holds, IsRectNear}
+use Rattle.model_forest.specs.World.{Image, image_at}
+use Rattle.model_kept.specs.Keeping.{is_top}
+use Rattle.r9_locate.specs.Table.{shape}
+use Rattle.r9_restack.proofs.Changes.{inside_w, shown_then}
+use Rattle.r9_restack.proofs.Parting.{nearby}
+use Rattle.r9_restack.proofs.restacking.restack.Goals as goal
+
+pub keep_hidden-requires-clause-near : goal.keep_hidden-requires-clause-near
+keep_hidden-requires-clause-near g c = subst (λ (im : Image). IsRectNear im.r) c.get.ensures (nearby c.args.lists.now c.args.w c.requires.live).0
+
+pub returns-clause-moved : goal.returns-clause-moved
+returns-clause-moved g c as_before was given =
+    let world = shape c.args.lists.now in
+    let own : (image_at world c.args.w).r ≡ c.get.result.now.r = ap (λ (im : Image). im.r) c.get.ensures in
+    let below : (image_at world c.args.p).r ≡ c.get-2.result.now.r = ap (λ (im : Image). im.r) c.get-2.ensures in
+    c.change.ensures.moved as_before (g.P.Pixels.kept c.keep_hidden.new.pixels)
+    (record {
+      was_same = was;
+      pixels = λ q v h top is_w. given _ (inside_w world c.args.p c.args.new.now c.args.w c.requires.change q v top is_w);
+      now_same = λ place apart. c.keep_hidden.ensures.others place apart;
+      hidden = λ x h none.
+          c.keep_hidden.ensures.kept x (ap (λ (r : Rect). holds r x) (sym own) ∙ h)
+          ((λ j. holds (sym below j) (carried x (sym own j).min (c.place_among.ensures j).min) && is_top c.args.new.now c.args.w (carried x (sym own j).min (c.place_among.ensures j).min))
+          ∙ sym (shown_then world c.args.p c.args.new.now c.args.w x c.requires.change.live) ∙ none)
+          ∙ sym (given x h);
+    })

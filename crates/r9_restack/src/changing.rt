@@ -1,0 +1,260 @@
+//! Pixels moved when one of the windows of an image comes, goes or moves.
+
+ghost use Rattle.std.specs.Prelude.{◌≡◌, ◌≢◌, ◌+◌, ◌*◌, ◌^◌, ◌<◌, ◌≤◌, ℕ, Bool, false, true, length, slice_index, Some, None, IsTrue, All, Option};
+ghost use Rattle.r9_geom.specs.declared.Point.{Point as Spot};
+ghost use Rattle.r9_geom.specs.Geometry.{area_of, holds, strip, IsNear, IsOrdered, IsRectNear};
+ghost use Rattle.r9_plane.specs.Pixels.{along};
+ghost use Rattle.model_forest.specs.declared.Window.{Window as Stood};
+ghost use Rattle.model_forest.specs.World.{image_at, parent_of, IsLive};
+ghost use Rattle.model_forest.specs.View as view;
+ghost use Rattle.model_forest.specs.View.{top_window};
+ghost use Rattle.model_kept.specs.Keeping.{is_top, keeping, outward, own, Place};
+ghost use Rattle.r9_locate.specs.Table.{shape};
+ghost use Rattle.model_kept.specs.Restack.{with_list, IsRestacked};
+ghost use Rattle.r9_restack.specs.Moving.{more, IsFresh};
+ghost use Rattle.r9_restack.specs.Changing.{HasPlacesBut, IsChange, IsChanged, IsGiven, IsOther, IsShownAnew, StaysAs, StaysTop};
+
+use model_forest::Window;
+use r9_geom::{Point, Rect};
+use r9_locate::{Lists, Pixels, along, inward, read_view, steady_top, top, write_view};
+
+// How many pixels of a row are moved at a time.
+const BLOCK: usize = 256;
+
+/// The pixels of a window that comes or moves, and those that fill what becomes bare, gathered before.
+pub trait Source {
+    ghost given: { Self → Spot → ℕ };
+
+    ghost fill: { Self → Spot → ℕ };
+
+    /// Pixels of the window side by side, from a point of it to the right.
+    fn give(&self, x: Point, raws: &mut [u32])
+        ensures { (k : ℕ) → k < length raws.old → slice_index raws.new k ≡ given self.now (along x k) };
+
+    /// Pixels that fill side by side, from a point of the image below to the right.
+    fn fills(&self, q: Point, raws: &mut [u32])
+        ensures { (k : ℕ) → k < length raws.old → slice_index raws.new k ≡ fill self.now (along q k) };
+}
+
+// Keeps what was shown with the window that showed it, unless it is w.
+fn save<P: Pixels>(lists: &Lists, pixels: &mut P, a: Option<Window>, w: u32, q: Point, raws: &[u32])
+    requires near { IsNear q }
+    requires live { (v : Stood) → a ≡ Some v → IsLive (shape lists.now) v.image }
+    requires place { (v : Stood) → a ≡ Some v → IsNear v.place.min }
+    requires has { (v : Stood) → a ≡ Some v → v.image ≢ w → (k : ℕ) → k < length raws.now → P.has pixels.old (own v.image (along (view.inward (shape lists.now) v q) k)) ≡ true }
+    ensures saved { (v : Stood) → a ≡ Some v → v.image ≢ w → (k : ℕ) → k < length raws.now → P.kept pixels.new (own v.image (along (view.inward (shape lists.now) v q) k)) ≡ slice_index raws.now k }
+    ensures others { (place : Place) → ((v : Stood) → a ≡ Some v → v.image ≢ w → (k : ℕ) → k < length raws.now → place ≢ own v.image (along (view.inward (shape lists.now) v q) k)) → P.kept pixels.new place ≡ P.kept pixels.old place }
+    ensures has { P.has pixels.new ≡ P.has pixels.old }
+    ensures written { P.written pixels.new ≤ P.written pixels.old + length raws.now }
+{
+    if let Some(v) = a {
+        if v.image != w {
+            pixels.write(v.image, inward(lists, &v, q), raws);
+        }
+    }
+}
+
+// Gets what is shown then: the pixels of window b, which are given for w, or the fill.
+fn fetch<P: Pixels, S: Source>(
+    lists: &Lists,
+    pixels: &P,
+    source: &S,
+    b: Option<Window>,
+    w: u32,
+    q: Point,
+    raws: &mut [u32],
+)
+    requires near { IsNear q }
+    requires live { (v : Stood) → b ≡ Some v → IsLive (shape lists.now) v.image }
+    requires place { (v : Stood) → b ≡ Some v → IsNear v.place.min }
+    requires has { (v : Stood) → b ≡ Some v → v.image ≢ w → (k : ℕ) → k < length raws.old → P.has pixels.now (own v.image (along (view.inward (shape lists.now) v q) k)) ≡ true }
+    ensures none { b ≡ None → (k : ℕ) → k < length raws.old → slice_index raws.new k ≡ S.fill source.now (along q k) }
+    ensures of_w { (v : Stood) → b ≡ Some v → v.image ≡ w → (k : ℕ) → k < length raws.old → slice_index raws.new k ≡ S.given source.now (along (view.inward (shape lists.now) v q) k) }
+    ensures owned { (v : Stood) → b ≡ Some v → v.image ≢ w → (k : ℕ) → k < length raws.old → slice_index raws.new k ≡ P.kept pixels.now (own v.image (along (view.inward (shape lists.now) v q) k)) }
+{
+    match b {
+        None => source.fills(q, raws),
+        Some(v) => {
+            let x = inward(lists, &v, q);
+            if v.image == w {
+                source.give(x, raws);
+            } else {
+                pixels.read(v.image, x, raws);
+            }
+        }
+    }
+}
+
+// Points side by side at which window a was topmost, or nothing, show window b then, or the fill.
+fn show<P: Pixels, S: Source>(
+    lists: &Lists,
+    pixels: &mut P,
+    source: &S,
+    p: u32,
+    w: u32,
+    a: Option<Window>,
+    b: Option<Window>,
+    q: Point,
+    raws: &mut [u32],
+)
+    requires live { IsLive (shape lists.now) p }
+    requires near { IsNear q }
+    requires width { length raws.old ≤ 2 ^ 40 }
+    requires inside { (z : Spot) → IsTrue (holds (strip q (length raws.old)) z) → IsTrue (holds (image_at (shape lists.now) p).r z) }
+    requires surface { (k : ℕ) → k < length raws.old → P.has pixels.old (keeping (shape lists.now) p (along q k)) ≡ true }
+    requires a_live { (v : Stood) → a ≡ Some v → IsLive (shape lists.now) v.image }
+    requires a_stands { (v : Stood) → a ≡ Some v → parent_of (shape lists.now) v.image ≡ Some p }
+    requires a_place { (v : Stood) → a ≡ Some v → IsNear v.place.min }
+    requires a_has { (v : Stood) → a ≡ Some v → v.image ≢ w → (k : ℕ) → k < length raws.old → P.has pixels.old (own v.image (along (view.inward (shape lists.now) v q) k)) ≡ true }
+    requires b_live { (v : Stood) → b ≡ Some v → IsLive (shape lists.now) v.image }
+    requires b_place { (v : Stood) → b ≡ Some v → IsNear v.place.min }
+    requires b_has { (v : Stood) → b ≡ Some v → v.image ≢ w → (k : ℕ) → k < length raws.old → P.has pixels.old (own v.image (along (view.inward (shape lists.now) v q) k)) ≡ true }
+    requires apart { (u v : Stood) → a ≡ Some u → b ≡ Some v → v.image ≢ w → u.image ≢ v.image }
+    ensures shown { IsShownAnew (shape lists.now) p w a b (S.given source.now) (S.fill source.now) q (length raws.old) (P.kept pixels.old) (P.kept pixels.new) }
+    ensures has { P.has pixels.new ≡ P.has pixels.old }
+    ensures written { P.written pixels.new ≤ P.written pixels.old + 2 * length raws.old }
+{
+    read_view(lists, pixels, p, q, raws);
+    save(lists, pixels, a, w, q, raws);
+    fetch(lists, pixels, source, b, w, q, raws);
+    write_view(lists, pixels, p, q, raws);
+}
+
+// Whether the same image, other than w, or nothing is topmost.
+fn stays(a: Option<Window>, b: Option<Window>, w: u32) -> bool
+    ensures yes { result ≡ true → StaysAs a b w }
+    ensures no { result ≡ false → IsOther a b w }
+{
+    match b {
+        None => a.is_none(),
+        Some(v) => match a {
+            None => false,
+            Some(u) => u.image == v.image && v.image != w,
+        },
+    }
+}
+
+// Moves the pixels of points side by side over which the topmost window, before and then, is the same one.
+fn change_part<P: Pixels, S: Source>(
+    lists: &Lists,
+    pixels: &mut P,
+    source: &S,
+    p: u32,
+    w: u32,
+    new: &[Window],
+    q: Point,
+    raws: &mut [u32],
+)
+    requires change { IsChange (shape lists.now) p new.now w }
+    requires near { IsNear q }
+    requires some { 0 < length raws.old }
+    requires width { length raws.old ≤ 2 ^ 40 }
+    requires inside { (z : Spot) → IsTrue (holds (strip q (length raws.old)) z) → IsTrue (holds (image_at (shape lists.now) p).r z) }
+    requires olds { (k : ℕ) → k < length raws.old → top_window (image_at (shape lists.now) p).windows (along q k) ≡ top_window (image_at (shape lists.now) p).windows q }
+    requires news { (k : ℕ) → k < length raws.old → top_window new.now (along q k) ≡ top_window new.now q }
+    requires near_new { All (λ v. IsNear v.place.min) new.now }
+    requires places { HasPlacesBut (shape lists.now) p new.now w (P.has pixels.old) }
+    ensures moved { (before : Place → ℕ) (done : Spot → Bool) → IsFresh q (length raws.old) done → IsChanged (shape lists.now) p new.now w (S.given source.now) (S.fill source.now) before (P.kept pixels.old) done → IsChanged (shape lists.now) p new.now w (S.given source.now) (S.fill source.now) before (P.kept pixels.new) (more q (length raws.old) done) }
+    ensures has { P.has pixels.new ≡ P.has pixels.old }
+    ensures written { P.written pixels.new ≤ P.written pixels.old + 2 * length raws.old }
+{
+    let old = &lists.get(p).windows;
+    let a = top(old, q);
+    let b = top(new, q);
+    if !stays(a, b, w) {
+        show(lists, pixels, source, p, w, a, b, q, raws);
+    }
+}
+
+// The same of a row.
+fn change_row<P: Pixels, S: Source>(
+    lists: &Lists,
+    pixels: &mut P,
+    source: &S,
+    p: u32,
+    w: u32,
+    new: &[Window],
+    at: Point,
+    n: usize,
+)
+    requires change { IsChange (shape lists.now) p new.now w }
+    requires near { IsNear at }
+    requires width { n ≤ 2 ^ 41 }
+    requires inside { (z : Spot) → IsTrue (holds (strip at n) z) → IsTrue (holds (image_at (shape lists.now) p).r z) }
+    requires near_new { All (λ v. IsNear v.place.min) new.now }
+    requires places { HasPlacesBut (shape lists.now) p new.now w (P.has pixels.old) }
+    ensures moved { (before : Place → ℕ) (done : Spot → Bool) → IsFresh at n done → IsChanged (shape lists.now) p new.now w (S.given source.now) (S.fill source.now) before (P.kept pixels.old) done → IsChanged (shape lists.now) p new.now w (S.given source.now) (S.fill source.now) before (P.kept pixels.new) (more at n done) }
+    ensures has { P.has pixels.new ≡ P.has pixels.old }
+    ensures written { P.written pixels.new ≤ P.written pixels.old + 2 * n }
+{
+    let mut block = [0; BLOCK];
+    let old = &lists.get(p).windows;
+    let mut done = 0;
+    while done < n {
+        let q = along(at, done);
+        let len = steady_top(new, q, steady_top(old, q, (n - done).min(BLOCK)));
+        change_part(lists, pixels, source, p, w, new, q, &mut block[..len]);
+        done += len;
+    }
+}
+
+// The same of the rows of an area.
+pub(crate) fn change_area<P: Pixels, S: Source>(
+    lists: &Lists,
+    pixels: &mut P,
+    source: &S,
+    p: u32,
+    w: u32,
+    new: &[Window],
+    area: &Rect,
+)
+    requires change { IsChange (shape lists.now) p new.now w }
+    requires near { IsRectNear area.now }
+    requires ordered { IsOrdered area.now }
+    requires inside { (z : Spot) → IsTrue (holds area.now z) → IsTrue (holds (image_at (shape lists.now) p).r z) }
+    requires near_new { All (λ v. IsNear v.place.min) new.now }
+    requires places { HasPlacesBut (shape lists.now) p new.now w (P.has pixels.old) }
+    ensures moved { IsChanged (shape lists.now) p new.now w (S.given source.now) (S.fill source.now) (P.kept pixels.old) (P.kept pixels.new) (holds area.now) }
+    ensures has { P.has pixels.new ≡ P.has pixels.old }
+    ensures written { P.written pixels.new ≤ P.written pixels.old + 2 * area_of area.now }
+{
+    let width = area.width() as usize;
+    for row in 0..area.height() {
+        change_row(
+            lists,
+            pixels,
+            source,
+            p,
+            w,
+            new,
+            area.point_at(0, row),
+            width,
+        );
+    }
+}
+
+/// Moves the pixels of an image and of its windows to where they are kept when window w comes, goes or moves. The topmost
+/// window changes within the area alone. What is hidden of w then is not written yet.
+pub fn change<P: Pixels, S: Source>(
+    lists: &Lists,
+    pixels: &mut P,
+    source: &S,
+    p: u32,
+    w: u32,
+    new: &[Window],
+    area: &Rect,
+)
+    requires change { IsChange (shape lists.now) p new.now w }
+    requires above { parent_of (shape lists.now) w ≡ Some p }
+    requires near { IsRectNear area.now }
+    requires ordered { IsOrdered area.now }
+    requires inside { (z : Spot) → IsTrue (holds area.now z) → IsTrue (holds (image_at (shape lists.now) p).r z) }
+    requires outside { (z : Spot) → IsTrue (holds (image_at (shape lists.now) p).r z) → holds area.now z ≡ false → StaysTop (shape lists.now) p new.now w z }
+    requires near_new { All (λ v. IsNear v.place.min) new.now }
+    requires places { HasPlacesBut (shape lists.now) p new.now w (P.has pixels.old) }
+    ensures moved { (as_before as_after : Place → ℕ) → IsGiven (shape lists.now) p new.now w (S.given source.now) (P.kept pixels.old) (P.kept pixels.new) as_before as_after → IsRestacked (shape lists.now) (with_list (shape lists.now) p new.now) p as_before as_after (S.fill source.now) }
+    ensures has { P.has pixels.new ≡ P.has pixels.old }
+    ensures written { P.written pixels.new ≤ P.written pixels.old + 2 * area_of area.now }
+{
+    change_area(lists, pixels, source, p, w, new, area);
+}

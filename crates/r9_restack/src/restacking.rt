@@ -1,0 +1,78 @@
+//! All the pixels moved when one of the windows of an image comes or moves.
+
+ghost use Rattle.std.specs.Prelude.{◌≡◌, ◌≢◌, ◌+◌, ◌*◌, ◌<◌, ◌≤◌, ◌&&◌, ℕ, Bool, false, true, All, IsTrue, Some};
+ghost use Rattle.r9_geom.specs.declared.Point.{Point as Spot};
+ghost use Rattle.r9_geom.specs.Geometry.{area_of, carried, holds, IsNear, IsOrdered, IsRectNear};
+ghost use Rattle.model_forest.specs.declared.Window.{Window as Stood};
+ghost use Rattle.model_forest.specs.View.{top_window};
+ghost use Rattle.model_forest.specs.World.{image_at, parent_of, IsLive};
+ghost use Rattle.model_kept.specs.Keeping as kept;
+ghost use Rattle.model_kept.specs.Keeping.{is_top, keeping, own, Place};
+ghost use Rattle.model_kept.specs.Restack.{with_list, with_own, IsRestacked};
+ghost use Rattle.r9_locate.specs.Table.{shape};
+ghost use Rattle.r9_restack.specs.Changing.{HasPlacesBut, IsChange, StaysTop};
+
+use super::changing::{Source, change};
+use super::hiding::keep_hidden;
+use model_forest::Window;
+use r9_geom::Rect;
+use r9_locate::{Lists, Pixels, place_among};
+
+/// Moves all pixels to where they are kept when window w comes or moves: its own are given.
+pub fn restack<P: Pixels, S: Source>(
+    lists: &Lists,
+    pixels: &mut P,
+    source: &S,
+    p: u32,
+    w: u32,
+    new: &[Window],
+    area: &Rect,
+)
+    requires change { IsChange (shape lists.now) p new.now w }
+    requires above { parent_of (shape lists.now) w ≡ Some p }
+    requires near { IsRectNear area.now }
+    requires ordered { IsOrdered area.now }
+    requires inside { (z : Spot) → IsTrue (holds area.now z) → IsTrue (holds (image_at (shape lists.now) p).r z) }
+    requires outside { (z : Spot) → IsTrue (holds (image_at (shape lists.now) p).r z) → holds area.now z ≡ false → StaysTop (shape lists.now) p new.now w z }
+    requires near_new { All (λ v. IsNear v.place.min) new.now }
+    requires places { HasPlacesBut (shape lists.now) p new.now w (P.has pixels.old) }
+    requires live { IsLive (shape lists.now) w }
+    requires own_ordered { IsOrdered (image_at (shape lists.now) w).r }
+    requires corner { IsNear (kept.place_among new.now w).min }
+    requires stands { (z : Spot) → IsTrue (holds (image_at (shape lists.now) w).r z) → IsNear (carried z (image_at (shape lists.now) w).r.min (kept.place_among new.now w).min) }
+    requires own_places { (z : Spot) → IsTrue (holds (image_at (shape lists.now) w).r z) → (holds (image_at (shape lists.now) p).r (carried z (image_at (shape lists.now) w).r.min (kept.place_among new.now w).min) && is_top new.now w (carried z (image_at (shape lists.now) w).r.min (kept.place_among new.now w).min)) ≡ false → P.has pixels.old (own w z) ≡ true }
+    ensures moved { (as_before : Place → ℕ) → ((place : Place) → place.image ≢ w → as_before place ≡ P.kept pixels.old place) → ((x : Spot) → holds (image_at (shape lists.now) w).r x ≡ true → as_before (keeping (shape lists.now) w x) ≡ S.given source.now x) → IsRestacked (shape lists.now) (with_list (shape lists.now) p new.now) p as_before (P.kept pixels.new) (S.fill source.now) }
+    ensures has { P.has pixels.new ≡ P.has pixels.old }
+    ensures written { P.written pixels.new ≤ P.written pixels.old + 2 * area_of area.now + area_of (image_at (shape lists.now) w).r }
+{
+    change(lists, pixels, source, p, w, new, area);
+    let r = lists.get(w).r;
+    let corner = place_among(new, w).min;
+    keep_hidden(pixels, source, w, &r, corner, &lists.get(p).r, new);
+}
+
+/// Moves all pixels to where they are kept when window w leaves the list: its own are asked for by nothing then.
+pub fn leave<P: Pixels, S: Source>(
+    lists: &Lists,
+    pixels: &mut P,
+    source: &S,
+    p: u32,
+    w: u32,
+    new: &[Window],
+    area: &Rect,
+)
+    requires change { IsChange (shape lists.now) p new.now w }
+    requires above { parent_of (shape lists.now) w ≡ Some p }
+    requires gone { (z : Spot) (v : Stood) → top_window new.now z ≡ Some v → v.image ≢ w }
+    requires near { IsRectNear area.now }
+    requires ordered { IsOrdered area.now }
+    requires inside { (z : Spot) → IsTrue (holds area.now z) → IsTrue (holds (image_at (shape lists.now) p).r z) }
+    requires outside { (z : Spot) → IsTrue (holds (image_at (shape lists.now) p).r z) → holds area.now z ≡ false → StaysTop (shape lists.now) p new.now w z }
+    requires near_new { All (λ v. IsNear v.place.min) new.now }
+    requires places { HasPlacesBut (shape lists.now) p new.now w (P.has pixels.old) }
+    ensures moved { IsRestacked (shape lists.now) (with_list (shape lists.now) p new.now) p (P.kept pixels.old) (with_own w (λ x. P.kept pixels.old (keeping (shape lists.now) w x)) (P.kept pixels.new)) (S.fill source.now) }
+    ensures has { P.has pixels.new ≡ P.has pixels.old }
+    ensures written { P.written pixels.new ≤ P.written pixels.old + 2 * area_of area.now }
+{
+    change(lists, pixels, source, p, w, new, area);
+}
