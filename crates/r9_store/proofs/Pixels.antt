@@ -61,7 +61,7 @@ put_at slots t pixels p raw held below long h u q true e =
 put_at slots t pixels p raw held below long h u q false e =
     ap (λ slot. shown slot q) (get_or-set_other slots t u (Some (set pixels (place_of p) raw)) None (λ same. both_ways _ e ((Decides-eqb u t).1 same)))
 
-is_below : (slots : List (Option (List ℕ))) (t : ℕ) (pixels : List ℕ) → get_or slots t None ≡ Some pixels → t < length slots
+pub is_below : (slots : List (Option (List ℕ))) (t : ℕ) (pixels : List ℕ) → get_or slots t None ≡ Some pixels → t < length slots
 is_below slots t pixels e = ⊎_elim (λ below. below) (λ past. let none = get_or_past slots t None past in absurd (cc)) (cases_lt t (length slots))
 
 -- one pixel of one tile has changed

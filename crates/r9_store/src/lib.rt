@@ -1,9 +1,9 @@
 //! Tiles of 32 by 32 raw pixels, kept in one growing table.
 #![tactic(auto)]
 
-ghost use Rattle.std.specs.Prelude.{◌≡◌, ◌+◌, ◌<◌, ◌≤◌, ◌==◌, ◌&&◌, ◌||◌, ◌^◌, ℕ, false, if◌then◌else◌, length, max, not, slice_set, IsTrue, OnErr, OnOk};
+ghost use Rattle.std.specs.Prelude.{◌≡◌, ◌≢◌, ◌+◌, ◌<◌, ◌≤◌, ◌==◌, ◌&&◌, ◌||◌, ◌^◌, ℕ, false, if◌then◌else◌, length, max, not, slice_index, slice_set, IsTrue, OnErr, OnOk};
 ghost use Rattle.r9_geom.specs.declared.Point.{Point as Spot};
-ghost use Rattle.r9_geom.specs.Geometry.{holds, is_point};
+ghost use Rattle.r9_geom.specs.Geometry.{distance, holds, is_point, strip};
 ghost use Rattle.r9_store.specs.Tiles.{cell, held, is_held, pixel, place_of, spare};
 
 use r9_geom::{Point, distance};
@@ -125,6 +125,35 @@ impl Store {
         put_at(&mut self.tiles[t.0], place_of(p), raw);
     }
 
+    /// The raw pixels side by side in a tile, from a point to the right: as many as there is room for in `raws`.
+    pub fn get_row(&self, t: TileNo, at: Point, raws: &mut [u32])
+        requires held { IsTrue (is_held self.now t) }
+        requires inside { (p : Spot) → IsTrue (holds (strip at (length raws.old)) p) → IsTrue (holds cell p) }
+        ensures { (p : Spot) → IsTrue (holds (strip at (length raws.old)) p) → slice_index raws.new (distance at.x p.x) ≡ pixel self.now t p }
+    {
+        if raws.is_empty() {
+            return;
+        }
+        let first = place_of(at);
+        get_run(&self.tiles[t.0], first, raws);
+    }
+
+    /// Puts raw pixels side by side into a tile, from a point to the right, and changes nothing else.
+    pub fn put_row(&mut self, t: TileNo, at: Point, raws: &[u32])
+        requires held { IsTrue (is_held self.old t) }
+        requires inside { (p : Spot) → IsTrue (holds (strip at (length raws.now)) p) → IsTrue (holds cell p) }
+        ensures pixels { (u : ℕ) (q : Spot) → pixel self.new u q ≡ (if (u == t) && holds (strip at (length raws.now)) q then slice_index raws.now (distance at.x q.x) else pixel self.old u q) }
+        ensures same { (u : ℕ) → is_held self.new u ≡ is_held self.old u }
+        ensures held { held self.new ≡ held self.old }
+        ensures spare { spare self.new ≡ spare self.old }
+    {
+        if raws.is_empty() {
+            return;
+        }
+        let first = place_of(at);
+        put_run(&mut self.tiles[t.0], first, raws);
+    }
+
     /// How many tiles are held.
     pub fn held(&self) -> usize
         ensures value { result ≡ held self.now }
@@ -149,6 +178,23 @@ fn put_at(tile: &mut [u32; PIXELS], place: usize, raw: u32)
     ensures len { length tile.old ≡ PIXELS }
 {
     tile[place] = raw;
+}
+
+// The pixels of a tile from a place on.
+fn get_run(tile: &[u32; PIXELS], first: usize, raws: &mut [u32])
+    requires { first + length raws.old ≤ PIXELS }
+    ensures { (i : ℕ) → i < length raws.old → slice_index raws.new i ≡ slice_index tile.now (first + i) }
+{
+    raws.copy_from_slice(&tile[first..first + raws.len()]);
+}
+
+// Puts pixels into a tile from a place on.
+fn put_run(tile: &mut [u32; PIXELS], first: usize, raws: &[u32])
+    requires { first + length raws.now ≤ PIXELS }
+    ensures written { (i : ℕ) → i < length raws.now → slice_index tile.new (first + i) ≡ slice_index raws.now i }
+    ensures others { (n : ℕ) → ((i : ℕ) → i < length raws.now → n ≢ first + i) → slice_index tile.new n ≡ slice_index tile.old n }
+{
+    tile[first..first + raws.len()].copy_from_slice(raws);
 }
 
 // Where the pixel of a point stands among those of its tile, row by row.

@@ -1,0 +1,21 @@
+use Rattle.std.proofs.Common.{◌+◌, ◌∙◌, ap, sym, arith, length}
+use Rattle.std.specs.Prelude.{slice_index}
+use Rattle.r9_store.proofs.Rows.{run_fits, shown-put_row, some_of, start_in}
+use Rattle.r9_store.proofs.Store.put_row.Goals as goal
+
+pub place_of-first-requires : goal.place_of-first-requires
+place_of-first-requires c = start_in c.args.at (length c.args.raws.now) (some_of (length c.args.raws.now) c.is_empty.ensures c.if-is_empty.false) c.requires.inside
+
+pub put_run-requires : goal.put_run-requires
+put_run-requires c =
+    let fits = run_fits c.args.at (length c.args.raws.now) (some_of (length c.args.raws.now) c.is_empty.ensures c.if-is_empty.false) c.requires.inside in
+    omega (arith, fits, c.place_of-first.ensures.value)
+
+pub returns-clause-pixels : goal.returns-clause-pixels
+returns-clause-pixels c u q =
+    rw (← c.self.view_is, ← c.t.view_is)
+    (shown-put_row c.self.inside.tiles.slots c.t.inside.0 c.index_mut.result.now c.put_run.new.tile c.args.at c.args.raws.now c.index_mut.ensures.value c.requires.inside
+    (record {
+      written = λ i h. ap (λ n. slice_index c.put_run.new.tile (n + i)) (sym c.place_of-first.ensures.value) ∙ c.put_run.ensures.written i h;
+      others = λ n apart. c.put_run.ensures.others n (λ i h same. apart i h (same ∙ ap (λ f. f + i) c.place_of-first.ensures.value));
+    }) u q)
