@@ -1,13 +1,14 @@
 -- Tables of cells after one cell has changed.
-use Rattle.std.proofs.Common.{◌≡◌, ◌∙◌, ℕ, ◌+◌, ◌<◌, Bool, true, false, List, [], length, get_or, set, Option, Some, None, refl, sym, ap, subst, eq-eqb, arith, ⊎_elim}
+use Rattle.std.proofs.Common.{◌≡◌, ◌≢◌, ◌∙◌, ℕ, ◌+◌, ◌<◌, Bool, true, false, List, [], length, get_or, set, Option, Some, None, refl, sym, ap, subst, eq-eqb, arith, ⊎_elim}
 use Rattle.std.specs.Prelude.{◌==◌, ◌&&◌, ◌||◌, not, cond, is_some}
 use Rattle.std.specs.List.{count_by}
-use Rattle.std.proofs.lemmas.Bool.{cases_lt, and_parts, and_from, ne_eqb, true≢false, or_left, or_right}
+use Rattle.std.proofs.lemmas.Bool.{cases_eq, cases_lt, and_parts, and_from, ne_eqb, true≢false, or_left, or_right}
 use Rattle.std.proofs.lemmas.Bool.Decides.{Decides-eqb}
 use Rattle.std.proofs.lemmas.List.{get_or-map, get_or-set_same, get_or-set_other, get_or_past, get_or_read, length-map, map-set}
+use Rattle.std.proofs.Math.ListN.{length-set}
 use Rattle.std.proofs.lemmas.List.Sums.{sum_by-set}
 use Rattle.r9_store.specs.Tiles.{Tiles, held, is_held}
-use Rattle.r9_cells.specs.declared.Row.{Row}
+use Rattle.r9_cells.specs.declared.table.Row.{Row}
 use Rattle.r9_cells.specs.Rows.{cell_at, row_at, rows_of, tiles_of, IsKept}
 
 abbrev pub changed : List (List (Option ℕ)) → ℕ → ℕ → Option ℕ → List (List (Option ℕ))
@@ -28,6 +29,11 @@ pub row_is : (rows : List Row) (i : ℕ) (row : Row) → i < length rows → row
 row_is rows i row below is =
     let items : Row → List (Option ℕ) = λ r. r.cells.items in
     get_or-map items rows i row [] below ∙ ap items (sym is)
+
+pub row_long : (rows : List Row) (i : ℕ) (row : Row) → i < length (rows_of rows) → row ≡ get_or rows i row → length (row_at (rows_of rows) i) ≡ length row.cells.items
+row_long rows i row below is =
+    let long = length-map rows (λ (r : Row). r.cells.items) in
+    ap length (row_is rows i row (omega (arith, below, long)) is)
 
 pub cell_same : (rows : List (List (Option ℕ))) (i k : ℕ) (x : Option ℕ) → i < length rows → k < length (row_at rows i) → cell_at (changed rows i k x) i k ≡ x
 cell_same rows i k x image cell =
@@ -130,6 +136,17 @@ some_changed rows i k x j l image cell =
     ap (λ n. is_some (cell_at (changed rows i k x) n l)) j_is ∙ ap (λ n. is_some (cell_at (changed rows i k x) i n)) l_is ∙ ap is_some (cell_same rows i k x image cell)
     ∙ sym (ap (λ c. cond c (is_some x) (is_some (cell_at rows j l))) b))
     (λ b. ap is_some (cell_other rows i k x j l image b) ∙ sym (ap (λ c. cond c (is_some x) (is_some (cell_at rows j l))) b))
+
+-- each row is as long as before
+pub lengths_changed : (rows : List (List (Option ℕ))) (i k : ℕ) (x : Option ℕ) → i < length rows → (j : ℕ) → length (row_at (changed rows i k x) j) ≡ length (row_at rows j)
+lengths_changed rows i k x image j =
+    ⊎_elim
+    (λ (same : j ≡ i).
+    ap (λ n. length (row_at (changed rows i k x) n)) same
+    ∙ ap length (get_or-set_same rows i (set (row_at rows i) k x) [] image) ∙ length-set (row_at rows i) k x
+    ∙ ap (λ n. length (row_at rows n)) (sym same))
+    (λ (other : j ≢ i). ap length (get_or-set_other rows i j (set (row_at rows i) k x) [] other))
+    (cases_eq j i)
 
 pub below_rows : (rows : List Row) (i : ℕ) → i < length (rows_of rows) → i < length rows
 below_rows rows i below = let long = length-map rows (λ (r : Row). r.cells.items) in omega (arith, below, long)

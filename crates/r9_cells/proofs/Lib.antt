@@ -1,3 +1,9 @@
 pub mod Changed
 pub mod Counted
+pub mod Covering
+pub mod Listed
 pub mod Pixels
+pub mod Places
+pub mod Remade
+pub mod Rows
+pub mod Steps

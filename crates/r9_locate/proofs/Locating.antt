@@ -7,8 +7,8 @@ use Rattle.std.proofs.lemmas.Int.{ints}
 use Rattle.std.proofs.lemmas.Bool.{and_parts}
 use Rattle.std.proofs.lemmas.List.Elements.{recursion_from_All}
 use Rattle.r9_geom.specs.declared.Point.{Point}
-use Rattle.r9_geom.specs.Geometry.{carried, holds, IsNearBy, IsRectNearBy}
-use Rattle.r9_geom.proofs.GeometryLemmas.{same_point}
+use Rattle.r9_geom.specs.Geometry.{carried, distance, holds, strip, IsNearBy, IsRectNearBy}
+use Rattle.r9_geom.proofs.GeometryLemmas.{bounds_of, distance_is, same_point}
 use Rattle.r9_plane.specs.Pixels.{along}
 use Rattle.model_forest.specs.declared.Standing.{Standing}
 use Rattle.model_forest.specs.declared.Window.{Window}
@@ -91,3 +91,10 @@ along-apart p a b same = let x = ap (λ (q : Point). q.x) same in omega (arith, 
 pub run_found : (world : World) (i j : ℕ) (from at start : Point) (done len : ℕ) → start ≡ along from done → ((k : ℕ) → k < len → keeping world i (along start k) ≡ own j (along at k)) → (k : ℕ) → k < len → keeping world i (along from (done + k)) ≡ own j (along at k)
 run_found world i j from at start done len start_is found k below =
     ap (keeping world i) (sym (ap (λ p. along p k) start_is ∙ along-along from done k)) ∙ found k below
+
+-- a point of a row, so many from its start
+pub strip_at : (q z : Point) (n : ℕ) → holds (strip q n) z ≡ true → (k : ℕ) × (k < n) × (z ≡ along q k)
+strip_at q z n h =
+    let b = bounds_of (strip q n) z h in
+    let d = distance_is q.x z.x b.left in
+    (distance q.x z.x, omega (arith, ints, d, b.right), same_point z (along q (distance q.x z.x)) (sym d) (omega (arith, ints, b.top, b.bottom)))

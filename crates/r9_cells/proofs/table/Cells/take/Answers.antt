@@ -1,9 +1,9 @@
-use Rattle.std.proofs.Common.{◌≡◌, ◌∙◌, Some, List, Option, ℕ, refl, sym, ap, subst}
+use Rattle.std.proofs.Common.{◌≡◌, ◌∙◌, Some, List, Option, ℕ, length, refl, sym, ap, subst}
 use Rattle.std.specs.Prelude.{is_some, cond, ◌==◌, ◌&&◌, ◌||◌, Bool, true, false}
-use Rattle.r9_cells.specs.Rows.{cell_at, pixel_at, rows_of, IsKept}
-use Rattle.r9_cells.proofs.Changed.{below_rows, cell_other, kept-take, rows_changed, some_changed}
+use Rattle.r9_cells.specs.Rows.{cell_at, pixel_at, row_at, rows_of, IsKept}
+use Rattle.r9_cells.proofs.Changed.{below_rows, cell_other, kept-take, lengths_changed, rows_changed, some_changed}
 use Rattle.r9_cells.proofs.Pixels.{pixels-take}
-use Rattle.r9_cells.proofs.Cells.take.Goals as goal
+use Rattle.r9_cells.proofs.table.Cells.take.Goals as goal
 
 pub invariant_of-self : goal.invariant_of-self
 invariant_of-self c =
@@ -43,3 +43,10 @@ returns-clause-pixels c j l p =
     let now = rows_changed rows c.args.i c.args.k (Some t) c.index_mut.result.now _ (below_rows rows c.args.i c.requires.image) c.index_mut.ensures.value refl in
     ap (λ (r : List (List (Option ℕ))). pixel_at r c.take-tile.new.self j l p) now
     ∙ pixels-take (rows_of rows) c.args.i c.args.k t c.args.self.now.store c.take-tile.new.self c.requires.image c.requires.cell c.requires.none c.take-tile.ensures.blank c.take-tile.ensures.pixels j l p
+
+pub returns-clause-lengths : goal.returns-clause-lengths
+returns-clause-lengths c j =
+    let rows = c.args.self.now.rows.items in
+    let t = c.take-tile.result in
+    let now = rows_changed rows c.args.i c.args.k (Some t) c.index_mut.result.now _ (below_rows rows c.args.i c.requires.image) c.index_mut.ensures.value refl in
+    ap (λ (r : List (List (Option ℕ))). length (row_at r j)) now ∙ lengths_changed (rows_of rows) c.args.i c.args.k (Some t) c.requires.image j

@@ -1,0 +1,17 @@
+use Rattle.std.proofs.Common.{◌≡◌, ◌∙◌, ◌+ℤ◌, pos, sym, ap}
+use Rattle.std.specs.Prelude.{slice_index}
+use Rattle.std.specs.Option.{option_map_or}
+use Rattle.r9_geom.specs.Geometry.{distance}
+use Rattle.r9_geom.proofs.GeometryLemmas.{strip_distance}
+use Rattle.r9_plane.specs.Pixels.{along}
+use Rattle.r9_plane.proofs.PlaneLemmas.{along_holds}
+use Rattle.r9_store.specs.Tiles.{pixel}
+use Rattle.r9_cells.proofs.table.Cells.get_row.Goals as goal
+use Rattle.std.proofs.Common.{length, refl}
+
+pub returns : goal.returns
+returns c n below =
+    let at = c.args.at in
+    ap (slice_index c.get_row.new.raws) (sym (strip_distance at (along at n) n refl))
+    ∙ c.get_row.ensures (along at n) (along_holds at (length c.args.raws.now) n below)
+    ∙ sym (ap (λ o. option_map_or (λ t. pixel c.args.self.now.store t (along at n)) o 0) c.tile.ensures)

@@ -1,0 +1,82 @@
+//! Hidden pixels side by side, through the cells that they lie in.
+
+ghost use Rattle.std.specs.Prelude.{◌≡◌, ◌≢◌, ◌^◌, ◌<◌, ◌≤◌, ℕ, length, slice_index, IsTrue};
+ghost use Rattle.r9_geom.specs.declared.Point.{Point as Spot};
+ghost use Rattle.r9_geom.specs.Geometry.{holds, strip, IsRectNear};
+ghost use Rattle.r9_plane.specs.Pixels.{along};
+ghost use Rattle.r9_store.specs.Tiles.{cell, spare};
+ghost use Rattle.model_kept.specs.Cells.{cell_of, in_cell};
+ghost use Rattle.r9_cells.specs.Rows.{cell_place, has_tile, CellPlace};
+
+use super::hiding::cells_across;
+use super::table::Cells;
+use r9_geom::{Point, Rect, distance};
+use r9_locate::along;
+
+// Points side by side in one cell, from a point of it to the right.
+#[derive(Clone, Copy)]
+struct Run {
+    cell: usize,
+    at: Point,
+    len: usize,
+}
+
+// The first of n points to the right, as far as they lie in one cell.
+fn run_of(r: &Rect, p: Point, n: usize) -> Run
+    requires near { IsRectNear r.now }
+    requires inside { IsTrue (holds r.now p) }
+    requires small { cell_of r.now p < 2 ^ 63 }
+    requires some { 0 < n }
+    ensures some { 0 < result.len }
+    ensures most { result.len ≤ n }
+    ensures cell { (k : ℕ) → k < result.len → cell_of r.now (along p k) ≡ result.cell }
+    ensures at { (k : ℕ) → k < result.len → in_cell r.now (along p k) ≡ along result.at k }
+    ensures within { (q : Spot) → IsTrue (holds (strip result.at result.len) q) → IsTrue (holds cell q) }
+{
+    let across = cells_across(r);
+    let column = distance(r.min.x, p.x) as usize;
+    let row = distance(r.min.y, p.y) as usize;
+    Run {
+        cell: row / 32 * across + column / 32,
+        at: Point {
+            x: (column % 32) as i64,
+            y: (row % 32) as i64,
+        },
+        len: n.min(32 - column % 32),
+    }
+}
+
+impl Cells {
+    ghost use Rattle.r9_cells.specs.Cells.{all_rows, place_pixel, tiles_in};
+
+    /// Reads hidden pixels side by side, of an image with that rectangle, from a point to the right.
+    pub fn read(&self, i: usize, r: &Rect, from: Point, raws: &mut [u32])
+        requires near { IsRectNear r.now }
+        requires has { (k : ℕ) → k < length raws.old → IsTrue (has_tile (all_rows self.now) i r.now (along from k)) }
+        ensures { (k : ℕ) → k < length raws.old → slice_index raws.new k ≡ place_pixel self.now (cell_place i r.now (along from k)) }
+    {
+        let mut done = 0;
+        while done < raws.len() {
+            let run = run_of(r, along(from, done), raws.len() - done);
+            self.get_row(i, run.cell, run.at, &mut raws[done..done + run.len]);
+            done += run.len;
+        }
+    }
+
+    /// Writes hidden pixels side by side, of an image with that rectangle, from a point to the right.
+    pub fn write(&mut self, i: usize, r: &Rect, at: Point, raws: &[u32])
+        requires near { IsRectNear r.now }
+        requires has { (k : ℕ) → k < length raws.now → IsTrue (has_tile (all_rows self.old) i r.now (along at k)) }
+        ensures at { (k : ℕ) → k < length raws.now → place_pixel self.new (cell_place i r.now (along at k)) ≡ slice_index raws.now k }
+        ensures others { (place : CellPlace) → ((k : ℕ) → k < length raws.now → place ≢ cell_place i r.now (along at k)) → place_pixel self.new place ≡ place_pixel self.old place }
+        ensures rows { all_rows self.new ≡ all_rows self.old }
+        ensures spare { spare (tiles_in self.new) ≡ spare (tiles_in self.old) }
+    {
+        let mut done = 0;
+        while done < raws.len() {
+            let run = run_of(r, along(at, done), raws.len() - done);
+            self.put_row(i, run.cell, run.at, &raws[done..done + run.len]);
+            done += run.len;
+        }
+    }
+}

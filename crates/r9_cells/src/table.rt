@@ -1,0 +1,173 @@
+//! The tiles of the cells of images.
+
+ghost use Rattle.std.specs.Prelude.{◌≡◌, ◌≢◌, ◌+◌, ◌<◌, ◌==◌, ◌&&◌, ◌||◌, ℕ, Some, None, false, not, length, is_some, max, replicate, slice_index, slice_index_or, slice_set, [], ◌∷◌, ◌++◌, IsTrue, OnErr, OnOk, if◌then◌else◌};
+ghost use Rattle.r9_geom.specs.declared.Point.{Point as Spot};
+ghost use Rattle.r9_geom.specs.Geometry.{holds, strip};
+ghost use Rattle.r9_plane.specs.Pixels.{along};
+ghost use Rattle.r9_store.specs.Tiles.{cell, spare};
+ghost use Rattle.r9_cells.specs.Rows.{cell_at, row_at, rows_of, tiles_of, CellPlace, IsKept};
+
+use r9_geom::Point;
+use r9_memory::Memory;
+use r9_store::{Store, TileNo};
+use std::alloc::Global;
+
+/// The tiles of the cells of an image.
+#[derive(Drop)]
+pub struct Row {
+    pub cells: Vec<Option<TileNo>>,
+}
+
+/// The tiles of the cells of images, by number.
+#[derive(Drop)]
+pub struct Cells {
+    pub(crate) rows: Vec<Row>,
+    store: Store,
+    alloc: Global,
+    ghost kept: { IsKept (rows_of rows.items) store },
+}
+
+impl Cells {
+    ghost use Rattle.r9_cells.specs.Cells.{all_rows, cell_pixel, place_pixel, tiles_in};
+
+    /// No image, and no tile.
+    pub fn new(alloc: Global) -> Self
+        ensures rows { all_rows result ≡ [] }
+        ensures spare { spare (tiles_in result) ≡ 0 }
+    {
+        Cells {
+            rows: Vec::new(alloc),
+            store: Store::new(alloc),
+            alloc,
+        }
+    }
+
+    /// Adds an image that has no cell.
+    pub fn push(&mut self) -> Result<(), Memory>
+        ensures rows { OnOk result (all_rows self.new ≡ all_rows self.old ++ ([] ∷ [])) }
+        ensures store { tiles_in self.new ≡ tiles_in self.old }
+        ensures err { OnErr result (all_rows self.new ≡ all_rows self.old) }
+    {
+        let cells = Vec::new(self.alloc);
+        self.rows.push(Row { cells })?;
+        Ok(())
+    }
+
+    // Gives an image, which has no tile, other cells without one.
+    fn set_row(&mut self, i: usize, row: Row)
+        requires image { i < length (all_rows self.old) }
+        requires none { (k : ℕ) → cell_at (all_rows self.old) i k ≡ None }
+        requires blank { (k : ℕ) → slice_index_or row.cells.items k None ≡ None }
+        ensures rows { all_rows self.new ≡ slice_set (all_rows self.old) i row.cells.items }
+        ensures store { tiles_in self.new ≡ tiles_in self.old }
+    {
+        self.rows[i] = row;
+    }
+
+    /// Gives an image, which has no tile, so many cells.
+    pub fn make(&mut self, i: usize, cells: usize) -> Result<(), Memory>
+        requires image { i < length (all_rows self.old) }
+        requires none { (k : ℕ) → cell_at (all_rows self.old) i k ≡ None }
+        ensures rows { OnOk result (all_rows self.new ≡ slice_set (all_rows self.old) i (replicate cells None)) }
+        ensures store { tiles_in self.new ≡ tiles_in self.old }
+        ensures err { OnErr result (all_rows self.new ≡ all_rows self.old) }
+    {
+        let cells = vec![in self.alloc; None; cells]?;
+        self.set_row(i, Row { cells });
+        Ok(())
+    }
+
+    /// Takes all cells of an image away, which has no tile. It takes no memory.
+    pub fn clear(&mut self, i: usize)
+        requires image { i < length (all_rows self.old) }
+        requires none { (k : ℕ) → cell_at (all_rows self.old) i k ≡ None }
+        ensures rows { all_rows self.new ≡ slice_set (all_rows self.old) i [] }
+        ensures store { tiles_in self.new ≡ tiles_in self.old }
+    {
+        let cells = Vec::new(self.alloc);
+        self.set_row(i, Row { cells });
+    }
+
+    /// Makes room, so that at least so many tiles are spare.
+    pub fn reserve(&mut self, tiles: usize) -> Result<(), Memory>
+        ensures spare { OnOk result (spare (tiles_in self.new) ≡ max (spare (tiles_in self.old)) tiles) }
+        ensures rows { all_rows self.new ≡ all_rows self.old }
+        ensures pixels { (j l : ℕ) (p : Spot) → cell_pixel self.new j l p ≡ cell_pixel self.old j l p }
+        ensures err { OnErr result (tiles_in self.new ≡ tiles_in self.old) }
+    {
+        self.store.reserve(tiles)
+    }
+
+    /// How many tiles are held: as many as cells have one.
+    pub fn tiles(&self) -> usize
+        ensures { result ≡ tiles_of (all_rows self.now) }
+    {
+        self.store.held()
+    }
+
+    /// Takes a spare tile for a cell that has none. It takes no memory, and no pixel changes.
+    pub fn take(&mut self, i: usize, k: usize)
+        requires image { i < length (all_rows self.old) }
+        requires cell { k < length (row_at (all_rows self.old) i) }
+        requires none { cell_at (all_rows self.old) i k ≡ None }
+        requires spare { 0 < spare (tiles_in self.old) }
+        ensures pixels { (j l : ℕ) (p : Spot) → cell_pixel self.new j l p ≡ cell_pixel self.old j l p }
+        ensures spare { spare (tiles_in self.new) + 1 ≡ spare (tiles_in self.old) }
+        ensures taken { (j l : ℕ) → is_some (cell_at (all_rows self.new) j l) ≡ (((j == i) && (l == k)) || is_some (cell_at (all_rows self.old) j l)) }
+        ensures others { (j l : ℕ) → ((j == i) && (l == k)) ≡ false → cell_at (all_rows self.new) j l ≡ cell_at (all_rows self.old) j l }
+        ensures rows { length (all_rows self.new) ≡ length (all_rows self.old) }
+        ensures lengths { (j : ℕ) → length (row_at (all_rows self.new) j) ≡ length (row_at (all_rows self.old) j) }
+    {
+        let tile = self.store.take();
+        self.rows[i].cells[k] = Some(tile);
+    }
+
+    /// Gives the tile of a cell back. It takes no memory.
+    pub fn give(&mut self, i: usize, k: usize)
+        requires { IsTrue (is_some (cell_at (all_rows self.old) i k)) }
+        ensures pixels { (j l : ℕ) (p : Spot) → cell_pixel self.new j l p ≡ (if (j == i) && (l == k) then 0 else cell_pixel self.old j l p) }
+        ensures spare { spare (tiles_in self.new) ≡ spare (tiles_in self.old) + 1 }
+        ensures given { (j l : ℕ) → is_some (cell_at (all_rows self.new) j l) ≡ (not ((j == i) && (l == k)) && is_some (cell_at (all_rows self.old) j l)) }
+        ensures others { (j l : ℕ) → ((j == i) && (l == k)) ≡ false → cell_at (all_rows self.new) j l ≡ cell_at (all_rows self.old) j l }
+        ensures rows { length (all_rows self.new) ≡ length (all_rows self.old) }
+        ensures lengths { (j : ℕ) → length (row_at (all_rows self.new) j) ≡ length (row_at (all_rows self.old) j) }
+    {
+        if let Some(tile) = self.rows[i].cells[k] {
+            self.store.give(tile);
+            self.rows[i].cells[k] = None;
+        }
+    }
+
+    // The tile of a cell.
+    fn tile(&self, i: usize, k: usize) -> TileNo
+        requires { IsTrue (is_some (cell_at (all_rows self.now) i k)) }
+        ensures { cell_at (all_rows self.now) i k ≡ Some result }
+    {
+        match self.rows[i].cells[k] {
+            Some(tile) => tile,
+            None => unreachable!(),
+        }
+    }
+
+    /// Pixels side by side in the tile of a cell, from a point of it to the right: as many as there is room for in `raws`.
+    pub fn get_row(&self, i: usize, k: usize, at: Point, raws: &mut [u32])
+        requires tile { IsTrue (is_some (cell_at (all_rows self.now) i k)) }
+        requires inside { (p : Spot) → IsTrue (holds (strip at (length raws.old)) p) → IsTrue (holds cell p) }
+        ensures { (n : ℕ) → n < length raws.old → slice_index raws.new n ≡ cell_pixel self.now i k (along at n) }
+    {
+        self.store.get_row(self.tile(i, k), at, raws);
+    }
+
+    /// Puts pixels side by side into the tile of a cell, from a point of it to the right, and changes nothing else.
+    pub fn put_row(&mut self, i: usize, k: usize, at: Point, raws: &[u32])
+        requires tile { IsTrue (is_some (cell_at (all_rows self.old) i k)) }
+        requires inside { (p : Spot) → IsTrue (holds (strip at (length raws.now)) p) → IsTrue (holds cell p) }
+        ensures at { (n : ℕ) → n < length raws.now → cell_pixel self.new i k (along at n) ≡ slice_index raws.now n }
+        ensures others { (place : CellPlace) → ((n : ℕ) → n < length raws.now → place ≢ record { image = i; cell = k; at = along at n }) → place_pixel self.new place ≡ place_pixel self.old place }
+        ensures rows { all_rows self.new ≡ all_rows self.old }
+        ensures spare { spare (tiles_in self.new) ≡ spare (tiles_in self.old) }
+    {
+        let tile = self.tile(i, k);
+        self.store.put_row(tile, at, raws);
+    }
+}
