@@ -1,12 +1,14 @@
 -- No two points of an image are kept at one place, and no place of a window is where the image below it keeps a point.
-use Rattle.std.proofs.Common.{◌≡◌, ◌≢◌, ◌∙◌, ℕ, suc, zero, ◌≤◌, Bool, true, false, Option, Some, None, refl, sym, ap, arith}
+use Rattle.std.proofs.Common.{◌≡◌, ◌≢◌, ◌∙◌, ℕ, suc, zero, ◌<◌, ◌≤◌, Bool, true, false, Option, Some, None, refl, sym, ap, arith}
 use Rattle.std.specs.Prelude.{if◌then◌else◌}
 use Rattle.std.specs.Option.{option_map_or}
 use Rattle.r9_geom.specs.declared.Point.{Point}
 use Rattle.r9_geom.specs.Geometry.{carried}
+use Rattle.r9_plane.specs.Pixels.{along}
 use Rattle.model_forest.specs.World.{World, image_at, parent_of, IsLive}
 use Rattle.model_forest.proofs.Changes.{live-standing}
 use Rattle.model_kept.specs.Keeping.{own, outward, is_shown, keeping, keeping_within, place_among, IsStanding, Place}
+use Rattle.r9_locate.specs.Lists.{HasBits}
 use Rattle.model_kept.proofs.Storing.{carried-back, step_of}
 
 -- who keeps a pixel stands no higher than the image
@@ -65,3 +67,22 @@ keeping-injective world ok (suc depth) i y z live same =
         by_test true false e = absurd (not_own z (outward world parent i y) (sym e))
         by_test false true e = absurd (not_own y (outward world parent i z) e)
         by_test false false e = ap (λ (k : Place). k.at) e
+
+-- what keeps a pixel of an image has as many bits a pixel
+pub keeping-bits : (world : World) → IsStanding world → (bits : ℕ → ℕ) → HasBits world bits → (depth i : ℕ) (y : Point) → IsLive world i → bits (keeping_within depth world i y).image ≡ bits i
+keeping-bits world ok bits same zero i y live = refl
+keeping-bits world ok bits same (suc depth) i y live =
+    by_parent (parent_of world i) refl (λ parent. keeping-bits world ok bits same depth parent (outward world parent i y))
+  where
+    by_parent : (o : Option ℕ) → parent_of world i ≡ o → ((parent : ℕ) → IsLive world parent → bits (keeping_within depth world parent (outward world parent i y)).image ≡ bits parent) → bits (option_map_or (step_of depth world i y) o (own i y)).image ≡ bits i
+    by_parent None stands above = refl
+    by_parent (Some parent) stands above = by_test (is_shown world parent i (outward world parent i y))
+      where
+        by_test : (b : Bool) → bits (if b then keeping_within depth world parent (outward world parent i y) else own i y).image ≡ bits i
+        by_test false = refl
+        by_test true = above parent (ok.parents i parent live stands) ∙ sym (same i parent live stands)
+
+-- and so what keeps points side by side
+pub run_bits : (world : World) → IsStanding world → (bits : ℕ → ℕ) → HasBits world bits → (i j : ℕ) (start at : Point) (len : ℕ) → IsLive world i → 0 < len → ((k : ℕ) → k < len → keeping world i (along start k) ≡ own j (along at k)) → bits j ≡ bits i
+run_bits world ok bits same i j start at len live some found =
+    ap (λ (place : Place). bits place.image) (sym (found 0 some)) ∙ keeping-bits world ok bits same (image_at world i).depth i (along start 0) live

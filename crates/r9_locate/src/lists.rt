@@ -1,6 +1,6 @@
 //! Images by number, without their pixels.
 
-ghost use Rattle.std.specs.Prelude.{◌≡◌};
+ghost use Rattle.std.specs.Prelude.{◌≡◌, None};
 ghost use Rattle.std.specs.Option.{option_map_or};
 ghost use Rattle.model_forest.specs.World.{image_at, no_rect, IsLive};
 ghost use Rattle.model_kept.specs.Keeping as kept;
@@ -53,6 +53,15 @@ fn place_of(found: Option<Window>) -> Rect
 impl Lists {
     ghost use Rattle.r9_locate.specs.Lists.{frame_image};
     ghost use Rattle.r9_locate.specs.Table.{shape};
+
+    /// No image.
+    pub fn new(alloc: Global) -> Self
+        ensures { shape result ≡ (λ _. None) }
+    {
+        Lists {
+            slots: Vec::new(alloc),
+        }
+    }
 
     /// The image of a number.
     pub fn get(&self, i: u32) -> &Frame

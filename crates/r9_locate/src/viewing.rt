@@ -7,12 +7,15 @@ ghost use Rattle.r9_plane.specs.Pixels.{along};
 ghost use Rattle.model_forest.specs.World.{image_at, IsLive};
 ghost use Rattle.model_forest.specs.View as view;
 ghost use Rattle.model_kept.specs.Keeping.{keeping, own, Place};
+ghost use Rattle.r9_locate.specs.Lists.{HasBits};
 ghost use Rattle.r9_locate.specs.Table.{shape};
 
 use super::lists::Lists;
 use super::runs::along;
 use model_forest::Window;
 use r9_geom::Point;
+use r9_steps::Steps;
+use std::sync::ledger::Ledger;
 
 /// Pixels by the image that keeps them, and the point of it.
 pub trait Pixels {
@@ -20,21 +23,24 @@ pub trait Pixels {
     ghost kept: { Self → Place → ℕ };
     // Whether there is such a place.
     ghost has: { Self → Place → Bool };
-    // How many pixels were written.
-    ghost written: { Self → ℕ };
+    // How many bits each pixel of an image has.
+    ghost bits: { Self → ℕ → ℕ };
 
     /// Reads pixels that an image keeps side by side.
     fn read(&self, i: u32, from: Point, raws: &mut [u32])
         requires { (k : ℕ) → k < length raws.old → has self.now (own i (along from k)) ≡ true }
-        ensures { (k : ℕ) → k < length raws.old → slice_index raws.new k ≡ kept self.now (own i (along from k)) };
+        ensures pixels { (k : ℕ) → k < length raws.old → slice_index raws.new k ≡ kept self.now (own i (along from k)) }
+        ensures below { (k : ℕ) → k < length raws.old → slice_index raws.new k < 2 ^ bits self.now i };
 
-    /// Writes pixels that an image keeps side by side.
-    fn write(&mut self, i: u32, at: Point, raws: &[u32])
-        requires { (k : ℕ) → k < length raws.now → has self.old (own i (along at k)) ≡ true }
+    /// Writes pixels that an image keeps side by side, a step for each.
+    fn write<L: Ledger>(&mut self, i: u32, at: Point, raws: &[u32], steps: &mut Steps<L>)
+        requires has { (k : ℕ) → k < length raws.now → has self.old (own i (along at k)) ≡ true }
+        requires below { (k : ℕ) → k < length raws.now → slice_index raws.now k < 2 ^ bits self.old i }
         ensures at { (k : ℕ) → k < length raws.now → kept self.new (own i (along at k)) ≡ slice_index raws.now k }
         ensures others { (place : Place) → ((k : ℕ) → k < length raws.now → place ≢ own i (along at k)) → kept self.new place ≡ kept self.old place }
         ensures has { has self.new ≡ has self.old }
-        ensures written { written self.new ≡ written self.old + length raws.now };
+        ensures bits { bits self.new ≡ bits self.old }
+        ensures steps { steps.new ≡ steps.old + length raws.now };
 }
 
 /// The point of a window that stands at a point of the image below it.
@@ -54,7 +60,9 @@ pub fn read_view<P: Pixels>(lists: &Lists, pixels: &P, i: u32, from: Point, raws
     requires width { length raws.old ≤ 2 ^ 40 }
     requires inside { (p : Spot) → IsTrue (holds (strip from (length raws.old)) p) → IsTrue (holds (image_at (shape lists.now) i).r p) }
     requires has { (k : ℕ) → k < length raws.old → P.has pixels.now (keeping (shape lists.now) i (along from k)) ≡ true }
-    ensures { (k : ℕ) → k < length raws.old → slice_index raws.new k ≡ P.kept pixels.now (keeping (shape lists.now) i (along from k)) }
+    requires bits { HasBits (shape lists.now) (P.bits pixels.now) }
+    ensures below { (k : ℕ) → k < length raws.old → slice_index raws.new k < 2 ^ P.bits pixels.now i }
+    ensures pixels { (k : ℕ) → k < length raws.old → slice_index raws.new k ≡ P.kept pixels.now (keeping (shape lists.now) i (along from k)) }
 {
     let mut done = 0;
     while done < raws.len() {
@@ -64,22 +72,32 @@ pub fn read_view<P: Pixels>(lists: &Lists, pixels: &P, i: u32, from: Point, raws
     }
 }
 
-/// Writes what an image shows side by side, where it is kept.
-pub fn write_view<P: Pixels>(lists: &Lists, pixels: &mut P, i: u32, at: Point, raws: &[u32])
+/// Writes what an image shows side by side, where it is kept, a step for each pixel.
+pub fn write_view<P: Pixels, L: Ledger>(
+    lists: &Lists,
+    pixels: &mut P,
+    i: u32,
+    at: Point,
+    raws: &[u32],
+    steps: &mut Steps<L>,
+)
     requires live { IsLive (shape lists.now) i }
     requires near { IsNear at }
     requires width { length raws.now ≤ 2 ^ 40 }
     requires inside { (p : Spot) → IsTrue (holds (strip at (length raws.now)) p) → IsTrue (holds (image_at (shape lists.now) i).r p) }
     requires has { (k : ℕ) → k < length raws.now → P.has pixels.old (keeping (shape lists.now) i (along at k)) ≡ true }
+    requires bits { HasBits (shape lists.now) (P.bits pixels.old) }
+    requires below { (k : ℕ) → k < length raws.now → slice_index raws.now k < 2 ^ P.bits pixels.old i }
     ensures at { (k : ℕ) → k < length raws.now → P.kept pixels.new (keeping (shape lists.now) i (along at k)) ≡ slice_index raws.now k }
     ensures others { (place : Place) → ((k : ℕ) → k < length raws.now → place ≢ keeping (shape lists.now) i (along at k)) → P.kept pixels.new place ≡ P.kept pixels.old place }
     ensures has { P.has pixels.new ≡ P.has pixels.old }
-    ensures written { P.written pixels.new ≡ P.written pixels.old + length raws.now }
+    ensures bits { P.bits pixels.new ≡ P.bits pixels.old }
+    ensures steps { steps.new ≡ steps.old + length raws.now }
 {
     let mut done = 0;
     while done < raws.len() {
         let run = lists.locate(i, along(at, done), raws.len() - done);
-        pixels.write(run.image, run.at, &raws[done..done + run.len]);
+        pixels.write(run.image, run.at, &raws[done..done + run.len], steps);
         done += run.len;
     }
 }

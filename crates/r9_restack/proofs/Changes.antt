@@ -24,9 +24,10 @@ use Rattle.r9_locate.specs.declared.lists.Lists.{Lists}
 use Rattle.r9_locate.specs.Table.{shape}
 use Rattle.r9_restack.specs.Moving.{more, IsFresh}
 use Rattle.r9_restack.specs.Changing.{IsChange, IsChanged, IsGiven, IsShownAnew, StaysTop, HasPlacesBut, IsOther, StaysAs}
-use Rattle.r9_locate.proofs.Locating.{along-carried, keeping-up}
+use Rattle.r9_locate.proofs.Locating.{along-carried, keeping-up, strip_at}
 use Rattle.r9_locate.proofs.Apart.{keeping-depth, keeping-injective, own-apart}
-use Rattle.r9_restack.proofs.Orders.{at_strip, or_cases, strip_at, top_is, unshown-own}
+use Rattle.r9_plane.proofs.PlaneLemmas.{along_holds}
+use Rattle.r9_restack.proofs.Orders.{or_cases, top_is, unshown-own}
 
 -- what is known of the lists in a change
 pub record IsChanging (world : World) (p : ℕ) (ws : List Window) (w : ℕ) : Type 0 where
@@ -182,12 +183,12 @@ changed-run world p ws w given fill before old new done a b q n s inside olds ne
       (λ d. own_stays i x apart stands d ∙ m.hidden i x apart stands d none);
   others = λ place apart own_apart.
       is.others place
-      (λ k below. apart (along q k) (or_left (holds (strip q n) (along q k)) (done (along q k)) (at_strip q n k below)))
+      (λ k below. apart (along q k) (or_left (holds (strip q n) (along q k)) (done (along q k)) (along_holds q n k below)))
       (λ v a_is other k below.
       let out = out_of v a_is k below in
       own_apart v.image (along (inward world v q) k) other (stood_old world p ws w s (along q k) v (olds k below ∙ a_is))
       (or_left (holds (strip q n) (outward world p v.image (along (inward world v q) k))) (done (outward world p v.image (along (inward world v q) k)))
-      (ap (holds (strip q n)) out ∙ at_strip q n k below)))
+      (ap (holds (strip q n)) out ∙ along_holds q n k below)))
       ∙ m.others place (λ y d. apart y (or_right (holds (strip q n) y) (done y) d))
       (λ i x other stands d. own_apart i x other stands (or_right (holds (strip q n) (outward world p i x)) (done (outward world p i x)) d));
 }

@@ -7,8 +7,7 @@ use Rattle.std.proofs.lemmas.Bool.{true≢false, false≢true}
 use Rattle.std.proofs.lemmas.Bool.Decides.{Decides-eqb}
 use Rattle.r9_geom.specs.declared.Point.{Point}
 use Rattle.r9_geom.specs.declared.Rect.{Rect}
-use Rattle.r9_geom.specs.Geometry.{carried, distance, holds, strip}
-use Rattle.r9_geom.proofs.GeometryLemmas.{bounds_of, distance_is, same_point, strip_here}
+use Rattle.r9_geom.specs.Geometry.{carried, holds}
 use Rattle.r9_plane.specs.Pixels.{along}
 use Rattle.model_forest.specs.declared.Window.{Window}
 use Rattle.model_forest.specs.World.{Image, World, image_at, no_image, parent_of, IsWindowOf}
@@ -38,15 +37,6 @@ pub record IsMoved (world : World) (p : ℕ) (ws : List Window) (before now : Pl
   pub bare : (q : Point) → done q ≡ true → top_window ws q ≡ None → now (keeping world p q) ≡ before (keeping world p q)
   pub hidden : (i : ℕ) (x : Point) → parent_of world i ≡ Some p → done (outward world p i x) ≡ true → is_top ws i (outward world p i x) ≡ false → now (own i x) ≡ before (keeping world i x)
   pub others : (place : Place) → ((q : Point) → done q ≡ true → place ≢ keeping world p q) → ((i : ℕ) (x : Point) → parent_of world i ≡ Some p → done (outward world p i x) ≡ true → place ≢ own i x) → now place ≡ before place
-
-pub strip_at : (q z : Point) (n : ℕ) → holds (strip q n) z ≡ true → (k : ℕ) × (k < n) × (z ≡ along q k)
-strip_at q z n h =
-    let b = bounds_of (strip q n) z h in
-    let d = distance_is q.x z.x b.left in
-    (distance q.x z.x, omega (arith, ints, d, b.right), same_point z (along q (distance q.x z.x)) (sym d) (omega (arith, ints, b.top, b.bottom)))
-
-pub at_strip : (q : Point) (n k : ℕ) → k < n → holds (strip q n) (along q k) ≡ true
-at_strip q n k below = strip_here q (along q k) k n refl refl below
 
 pub or_cases : {C : Type 0} (a b : Bool) → (a || b) ≡ true → (a ≡ true → C) → (b ≡ true → C) → C
 or_cases true b e f g = f refl

@@ -16,9 +16,9 @@ use Rattle.r9_locate.specs.declared.lists.Lists.{Lists}
 use Rattle.r9_locate.specs.Table.{shape}
 use Rattle.r9_locate.specs.Lists.{frame_image, IsNearby}
 use Rattle.r9_restack.specs.Moving.{more, IsFresh, IsReordering}
-use Rattle.r9_restack.proofs.Orders.{IsSetting}
-use Rattle.r9_locate.proofs.Locating.{along-along, no_rect_near, place_near}
-use Rattle.r9_restack.proofs.Orders.{at_strip, or_cases, strip_at}
+use Rattle.r9_plane.proofs.PlaneLemmas.{along_holds}
+use Rattle.r9_locate.proofs.Locating.{along-along, no_rect_near, place_near, strip_at}
+use Rattle.r9_restack.proofs.Orders.{or_cases, IsSetting}
 
 -- places are near
 pub near_all : (world : World) (p : ℕ) (ws : List Window) → IsReordering world p ws → IsNearby world → All (λ v. IsNear v.place.min) ws
@@ -33,22 +33,22 @@ strip_two at z done len =
     (λ h.
     let found = strip_at at z (done + len) h in
     ⊎_elim
-    (λ (early : found.0 < done). or_right (holds (strip (along at done) len) z) (holds (strip at done) z) (ap (holds (strip at done)) found.2 ∙ at_strip at done found.0 early))
+    (λ (early : found.0 < done). or_right (holds (strip (along at done) len) z) (holds (strip at done) z) (ap (holds (strip at done)) found.2 ∙ along_holds at done found.0 early))
     (λ (late : done ≤ found.0).
     let j = found.0 - done in
     let place : found.0 ≡ done + j = omega arith in
     let short : j < len = omega (arith, found.1, late) in
     or_left (holds (strip (along at done) len) z) (holds (strip at done) z)
-    (ap (holds (strip (along at done) len)) (found.2 ∙ ap (along at) place ∙ sym (along-along at done j)) ∙ at_strip (along at done) len j short))
+    (ap (holds (strip (along at done) len)) (found.2 ∙ ap (along at) place ∙ sym (along-along at done j)) ∙ along_holds (along at done) len j short))
     (cases_lt found.0 done))
     (λ either.
     or_cases (holds (strip (along at done) len) z) (holds (strip at done) z) either
     (λ h.
     let found = strip_at (along at done) z len h in
-    ap (holds (strip at (done + len))) (found.2 ∙ along-along at done found.0) ∙ at_strip at (done + len) (done + found.0) (omega (arith, found.1)))
+    ap (holds (strip at (done + len))) (found.2 ∙ along-along at done found.0) ∙ along_holds at (done + len) (done + found.0) (omega (arith, found.1)))
     (λ h.
     let found = strip_at at z done h in
-    ap (holds (strip at (done + len))) found.2 ∙ at_strip at (done + len) found.0 (omega (arith, found.1))))
+    ap (holds (strip at (done + len))) found.2 ∙ along_holds at (done + len) found.0 (omega (arith, found.1))))
 
 -- what comes after in the row is not done
 pub fresh_part : (at : Point) (n done len : ℕ) (also : Point → Bool) → done + len ≤ n → IsFresh at n also → IsFresh (along at done) len (more at done also)

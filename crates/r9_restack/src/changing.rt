@@ -9,6 +9,7 @@ ghost use Rattle.model_forest.specs.World.{image_at, parent_of, IsLive};
 ghost use Rattle.model_forest.specs.View as view;
 ghost use Rattle.model_forest.specs.View.{top_window};
 ghost use Rattle.model_kept.specs.Keeping.{is_top, keeping, outward, own, Place};
+ghost use Rattle.r9_locate.specs.Lists.{HasBits};
 ghost use Rattle.r9_locate.specs.Table.{shape};
 ghost use Rattle.model_kept.specs.Restack.{with_list, IsRestacked};
 ghost use Rattle.r9_restack.specs.Moving.{more, IsFresh};
@@ -17,6 +18,8 @@ ghost use Rattle.r9_restack.specs.Changing.{HasPlacesBut, IsChange, IsChanged, I
 use model_forest::Window;
 use r9_geom::{Point, Rect};
 use r9_locate::{Lists, Pixels, along, inward, read_view, steady_top, top, write_view};
+use r9_steps::Steps;
+use std::sync::ledger::Ledger;
 
 // How many pixels of a row are moved at a time.
 const BLOCK: usize = 256;
@@ -37,19 +40,29 @@ pub trait Source {
 }
 
 // Keeps what was shown with the window that showed it, unless it is w.
-fn save<P: Pixels>(lists: &Lists, pixels: &mut P, a: Option<Window>, w: u32, q: Point, raws: &[u32])
+fn save<P: Pixels, L: Ledger>(
+    lists: &Lists,
+    pixels: &mut P,
+    a: Option<Window>,
+    w: u32,
+    q: Point,
+    raws: &[u32],
+    steps: &mut Steps<L>,
+)
     requires near { IsNear q }
     requires live { (v : Stood) → a ≡ Some v → IsLive (shape lists.now) v.image }
     requires place { (v : Stood) → a ≡ Some v → IsNear v.place.min }
     requires has { (v : Stood) → a ≡ Some v → v.image ≢ w → (k : ℕ) → k < length raws.now → P.has pixels.old (own v.image (along (view.inward (shape lists.now) v q) k)) ≡ true }
+    requires below { (v : Stood) → a ≡ Some v → v.image ≢ w → (k : ℕ) → k < length raws.now → slice_index raws.now k < 2 ^ P.bits pixels.old v.image }
     ensures saved { (v : Stood) → a ≡ Some v → v.image ≢ w → (k : ℕ) → k < length raws.now → P.kept pixels.new (own v.image (along (view.inward (shape lists.now) v q) k)) ≡ slice_index raws.now k }
     ensures others { (place : Place) → ((v : Stood) → a ≡ Some v → v.image ≢ w → (k : ℕ) → k < length raws.now → place ≢ own v.image (along (view.inward (shape lists.now) v q) k)) → P.kept pixels.new place ≡ P.kept pixels.old place }
     ensures has { P.has pixels.new ≡ P.has pixels.old }
-    ensures written { P.written pixels.new ≤ P.written pixels.old + length raws.now }
+    ensures bits { P.bits pixels.new ≡ P.bits pixels.old }
+    ensures steps { steps.new ≤ steps.old + length raws.now }
 {
     if let Some(v) = a {
         if v.image != w {
-            pixels.write(v.image, inward(lists, &v, q), raws);
+            pixels.write(v.image, inward(lists, &v, q), raws, steps);
         }
     }
 }
@@ -71,6 +84,7 @@ fn fetch<P: Pixels, S: Source>(
     ensures none { b ≡ None → (k : ℕ) → k < length raws.old → slice_index raws.new k ≡ S.fill source.now (along q k) }
     ensures of_w { (v : Stood) → b ≡ Some v → v.image ≡ w → (k : ℕ) → k < length raws.old → slice_index raws.new k ≡ S.given source.now (along (view.inward (shape lists.now) v q) k) }
     ensures owned { (v : Stood) → b ≡ Some v → v.image ≢ w → (k : ℕ) → k < length raws.old → slice_index raws.new k ≡ P.kept pixels.now (own v.image (along (view.inward (shape lists.now) v q) k)) }
+    ensures below { (v : Stood) → b ≡ Some v → v.image ≢ w → (k : ℕ) → k < length raws.old → slice_index raws.new k < 2 ^ P.bits pixels.now v.image }
 {
     match b {
         None => source.fills(q, raws),
@@ -86,7 +100,7 @@ fn fetch<P: Pixels, S: Source>(
 }
 
 // Points side by side at which window a was topmost, or nothing, show window b then, or the fill.
-fn show<P: Pixels, S: Source>(
+fn show<P: Pixels, S: Source, L: Ledger>(
     lists: &Lists,
     pixels: &mut P,
     source: &S,
@@ -96,6 +110,7 @@ fn show<P: Pixels, S: Source>(
     b: Option<Window>,
     q: Point,
     raws: &mut [u32],
+    steps: &mut Steps<L>,
 )
     requires live { IsLive (shape lists.now) p }
     requires near { IsNear q }
@@ -107,17 +122,22 @@ fn show<P: Pixels, S: Source>(
     requires a_place { (v : Stood) → a ≡ Some v → IsNear v.place.min }
     requires a_has { (v : Stood) → a ≡ Some v → v.image ≢ w → (k : ℕ) → k < length raws.old → P.has pixels.old (own v.image (along (view.inward (shape lists.now) v q) k)) ≡ true }
     requires b_live { (v : Stood) → b ≡ Some v → IsLive (shape lists.now) v.image }
+    requires b_stands { (v : Stood) → b ≡ Some v → parent_of (shape lists.now) v.image ≡ Some p }
     requires b_place { (v : Stood) → b ≡ Some v → IsNear v.place.min }
     requires b_has { (v : Stood) → b ≡ Some v → v.image ≢ w → (k : ℕ) → k < length raws.old → P.has pixels.old (own v.image (along (view.inward (shape lists.now) v q) k)) ≡ true }
     requires apart { (u v : Stood) → a ≡ Some u → b ≡ Some v → v.image ≢ w → u.image ≢ v.image }
+    requires bits { HasBits (shape lists.now) (P.bits pixels.old) }
+    requires given { (x : Spot) → S.given source.now x < 2 ^ P.bits pixels.old p }
+    requires fill { (z : Spot) → S.fill source.now z < 2 ^ P.bits pixels.old p }
     ensures shown { IsShownAnew (shape lists.now) p w a b (S.given source.now) (S.fill source.now) q (length raws.old) (P.kept pixels.old) (P.kept pixels.new) }
     ensures has { P.has pixels.new ≡ P.has pixels.old }
-    ensures written { P.written pixels.new ≤ P.written pixels.old + 2 * length raws.old }
+    ensures bits { P.bits pixels.new ≡ P.bits pixels.old }
+    ensures steps { steps.new ≤ steps.old + 2 * length raws.old }
 {
     read_view(lists, pixels, p, q, raws);
-    save(lists, pixels, a, w, q, raws);
+    save(lists, pixels, a, w, q, raws, steps);
     fetch(lists, pixels, source, b, w, q, raws);
-    write_view(lists, pixels, p, q, raws);
+    write_view(lists, pixels, p, q, raws, steps);
 }
 
 // Whether the same image, other than w, or nothing is topmost.
@@ -135,7 +155,7 @@ fn stays(a: Option<Window>, b: Option<Window>, w: u32) -> bool
 }
 
 // Moves the pixels of points side by side over which the topmost window, before and then, is the same one.
-fn change_part<P: Pixels, S: Source>(
+fn change_part<P: Pixels, S: Source, L: Ledger>(
     lists: &Lists,
     pixels: &mut P,
     source: &S,
@@ -144,6 +164,7 @@ fn change_part<P: Pixels, S: Source>(
     new: &[Window],
     q: Point,
     raws: &mut [u32],
+    steps: &mut Steps<L>,
 )
     requires change { IsChange (shape lists.now) p new.now w }
     requires near { IsNear q }
@@ -154,20 +175,24 @@ fn change_part<P: Pixels, S: Source>(
     requires news { (k : ℕ) → k < length raws.old → top_window new.now (along q k) ≡ top_window new.now q }
     requires near_new { All (λ v. IsNear v.place.min) new.now }
     requires places { HasPlacesBut (shape lists.now) p new.now w (P.has pixels.old) }
+    requires bits { HasBits (shape lists.now) (P.bits pixels.old) }
+    requires given { (x : Spot) → S.given source.now x < 2 ^ P.bits pixels.old p }
+    requires fill { (z : Spot) → S.fill source.now z < 2 ^ P.bits pixels.old p }
     ensures moved { (before : Place → ℕ) (done : Spot → Bool) → IsFresh q (length raws.old) done → IsChanged (shape lists.now) p new.now w (S.given source.now) (S.fill source.now) before (P.kept pixels.old) done → IsChanged (shape lists.now) p new.now w (S.given source.now) (S.fill source.now) before (P.kept pixels.new) (more q (length raws.old) done) }
     ensures has { P.has pixels.new ≡ P.has pixels.old }
-    ensures written { P.written pixels.new ≤ P.written pixels.old + 2 * length raws.old }
+    ensures bits { P.bits pixels.new ≡ P.bits pixels.old }
+    ensures steps { steps.new ≤ steps.old + 2 * length raws.old }
 {
     let old = &lists.get(p).windows;
     let a = top(old, q);
     let b = top(new, q);
     if !stays(a, b, w) {
-        show(lists, pixels, source, p, w, a, b, q, raws);
+        show(lists, pixels, source, p, w, a, b, q, raws, steps);
     }
 }
 
 // The same of a row.
-fn change_row<P: Pixels, S: Source>(
+fn change_row<P: Pixels, S: Source, L: Ledger>(
     lists: &Lists,
     pixels: &mut P,
     source: &S,
@@ -176,6 +201,7 @@ fn change_row<P: Pixels, S: Source>(
     new: &[Window],
     at: Point,
     n: usize,
+    steps: &mut Steps<L>,
 )
     requires change { IsChange (shape lists.now) p new.now w }
     requires near { IsNear at }
@@ -183,9 +209,13 @@ fn change_row<P: Pixels, S: Source>(
     requires inside { (z : Spot) → IsTrue (holds (strip at n) z) → IsTrue (holds (image_at (shape lists.now) p).r z) }
     requires near_new { All (λ v. IsNear v.place.min) new.now }
     requires places { HasPlacesBut (shape lists.now) p new.now w (P.has pixels.old) }
+    requires bits { HasBits (shape lists.now) (P.bits pixels.old) }
+    requires given { (x : Spot) → S.given source.now x < 2 ^ P.bits pixels.old p }
+    requires fill { (z : Spot) → S.fill source.now z < 2 ^ P.bits pixels.old p }
     ensures moved { (before : Place → ℕ) (done : Spot → Bool) → IsFresh at n done → IsChanged (shape lists.now) p new.now w (S.given source.now) (S.fill source.now) before (P.kept pixels.old) done → IsChanged (shape lists.now) p new.now w (S.given source.now) (S.fill source.now) before (P.kept pixels.new) (more at n done) }
     ensures has { P.has pixels.new ≡ P.has pixels.old }
-    ensures written { P.written pixels.new ≤ P.written pixels.old + 2 * n }
+    ensures bits { P.bits pixels.new ≡ P.bits pixels.old }
+    ensures steps { steps.new ≤ steps.old + 2 * n }
 {
     let mut block = [0; BLOCK];
     let old = &lists.get(p).windows;
@@ -193,13 +223,23 @@ fn change_row<P: Pixels, S: Source>(
     while done < n {
         let q = along(at, done);
         let len = steady_top(new, q, steady_top(old, q, (n - done).min(BLOCK)));
-        change_part(lists, pixels, source, p, w, new, q, &mut block[..len]);
+        change_part(
+            lists,
+            pixels,
+            source,
+            p,
+            w,
+            new,
+            q,
+            &mut block[..len],
+            steps,
+        );
         done += len;
     }
 }
 
 // The same of the rows of an area.
-pub(crate) fn change_area<P: Pixels, S: Source>(
+pub(crate) fn change_area<P: Pixels, S: Source, L: Ledger>(
     lists: &Lists,
     pixels: &mut P,
     source: &S,
@@ -207,6 +247,7 @@ pub(crate) fn change_area<P: Pixels, S: Source>(
     w: u32,
     new: &[Window],
     area: &Rect,
+    steps: &mut Steps<L>,
 )
     requires change { IsChange (shape lists.now) p new.now w }
     requires near { IsRectNear area.now }
@@ -214,9 +255,13 @@ pub(crate) fn change_area<P: Pixels, S: Source>(
     requires inside { (z : Spot) → IsTrue (holds area.now z) → IsTrue (holds (image_at (shape lists.now) p).r z) }
     requires near_new { All (λ v. IsNear v.place.min) new.now }
     requires places { HasPlacesBut (shape lists.now) p new.now w (P.has pixels.old) }
+    requires bits { HasBits (shape lists.now) (P.bits pixels.old) }
+    requires given { (x : Spot) → S.given source.now x < 2 ^ P.bits pixels.old p }
+    requires fill { (z : Spot) → S.fill source.now z < 2 ^ P.bits pixels.old p }
     ensures moved { IsChanged (shape lists.now) p new.now w (S.given source.now) (S.fill source.now) (P.kept pixels.old) (P.kept pixels.new) (holds area.now) }
     ensures has { P.has pixels.new ≡ P.has pixels.old }
-    ensures written { P.written pixels.new ≤ P.written pixels.old + 2 * area_of area.now }
+    ensures bits { P.bits pixels.new ≡ P.bits pixels.old }
+    ensures steps { steps.new ≤ steps.old + 2 * area_of area.now }
 {
     let width = area.width() as usize;
     for row in 0..area.height() {
@@ -229,13 +274,14 @@ pub(crate) fn change_area<P: Pixels, S: Source>(
             new,
             area.point_at(0, row),
             width,
+            steps,
         );
     }
 }
 
 /// Moves the pixels of an image and of its windows to where they are kept when window w comes, goes or moves. The topmost
 /// window changes within the area alone. What is hidden of w then is not written yet.
-pub fn change<P: Pixels, S: Source>(
+pub fn change<P: Pixels, S: Source, L: Ledger>(
     lists: &Lists,
     pixels: &mut P,
     source: &S,
@@ -243,6 +289,7 @@ pub fn change<P: Pixels, S: Source>(
     w: u32,
     new: &[Window],
     area: &Rect,
+    steps: &mut Steps<L>,
 )
     requires change { IsChange (shape lists.now) p new.now w }
     requires above { parent_of (shape lists.now) w ≡ Some p }
@@ -252,9 +299,13 @@ pub fn change<P: Pixels, S: Source>(
     requires outside { (z : Spot) → IsTrue (holds (image_at (shape lists.now) p).r z) → holds area.now z ≡ false → StaysTop (shape lists.now) p new.now w z }
     requires near_new { All (λ v. IsNear v.place.min) new.now }
     requires places { HasPlacesBut (shape lists.now) p new.now w (P.has pixels.old) }
+    requires bits { HasBits (shape lists.now) (P.bits pixels.old) }
+    requires given { (x : Spot) → S.given source.now x < 2 ^ P.bits pixels.old p }
+    requires fill { (z : Spot) → S.fill source.now z < 2 ^ P.bits pixels.old p }
     ensures moved { (as_before as_after : Place → ℕ) → IsGiven (shape lists.now) p new.now w (S.given source.now) (P.kept pixels.old) (P.kept pixels.new) as_before as_after → IsRestacked (shape lists.now) (with_list (shape lists.now) p new.now) p as_before as_after (S.fill source.now) }
     ensures has { P.has pixels.new ≡ P.has pixels.old }
-    ensures written { P.written pixels.new ≤ P.written pixels.old + 2 * area_of area.now }
+    ensures bits { P.bits pixels.new ≡ P.bits pixels.old }
+    ensures steps { steps.new ≤ steps.old + 2 * area_of area.now }
 {
-    change_area(lists, pixels, source, p, w, new, area);
+    change_area(lists, pixels, source, p, w, new, area, steps);
 }

@@ -10,6 +10,8 @@ use super::changing::Source;
 use model_forest::Window;
 use r9_geom::{Point, Rect};
 use r9_locate::{Pixels, along, steady, steady_top, top};
+use r9_steps::Steps;
+use std::sync::ledger::Ledger;
 
 // How many pixels of a row are written at a time.
 const BLOCK: usize = 256;
@@ -37,28 +39,31 @@ fn shown_over(r: &Rect, windows: &[Window], w: u32, q: Point, n: usize) -> Over
 }
 
 // Writes points side by side of a window, unless they show.
-fn keep_part<P: Pixels, S: Source>(
+fn keep_part<P: Pixels, S: Source, L: Ledger>(
     pixels: &mut P,
     source: &S,
     w: u32,
     is: bool,
     x: Point,
     raws: &mut [u32],
+    steps: &mut Steps<L>,
 )
-    requires { is ≡ false → (k : ℕ) → k < length raws.old → P.has pixels.old (own w (along x k)) ≡ true }
+    requires has { is ≡ false → (k : ℕ) → k < length raws.old → P.has pixels.old (own w (along x k)) ≡ true }
+    requires given { (z : Spot) → S.given source.now z < 2 ^ P.bits pixels.old w }
     ensures kept { is ≡ false → (k : ℕ) → k < length raws.old → P.kept pixels.new (own w (along x k)) ≡ S.given source.now (along x k) }
     ensures others { (place : Place) → ((k : ℕ) → k < length raws.old → place ≢ own w (along x k)) → P.kept pixels.new place ≡ P.kept pixels.old place }
     ensures has { P.has pixels.new ≡ P.has pixels.old }
-    ensures written { P.written pixels.new ≤ P.written pixels.old + length raws.old }
+    ensures bits { P.bits pixels.new ≡ P.bits pixels.old }
+    ensures steps { steps.new ≤ steps.old + length raws.old }
 {
     if !is {
         source.give(x, raws);
-        pixels.write(w, x, raws);
+        pixels.write(w, x, raws, steps);
     }
 }
 
 // Writes what is hidden of points side by side of a window, from x to the right, which stand at q on the image below.
-fn keep_row<P: Pixels, S: Source>(
+fn keep_row<P: Pixels, S: Source, L: Ledger>(
     pixels: &mut P,
     source: &S,
     w: u32,
@@ -67,15 +72,18 @@ fn keep_row<P: Pixels, S: Source>(
     x: Point,
     q: Point,
     n: usize,
+    steps: &mut Steps<L>,
 )
     requires near { IsNear x }
     requires q_near { IsNear q }
     requires width { n ≤ 2 ^ 41 }
     requires places { (k : ℕ) → k < n → (holds below.now (along q k) && is_top new.now w (along q k)) ≡ false → P.has pixels.old (own w (along x k)) ≡ true }
+    requires given { (z : Spot) → S.given source.now z < 2 ^ P.bits pixels.old w }
     ensures kept { (k : ℕ) → k < n → (holds below.now (along q k) && is_top new.now w (along q k)) ≡ false → P.kept pixels.new (own w (along x k)) ≡ S.given source.now (along x k) }
     ensures others { (place : Place) → ((k : ℕ) → k < n → place ≢ own w (along x k)) → P.kept pixels.new place ≡ P.kept pixels.old place }
     ensures has { P.has pixels.new ≡ P.has pixels.old }
-    ensures written { P.written pixels.new ≤ P.written pixels.old + n }
+    ensures bits { P.bits pixels.new ≡ P.bits pixels.old }
+    ensures steps { steps.new ≤ steps.old + n }
 {
     let mut block = [0; BLOCK];
     let mut done = 0;
@@ -88,13 +96,14 @@ fn keep_row<P: Pixels, S: Source>(
             over.is,
             along(x, done),
             &mut block[..over.len],
+            steps,
         );
         done += over.len;
     }
 }
 
 /// Writes what is hidden of a window with rectangle r where its min stands at a point of the image below.
-pub fn keep_hidden<P: Pixels, S: Source>(
+pub fn keep_hidden<P: Pixels, S: Source, L: Ledger>(
     pixels: &mut P,
     source: &S,
     w: u32,
@@ -102,16 +111,19 @@ pub fn keep_hidden<P: Pixels, S: Source>(
     corner: Point,
     below: &Rect,
     new: &[Window],
+    steps: &mut Steps<L>,
 )
     requires near { IsRectNear r.now }
     requires ordered { IsOrdered r.now }
     requires corner { IsNear corner }
     requires stands { (z : Spot) → IsTrue (holds r.now z) → IsNear (carried z r.now.min corner) }
     requires places { (z : Spot) → IsTrue (holds r.now z) → (holds below.now (carried z r.now.min corner) && is_top new.now w (carried z r.now.min corner)) ≡ false → P.has pixels.old (own w z) ≡ true }
+    requires given { (z : Spot) → S.given source.now z < 2 ^ P.bits pixels.old w }
     ensures kept { (z : Spot) → IsTrue (holds r.now z) → (holds below.now (carried z r.now.min corner) && is_top new.now w (carried z r.now.min corner)) ≡ false → P.kept pixels.new (own w z) ≡ S.given source.now z }
     ensures others { (place : Place) → place.image ≢ w → P.kept pixels.new place ≡ P.kept pixels.old place }
     ensures has { P.has pixels.new ≡ P.has pixels.old }
-    ensures written { P.written pixels.new ≤ P.written pixels.old + area_of r.now }
+    ensures bits { P.bits pixels.new ≡ P.bits pixels.old }
+    ensures steps { steps.new ≤ steps.old + area_of r.now }
 {
     let width = r.width() as usize;
     if width == 0 {
@@ -128,6 +140,7 @@ pub fn keep_hidden<P: Pixels, S: Source>(
             x,
             x.carried(r.min, corner),
             width,
+            steps,
         );
     }
 }

@@ -1,11 +1,12 @@
 //! Pixels moved when the windows of an image get another order: none of them comes or goes, and nothing becomes bare.
 
-ghost use Rattle.std.specs.Prelude.{◌≡◌, ◌+◌, ◌*◌, ◌<◌, ◌≤◌, ℕ, false, length, slice_index, IsTrue, List};
+ghost use Rattle.std.specs.Prelude.{◌≡◌, ◌^◌, ◌+◌, ◌*◌, ◌<◌, ◌≤◌, ℕ, false, length, slice_index, IsTrue, List};
 ghost use Rattle.r9_geom.specs.declared.Point.{Point as Spot};
 ghost use Rattle.r9_geom.specs.Geometry.{area_of, holds, IsOrdered, IsRectNear};
 ghost use Rattle.model_forest.specs.World.{image_at, IsForest, IsLive, World};
 ghost use Rattle.model_forest.specs.Stack.{lowered, raised};
 ghost use Rattle.model_kept.specs.Restack.{with_list, IsRestacked};
+ghost use Rattle.r9_locate.specs.Lists.{HasBits};
 ghost use Rattle.r9_locate.specs.Table.{shape};
 ghost use Rattle.r9_restack.specs.Moving.{HasPlaces, IsReordering, IsSameTop};
 
@@ -13,6 +14,8 @@ use super::changing::{Source, change_area};
 use model_forest::Window;
 use r9_geom::{Point, Rect};
 use r9_locate::{Lists, Pixels};
+use r9_steps::Steps;
+use std::sync::ledger::Ledger;
 
 // The pixels of no window, which nothing asks for.
 #[derive(Clone, Copy)]
@@ -32,20 +35,29 @@ impl Source for Nothing {
     }
 }
 
-/// Moves the pixels of an image and of its windows to where they are kept when its windows have another order. The topmost
-/// window changes within the area alone, at each point of which at most two pixels are written.
-pub fn reorder<P: Pixels>(lists: &Lists, pixels: &mut P, p: u32, new: &[Window], area: &Rect)
+/// Moves the pixels of an image and of its windows to where they are kept when its windows have another order, at the same
+/// places. The topmost window changes within the area alone; at most twice as many pixels are written as that has points.
+pub fn reorder<P: Pixels, L: Ledger>(
+    lists: &Lists,
+    pixels: &mut P,
+    p: u32,
+    new: &[Window],
+    area: &Rect,
+    steps: &mut Steps<L>,
+)
     requires order { IsReordering (shape lists.now) p new.now }
     requires near { IsRectNear area.now }
     requires ordered { IsOrdered area.now }
     requires inside { (z : Spot) → IsTrue (holds area.now z) → IsTrue (holds (image_at (shape lists.now) p).r z) }
     requires outside { (z : Spot) → IsTrue (holds (image_at (shape lists.now) p).r z) → holds area.now z ≡ false → IsSameTop (shape lists.now) p new.now z }
     requires places { HasPlaces (shape lists.now) p new.now (P.has pixels.old) }
+    requires bits { HasBits (shape lists.now) (P.bits pixels.old) }
     ensures moved { (fill : Spot → ℕ) → IsRestacked (shape lists.now) (with_list (shape lists.now) p new.now) p (P.kept pixels.old) (P.kept pixels.new) fill }
     ensures has { P.has pixels.new ≡ P.has pixels.old }
-    ensures written { P.written pixels.new ≤ P.written pixels.old + 2 * area_of area.now }
+    ensures bits { P.bits pixels.new ≡ P.bits pixels.old }
+    ensures steps { steps.new ≤ steps.old + 2 * area_of area.now }
 {
-    change_area(lists, pixels, &Nothing, p, p, new, area);
+    change_area(lists, pixels, &Nothing, p, p, new, area, steps);
 }
 
 /// A group of windows that is raised, or lowered, is another order at the same places.

@@ -1,6 +1,6 @@
 //! All the pixels moved when one of the windows of an image comes or moves.
 
-ghost use Rattle.std.specs.Prelude.{◌≡◌, ◌≢◌, ◌+◌, ◌*◌, ◌<◌, ◌≤◌, ◌&&◌, ℕ, Bool, false, true, All, IsTrue, Some};
+ghost use Rattle.std.specs.Prelude.{◌≡◌, ◌^◌, ◌≢◌, ◌+◌, ◌*◌, ◌<◌, ◌≤◌, ◌&&◌, ℕ, Bool, false, true, All, IsTrue, Some};
 ghost use Rattle.r9_geom.specs.declared.Point.{Point as Spot};
 ghost use Rattle.r9_geom.specs.Geometry.{area_of, carried, holds, IsNear, IsOrdered, IsRectNear};
 ghost use Rattle.model_forest.specs.declared.Window.{Window as Stood};
@@ -9,6 +9,7 @@ ghost use Rattle.model_forest.specs.World.{image_at, parent_of, IsLive};
 ghost use Rattle.model_kept.specs.Keeping as kept;
 ghost use Rattle.model_kept.specs.Keeping.{is_top, keeping, own, Place};
 ghost use Rattle.model_kept.specs.Restack.{with_list, with_own, IsRestacked};
+ghost use Rattle.r9_locate.specs.Lists.{HasBits};
 ghost use Rattle.r9_locate.specs.Table.{shape};
 ghost use Rattle.r9_restack.specs.Changing.{HasPlacesBut, IsChange, StaysTop};
 
@@ -17,9 +18,11 @@ use super::hiding::keep_hidden;
 use model_forest::Window;
 use r9_geom::Rect;
 use r9_locate::{Lists, Pixels, place_among};
+use r9_steps::Steps;
+use std::sync::ledger::Ledger;
 
 /// Moves all pixels to where they are kept when window w comes or moves: its own are given.
-pub fn restack<P: Pixels, S: Source>(
+pub fn restack<P: Pixels, S: Source, L: Ledger>(
     lists: &Lists,
     pixels: &mut P,
     source: &S,
@@ -27,6 +30,7 @@ pub fn restack<P: Pixels, S: Source>(
     w: u32,
     new: &[Window],
     area: &Rect,
+    steps: &mut Steps<L>,
 )
     requires change { IsChange (shape lists.now) p new.now w }
     requires above { parent_of (shape lists.now) w ≡ Some p }
@@ -36,6 +40,9 @@ pub fn restack<P: Pixels, S: Source>(
     requires outside { (z : Spot) → IsTrue (holds (image_at (shape lists.now) p).r z) → holds area.now z ≡ false → StaysTop (shape lists.now) p new.now w z }
     requires near_new { All (λ v. IsNear v.place.min) new.now }
     requires places { HasPlacesBut (shape lists.now) p new.now w (P.has pixels.old) }
+    requires bits { HasBits (shape lists.now) (P.bits pixels.old) }
+    requires given { (x : Spot) → S.given source.now x < 2 ^ P.bits pixels.old p }
+    requires fill { (z : Spot) → S.fill source.now z < 2 ^ P.bits pixels.old p }
     requires live { IsLive (shape lists.now) w }
     requires own_ordered { IsOrdered (image_at (shape lists.now) w).r }
     requires corner { IsNear (kept.place_among new.now w).min }
@@ -43,16 +50,17 @@ pub fn restack<P: Pixels, S: Source>(
     requires own_places { (z : Spot) → IsTrue (holds (image_at (shape lists.now) w).r z) → (holds (image_at (shape lists.now) p).r (carried z (image_at (shape lists.now) w).r.min (kept.place_among new.now w).min) && is_top new.now w (carried z (image_at (shape lists.now) w).r.min (kept.place_among new.now w).min)) ≡ false → P.has pixels.old (own w z) ≡ true }
     ensures moved { (as_before : Place → ℕ) → ((place : Place) → place.image ≢ w → as_before place ≡ P.kept pixels.old place) → ((x : Spot) → holds (image_at (shape lists.now) w).r x ≡ true → as_before (keeping (shape lists.now) w x) ≡ S.given source.now x) → IsRestacked (shape lists.now) (with_list (shape lists.now) p new.now) p as_before (P.kept pixels.new) (S.fill source.now) }
     ensures has { P.has pixels.new ≡ P.has pixels.old }
-    ensures written { P.written pixels.new ≤ P.written pixels.old + 2 * area_of area.now + area_of (image_at (shape lists.now) w).r }
+    ensures bits { P.bits pixels.new ≡ P.bits pixels.old }
+    ensures steps { steps.new ≤ steps.old + 2 * area_of area.now + area_of (image_at (shape lists.now) w).r }
 {
-    change(lists, pixels, source, p, w, new, area);
+    change(lists, pixels, source, p, w, new, area, steps);
     let r = lists.get(w).r;
     let corner = place_among(new, w).min;
-    keep_hidden(pixels, source, w, &r, corner, &lists.get(p).r, new);
+    keep_hidden(pixels, source, w, &r, corner, &lists.get(p).r, new, steps);
 }
 
 /// Moves all pixels to where they are kept when window w leaves the list: its own are asked for by nothing then.
-pub fn leave<P: Pixels, S: Source>(
+pub fn leave<P: Pixels, S: Source, L: Ledger>(
     lists: &Lists,
     pixels: &mut P,
     source: &S,
@@ -60,6 +68,7 @@ pub fn leave<P: Pixels, S: Source>(
     w: u32,
     new: &[Window],
     area: &Rect,
+    steps: &mut Steps<L>,
 )
     requires change { IsChange (shape lists.now) p new.now w }
     requires above { parent_of (shape lists.now) w ≡ Some p }
@@ -70,9 +79,13 @@ pub fn leave<P: Pixels, S: Source>(
     requires outside { (z : Spot) → IsTrue (holds (image_at (shape lists.now) p).r z) → holds area.now z ≡ false → StaysTop (shape lists.now) p new.now w z }
     requires near_new { All (λ v. IsNear v.place.min) new.now }
     requires places { HasPlacesBut (shape lists.now) p new.now w (P.has pixels.old) }
+    requires bits { HasBits (shape lists.now) (P.bits pixels.old) }
+    requires given { (x : Spot) → S.given source.now x < 2 ^ P.bits pixels.old p }
+    requires fill { (z : Spot) → S.fill source.now z < 2 ^ P.bits pixels.old p }
     ensures moved { IsRestacked (shape lists.now) (with_list (shape lists.now) p new.now) p (P.kept pixels.old) (with_own w (λ x. P.kept pixels.old (keeping (shape lists.now) w x)) (P.kept pixels.new)) (S.fill source.now) }
     ensures has { P.has pixels.new ≡ P.has pixels.old }
-    ensures written { P.written pixels.new ≤ P.written pixels.old + 2 * area_of area.now }
+    ensures bits { P.bits pixels.new ≡ P.bits pixels.old }
+    ensures steps { steps.new ≤ steps.old + 2 * area_of area.now }
 {
-    change(lists, pixels, source, p, w, new, area);
+    change(lists, pixels, source, p, w, new, area, steps);
 }

@@ -1,9 +1,10 @@
-use Rattle.std.proofs.Common.{◌≡◌, ◌∙◌, ◌+◌, ◌-◌, ◌<◌, ◌≤◌, length, get_or, take, drop, ⊎_elim, sym, ap, arith}
+use Rattle.std.proofs.Common.{◌≡◌, ◌∙◌, ◌+◌, ◌-◌, ◌<◌, ◌≤◌, ◌^◌, length, get_or, take, drop, ℕ, ⊎_elim, sym, subst, ap, arith}
 use Rattle.std.proofs.lemmas.Bool.{cases_lt}
 use Rattle.r9_plane.specs.Pixels.{along}
 use Rattle.model_kept.specs.Keeping.{keeping}
 use Rattle.r9_locate.specs.Table.{shape}
 use Rattle.r9_locate.proofs.Locating.{run_found}
+use Rattle.r9_locate.proofs.Apart.{run_bits}
 use Rattle.r9_locate.proofs.Parts.{length-part, length-put_mid, put_mid_before, put_mid_inside}
 use borrow.Rule.Slice.PartMut.{put_mid}
 use Rattle.r9_locate.proofs.viewing.read_view.Goals as goal
@@ -19,6 +20,7 @@ read-requires g c k below =
     ∙ c.requires.has (done + k) (omega (arith, short, c.locate-run.ensures.most, c.loop-done.invariant.within, c.loop-done.auto.raws))
 
 pub loop-done-preserved : goal.loop-done-preserved
+unfolding shape
 loop-done-preserved g c =
     let w = shape c.args.lists.now in
     let raws = c.loop-done.raws in
@@ -41,8 +43,20 @@ loop-done-preserved g c =
           let inside : j < length (take size (drop done raws)) = omega (arith, length-part raws done size fits, in_size) in
           ap (λ n. get_or (put_mid done size raws c.read.new.raws) n 0) place
           ∙ put_mid_inside done size raws c.read.new.raws j within long in_size
-          ∙ c.read.ensures j inside
+          ∙ c.read.ensures.pixels j inside
           ∙ ap (g.P.Pixels.kept c.args.pixels.now) (sym (run_found w c.args.i run.image c.args.from run.at c.along.result done run.len c.along.ensures c.locate-run.ensures.kept j short))
           ∙ ap (λ n. g.P.Pixels.kept c.args.pixels.now (keeping w c.args.i (along c.args.from n))) (sym place))
+          (cases_lt k done);
+      below = λ k below.
+          ⊎_elim
+          (λ (early : k < done). subst (λ (raw : ℕ). raw < 2 ^ g.P.Pixels.bits c.args.pixels.now c.args.i) (sym (put_mid_before done size raws c.read.new.raws k within early)) (c.loop-done.invariant.below k early))
+          (λ (late : done ≤ k).
+          let j = k - done in
+          let place : k ≡ done + j = omega arith in
+          let in_size : j < size = omega (arith, below, late) in
+          let inside : j < length (take size (drop done raws)) = omega (arith, length-part raws done size fits, in_size) in
+          let is : get_or (put_mid done size raws c.read.new.raws) k 0 ≡ get_or c.read.new.raws j 0 = ap (λ n. get_or (put_mid done size raws c.read.new.raws) n 0) place ∙ put_mid_inside done size raws c.read.new.raws j within long in_size in
+          let bits : 2 ^ g.P.Pixels.bits c.args.pixels.now run.image ≡ 2 ^ g.P.Pixels.bits c.args.pixels.now c.args.i = ap (λ n. 2 ^ n) (run_bits w c.args.lists.now.standing (g.P.Pixels.bits c.args.pixels.now) c.requires.bits c.args.i run.image c.along.result run.at run.len c.requires.live c.locate-run.ensures.some c.locate-run.ensures.kept) in
+          omega (arith, is, bits, c.read.ensures.below j inside))
           (cases_lt k done);
     }

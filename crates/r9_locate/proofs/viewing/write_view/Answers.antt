@@ -1,16 +1,16 @@
-use Rattle.std.proofs.Common.{◌≡◌, ◌∙◌, ◌+◌, ◌-◌, ◌<◌, ◌≤◌, length, get_or, take, drop, ⊎_elim, sym, ap, arith}
+use Rattle.std.proofs.Common.{◌≡◌, ◌∙◌, ◌+◌, ◌-◌, ◌<◌, ◌≤◌, ◌^◌, length, get_or, take, drop, ⊎_elim, sym, ap, arith}
 use Rattle.std.proofs.lemmas.Bool.{cases_lt}
 use Rattle.r9_plane.specs.Pixels.{along}
 use Rattle.model_forest.specs.World.{image_at}
 use Rattle.model_kept.specs.Keeping.{keeping, own}
 use Rattle.r9_locate.specs.Table.{shape}
 use Rattle.r9_locate.proofs.Locating.{along-apart, run_found}
-use Rattle.r9_locate.proofs.Apart.{keeping-injective}
+use Rattle.r9_locate.proofs.Apart.{keeping-injective, run_bits}
 use Rattle.r9_locate.proofs.Parts.{get_or-part, length-part}
 use Rattle.r9_locate.proofs.viewing.write_view.Goals as goal
 
-pub write-requires : goal.write-requires
-write-requires g c k below =
+pub write-requires-clause-has : goal.write-requires-clause-has
+write-requires-clause-has g c k below =
     let w = shape c.args.lists.now in
     let done = c.loop-done.done in
     let run = c.locate-run.result in
@@ -19,6 +19,22 @@ write-requires g c k below =
     ap (λ h. h (own run.image (along run.at k))) c.loop-done.invariant.has
     ∙ ap (g.P.Pixels.has c.args.pixels.now) (sym (run_found w c.args.i run.image c.args.at run.at c.along.result done run.len c.along.ensures c.locate-run.ensures.kept k short))
     ∙ c.requires.has (done + k) (omega (arith, short, c.locate-run.ensures.most, c.loop-done.invariant.within))
+
+pub write-requires-clause-below : goal.write-requires-clause-below
+unfolding shape
+write-requires-clause-below g c k below =
+    let w = shape c.args.lists.now in
+    let raws = c.args.raws.now in
+    let done = c.loop-done.done in
+    let run = c.locate-run.result in
+    let size = done + run.len - done in
+    let fits : done + size ≤ length raws = omega (arith, c.locate-run.ensures.most, c.loop-done.invariant.within) in
+    let long = length-part raws done size fits in
+    let in_size : k < size = omega (arith, below, long) in
+    let here : done + k < length raws = omega (arith, in_size, fits) in
+    let same : 2 ^ g.P.Pixels.bits c.loop-done.pixels run.image ≡ 2 ^ g.P.Pixels.bits c.args.pixels.now run.image = ap (λ h. 2 ^ h run.image) c.loop-done.invariant.bits in
+    let bits : 2 ^ g.P.Pixels.bits c.args.pixels.now run.image ≡ 2 ^ g.P.Pixels.bits c.args.pixels.now c.args.i = ap (λ n. 2 ^ n) (run_bits w c.args.lists.now.standing (g.P.Pixels.bits c.args.pixels.now) c.requires.bits c.args.i run.image c.along.result run.at run.len c.requires.live c.locate-run.ensures.some c.locate-run.ensures.kept) in
+    omega (arith, get_or-part raws done size k in_size, c.requires.below (done + k) here, same, bits)
 
 pub loop-done-preserved : goal.loop-done-preserved
 unfolding shape
@@ -62,5 +78,6 @@ loop-done-preserved g c =
           apart (done + j) (omega (arith, short)) (same ∙ sym (run_found w c.args.i run.image c.args.at run.at c.along.result done run.len c.along.ensures c.locate-run.ensures.kept j short)))
           ∙ c.loop-done.invariant.others place (λ k lower. apart k (omega (arith, lower)));
       has = c.write.ensures.has ∙ c.loop-done.invariant.has;
-      written = omega (arith, c.write.ensures.written, c.loop-done.invariant.written, long);
+      bits = c.write.ensures.bits ∙ c.loop-done.invariant.bits;
+      steps = omega (arith, c.write.ensures.steps, c.loop-done.invariant.steps, long);
     }

@@ -4,7 +4,7 @@ use Rattle.model_forest.specs.World.{image_at}
 use Rattle.model_forest.specs.View.{top_window}
 use Rattle.model_forest.proofs.Changes.{live-standing}
 use Rattle.r9_locate.specs.Table.{shape}
-use Rattle.r9_restack.proofs.Orders.{at_strip}
+use Rattle.r9_plane.proofs.PlaneLemmas.{along_holds}
 use Rattle.r9_restack.proofs.Parting.{old_is}
 use Rattle.r9_restack.proofs.Changes.{changed-run, changed-skip, changing, has_new, has_old, near_of_new, near_of_old, stays_top, stood_new, stood_old}
 use Rattle.r9_restack.proofs.changing.change_part.Goals as goal
@@ -15,7 +15,7 @@ was : (g : _) (c : After-stays g) → top_window (image_at (shape c.args.lists.n
 was g c = old_is (shape c.args.lists.now) c.args.p c.get.result.now c.deref.result.now c.args.q c.top-a.result c.top-a.result c.get.ensures c.deref.ensures.value c.top-a.ensures refl
 
 pub show-requires-clause-surface : goal.show-requires-clause-surface
-show-requires-clause-surface g c k below = c.requires.places.surface (along c.args.q k) (c.requires.inside (along c.args.q k) (at_strip c.args.q _ k below))
+show-requires-clause-surface g c k below = c.requires.places.surface (along c.args.q k) (c.requires.inside (along c.args.q k) (along_holds c.args.q _ k below))
 
 pub show-requires-clause-a_live : goal.show-requires-clause-a_live
 show-requires-clause-a_live g c v a_is =
@@ -42,6 +42,10 @@ pub show-requires-clause-b_live : goal.show-requires-clause-b_live
 show-requires-clause-b_live g c v b_is =
     live-standing (shape c.args.lists.now) v.image c.args.p (stood_new (shape c.args.lists.now) c.args.p c.args.new.now c.args.w (changing c.args.lists.now c.args.p c.args.new.now c.args.w c.requires.change) c.args.q v (sym c.top-b.ensures ∙ b_is))
 
+pub show-requires-clause-b_stands : goal.show-requires-clause-b_stands
+show-requires-clause-b_stands g c v b_is =
+    stood_new (shape c.args.lists.now) c.args.p c.args.new.now c.args.w (changing c.args.lists.now c.args.p c.args.new.now c.args.w c.requires.change) c.args.q v (sym c.top-b.ensures ∙ b_is)
+
 pub show-requires-clause-b_place : goal.show-requires-clause-b_place
 show-requires-clause-b_place g c v b_is = near_of_new c.args.new.now c.args.q v c.requires.near_new (sym c.top-b.ensures ∙ b_is)
 
@@ -57,7 +61,7 @@ returns-then-not-stays-clause-moved g c before done fresh m =
     let other = c.stays.ensures.no c.if-not-stays.true in
     changed-run (shape c.args.lists.now) c.args.p c.args.new.now c.args.w (g.S.Source.given c.args.source.now) (g.S.Source.fill c.args.source.now) before (g.P.Pixels.kept c.args.pixels.now) (g.P.Pixels.kept c.show.new.pixels) done c.top-a.result c.top-b.result c.args.q (length c.args.raws.now)
     (changing c.args.lists.now c.args.p c.args.new.now c.args.w c.requires.change)
-    (λ k below. c.requires.inside (along c.args.q k) (at_strip c.args.q _ k below))
+    (λ k below. c.requires.inside (along c.args.q k) (along_holds c.args.q _ k below))
     (λ j small. c.requires.olds j small ∙ was g now) (λ j small. c.requires.news j small ∙ sym c.top-b.ensures)
     other.differs other.uncovers fresh m c.show.ensures.shown
 
@@ -67,6 +71,6 @@ returns-else-not-stays-clause-moved g c before done fresh m =
     let same = c.stays.ensures.yes c.if-not-stays.false in
     changed-skip (shape c.args.lists.now) c.args.p c.args.new.now c.args.w (g.S.Source.given c.args.source.now) (g.S.Source.fill c.args.source.now) before (g.P.Pixels.kept c.args.pixels.now) done c.args.q (length c.args.raws.now)
     (changing c.args.lists.now c.args.p c.args.new.now c.args.w c.requires.change)
-    (λ k below. c.requires.inside (along c.args.q k) (at_strip c.args.q _ k below))
+    (λ k below. c.requires.inside (along c.args.q k) (along_holds c.args.q _ k below))
     (λ k below. stays_top (shape c.args.lists.now) c.args.p c.args.new.now c.args.w c.top-a.result c.top-b.result (along c.args.q k) (c.requires.olds k below ∙ was g now) (c.requires.news k below ∙ sym c.top-b.ensures) same)
     fresh m

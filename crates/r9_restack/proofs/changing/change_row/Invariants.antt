@@ -12,7 +12,8 @@ invariant-loop-done g l = record {
   moved : (before : Place → ℕ) (also : Point → Bool) → IsFresh l.at l.n also → IsChanged (shape l.lists) l.p l.new l.w (g.S.Source.given l.source) (g.S.Source.fill l.source) before (g.P.Pixels.kept l.fn.pixels) also → IsChanged (shape l.lists) l.p l.new l.w (g.S.Source.given l.source) (g.S.Source.fill l.source) before (g.P.Pixels.kept l.pixels) (more l.at l.done also);
   long : length l.block ≡ 256;
   has : g.P.Pixels.has l.pixels ≡ g.P.Pixels.has l.fn.pixels;
-  written : g.P.Pixels.written l.pixels ≤ g.P.Pixels.written l.fn.pixels + 2 * l.done;
+  bits : g.P.Pixels.bits l.pixels ≡ g.P.Pixels.bits l.fn.pixels;
+  steps : l.steps ≤ l.fn.steps + 2 * l.done;
 }
 
 abbrev pub decreases-loop-done : goal.decreases-loop-done

@@ -1,3 +1,4 @@
+use Rattle.std.proofs.lemmas.Nat.{pow_pos}
 use Rattle.r9_geom.specs.Geometry.{holds}
 use Rattle.r9_locate.specs.Table.{shape}
 use Rattle.r9_restack.proofs.Orders.{moved-all, moved-changed}
@@ -21,6 +22,12 @@ change_area-requires-clause-places g c = record {
   old_own = λ i x other. c.requires.places.old_own i x;
   new_own = λ i x other. c.requires.places.new_own i x;
 }
+
+pub change_area-requires-clause-given : goal.change_area-requires-clause-given
+change_area-requires-clause-given g c x = pow_pos (g.P.Pixels.bits c.args.pixels.now c.args.p)
+
+pub change_area-requires-clause-fill : goal.change_area-requires-clause-fill
+change_area-requires-clause-fill g c z = pow_pos (g.P.Pixels.bits c.args.pixels.now c.args.p)
 
 pub returns-clause-moved : goal.returns-clause-moved
 returns-clause-moved g c fill =

@@ -1,4 +1,4 @@
-use Rattle.std.proofs.Common.{◌≡◌, ◌∙◌, sym, subst, ap}
+use Rattle.std.proofs.Common.{◌≡◌, ◌∙◌, ◌^◌, sym, subst, ap, arith}
 use Rattle.std.specs.Prelude.{◌&&◌}
 use Rattle.r9_geom.specs.declared.Rect.{Rect}
 use Rattle.r9_geom.specs.Geometry.{carried, holds, IsRectNear}
@@ -11,6 +11,12 @@ use Rattle.r9_restack.proofs.restacking.restack.Goals as goal
 
 pub keep_hidden-requires-clause-near : goal.keep_hidden-requires-clause-near
 keep_hidden-requires-clause-near g c = subst (λ (im : Image). IsRectNear im.r) c.get.ensures (nearby c.args.lists.now c.args.w c.requires.live).0
+
+pub keep_hidden-requires-clause-given : goal.keep_hidden-requires-clause-given
+keep_hidden-requires-clause-given g c z =
+    let same = ap (λ n. 2 ^ n) (c.requires.bits c.args.w c.args.p c.requires.live c.requires.above) in
+    let still = ap (λ h. 2 ^ h c.args.w) c.change.ensures.bits in
+    omega (arith, same, still, c.requires.given z)
 
 pub returns-clause-moved : goal.returns-clause-moved
 returns-clause-moved g c as_before was given =
