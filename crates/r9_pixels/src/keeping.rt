@@ -1,0 +1,136 @@
+//! Rows of pixels where they are kept.
+
+ghost use Rattle.std.specs.Prelude.{◌≡◌, ◌≢◌, ◌^◌, ◌<◌, ℕ, true, false, Some, None, length, slice_index, vec_len};
+ghost use Rattle.r9_plane.specs.Pixels.{along};
+ghost use Rattle.model_kept.specs.Keeping.{own, Place};
+ghost use Rattle.r9_pixels.specs.declared.own.Extent.{Extent as Size};
+ghost use Rattle.r9_pixels.specs.declared.own.Own.TheVariants.{Hidden};
+ghost use Rattle.r9_pixels.specs.Owns.{own_at, IsFitting, IsNearby};
+
+use super::own::{Extent, Own};
+use r9_cells::Cells;
+use r9_geom::Point;
+use r9_locate::Pixels;
+use r9_steps::Steps;
+use std::alloc::Global;
+use std::sync::ledger::Ledger;
+
+/// The pixels that images keep, by the number of the image.
+#[derive(Drop)]
+pub struct KeptPixels {
+    owns: Vec<Option<Own>>,
+    cells: Cells,
+    ghost near: { IsNearby owns.items },
+    ghost fits: { IsFitting owns.items cells },
+}
+
+impl KeptPixels {
+    ghost use Rattle.r9_pixels.specs.Kept.{bits_of, has_place, kept_at};
+
+    /// No image.
+    pub fn new(alloc: Global) -> Self
+        ensures { (place : Place) → has_place result place ≡ false }
+    {
+        KeptPixels {
+            owns: Vec::new(alloc),
+            cells: Cells::new(alloc),
+        }
+    }
+
+    // The rectangle and the channels of a window.
+    fn extent(&self, i: u32) -> Option<Extent>
+        requires { i < vec_len self.now.owns }
+        ensures some { (extent : Size) → result ≡ Some extent → own_at self.now.owns.items i ≡ Some (Hidden extent) }
+        ensures none { result ≡ None → (extent : Size) → own_at self.now.owns.items i ≢ Some (Hidden extent) }
+    {
+        match &self.owns[i as usize] {
+            Some(Own::Hidden(extent)) => Some(*extent),
+            _ => None,
+        }
+    }
+
+    // Reads pixels side by side from what an image keeps them in.
+    fn get(&self, keeper: &Own, i: u32, from: Point, raws: &mut [u32])
+        requires is { own_at self.now.owns.items i ≡ Some keeper.now }
+        requires has { (k : ℕ) → k < length raws.old → has_place self.now (own i (along from k)) ≡ true }
+        ensures pixels { (k : ℕ) → k < length raws.old → slice_index raws.new k ≡ kept_at self.now (own i (along from k)) }
+        ensures below { (k : ℕ) → k < length raws.old → slice_index raws.new k < 2 ^ bits_of self.now i }
+    {
+        match keeper {
+            Own::Whole(plane) => plane.get_row(from, raws),
+            Own::Hidden(extent) => self.cells.read(i as usize, &extent.r, from, raws),
+        }
+    }
+
+    // Writes pixels side by side in the plane of an image.
+    fn put_whole(&mut self, i: u32, at: Point, raws: &[u32])
+        requires live { i < vec_len self.old.owns }
+        requires whole { (extent : Size) → own_at self.old.owns.items i ≢ Some (Hidden extent) }
+        requires has { (k : ℕ) → k < length raws.now → has_place self.old (own i (along at k)) ≡ true }
+        requires below { (k : ℕ) → k < length raws.now → slice_index raws.now k < 2 ^ bits_of self.old i }
+        ensures at { (k : ℕ) → k < length raws.now → kept_at self.new (own i (along at k)) ≡ slice_index raws.now k }
+        ensures others { (place : Place) → ((k : ℕ) → k < length raws.now → place ≢ own i (along at k)) → kept_at self.new place ≡ kept_at self.old place }
+        ensures has { has_place self.new ≡ has_place self.old }
+        ensures bits { bits_of self.new ≡ bits_of self.old }
+    {
+        if let Some(Own::Whole(plane)) = &mut self.owns[i as usize] {
+            plane.put_row(at, raws);
+        }
+    }
+
+    // Writes pixels side by side in the tiles of a window.
+    fn put_hidden(&mut self, i: u32, extent: Extent, at: Point, raws: &[u32])
+        requires hidden { own_at self.old.owns.items i ≡ Some (Hidden extent) }
+        requires has { (k : ℕ) → k < length raws.now → has_place self.old (own i (along at k)) ≡ true }
+        requires below { (k : ℕ) → k < length raws.now → slice_index raws.now k < 2 ^ bits_of self.old i }
+        ensures at { (k : ℕ) → k < length raws.now → kept_at self.new (own i (along at k)) ≡ slice_index raws.now k }
+        ensures others { (place : Place) → ((k : ℕ) → k < length raws.now → place ≢ own i (along at k)) → kept_at self.new place ≡ kept_at self.old place }
+        ensures has { has_place self.new ≡ has_place self.old }
+        ensures bits { bits_of self.new ≡ bits_of self.old }
+    {
+        self.cells.write(i as usize, &extent.r, at, raws);
+    }
+
+    // Writes pixels side by side where an image keeps them.
+    fn put(&mut self, i: u32, at: Point, raws: &[u32])
+        requires live { i < vec_len self.old.owns }
+        requires has { (k : ℕ) → k < length raws.now → has_place self.old (own i (along at k)) ≡ true }
+        requires below { (k : ℕ) → k < length raws.now → slice_index raws.now k < 2 ^ bits_of self.old i }
+        ensures at { (k : ℕ) → k < length raws.now → kept_at self.new (own i (along at k)) ≡ slice_index raws.now k }
+        ensures others { (place : Place) → ((k : ℕ) → k < length raws.now → place ≢ own i (along at k)) → kept_at self.new place ≡ kept_at self.old place }
+        ensures has { has_place self.new ≡ has_place self.old }
+        ensures bits { bits_of self.new ≡ bits_of self.old }
+    {
+        match self.extent(i) {
+            Some(extent) => self.put_hidden(i, extent, at, raws),
+            None => self.put_whole(i, at, raws),
+        }
+    }
+}
+
+impl Pixels for KeptPixels {
+    ghost use Rattle.r9_pixels.specs.Kept.{bits_of, has_place, kept_at};
+
+    ghost kept = { kept_at };
+
+    ghost has = { has_place };
+
+    ghost bits = { bits_of };
+
+    fn read(&self, i: u32, from: Point, raws: &mut [u32]) {
+        if raws.is_empty() {
+            return;
+        }
+        match &self.owns[i as usize] {
+            Some(keeper) => self.get(keeper, i, from, raws),
+            None => unreachable!(),
+        }
+    }
+
+    fn write<L: Ledger>(&mut self, i: u32, at: Point, raws: &[u32], steps: &mut Steps<L>) {
+        if !raws.is_empty() {
+            self.put(i, at, raws);
+        }
+        steps.add(raws.len() as u64);
+    }
+}
