@@ -7,7 +7,7 @@ ghost use Rattle.model_record.specs.Line.{event_text, event_line, reply_line, ma
 
 use r9_event::{Entry, Event, Reply};
 use r9_memory::Memory;
-use r9_text::{Bytes, push_decimal, to_hex};
+use r9_text::{Bytes, push_decimal, push_hex};
 use std::alloc::Global;
 
 /// Adds the mark of a message, if it has one.
@@ -25,7 +25,6 @@ fn push_mark(mark: Option<u32>, text: &mut Bytes) -> Result<(), Memory>
 
 /// Adds what stands behind the letter of a message.
 fn push_message(
-    alloc: Global,
     session: u32,
     bytes: &[u8],
     mark: Option<u32>,
@@ -35,8 +34,7 @@ fn push_message(
 {
     push_decimal(text, session as u64)?;
     text.push_all(b" ")?;
-    let digits = to_hex(alloc, bytes)?;
-    text.push_all(digits.as_slice())?;
+    push_hex(text, bytes)?;
     push_mark(mark, text)
 }
 
@@ -61,7 +59,7 @@ fn event_text(alloc: Global, event: &Event) -> Result<Bytes, Memory>
             mark,
         } => {
             text.push_all(b"M ")?;
-            push_message(alloc, *session, bytes.as_slice(), *mark, &mut text)?;
+            push_message(*session, bytes.as_slice(), *mark, &mut text)?;
         }
         Event::Take { session } => push_session(b"T ", *session, &mut text)?,
         Event::End { session } => push_session(b"E ", *session, &mut text)?,
@@ -87,13 +85,7 @@ pub fn write_reply(alloc: Global, reply: &Reply, out: &mut Bytes) -> Result<(), 
 {
     let mut line = Bytes::new(alloc);
     line.push_all(b"R ")?;
-    push_message(
-        alloc,
-        reply.session,
-        reply.bytes.as_slice(),
-        None,
-        &mut line,
-    )?;
+    push_message(reply.session, reply.bytes.as_slice(), None, &mut line)?;
     line.push_all(b"\n")?;
     out.push_all(line.as_slice())
 }

@@ -1,6 +1,6 @@
 use r9_text::{
-    Bytes, Numbers, next_word, push_decimal, push_number, push_word, read_decimal, read_digits,
-    read_field, read_hex, to_hex,
+    Bytes, Numbers, next_word, push_decimal, push_hex, push_number, push_word, read_decimal,
+    read_digits, read_field, read_hex,
 };
 use std::test::Fail;
 
@@ -21,7 +21,8 @@ fn lists_grow_at_the_end(rt: HostRuntime) -> Result<(), Fail> {
 
 #[test]
 fn numbers_are_written(rt: HostRuntime) -> Result<(), Fail> {
-    let mut out = to_hex(rt.alloc(), &[0x13, 0, 0xff])?;
+    let mut out = Bytes::new(rt.alloc());
+    push_hex(&mut out, &[0x13, 0, 0xff])?;
     push_word(&mut out, b"x8r8g8b8")?;
     push_number(&mut out, -20)?;
     push_decimal(&mut out, 7)?;
