@@ -65,6 +65,10 @@ impl Framer {
         ensures ok { OnOk result (self.new ≡ record self.old { held = self.old.held ++ piece.now }) }
         ensures err { OnErr result (self.new ≡ self.old) }
     {
+        if self.start == self.bytes.len() {
+            self.bytes.clear();
+            self.start = 0;
+        }
         if self.start > self.bytes.len() / 2 {
             let mut bytes = Vec::from_slice(self.alloc, &self.bytes[self.start..])?;
             bytes.extend_from_slice(piece)?;

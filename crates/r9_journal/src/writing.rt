@@ -1,6 +1,6 @@
 //! Writing the lines of records and of replies.
 
-ghost use Rattle.std.specs.Prelude.{◌≡◌, ◌++◌, ◌≤◌, ◌-◌, ◌^◌, codes, length, min, IfOk, OnOk, OnErr};
+ghost use Rattle.std.specs.Prelude.{◌≡◌, ◌++◌, ◌≤◌, ◌-◌, ◌^◌, codes, length, min, take, OnOk, OnErr};
 ghost use Rattle.std.specs.Fmt.{decimal};
 ghost use Rattle.model_text.specs.Hex.{hex};
 ghost use Rattle.model_record.specs.Line.{event_text, event_line, reply_line, mark_text};
@@ -8,11 +8,11 @@ ghost use Rattle.model_record.specs.Line.{event_text, event_line, reply_line, ma
 use r9_event::{Entry, Event, Reply};
 use r9_memory::Memory;
 use r9_text::{Bytes, push_decimal, push_hex};
-use std::alloc::Global;
 
 /// Adds the mark of a message, if it has one.
 fn push_mark(mark: Option<u32>, text: &mut Bytes) -> Result<(), Memory>
-    ensures { OnOk result (text.new ≡ text.old ++ mark_text mark) }
+    ensures ok { OnOk result (text.new ≡ text.old ++ mark_text mark) }
+    ensures err { OnErr result (take (length text.old) text.new ≡ text.old) }
 {
     match mark {
         None => Ok(()),
@@ -23,71 +23,88 @@ fn push_mark(mark: Option<u32>, text: &mut Bytes) -> Result<(), Memory>
     }
 }
 
-/// Adds what stands behind the letter of a message.
-fn push_message(
-    session: u32,
-    bytes: &[u8],
-    mark: Option<u32>,
-    text: &mut Bytes,
-) -> Result<(), Memory>
-    ensures { OnOk result (text.new ≡ text.old ++ decimal session ++ codes " " ++ hex bytes.now ++ mark_text mark) }
-{
-    push_decimal(text, session as u64)?;
-    text.push_all(b" ")?;
-    push_hex(text, bytes)?;
-    push_mark(mark, text)
-}
-
 /// Adds a letter, a blank and a session's number.
 fn push_session(letter: &[u8], session: u32, text: &mut Bytes) -> Result<(), Memory>
-    ensures { OnOk result (text.new ≡ text.old ++ letter.now ++ decimal session) }
+    ensures ok { OnOk result (text.new ≡ text.old ++ letter.now ++ decimal session) }
+    ensures err { OnErr result (take (length text.old) text.new ≡ text.old) }
 {
     text.push_all(letter)?;
     push_decimal(text, session as u64)
 }
 
-/// The text of an event.
-fn event_text(alloc: Global, event: &Event) -> Result<Bytes, Memory>
-    ensures { IfOk result (λ text. text ≡ event_text event.now) }
+/// Adds a letter and a blank, and a session's number with the bytes of a message of it.
+fn push_bytes(letter: &[u8], session: u32, bytes: &[u8], text: &mut Bytes) -> Result<(), Memory>
+    ensures ok { OnOk result (text.new ≡ text.old ++ letter.now ++ decimal session ++ codes " " ++ hex bytes.now) }
+    ensures err { OnErr result (take (length text.old) text.new ≡ text.old) }
 {
-    let mut text = Bytes::new(alloc);
+    push_session(letter, session, text)?;
+    text.push_all(b" ")?;
+    push_hex(text, bytes)
+}
+
+/// Adds the text of an event. For want of memory a part of it may be there.
+fn push_event(event: &Event, text: &mut Bytes) -> Result<(), Memory>
+    ensures ok { OnOk result (text.new ≡ text.old ++ event_text event.now) }
+    ensures err { OnErr result (take (length text.old) text.new ≡ text.old) }
+{
     match event {
-        Event::Begin { session } => push_session(b"B ", *session, &mut text)?,
+        Event::Begin { session } => push_session(b"B ", *session, text),
         Event::Msg {
             session,
             bytes,
             mark,
         } => {
-            text.push_all(b"M ")?;
-            push_message(*session, bytes.as_slice(), *mark, &mut text)?;
+            push_bytes(b"M ", *session, bytes.as_slice(), text)?;
+            push_mark(*mark, text)
         }
-        Event::Take { session } => push_session(b"T ", *session, &mut text)?,
-        Event::End { session } => push_session(b"E ", *session, &mut text)?,
-        Event::Stop => text.push_all(b"X")?,
+        Event::Take { session } => push_session(b"T ", *session, text),
+        Event::End { session } => push_session(b"E ", *session, text),
+        Event::Stop => text.push_all(b"X"),
     }
-    Ok(text)
+}
+
+/// Adds the line of an event. For want of memory a part of it may be there.
+fn push_line(event: &Event, text: &mut Bytes) -> Result<(), Memory>
+    ensures ok { OnOk result (text.new ≡ text.old ++ event_line event.now) }
+    ensures err { OnErr result (take (length text.old) text.new ≡ text.old) }
+{
+    push_event(event, text)?;
+    text.push(b'\n')
+}
+
+/// Adds the line of a reply. For want of memory a part of it may be there.
+fn push_reply(reply: &Reply, text: &mut Bytes) -> Result<(), Memory>
+    ensures ok { OnOk result (text.new ≡ text.old ++ reply_line reply.now) }
+    ensures err { OnErr result (take (length text.old) text.new ≡ text.old) }
+{
+    push_bytes(b"R ", reply.session, reply.bytes.as_slice(), text)?;
+    text.push(b'\n')
 }
 
 /// Adds the line of an entry at the end, or nothing for want of memory.
-pub fn write_entry(alloc: Global, entry: &Entry, out: &mut Bytes) -> Result<(), Memory>
+pub fn write_entry(entry: &Entry, out: &mut Bytes) -> Result<(), Memory>
     ensures ok { OnOk result (out.new ≡ out.old ++ event_line entry.now.event) }
     ensures err { OnErr result (out.new ≡ out.old) }
 {
-    let mut line = event_text(alloc, &entry.event)?;
-    line.push_all(b"\n")?;
-    out.push_all(line.as_slice())
+    let before = out.len();
+    let put = push_line(&entry.event, out);
+    if put.is_err() {
+        out.truncate(before);
+    }
+    put
 }
 
 /// Adds the line of a reply at the end, or nothing for want of memory.
-pub fn write_reply(alloc: Global, reply: &Reply, out: &mut Bytes) -> Result<(), Memory>
+pub fn write_reply(reply: &Reply, out: &mut Bytes) -> Result<(), Memory>
     ensures ok { OnOk result (out.new ≡ out.old ++ reply_line reply.now) }
     ensures err { OnErr result (out.new ≡ out.old) }
 {
-    let mut line = Bytes::new(alloc);
-    line.push_all(b"R ")?;
-    push_message(reply.session, reply.bytes.as_slice(), None, &mut line)?;
-    line.push_all(b"\n")?;
-    out.push_all(line.as_slice())
+    let before = out.len();
+    let put = push_reply(reply, out);
+    if put.is_err() {
+        out.truncate(before);
+    }
+    put
 }
 
 fn decimal_len(number: u32) -> u64

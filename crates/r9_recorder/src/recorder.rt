@@ -122,7 +122,7 @@ impl<'a, H: Keeps, O: Sink> Recorder<'a, H, O> {
         let Some(entry) = self.hall.journal().get(index) else {
             return Ok(text);
         };
-        write_entry(alloc, entry, &mut text)?;
+        write_entry(entry, &mut text)?;
         Ok(text)
     }
 

@@ -49,7 +49,7 @@ fn write_line(alloc: Global, session: u32, frame: &[u8], lines: &mut Bytes) -> R
     ensures { OnOk result (lines.new ≡ lines.old ++ reply_line (record { session = session; bytes = frame.now })) }
 {
     let bytes = Bytes::from_slice(alloc, frame)?;
-    write_reply(alloc, &Reply { session, bytes }, lines)
+    write_reply(&Reply { session, bytes }, lines)
 }
 
 /// Adds the line of a reply to lines that wait, and puts these once they are many. After an `Err` only a front of them was

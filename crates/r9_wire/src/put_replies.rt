@@ -8,7 +8,7 @@ ghost use Rattle.r9_wire.specs.View.{r_of, stat_of};
 
 use crate::lists::Qids;
 use crate::message::{Qid, Rmsg, Stat};
-use crate::put_stat::sized_stat;
+use crate::put_stat::twice_sized_stat;
 use crate::puts::{put_qid, put_qids, put_sized, put_u32};
 use r9_memory::Memory;
 use r9_text::Bytes;
@@ -110,14 +110,14 @@ fn count_body(alloc: Global, count: u32) -> Result<Bytes, Memory>
 }
 
 /// n[2] and a stat of n bytes
+#[tactic(auto, unfolding(model_wire::specs::Spelling::sized))]
 fn stat_reply_body(alloc: Global, s: &Stat) -> Result<Bytes, Memory>
     requires fits { FitsStat (stat_of s.now) }
     requires short { length (stat_bytes (stat_of s.now)) < 2 ^ 16 }
     ensures spelled { IfOk result (λ b. b ≡ sized (stat_bytes (stat_of s.now))) }
     ensures short { IfOk result (λ b. 7 + length b < 2 ^ 32) }
 {
-    let stat = sized_stat(alloc, s)?;
-    sized_body(alloc, stat.as_slice())
+    twice_sized_stat(alloc, s)
 }
 
 /// Kind, tag and body of a reply.

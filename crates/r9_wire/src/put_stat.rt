@@ -1,6 +1,6 @@
 //! What a stat spells.
 
-ghost use Rattle.std.specs.Prelude.{◌≡◌, ◌<◌, ◌+◌, ◌^◌, ◌++◌, length, IfOk};
+ghost use Rattle.std.specs.Prelude.{◌≡◌, ◌<◌, ◌+◌, ◌^◌, ◌++◌, length, OnOk, IfOk};
 ghost use Rattle.model_text.specs.Number.{two_bytes, four_bytes, eight_bytes};
 ghost use Rattle.model_wire.specs.Spelling.{sized, qid_bytes, stat_body, stat_bytes, FitsStat};
 ghost use Rattle.r9_wire.specs.Qid.{qid_of};
@@ -12,33 +12,53 @@ use r9_memory::Memory;
 use r9_text::Bytes;
 use std::alloc::Global;
 
-/// The numbers of a stat.
-fn numbers_of(alloc: Global, s: &Stat) -> Result<Bytes, Memory>
-    ensures { IfOk result (λ b. b ≡ two_bytes s.now.kind ++ four_bytes s.now.dev ++ qid_bytes (qid_of s.now.qid) ++ four_bytes s.now.mode ++ four_bytes s.now.atime ++ four_bytes s.now.mtime ++ eight_bytes s.now.length) }
+/// How many bytes the numbers of a stat and the lengths of its four strings have.
+const FIXED: usize = 47;
+
+/// How many bytes stand behind the size of a stat.
+#[tactic(auto, unfolding(model_wire::specs::Spelling::stat_body, model_wire::specs::Spelling::sized, model_wire::specs::Spelling::qid_bytes))]
+fn body_len(s: &Stat) -> usize
+    requires { FitsStat (stat_of s.now) }
+    ensures len { result ≡ length (stat_body (stat_of s.now)) }
+    ensures short { result < 2 ^ 16 }
 {
-    let mut out = Bytes::new(alloc);
-    put_u16(&mut out, s.kind)?;
-    put_u32(&mut out, s.dev)?;
-    put_qid(&mut out, s.qid)?;
-    put_u32(&mut out, s.mode)?;
-    put_u32(&mut out, s.atime)?;
-    put_u32(&mut out, s.mtime)?;
-    put_u64(&mut out, s.length)?;
-    Ok(out)
+    FIXED + s.name.len() + s.uid.len() + s.gid.len() + s.muid.len()
 }
 
-/// What stands behind the size of a stat.
-#[tactic(auto, unfolding(model_wire::specs::Spelling::stat_body))]
-fn body_of(alloc: Global, s: &Stat) -> Result<Bytes, Memory>
-    requires { FitsStat (stat_of s.now) }
-    ensures { IfOk result (λ b. b ≡ stat_body (stat_of s.now)) }
+/// Adds the numbers of a stat.
+fn put_numbers(out: &mut Bytes, s: &Stat) -> Result<(), Memory>
+    ensures { OnOk result (out.new ≡ out.old ++ two_bytes s.now.kind ++ four_bytes s.now.dev ++ qid_bytes (qid_of s.now.qid) ++ four_bytes s.now.mode ++ four_bytes s.now.atime ++ four_bytes s.now.mtime ++ eight_bytes s.now.length) }
 {
-    let mut out = numbers_of(alloc, s)?;
-    put_sized(&mut out, s.name.as_slice())?;
-    put_sized(&mut out, s.uid.as_slice())?;
-    put_sized(&mut out, s.gid.as_slice())?;
-    put_sized(&mut out, s.muid.as_slice())?;
-    Ok(out)
+    put_u16(out, s.kind)?;
+    put_u32(out, s.dev)?;
+    put_qid(out, s.qid)?;
+    put_u32(out, s.mode)?;
+    put_u32(out, s.atime)?;
+    put_u32(out, s.mtime)?;
+    put_u64(out, s.length)
+}
+
+/// Adds what stands behind the size of a stat.
+#[tactic(auto, unfolding(model_wire::specs::Spelling::stat_body))]
+fn put_body(out: &mut Bytes, s: &Stat) -> Result<(), Memory>
+    requires { FitsStat (stat_of s.now) }
+    ensures { OnOk result (out.new ≡ out.old ++ stat_body (stat_of s.now)) }
+{
+    put_numbers(out, s)?;
+    put_sized(out, s.name.as_slice())?;
+    put_sized(out, s.uid.as_slice())?;
+    put_sized(out, s.gid.as_slice())?;
+    put_sized(out, s.muid.as_slice())
+}
+
+/// Adds a stat with its size before it.
+#[tactic(auto, unfolding(model_wire::specs::Spelling::sized))]
+fn put_stat(out: &mut Bytes, s: &Stat) -> Result<(), Memory>
+    requires { FitsStat (stat_of s.now) }
+    ensures { OnOk result (out.new ≡ out.old ++ stat_bytes (stat_of s.now)) }
+{
+    put_u16(out, body_len(s) as u16)?;
+    put_body(out, s)
 }
 
 /// A stat with its size before it.
@@ -46,8 +66,23 @@ pub fn sized_stat(alloc: Global, s: &Stat) -> Result<Bytes, Memory>
     requires { FitsStat (stat_of s.now) }
     ensures { IfOk result (λ b. b ≡ stat_bytes (stat_of s.now)) }
 {
-    let body = body_of(alloc, s)?;
     let mut out = Bytes::new(alloc);
-    put_sized(&mut out, body.as_slice())?;
+    out.reserve(2 + body_len(s))?;
+    put_stat(&mut out, s)?;
+    Ok(out)
+}
+
+/// A stat with its size before it, and before that how many bytes they are.
+#[tactic(auto, unfolding(model_wire::specs::Spelling::sized))]
+pub fn twice_sized_stat(alloc: Global, s: &Stat) -> Result<Bytes, Memory>
+    requires fits { FitsStat (stat_of s.now) }
+    requires short { length (stat_bytes (stat_of s.now)) < 2 ^ 16 }
+    ensures { IfOk result (λ b. b ≡ sized (stat_bytes (stat_of s.now))) }
+{
+    let mut out = Bytes::new(alloc);
+    let len = 2 + body_len(s);
+    out.reserve(2 + len)?;
+    put_u16(&mut out, len as u16)?;
+    put_stat(&mut out, s)?;
     Ok(out)
 }

@@ -1,6 +1,6 @@
 //! Fields at the end of bytes. For want of memory a part of a field may be there.
 
-ghost use Rattle.std.specs.Prelude.{◌≡◌, ◌<◌, ◌≤◌, ◌+◌, ◌*◌, ◌^◌, ◌++◌, [], ◌∷◌, length, map, OnOk};
+ghost use Rattle.std.specs.Prelude.{◌≡◌, ◌<◌, ◌≤◌, ◌+◌, ◌*◌, ◌^◌, ◌++◌, [], ◌∷◌, length, map, OnOk, OnErr};
 ghost use Rattle.std.specs.List.{All, flat_map};
 ghost use Rattle.model_text.specs.Number.{two_bytes, four_bytes, eight_bytes};
 ghost use Rattle.model_wire.specs.Spelling.{sized, string, IsString, qid_bytes, names_bytes, qids_bytes};
@@ -15,6 +15,7 @@ use r9_text::Bytes;
 pub fn put_u16(out: &mut Bytes, n: u16) -> Result<(), Memory>
     ensures put { OnOk result (out.new ≡ out.old ++ two_bytes n) }
     ensures len { OnOk result (length out.new ≡ length out.old + 2) }
+    ensures err { OnErr result (out.new ≡ out.old) }
 {
     out.push_all(&n.to_le_bytes())
 }
@@ -23,6 +24,7 @@ pub fn put_u16(out: &mut Bytes, n: u16) -> Result<(), Memory>
 pub fn put_u32(out: &mut Bytes, n: u32) -> Result<(), Memory>
     ensures put { OnOk result (out.new ≡ out.old ++ four_bytes n) }
     ensures len { OnOk result (length out.new ≡ length out.old + 4) }
+    ensures err { OnErr result (out.new ≡ out.old) }
 {
     out.push_all(&n.to_le_bytes())
 }

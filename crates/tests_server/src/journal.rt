@@ -15,7 +15,7 @@ fn a_record_is_read_and_written_again(rt: HostRuntime) -> Result<(), Fail> {
         let Some(event) = entries.pop_first() else {
             break;
         };
-        write_entry(alloc, &Entry { number, event }, &mut text)?;
+        write_entry(&Entry { number, event }, &mut text)?;
     }
     assert_eq!(rt; text.as_slice(), RECORD.as_bytes());
     Ok(())
