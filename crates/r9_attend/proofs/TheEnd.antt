@@ -111,10 +111,10 @@ no_message_made c old new all such e f =
 module _ (s : Server) (c : ℕ) (start old new : Known Entry) (goes : GoesOn old new) (ending : All (λ m. (m.1.event ≡ End c) ⊎ (m.1.event ≡ Stop)) (made_since old new)) where
   pub read_ended : {I : Type 0} (left : I → Option (List ℕ)) (faults : I → ℕ) (end : ReadEnd) (input_old input : I) → (end ≡ reader.Closed → ⊥) → GoesOn start old
       → All (λ m. (is_msg c m.1.event ≡ true) ⊎ (m.1.event ≡ Stop)) (made_since start old) → IsTold s c end old → HasEnded c new
-      → (end ≡ reader.ReadFault → Rose (faults input_old) (faults input)) → faults input_old ≤ faults input
+      → (end ≡ reader.ReadFault → Rose (faults input_old) (faults input)) → faults input_old ≤ faults input → ((end ≡ reader.ReadFault → ⊥) → faults input ≡ faults input_old)
       → ((bytes : List ℕ) × Reads (left input_old) bytes (left input) × EndsAt end (left input_old) bytes × ((history : List Entry) → IsOwn (is_msg c) old.seen (made_since start old) history → IsRead s c end bytes (events_of history)))
       → HasRead left faults s c end start new input_old input
-  read_ended left faults end input_old input not_closed goes_first made told ended failed counted read = record {
+  read_ended left faults end input_old input not_closed goes_first made told ended failed counted steady read = record {
     pass = goes_both start old new goes_first goes;
     made = All-since (IsReaders c) start old new goes_first goes
         (All-weaker (λ m. (is_msg c m.1.event ≡ true) ⊎ (m.1.event ≡ Stop)) (IsReaders c) (λ m h. ⊎_elim (λ (k : is_msg c m.1.event ≡ true). inl k) (λ (k : m.1.event ≡ Stop). inr (inr k)) h) (made_since start old) made)
@@ -124,6 +124,7 @@ module _ (s : Server) (c : ℕ) (start old new : Known Entry) (goes : GoesOn old
     told = told_on s c old new goes end told;
     failed = failed;
     counted = counted;
+    steady = steady;
     bytes = read.0;
     reads = read.1;
     at_end = read.2;
@@ -169,17 +170,18 @@ written_so s c start new held unflushed faults end output_old output goes made s
 -- a reader whose session the writer had ended
 pub read_closed : (s : Server) (c : ℕ) (start new : Known Entry) {I : Type 0} (left : I → Option (List ℕ)) (faults : I → ℕ) (input_old input : I) → GoesOn start new
     → All (λ m. (is_msg c m.1.event ≡ true) ⊎ (m.1.event ≡ Stop)) (made_since start new) → IsTold s c reader.Closed new
-    → faults input_old ≤ faults input
+    → faults input ≡ faults input_old
     → ((bytes : List ℕ) × Reads (left input_old) bytes (left input) × EndsAt reader.Closed (left input_old) bytes × ((history : List Entry) → IsOwn (is_msg c) new.seen (made_since start new) history → IsRead s c reader.Closed bytes (events_of history)))
     → HasRead left faults s c reader.Closed start new input_old input
-read_closed s c start new left faults input_old input goes made told counted read = record {
+read_closed s c start new left faults input_old input goes made told steady read = record {
   pass = goes;
   made = All-weaker (λ m. (is_msg c m.1.event ≡ true) ⊎ (m.1.event ≡ Stop)) (IsReaders c) (λ m h. ⊎_elim (λ (k : is_msg c m.1.event ≡ true). inl k) (λ (k : m.1.event ≡ Stop). inr (inr k)) h) (made_since start new) made;
   alone = λ e. made;
   ended = inl told;
   told = told;
   failed = λ e. absurd cc;
-  counted = counted;
+  counted = omega (arith, steady);
+  steady = λ _. steady;
   bytes = read.0;
   reads = read.1;
   at_end = read.2;

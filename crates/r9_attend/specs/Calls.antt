@@ -85,6 +85,7 @@ module _ {I O : Type 0} (tells : Tells I O) (s : Server) where
     pub some : IfSome k.attended.session (IsOfSession k)
     pub read_failed : k.attended.reader ≡ ReadFault → Rose (tells.read_faults k.input_old) (tells.read_faults k.input)
     pub write_failed : k.attended.writer ≡ writer_end.WriteFault → Rose (tells.write_faults k.output_old) (tells.write_faults k.output)
+    pub read_steady : (k.attended.reader ≡ ReadFault → ⊥) → tells.read_faults k.input ≡ tells.read_faults k.input_old
     pub read_counted : tells.read_faults k.input_old ≤ tells.read_faults k.input
     pub write_counted : tells.write_faults k.output_old ≤ tells.write_faults k.output
     pub flushed : k.attended.writer ≡ writer_end.Done → (tells.unflushed k.output ≡ false) ⊎ (k.output ≡ k.output_old)

@@ -111,6 +111,7 @@ pub record HasRead {I : Type 0} (left : I → Option (List ℕ)) (faults : I →
   pub told : IsTold s c end new
   pub failed : end ≡ ReadFault → Rose (faults input_old) (faults input)
   pub counted : faults input_old ≤ faults input
+  pub steady : (end ≡ ReadFault → ⊥) → faults input ≡ faults input_old
   pub bytes : List ℕ
   pub reads : Reads (left input_old) bytes (left input)
   pub at_end : EndsAt end (left input_old) bytes

@@ -1,5 +1,5 @@
 //! The reader of a session.
-ghost use Rattle.std.specs.Prelude.{◌≡◌, ◌≤◌, ◌⊎◌, List, ℕ, All, Contains, Some, true};
+ghost use Rattle.std.specs.Prelude.{◌≡◌, ◌≢◌, ◌≤◌, ◌⊎◌, List, ℕ, All, Contains, Some, true};
 ghost use Rattle.r9_event.specs.declared.event.Event.{Event};
 ghost use Rattle.r9_event.specs.declared.event.Entry.{Entry};
 ghost use Rattle.r9_outside.specs.Count.{Rose};
@@ -50,6 +50,7 @@ fn fill<S: Source>(input: &mut S, framer: &mut Framer) -> Option<ReadEnd>
     ensures filled { IsFilled framer.old (S.left input.old) result framer.new (S.left input.new) }
     ensures failed { result ≡ Some ReadEnd.ReadFault → Rose (S.faults input.old) (S.faults input.new) }
     ensures counted { S.faults input.old ≤ S.faults input.new }
+    ensures steady { result ≢ Some ReadEnd.ReadFault → S.faults input.new ≡ S.faults input.old }
 {
     let mut buffer = [0; 4096];
     let Ok(count) = input.take(&mut buffer) else {
@@ -87,6 +88,7 @@ fn read_on<T: Serves, S: Source, R: Wait>(
     ensures told { IsTold T.server room.now.session result pass.new }
     ensures failed { result ≡ ReadEnd.ReadFault → Rose (S.faults input.old) (S.faults input.new) }
     ensures counted { S.faults input.old ≤ S.faults input.new }
+    ensures steady { result ≢ ReadEnd.ReadFault → S.faults input.new ≡ S.faults input.old }
     ensures read { (bytes : List ℕ) × Reads (S.left input.old) bytes (S.left input.new) × EndsAt result (S.left input.old) bytes × ((history : List Entry) → IsOwn (is_msg room.now.session) pass.new.seen (made_since pass.old pass.new) history → IsRead T.server room.now.session result bytes (events_of history)) }
 {
     let mut framer = Framer::new(room.alloc, FIRST_LIMIT);

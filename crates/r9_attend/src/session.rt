@@ -1,5 +1,5 @@
 //! A session, with a reader and a writer in two threads.
-ghost use Rattle.std.specs.Prelude.{◌≡◌, ◌≤◌, ◌⊎◌, List, ℕ, None, false, All, Contains, IfSome, IfNone};
+ghost use Rattle.std.specs.Prelude.{◌≡◌, ◌≢◌, ◌≤◌, ◌⊎◌, List, ℕ, None, false, All, Contains, IfSome, IfNone};
 ghost use Rattle.r9_event.specs.declared.event.Entry.{Entry};
 ghost use Rattle.r9_outside.specs.Count.{Rose};
 ghost use Rattle.r9_event.specs.declared.event.Event.{Event};
@@ -92,6 +92,8 @@ pub fn attend<T: Serves + Send, S: Source + Send, O: Sink + Send, R: Threads + W
     ensures complete { IfSome result.session (λ c. (Rose (S.faults input.old) (S.faults input.new) → ⊥) → (Rose (O.faults output.old) (O.faults output.new) → ⊥) → (history : List Entry) → IsTheirs c reader.old reader.new writer.old writer.new history → IsPlain T.server c (S.left input.old) (events_of history) → EndsPlainly result.reader result.writer) }
     ensures read_failed { result.reader ≡ ReadEnd.ReadFault → Rose (S.faults input.old) (S.faults input.new) }
     ensures write_failed { result.writer ≡ WriteEnd.WriteFault → Rose (O.faults output.old) (O.faults output.new) }
+    // A source that has failed is not asked again.
+    ensures steady { result.reader ≢ ReadEnd.ReadFault → S.faults input.new ≡ S.faults input.old }
     ensures counted { (S.faults input.old ≤ S.faults input.new) × (O.faults output.old ≤ O.faults output.new) }
     ensures flushed { result.writer ≡ WriteEnd.Done → (O.unflushed output.new ≡ false) ⊎ (output.new ≡ output.old) }
 {

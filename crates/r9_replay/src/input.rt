@@ -59,6 +59,7 @@ fn take_piece<S: Source>(
     ensures end { IfOk result (λ n. n ≡ 0 → 0 < length buffer.old → IfSome (S.left input.old) (λ bytes. bytes ≡ [])) }
     ensures failed { IsErrOf result InputFault.Failed → Rose (S.faults input.old) (S.faults input.new) }
     ensures counted { S.faults input.old ≤ S.faults input.new }
+    ensures steady { ¬ IsErrOf result InputFault.Failed → S.faults input.new ≡ S.faults input.old }
 {
     let count = input.take(buffer)?;
     text.push_all(&buffer[..count])?;
@@ -70,6 +71,7 @@ pub fn read_input<S: Source>(alloc: Global, input: &mut S) -> Result<Bytes, Inpu
     ensures read { IfOk result (λ text. HasRead (S.left input.old) text (S.left input.new)) }
     ensures failed { IsErrOf result InputFault.Failed → Rose (S.faults input.old) (S.faults input.new) }
     ensures counted { S.faults input.old ≤ S.faults input.new }
+    ensures steady { ¬ IsErrOf result InputFault.Failed → S.faults input.new ≡ S.faults input.old }
 {
     let mut text = Bytes::new(alloc);
     let mut buffer = [0u8; CHUNK];

@@ -132,6 +132,7 @@ pub fn replay_input<S: Source>(
     ensures late_record { (first : ℕ) → result ≡ Err (ReplayFault.LateRecord first) → WasLate (S.left input.old) first }
     ensures late_read { (first : ℕ) → result ≡ Err (ReplayFault.LateRecord first) → WasRead (S.left input.old) (S.left input.new) }
     ensures read_fault { IsErrOf result ReplayFault.ReadFault → Rose (S.faults input.old) (S.faults input.new) }
+    ensures steady { ¬ IsErrOf result ReplayFault.ReadFault → S.faults input.new ≡ S.faults input.old }
 {
     let text = match read_input(alloc, input) {
         Ok(text) => text,

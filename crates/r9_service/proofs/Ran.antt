@@ -52,6 +52,7 @@ module _ {D I O : Type 0} (doors : Doors D I O) (s : Server) where
     fresh = is.fresh;
     none = none_weaker k.attended.session (λ (none : IsOfNone doors.ends s k). (none.input_same, none.output_same)) is.attends.none;
     read_failed = is.attends.read_failed;
+    steady = is.attends.read_steady;
     write_failed = is.attends.write_failed;
     flushed = is.attends.flushed;
   }

@@ -44,12 +44,13 @@ abbrev pub side : (held : Option (List ℕ)) (unflushed : Bool) (faults : ℕ) �
 side held unflushed faults = record { held = held; unflushed = unflushed; faults = faults }
 
 module _ {D I O : Type 0} (doors : Doors D I O) where
-  -- A session's sink held nothing. Where it did not begin, nothing was read or put. An end that names a fault was counted, and after a
-  -- plain end of the writer nothing is unflushed.
+  -- A session's sink held nothing. Where it did not begin, nothing was read or put. An end that names a fault was counted, a source
+  -- that failed was not asked again, and after a plain end of the writer nothing is unflushed.
   pub record IsSound (k : Call I O) : Type 0 where
     pub fresh : IsFresh doors k
     pub none : IfNone k.attended.session ((k.input ≡ k.input_old) × (k.output ≡ k.output_old))
     pub read_failed : k.attended.reader ≡ ReadFault → Rose (doors.ends.read_faults k.input_old) (doors.ends.read_faults k.input)
+    pub steady : (k.attended.reader ≡ ReadFault → ⊥) → doors.ends.read_faults k.input ≡ doors.ends.read_faults k.input_old
     pub write_failed : k.attended.writer ≡ written.WriteFault → Rose (doors.ends.write_faults k.output_old) (doors.ends.write_faults k.output)
     pub flushed : k.attended.writer ≡ written.Done → (doors.ends.unflushed k.output ≡ false) ⊎ (k.output ≡ k.output_old)
 

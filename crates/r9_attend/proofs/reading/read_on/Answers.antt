@@ -1,17 +1,22 @@
-use Rattle.std.proofs.Common.{sym, ◌∙◌, ◌++◌, ap, subst, arith}
+use Rattle.std.proofs.Common.{◌≡◌, Option, Some, None, refl, sym, ◌∙◌, ◌++◌, ap, subst, arith}
 use Rattle.model_text.specs.Number.{AreBytes}
 use Rattle.r9_frame.specs.View.{cut_of}
+use Rattle.r9_attend.specs.declared.ends.ReadEnd.{ReadEnd}
+use Rattle.r9_attend.specs.declared.ends.ReadEnd.TheVariants.{ReadFault}
 use Rattle.r9_attend.proofs.TheReader.{reading_first, reading_sent, reading_fed, filled_read, filled_end, bad_read, short_read, sent_read, sent_made, sent_told, sent_end, reads_both}
 use Rattle.r9_attend.proofs.reading.read_on.Goals as goal
 
+not_at_end : (found : Option ReadEnd) → found ≡ None → found ≡ Some ReadFault → ⊥
+not_at_end found none e = let both : None ≡ Some ReadFault = sym none ∙ e in cc
+
 pub loop-init : goal.loop-init
-loop-init g c = record { reading = reading_first g.T.Serves.server g.T.Serves.lawful c.args.room.now.session c.args.pass.now c.new-framer.result (g.S.Source.left c.args.input.now) c.new-framer.ensures; counted = omega arith }
+loop-init g c = record { reading = reading_first g.T.Serves.server g.T.Serves.lawful c.args.room.now.session c.args.pass.now c.new-framer.result (g.S.Source.left c.args.input.now) c.new-framer.ensures; steady = refl }
 
 pub loop-preserved-in-Ok : goal.loop-preserved-in-Ok
 loop-preserved-in-Ok g c = record {
   reading = reading_sent g.T.Serves.server g.T.Serves.lawful c.args.room.now.session c.args.pass.now c.loop.pass c.loop.framer (g.S.Source.left c.args.input.now) (g.S.Source.left c.loop.input) c.loop.invariant.reading
       c.in-Ok-Frame.frame (sym c.in-Ok-Frame.ensures.given ∙ ap cut_of c.in-Ok-Frame.field-0-is) c.send.new.pass c.in-Ok.msize c.in-Ok.ensures.sent c.in-Ok.ensures.goes_on c.next-in-loop.new.self c.set_limit.new.self c.in-Ok-Frame.ensures.left c.set_limit.ensures;
-  counted = c.loop.invariant.counted;
+  steady = c.loop.invariant.steady;
 }
 
 pub returns-in-Err-send-clause-made : goal.returns-in-Err-send-clause-made
@@ -56,7 +61,7 @@ loop-preserved g c =
     record {
       reading = reading_fed g.T.Serves.server g.T.Serves.lawful c.args.room.now.session c.args.pass.now c.loop.pass c.loop.framer (g.S.Source.left c.args.input.now) (g.S.Source.left c.loop.input) c.loop.invariant.reading
           c.next-in-loop.new.self c.fill.new.framer c.in-Ok-NeedMore.ensures.left (sym c.in-Ok-NeedMore.ensures.given ∙ ap cut_of c.in-Ok-NeedMore.field-0-is) f.bytes (g.S.Source.left c.fill.new.input) f.reads f.fed;
-      counted = let a = c.loop.invariant.counted in let b = c.fill.ensures.counted in omega arith;
+      steady = c.fill.ensures.steady (λ e. not_at_end _ c.in-None-fill.is e) ∙ c.loop.invariant.steady;
     }
 
 pub returns-in-Some-fill-clause-read : goal.returns-in-Some-fill-clause-read
@@ -70,3 +75,6 @@ returns-in-Some-fill-clause-read g c =
       filled_read g.T.Serves.server g.T.Serves.lawful c.args.room.now.session c.args.pass.now c.loop.pass c.loop.framer (g.S.Source.left c.args.input.now) (g.S.Source.left c.loop.input) r
           c.next-in-loop.new.self c.fill.new.framer c.in-Ok-NeedMore.ensures.left (sym c.in-Ok-NeedMore.ensures.given ∙ ap cut_of c.in-Ok-NeedMore.field-0-is) c.in-Some-fill.end f.bytes f.fed,
     )
+
+pub returns-in-Some-fill-clause-counted : goal.returns-in-Some-fill-clause-counted
+returns-in-Some-fill-clause-counted g c = let before = c.loop.invariant.steady in let here = c.fill.ensures.counted in omega arith

@@ -48,6 +48,7 @@ returns g c =
       read_failed = hr.failed;
       write_failed = hw.failed;
       counted = (hr.counted, hw.counted);
+      steady = hr.steady;
       flushed = hw.flushed;
     }
 

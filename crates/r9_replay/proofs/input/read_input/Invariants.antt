@@ -1,4 +1,4 @@
-use Rattle.std.proofs.Common.{◌≤◌, ◌^◌, ◌-◌, length}
+use Rattle.std.proofs.Common.{◌≡◌, ◌≤◌, ◌^◌, ◌-◌, length}
 use Rattle.r9_replay.specs.Taken.{HasTaken}
 use Rattle.r9_replay.proofs.input.read_input.Given as goal
 
@@ -6,7 +6,7 @@ abbrev pub invariant-taking : goal.invariant-taking
 invariant-taking g l = record {
   taken : HasTaken (g.S.Source.left l.fn.input) l.text (g.S.Source.left l.input);
   short : length l.text ≤ 2 ^ 30;
-  counted : g.S.Source.faults l.fn.input ≤ g.S.Source.faults l.input;
+  steady : g.S.Source.faults l.input ≡ g.S.Source.faults l.fn.input;
 }
 
 abbrev pub decreases-taking : goal.decreases-taking

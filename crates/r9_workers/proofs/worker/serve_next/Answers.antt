@@ -37,6 +37,7 @@ returns g c =
         some = of_session tells g.T.Serves.server k k.attended.session e.began e.made e.ended e.read e.written e.told e.closed e.complete;
         read_failed = e.read_failed;
         write_failed = e.write_failed;
+        read_steady = e.steady;
         read_counted = e.counted.0;
         write_counted = e.counted.1;
         flushed = e.flushed;
