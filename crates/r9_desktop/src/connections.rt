@@ -67,7 +67,8 @@ impl Desktop {
     }
 
     /// Does the messages that the bytes spell, until one is refused; those before it stand. It stops before a message that is
-    /// not refused where its mark stands or memory runs out, which is the refusal 24. Memory where that is the first one.
+    /// not refused where its mark stands or memory runs out, which is the refusal 24. Memory where that is the first one; then
+    /// all is as before.
     #[tactic(auto, unfolding(crate::specs::World::desktop_of, model_world::specs::Whole::written_data))]
     pub fn write_data(
         &mut self,
@@ -81,6 +82,7 @@ impl Desktop {
         ensures written { IfOk result (λ w. (desktop_for session).write_data (desktop_of self.old) connection bytes.now (mark_after mark w.short) ≡ (desktop_of self.new, w.refusal)) }
         ensures cause { IfOk result (λ w. IfSome w.short (λ k. (mark ≡ Some k) ⊎ MayRunOut (client session connection) (desktop_of self.old).device bytes.now k)) }
         ensures refused { IfOk result (λ w. IsSome w.short ↔ (w.refusal ≡ Some no_memory)) }
+        ensures kept { OnErr result (desktop_of self.new ≡ desktop_of self.old) }
     {
         let wrote = self.device.write(client(session, connection), bytes, mark)?;
         if wrote.short {

@@ -49,12 +49,14 @@ fn bells_of_others(session: u32, did: &Did) -> u64 {
 
 impl Hall {
     /// Does what a session asks: it makes the event, or for want of memory a Stop, or none. It makes a Stop where the event broke the
-    /// hall, and always where memory ran out in the end of a session. After a Stop each ask is answered by `Memory`.
+    /// hall, and always where memory ran out in the end of a session. After a Stop each ask is answered by `Memory`. Where nothing was
+    /// entered the hall is as before.
     pub fn act(&mut self, ask: Ask) -> Acted<Answer>
         requires { entries self.old < 2 ^ 61 }
         ensures opening { self.new.opening ≡ self.old.opening }
         ensures first { self.new.first ≡ self.old.first }
         ensures history { IsAct self.old ask result self.new }
+        ensures whole { result.entered ≡ false → self.new.broken ≡ self.old.broken }
     {
         if !self.can(&Event::Stop) {
             return told(Answer::Memory);
@@ -91,6 +93,7 @@ impl Hall {
         ensures first { self.new.first ≡ self.old.first }
         ensures answer { result.answer ≡ Answer.Memory }
         ensures entered { HasGivenUp self.old self.new result.entered }
+        ensures whole { result.entered ≡ false → self.new.broken ≡ false }
     {
         if self.broken {
             return self.stop();
@@ -105,6 +108,7 @@ impl Hall {
         ensures opening { self.new.opening ≡ self.old.opening }
         ensures first { self.new.first ≡ self.old.first }
         ensures history { IsAct self.old Ask.Begin result self.new }
+        ensures whole { result.entered ≡ false → self.new.broken ≡ false }
     {
         let Some(session) = self.world.begun().checked_add(1) else {
             return told(Answer::Crowded);
@@ -138,6 +142,7 @@ impl Hall {
         ensures opening { self.new.opening ≡ self.old.opening }
         ensures first { self.new.first ≡ self.old.first }
         ensures history { IsAct self.old (Ask.Msg session bytes) result self.new }
+        ensures whole { result.entered ≡ false → self.new.broken ≡ false }
     {
         let event = Event::Msg {
             session,
@@ -167,6 +172,7 @@ impl Hall {
         ensures opening { self.new.opening ≡ self.old.opening }
         ensures first { self.new.first ≡ self.old.first }
         ensures history { IsAct self.old (Ask.Look session) result self.new }
+        ensures whole { result.entered ≡ false → self.new.broken ≡ false }
     {
         let event = Event::Take { session };
         if !self.can(&event) {
@@ -191,6 +197,7 @@ impl Hall {
         ensures opening { self.new.opening ≡ self.old.opening }
         ensures first { self.new.first ≡ self.old.first }
         ensures history { IsAct self.old (Ask.End session) result self.new }
+        ensures whole { result.entered ≡ false → self.new.broken ≡ false }
     {
         let event = Event::End { session };
         if !self.can(&event) {

@@ -1,6 +1,6 @@
 //! Replies kept in little memory, and their lines.
 
-ghost use Rattle.std.specs.Prelude.{◌≡◌, ◌≤◌, ◌++◌, ◌∷◌, [], List, ℕ, false, IfOk, OnOk, IsErrOf};
+ghost use Rattle.std.specs.Prelude.{◌≡◌, ◌≤◌, ◌++◌, ◌∷◌, [], List, ℕ, false, IfOk, OnOk, OnErr, IsErrOf};
 ghost use Rattle.r9_event.specs.declared.event.Reply.{Reply};
 ghost use Rattle.r9_outside.specs.Count.{Rose};
 ghost use Rattle.r9_outside.specs.Sink.{Appends, AppendsPart};
@@ -113,9 +113,10 @@ impl ReplyLog {
         }
     }
 
-    /// Adds a reply at the end.
+    /// Adds a reply at the end, or nothing for want of memory.
     pub fn push(&mut self, reply: &Reply) -> Result<(), Memory>
-        ensures { OnOk result (self.new ≡ self.old ++ reply.now ∷ []) }
+        ensures ok { OnOk result (self.new ≡ self.old ++ reply.now ∷ []) }
+        ensures err { OnErr result (self.new ≡ self.old) }
     {
         self.marks.reserve(1)?;
         self.bytes.push_all(reply.bytes.as_slice())?;

@@ -10,8 +10,8 @@ invariant_of-self-2 c =
     (c.in_ok-push.ensures.items ∙ ap (λ (ms : List Mark). ms ++ mark ∷ []) c.in_ok-reserve.ensures.items)
     (c.in_ok-push_all.ensures.ok ∙ ap (λ (b : List ℕ). c.self.inside.bytes ++ b) c.as_slice.ensures)
 
-pub returns : goal.returns
-returns c =
+pub returns-clause-ok : goal.returns-clause-ok
+returns-clause-ok c =
     let mark : Mark = record { session = c.args.reply.now.session; len = c.len.result } in
     replies_pushed _ _ _ _ c.args.reply.now.bytes mark _ c.self.invariant c.len.ensures
     (c.in_ok-push.ensures.items ∙ ap (λ (ms : List Mark). ms ++ mark ∷ []) c.in_ok-reserve.ensures.items)
