@@ -61,17 +61,24 @@ module _ (limit : List (List ℕ) → ℕ) where
   pub none_held : (sent : List (List ℕ)) (held : List ℕ) → messages limit [] (concat sent ++ held) ≡ sent → concat (messages limit [] (concat sent ++ held)) ≡ concat sent ++ held → held ≡ []
   none_held sent held all whole = sym (append_cancel_left (concat sent) [] held (append-nil (concat sent) ∙ ap concat (sym all) ∙ whole))
 
-  needs : (most : ℕ) → first most [] ≡ NeedMore
+  pub needs : (most : ℕ) → first most [] ≡ NeedMore
   unfolding first
   needs most = refl
+
+  -- behind a bad size no more messages come
+  pub bad_all : (sent : List (List ℕ)) (held more : List ℕ) (size : ℕ) → messages limit [] (concat sent ++ held) ≡ sent → first (limit sent) held ≡ BadSize size
+      → messages limit [] ((concat sent ++ held) ++ more) ≡ sent
+  bad_all sent held more size all bad =
+      let stays : first (limit sent) (held ++ more) ≡ BadSize size = bad_stays (limit sent) size held more bad in
+      let none : messages limit sent (held ++ more) ≡ [] = messages_begin limit sent (held ++ more) ∙ ap (messages_from limit sent (held ++ more)) stays in
+      goes_on [] sent held more all ∙ ap (λ l. sent ++ l) none ∙ append-nil sent
 
   -- such bytes have no bad size behind their messages
   pub none_bad : (sent : List (List ℕ)) (held more : List ℕ) (size : ℕ) → messages limit [] (concat sent ++ held) ≡ sent → first (limit sent) held ≡ BadSize size
       → concat (messages limit [] ((concat sent ++ held) ++ more)) ≡ (concat sent ++ held) ++ more → ⊥
   none_bad sent held more size all bad whole =
       let stays : first (limit sent) (held ++ more) ≡ BadSize size = bad_stays (limit sent) size held more bad in
-      let none : messages limit sent (held ++ more) ≡ [] = messages_begin limit sent (held ++ more) ∙ ap (messages_from limit sent (held ++ more)) stays in
-      let is : messages limit [] ((concat sent ++ held) ++ more) ≡ sent = goes_on [] sent held more all ∙ ap (λ l. sent ++ l) none ∙ append-nil sent in
+      let is : messages limit [] ((concat sent ++ held) ++ more) ≡ sent = bad_all sent held more size all bad in
       let nothing : held ++ more ≡ [] = sym (append_cancel_left (concat sent) [] (held ++ more) (append-nil (concat sent) ∙ ap concat (sym is) ∙ whole ∙ append_assoc (concat sent) held more)) in
       let need : first (limit sent) (held ++ more) ≡ NeedMore = ap (first (limit sent)) nothing ∙ needs (limit sent) in
       absurd cc

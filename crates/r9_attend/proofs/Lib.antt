@@ -6,3 +6,4 @@ pub mod TheEnd
 pub mod TheWriter
 pub mod TheSession
 pub mod Complete
+pub mod Exact

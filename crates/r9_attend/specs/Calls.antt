@@ -11,7 +11,7 @@ use Rattle.r9_attend.specs.declared.ends.Attended.{Attended}
 use Rattle.r9_attend.specs.declared.ends.ReadEnd.TheVariants.{Closed, ReadFault}
 use Rattle.r9_attend.specs.declared.ends.WriteEnd.TheVariants as writer_end
 use Rattle.r9_attend.specs.Passes.{GoesOn, made_since}
-use Rattle.r9_attend.specs.Sessions.{Reads, EndsAt, IsRead, IsWritten, HasEnded, IsSessions, IsMade, IsTheirs, IsPlain, EndsPlainly}
+use Rattle.r9_attend.specs.Sessions.{Reads, EndsAt, IsRead, IsExactEnd, IsWritten, IsExactWriteEnd, HasEnded, IsSessions, IsMade, IsTheirs, IsPlain, EndsPlainly}
 use Rattle.r9_attend.specs.Steps.{IsTold, IsSpent, NotBegun}
 
 -- what sources and sinks tell: the bytes left and the faults, the bytes held, whether some are unflushed, and the faults
@@ -47,26 +47,30 @@ module _ {I O : Type 0} where
 
 module _ {I O : Type 0} (tells : Tells I O) (s : Server) where
   -- A call in a history: the messages of its session c are those of the bytes that were read, and the bytes that were put are
-  -- what was taken for it. It is closed where the writer ended it, and what is whole and meets no fault ends plainly.
+  -- what was taken for it. Each end is the one to which the bytes lead, or has a cause of its own, and what is whole and meets no
+  -- fault ends plainly.
   pub record Holds (k : Call I O) (c : ℕ) (history : List Event) : Type 0 where
     pub bytes : List ℕ
     pub reads : Reads (tells.left k.input_old) bytes (tells.left k.input)
     pub at_end : EndsAt k.attended.reader (tells.left k.input_old) bytes
     pub read : IsRead s c k.attended.reader bytes history
+    pub read_exact : IsExactEnd s (tells.left k.input_old) k.attended.reader
     pub written : IsWritten s c k.attended.writer (tells.held k.output_old) (tells.held k.output) history
-    pub told : IsTold s c k.attended.reader k.reader × IsSpent k.attended.writer k.writer
-    pub closed : k.attended.reader ≡ Closed → IsMade (writer_made k) (event.End c) × ((k.attended.writer ≡ writer_end.WriteFault) ⊎ (k.attended.writer ≡ writer_end.Memory))
+    pub write_exact : IsExactWriteEnd k.attended.writer
     pub complete : (Rose (tells.read_faults k.input_old) (tells.read_faults k.input) → ⊥) → (Rose (tells.write_faults k.output_old) (tells.write_faults k.output) → ⊥)
         → IsPlain s c (tells.left k.input_old) history → EndsPlainly k.attended.reader k.attended.writer
 
   -- Session c began. What the passes made is its begin, other entries of it, and stops, and it has ended. In a history whose
-  -- entries of the session are these, the call holds.
+  -- entries of the session are these, the call holds, and a reader that found the session closed found it so by the writer, which
+  -- met a fault or had no memory.
   pub record IsOfSession (k : Call I O) (c : ℕ) : Type 0 where
     pub began : IsMade (reader_made k) (event.Begin c)
     pub reader_made : All (IsSessions c) (reader_made k)
     pub writer_made : All (IsSessions c) (writer_made k)
     pub ended : HasEnded c k.reader
     pub told : IsTold s c k.attended.reader k.reader × IsSpent k.attended.writer k.writer
+    pub closed : k.attended.reader ≡ Closed → (history : List Entry) → IsTheirs c k.reader_old k.reader k.writer_old k.writer history
+        → IsMade (made_since k.writer_old k.writer) (event.End c) × ((k.attended.writer ≡ writer_end.WriteFault) ⊎ (k.attended.writer ≡ writer_end.Memory))
     pub holds : (history : List Entry) → IsTheirs c k.reader_old k.reader k.writer_old k.writer history → Holds k c (events_of history)
 
   -- No session began, and both ends name the cause. Nothing was read or put, and only stops were made.

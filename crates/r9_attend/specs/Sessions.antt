@@ -1,5 +1,5 @@
 -- What the two ends of a session say of a history.
-use Rattle.std.specs.Prelude.{◌≡◌, true, ◌≢◌, ◌≤◌, ◌^◌, ◌⊎◌, ℕ, List, [], ◌++◌, length, Contains, Option, Some, None, IfSome, ◌∷◌}
+use Rattle.std.specs.Prelude.{◌≡◌, true, ◌≢◌, ◌≤◌, ◌^◌, ◌⊎◌, ℕ, List, [], ◌++◌, length, drop, Contains, Option, Some, None, IfSome, ◌∷◌}
 use Rattle.std.specs.List.{concat}
 use Rattle.r9_event.specs.declared.event.Event.{Event}
 use Rattle.r9_event.specs.declared.event.Event.TheVariants as event
@@ -16,7 +16,7 @@ use Rattle.model_event.specs.Journal.{events_of}
 use Rattle.model_session.specs.Server.{Server, messages_of, takes, IsOver, is_of, is_msg, is_take}
 use Rattle.r9_attend.specs.Passes.{made_since}
 use Rattle.r9_attend.specs.declared.ends.ReadEnd.{ReadEnd}
-use Rattle.r9_attend.specs.declared.ends.ReadEnd.TheVariants.{Ended, Cut, BadSize, Duplicate, ReadFault, Memory, Spent}
+use Rattle.r9_attend.specs.declared.ends.ReadEnd.TheVariants.{Ended, Cut, BadSize, Duplicate, ReadFault, Closed, Memory, Spent}
 use Rattle.r9_attend.specs.declared.ends.WriteEnd.{WriteEnd}
 use Rattle.r9_attend.specs.declared.ends.WriteEnd.TheVariants as written
 
@@ -65,6 +65,35 @@ pub record IsRead (s : Server) (c : ℕ) (end : ReadEnd) (bytes : List ℕ) (his
   pub sent : AreSent s end (messages_of c history) bytes
   pub closed : s.closed history c ≡ tag_of end
   pub last : IsClosedByLast s c end history
+
+-- ---- where bytes lead
+
+-- what is left of bytes behind their messages
+abbrev pub rest_of : (limit : List (List ℕ) → ℕ) (bytes : List ℕ) → List ℕ
+rest_of limit bytes = drop (length (concat (messages limit [] bytes))) bytes
+
+-- the end of a reader to which these bytes are left, by what stands at their front
+abbrev pub end_at : cut.Cut → (rest : List ℕ) → ReadEnd
+end_at (cut.BadSize size) rest = BadSize size
+end_at _ [] = Ended
+end_at _ rest = Cut (length rest)
+
+-- the end to which bytes lead: BadSize where a bad size stands behind their messages, Ended where nothing does, and else Cut
+abbrev pub end_of : (limit : List (List ℕ) → ℕ) (bytes : List ℕ) → ReadEnd
+end_of limit bytes = end_at (first (limit (messages limit [] bytes)) (rest_of limit bytes)) (rest_of limit bytes)
+
+-- a reader's end with another cause than the bytes
+abbrev pub IsOther : ReadEnd → Type 0
+IsOther (Duplicate tag) = Unit {0}
+IsOther ReadFault = Unit {0}
+IsOther Closed = Unit {0}
+IsOther Memory = Unit {0}
+IsOther (Spent count) = Unit {0}
+IsOther _ = ⊥
+
+-- where a source tells its bytes, the reader's end is the one to which they lead, or it has another cause
+abbrev pub IsExactEnd : Server → (left : Option (List ℕ)) → ReadEnd → Type 0
+IsExactEnd s left end = IfSome left (λ bytes. (end ≡ end_of s.limit bytes) ⊎ IsOther end)
 
 -- ---- the writer
 
@@ -129,6 +158,10 @@ abbrev pub RanOutWriting : WriteEnd → Type 0
 RanOutWriting written.Memory = Unit {0}
 RanOutWriting (written.Spent count) = Unit {0}
 RanOutWriting _ = ⊥
+
+-- the writer is done, or it met a fault, or memory or the turns ran out
+abbrev pub IsExactWriteEnd : WriteEnd → Type 0
+IsExactWriteEnd end = (end ≡ written.Done) ⊎ (end ≡ written.WriteFault) ⊎ RanOutWriting end
 
 -- the source ended behind a whole message and all replies went out, or memory or the turns ran out
 abbrev pub EndsPlainly : ReadEnd → WriteEnd → Type 0

@@ -5,7 +5,7 @@ ghost use Rattle.r9_outside.specs.Count.{Rose};
 ghost use Rattle.r9_event.specs.declared.event.Event.{Event};
 ghost use Rattle.model_event.specs.Journal.{events_of};
 ghost use Rattle.r9_attend.specs.Passes.{GoesOn, made_since};
-ghost use Rattle.r9_attend.specs.Sessions.{Reads, EndsAt, IsRead, IsWritten, HasEnded, IsSessions, IsMade, IsTheirs, IsReady, IsPlain, EndsPlainly};
+ghost use Rattle.r9_attend.specs.Sessions.{Reads, EndsAt, IsRead, IsExactEnd, IsWritten, IsExactWriteEnd, HasEnded, IsSessions, IsMade, IsTheirs, IsReady, IsPlain, EndsPlainly};
 ghost use Rattle.r9_attend.specs.Steps.{IsTold, IsSpent, NotBegun, IsBegun, HasRead, HasWritten};
 
 use crate::ends::{Attended, ReadEnd, WriteEnd};
@@ -84,8 +84,11 @@ pub fn attend<T: Serves + Send, S: Source + Send, O: Sink + Send, R: Threads + W
     ensures ended { IfSome result.session (λ c. HasEnded c reader.new) }
     // In a history whose entries of the session are these, its messages are those of the bytes that were read, ..
     ensures read { IfSome result.session (λ c. (bytes : List ℕ) × Reads (S.left input.old) bytes (S.left input.new) × EndsAt result.reader (S.left input.old) bytes × ((history : List Entry) → IsTheirs c reader.old reader.new writer.old writer.new history → IsRead T.server c result.reader bytes (events_of history))) }
+    // .. its reader ends where all bytes that a source tells lead, or for another cause, ..
+    ensures read_exact { IfSome result.session (λ c. (history : List Entry) → IsTheirs c reader.old reader.new writer.old writer.new history → IsExactEnd T.server (S.left input.old) result.reader) }
     // .. and the bytes that were put are what was taken for it.
     ensures written { IfSome result.session (λ c. (history : List Entry) → IsTheirs c reader.old reader.new writer.old writer.new history → IsWritten T.server c result.writer (O.held output.old) (O.held output.new) (events_of history)) }
+    ensures write_exact { IfSome result.session (λ c. IsExactWriteEnd result.writer) }
     ensures told { IfSome result.session (λ c. IsTold T.server c result.reader reader.new × IsSpent result.writer writer.new) }
     ensures closed { IfSome result.session (λ c. result.reader ≡ ReadEnd.Closed → (history : List Entry) → IsTheirs c reader.old reader.new writer.old writer.new history → IsMade (made_since writer.old writer.new) (Event.End c) × ((result.writer ≡ WriteEnd.WriteFault) ⊎ (result.writer ≡ WriteEnd.Memory))) }
     // Whole messages of lawful sizes lead to plain ends, where no tag was that of a waiting read and neither end had a fault.

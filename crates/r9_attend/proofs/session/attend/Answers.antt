@@ -1,6 +1,7 @@
 use Rattle.model_event.specs.Journal.{events_of}
 use Rattle.r9_attend.proofs.TheSession.{begun_ready, both_go, began, made_theirs, theirs_read, theirs_written, theirs_closed, none_made}
 use Rattle.r9_attend.proofs.Complete.{plain_reader, plain_writer, plain_both}
+use Rattle.r9_attend.proofs.Exact.{exact_reader, exact_writer}
 use Rattle.r9_attend.proofs.session.attend.Goals as goal
 
 pub returns : goal.returns
@@ -37,7 +38,9 @@ returns g c =
       made = made_theirs s n r0 r1 r2 w0 w1 t b left faults held unflushed faults' e0 e1 i0 i1 o0 o1 hr hw;
       ended = hr.ended;
       read = theirs;
+      read_exact = λ history own. exact_reader s n (left i1) theirs.0 (events_of history) r2 (left i0) e0 (theirs.3 history own) theirs.1 theirs.2 hr.told;
       written = theirs_written s n r0 r1 r2 w0 w1 t b left faults held unflushed faults' e0 e1 i0 i1 o0 o1 hr hw;
+      write_exact = exact_writer e1 w1 hw.spent;
       told = (hr.told, hw.spent);
       closed = closed;
       complete = λ read_sure write_sure history own plain. plain_both e0 e1
