@@ -9,7 +9,7 @@ use Rattle.model_event.specs.Journal.{events_of}
 use Rattle.model_session.specs.Server.{Server}
 use Rattle.r9_attend.specs.declared.ends.ReadEnd.TheVariants.{Closed}
 use Rattle.r9_attend.specs.declared.ends.WriteEnd.TheVariants as writer_end
-use Rattle.r9_attend.specs.Sessions.{Reads, EndsAt, IsRead, IsWritten, HasEnded, IsSessions, IsMade, IsTheirs, IsPlain, EndsPlainly}
+use Rattle.r9_attend.specs.Sessions.{Reads, EndsAt, IsRead, IsExactEnd, IsWritten, IsExactWriteEnd, HasEnded, IsSessions, IsMade, IsTheirs, IsPlain, EndsPlainly}
 use Rattle.r9_attend.specs.Steps.{IsTold, IsSpent, NotBegun}
 use Rattle.r9_attend.specs.Calls.{Tells, Call, IsOfSession, IsOfNone, reader_made, writer_made}
 
@@ -26,25 +26,27 @@ module _ {I O : Type 0} (tells : Tells I O) (s : Server) (k : Call I O) where
       → IfSome o (λ c. HasEnded c k.reader)
       → IfSome o (λ c. (bytes : List ℕ) × Reads (tells.left k.input_old) bytes (tells.left k.input) × EndsAt k.attended.reader (tells.left k.input_old) bytes × ((history : List Entry) → IsTheirs c k.reader_old k.reader k.writer_old k.writer history → IsRead s c k.attended.reader bytes (events_of history)))
       → IfSome o (λ c. (history : List Entry) → IsTheirs c k.reader_old k.reader k.writer_old k.writer history → IsWritten s c k.attended.writer (tells.held k.output_old) (tells.held k.output) (events_of history))
+      → IfSome o (λ c. (history : List Entry) → IsTheirs c k.reader_old k.reader k.writer_old k.writer history → IsExactEnd s (tells.left k.input_old) k.attended.reader) → IfSome o (λ c. IsExactWriteEnd k.attended.writer)
       → IfSome o (λ c. IsTold s c k.attended.reader k.reader × IsSpent k.attended.writer k.writer)
       → IfSome o (λ c. k.attended.reader ≡ Closed → (history : List Entry) → IsTheirs c k.reader_old k.reader k.writer_old k.writer history → IsMade (writer_made k) (event.End c) × ((k.attended.writer ≡ writer_end.WriteFault) ⊎ (k.attended.writer ≡ writer_end.Memory)))
       → IfSome o (λ c. (Rose (tells.read_faults k.input_old) (tells.read_faults k.input) → ⊥) → (Rose (tells.write_faults k.output_old) (tells.write_faults k.output) → ⊥) → (history : List Entry) → IsTheirs c k.reader_old k.reader k.writer_old k.writer history → IsPlain s c (tells.left k.input_old) (events_of history) → EndsPlainly k.attended.reader k.attended.writer)
       → IfSome o (IsOfSession tells s k)
-  of_session None began made ended read written told closed complete = tt
-  of_session (Some c) began made ended read written told closed complete = record {
+  of_session None began made ended read written read_exact write_exact told closed complete = tt
+  of_session (Some c) began made ended read written read_exact write_exact told closed complete = record {
     began = began;
     reader_made = made.0;
     writer_made = made.1;
     ended = ended;
     told = told;
+    closed = closed;
     holds = λ history theirs. record {
       bytes = read.0;
       reads = read.1;
       at_end = read.2;
       read = read.3 history theirs;
+      read_exact = read_exact history theirs;
       written = written history theirs;
-      told = told;
-      closed = λ e. closed e history theirs;
+      write_exact = write_exact;
       complete = λ a b plain. complete a b history theirs plain;
     };
   }

@@ -93,7 +93,14 @@ module _ {D I O : Type 0} (doors : Doors D I O) (s : Server) where
       shifts = h.shift ∷ [];
       each = (subst (λ n. AtDoor doors n h.shift d e) same h.door, tt);
       calls = subst (All (IsCall doors s new)) (sym (append-nil h.shift.calls)) (All-weaker (IsCallAt doors s (place e r w)) (IsCall doors s new)
-          (λ k c. record { attends = c.attends; fresh = c.fresh; reader_seen = prefix_trans c.reader_seen seen; writer_seen = prefix_trans c.writer_seen seen' }) h.shift.calls h.working.each);
+          (λ k c. record {
+            attends = c.attends;
+            fresh = c.fresh;
+            reader_seen = prefix_trans c.reader_seen seen;
+            writer_seen = prefix_trans c.writer_seen seen';
+            reader_least = let x : k.reader.least ≤ r.least = c.reader_least in let y = left_least old r w new 1 h.working.reader h.working.writer is in omega arith;
+            writer_least = let x : k.writer.least ≤ w.least = c.writer_least in let y = right_least old r w new 1 h.working.reader h.working.writer is in omega arith;
+          }) h.shift.calls h.working.each);
       pass = both_go old r w new 1 h.working.reader h.working.writer is seen few;
       made = both_made old r w new 1 h.working.reader h.working.writer is ∙ (ap (λ l. l ++ made_since (given_of old 1) w) h.working.reader_made
           ∙ (ap (λ l. flat_map reader_made' h.shift.calls ++ l) h.working.writer_made ∙ sym (append-nil (made_by h.shift))));
@@ -115,6 +122,16 @@ module _ {D I O : Type 0} (doors : Doors D I O) (s : Server) where
       reader_made' k = made_since k.reader_old k.reader
 
   -- ---- two halves
+
+  later_call : (pass later : Known Entry) (k : Call I O) → IsPrefix pass.seen later.seen → pass.least ≤ later.least → IsCall doors s pass k → IsCall doors s later k
+  later_call pass later k seen least c = record {
+    attends = c.attends;
+    fresh = c.fresh;
+    reader_seen = prefix_trans c.reader_seen seen;
+    writer_seen = prefix_trans c.writer_seen seen;
+    reader_least = let x = c.reader_least in omega arith;
+    writer_least = let x = c.writer_least in omega arith;
+  }
 
   module _ (share : ℕ → ℕ) (n m shares : ℕ) (ds ds' es es' : List D) (old r w new : Known Entry) (first second report : Report)
       (h : Half doors s share n ds es (left_of old shares) r first) (k : Half doors s share m ds' es' (given_of old shares) w second)
@@ -138,8 +155,8 @@ module _ {D I O : Type 0} (doors : Doors D I O) (s : Server) where
       each = doors-append doors share n h.works.shifts k.works.shifts ds ds' es es' h.works.each (subst (λ j. AtDoors doors share j k.works.shifts ds' es') middle k.works.each);
       calls = subst (All (IsCall doors s new)) (sym (calls-append h.works.shifts k.works.shifts))
           (All-append (IsCall doors s new) (calls_of h.works.shifts) (calls_of k.works.shifts)
-          (All-weaker (IsCall doors s r) (IsCall doors s new) (λ j c. record { attends = c.attends; fresh = c.fresh; reader_seen = prefix_trans c.reader_seen seen; writer_seen = prefix_trans c.writer_seen seen }) (calls_of h.works.shifts) h.works.calls)
-          (All-weaker (IsCall doors s w) (IsCall doors s new) (λ j c. record { attends = c.attends; fresh = c.fresh; reader_seen = prefix_trans c.reader_seen seen'; writer_seen = prefix_trans c.writer_seen seen' }) (calls_of k.works.shifts) k.works.calls));
+          (All-weaker (IsCall doors s r) (IsCall doors s new) (λ j c. later_call r new j seen (left_least old r w new shares h.works.pass k.works.pass is) c) (calls_of h.works.shifts) h.works.calls)
+          (All-weaker (IsCall doors s w) (IsCall doors s new) (λ j c. later_call w new j seen' (right_least old r w new shares h.works.pass k.works.pass is) c) (calls_of k.works.shifts) k.works.calls));
       pass = both_go old r w new shares h.works.pass k.works.pass is seen few;
       made = both_made old r w new shares h.works.pass k.works.pass is ∙ (ap (λ l. l ++ made_since (given_of old shares) w) h.works.made
           ∙ (ap (λ l. flat_map made_by h.works.shifts ++ l) k.works.made ∙ sym (flat_map-append made_by h.works.shifts k.works.shifts)));

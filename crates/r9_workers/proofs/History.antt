@@ -1,8 +1,9 @@
 -- What workers did, in the history of their lock.
-use Rattle.std.proofs.Common.{◌≡◌, ℕ, zero, suc, ◌+◌, ◌≤◌, ◌<◌, Bool, true, false, cond, eqb, List, [], ◌∷◌, ◌++◌, refl, sym, ap, ◌∙◌, subst, arith, sum_by, ⊎_elim, inl, inr}
+use Rattle.std.proofs.Common.{◌≡◌, ℕ, zero, suc, ◌+◌, ◌≤◌, ◌<◌, ◌^◌, Bool, true, false, cond, eqb, List, [], ◌∷◌, ◌++◌, length, refl, sym, ap, ◌∙◌, subst, arith, sum_by, ⊎_elim, inl, inr}
 use Rattle.std.specs.Prelude.{◌⊎◌, Option, Some, None, All, Contains, IfSome, IfNone, count_by, slice_index_or}
 use Rattle.std.specs.List.{flat_map}
 use Rattle.std.proofs.lemmas.Bool.{eqb-true, eq-eqb}
+use Rattle.std.proofs.lemmas.List.{length-map}
 use Rattle.std.proofs.lemmas.List.Sums.{sum_by-cons, sum_by-append}
 use Rattle.std.proofs.lemmas.List.Elements.{All-contains, Contains-get_or, Contains-append_left, Contains-append_right, Contains-append_cases}
 use Rattle.r9_event.specs.declared.event.Event.{Event}
@@ -14,12 +15,18 @@ use Rattle.r9_lock.proofs.Lists.{is_numbered, prefix_trans}
 use Rattle.model_event.specs.Legal.{Roll, roll_after, no_sessions, AllowedFrom, IsLegal}
 use Rattle.model_event.specs.Journal.{events_of}
 use Rattle.model_session.specs.Server.{Server, is_of}
+use Rattle.r9_attend.specs.declared.ends.ReadEnd.{ReadEnd}
+use Rattle.r9_attend.specs.declared.ends.ReadEnd.TheVariants.{Memory, Spent, Crowded}
+use Rattle.r9_attend.specs.declared.ends.WriteEnd.{WriteEnd}
+use Rattle.r9_attend.specs.declared.ends.WriteEnd.TheVariants as written
 use Rattle.r9_attend.specs.Passes.{made_since}
 use Rattle.r9_attend.specs.Sessions.{IsSessions, IsMade, IsTheirs}
-use Rattle.r9_attend.specs.Calls.{Call, Attends, IsOfNone, IsOfSession, Holds, reader_made, writer_made}
+use Rattle.r9_attend.specs.Steps.{IsTold, IsSpent, NotBegun}
+use Rattle.r9_attend.specs.Calls.{Call, Attends, IsOfNone, IsOfSession, reader_made, writer_made}
 use Rattle.r9_attend.proofs.Growing.{since_is, since_none, number_above}
+use Rattle.r9_attend.proofs.Served.{events_has}
 use Rattle.r9_workers.specs.Shifts.{Shift, Doors, made_by, calls_of}
-use Rattle.r9_workers.specs.Serving.{IsCall, is_call_of, IsOfHistory, InHistory}
+use Rattle.r9_workers.specs.Serving.{IsCall, is_call_of, NoSession, IsSessionOf, IsOfHistory, InHistory}
 
 -- ---- lists
 
@@ -166,6 +173,15 @@ of_one c d Stop e f = absurd cc
 not_stop : (c : ℕ) (event : Event) → event ≡ Stop → is_of c event ≡ true → ⊥
 not_stop c event e f = let wrong : true ≡ false = sym f ∙ ap (is_of c) e in cc
 
+-- ---- no session
+
+-- the cause that both ends of a call without a session name
+no_session : (s : Server) (old new : Known Entry) (history : List Event) → new.least ≤ length history → (read : ReadEnd) (write : WriteEnd) → NotBegun s read write old new → NoSession history read write
+no_session s old new history few Crowded written.Crowded h = tt
+no_session s old new history few Memory written.Memory h = tt
+no_session s old new history few (Spent count) (written.Spent same) h = (h.0, (h.1.large, (let l = h.1.least in omega arith)))
+no_session s old new history few _ _ h = absurd h
+
 -- ---- calls
 
 module _ {D I O : Type 0} (doors : Doors D I O) (s : Server) where
@@ -286,15 +302,42 @@ module _ {D I O : Type 0} (doors : Doors D I O) (s : Server) where
         both : (v : Call I O) (m : ℕ × Entry) → Contains (reader_made v) m ⊎ Contains (writer_made v) m → Contains (reader_made v ++ writer_made v) m
         both v m h = ⊎_elim (λ (r : Contains (reader_made v) m). Contains-append_left (reader_made v) (writer_made v) m r) (λ (w : Contains (writer_made v) m). Contains-append_right (reader_made v) (writer_made v) m w) h
 
+    -- what a call's reader has seen stands in the history, which has as many entries as its passes know of
+    reader_in : (k : Call I O) → Contains (calls_of shifts) k → IsPrefix k.reader.seen history
+    reader_in k has = prefix_trans (call k has).reader_seen whole.seen
+
+    events_long : length (events_of history) ≡ length history
+    events_long = length-map history (λ (entry : Entry). entry.event)
+
+    reader_few : (k : Call I O) → Contains (calls_of shifts) k → k.reader.least ≤ length (events_of history)
+    reader_few k has = let a = (call k has).reader_least in let b = whole.least in let e = events_long in omega arith
+
+    writer_few : (k : Call I O) → Contains (calls_of shifts) k → k.writer.least ≤ length (events_of history)
+    writer_few k has = let a = (call k has).writer_least in let b = whole.least in let e = events_long in omega arith
+
+    in_session : (k : Call I O) → Contains (calls_of shifts) k → (c : ℕ) → k.attended.session ≡ Some c → IsOfSession doors.ends s k c → IsSessionOf doors s (events_of history) k c
+    in_session k has c is some = record {
+      begun = subst (Contains (events_of history)) some.began.2 (event_numbered 1 history some.began.0 (in_history some.began.0 (made_reader shifts k some.began.0 has some.began.1)));
+      ended = ⊎_elim (λ (h : Contains (events_of k.reader.seen) (End c)). inl (events_has (End c) (reader_in k has) h))
+          (λ (h : Contains (events_of k.reader.seen) Stop ⊎ (2 ^ 61 ≤ k.reader.least)). inr (⊎_elim (λ (j : Contains (events_of k.reader.seen) Stop). inl (events_has Stop (reader_in k has) j))
+          (λ (j : 2 ^ 61 ≤ k.reader.least). let l = reader_few k has in inr (omega arith)) h)) some.ended;
+      closed = λ e. (events_has (End c) (reader_in k has) (subst (λ end. IsTold s c end k.reader) e some.told.0), (some.closed e history (theirs k has c is)).1);
+      read_spent = λ n e. let t : IsTold s c (Spent n) k.reader = subst (λ end. IsTold s c end k.reader) e some.told.0 in let m = t.1 in let l = reader_few k has in (t.0, omega arith);
+      write_spent = λ n e. let t : IsSpent (written.Spent n) k.writer = subst (λ end. IsSpent end k.writer) e some.told.1 in let m = t.1 in let l = writer_few k has in (t.0, omega arith);
+      uncrowded = λ e. subst (λ end. IsTold s c end k.reader) e some.told.0;
+      holds = some.holds history (theirs k has c is);
+    }
+
     holds : (k : Call I O) → Contains (calls_of shifts) k → IsOfHistory doors s (events_of history) k
-    holds k has = go k.attended.session refl (call k has).attends.some
+    holds k has = record { some = some_in k.attended.session refl (call k has).attends.some; none = none_of k.attended.session (call k has).attends.none }
       where
-        go : (o : Option ℕ) → k.attended.session ≡ o → IfSome o (IsOfSession doors.ends s k) → IfSome o (λ c. Contains (events_of history) (Begin c) × Holds doors.ends s k c (events_of history))
-        go None is some = tt
-        go (Some c) is some = (
-          subst (Contains (events_of history)) some.began.2 (event_numbered 1 history some.began.0 (in_history some.began.0 (made_reader shifts k some.began.0 has some.began.1))),
-          some.holds history (theirs k has c is),
-        )
+        some_in : (o : Option ℕ) → k.attended.session ≡ o → IfSome o (IsOfSession doors.ends s k) → IfSome o (IsSessionOf doors s (events_of history) k)
+        some_in None is some = tt
+        some_in (Some c) is some = in_session k has c is some
+
+        none_of : (o : Option ℕ) → IfNone o (IsOfNone doors.ends s k) → IfNone o (NoSession (events_of history) k.attended.reader k.attended.writer)
+        none_of None none = no_session s k.reader_old k.reader (events_of history) (reader_few k has) k.attended.reader k.attended.writer none.cause
+        none_of (Some c) none = tt
 
     pub told : InHistory doors s (events_of history) (calls_of shifts)
     told = record { once = count; each = all_contained (IsOfHistory doors s (events_of history)) (calls_of shifts) holds }

@@ -164,8 +164,15 @@ module _ {D I O : Type 0} (doors : Doors D I O) (s : Server) where
       counted = let c = so.counted in omega arith;
       each = All-push (IsCallAt doors s (place d' k.reader k.writer)) calls k
           (All-weaker (IsCallAt doors s (place d k.reader_old k.writer_old)) (IsCallAt doors s (place d' k.reader k.writer))
-          (λ j h. record { attends = h.attends; fresh = h.fresh; reader_seen = prefix_trans h.reader_seen a.reader_goes.seen; writer_seen = prefix_trans h.writer_seen a.writer_goes.seen }) calls so.each)
-          (record { attends = a; fresh = fresh; reader_seen = prefix_refl k.reader.seen; writer_seen = prefix_refl k.writer.seen });
+          (λ j h. record {
+            attends = h.attends;
+            fresh = h.fresh;
+            reader_seen = prefix_trans h.reader_seen a.reader_goes.seen;
+            writer_seen = prefix_trans h.writer_seen a.writer_goes.seen;
+            reader_least = let l = h.reader_least in let m = a.reader_goes.least in omega arith;
+            writer_least = let l = h.writer_least in let m = a.writer_goes.least in omega arith;
+          }) calls so.each)
+          (record { attends = a; fresh = fresh; reader_seen = prefix_refl k.reader.seen; writer_seen = prefix_refl k.writer.seen; reader_least = omega arith; writer_least = omega arith });
       reader = goes_both old.reader k.reader_old k.reader so.reader a.reader_goes;
       writer = goes_both old.writer k.writer_old k.writer so.writer a.writer_goes;
       reader_made = since_two old.reader k.reader_old k.reader so.reader.made a.reader_goes.made ∙ (ap (λ l. l ++ reader_made k) so.reader_made
@@ -209,7 +216,7 @@ module _ {D I O : Type 0} (doors : Doors D I O) (s : Server) where
       (subst (λ x. Working doors s calls old (place d' r x) report') (sym un.writer) record {
         ended = un.ended ∙ so.ended;
         counted = let a = so.counted in let b = un.counted in omega arith;
-        each = All-weaker (IsCallAt doors s (place d r w)) (IsCallAt doors s (place d' r w)) (λ j h. record { attends = h.attends; fresh = h.fresh; reader_seen = h.reader_seen; writer_seen = h.writer_seen }) calls so.each;
+        each = All-weaker (IsCallAt doors s (place d r w)) (IsCallAt doors s (place d' r w)) (λ j h. record { attends = h.attends; fresh = h.fresh; reader_seen = h.reader_seen; writer_seen = h.writer_seen; reader_least = h.reader_least; writer_least = h.writer_least }) calls so.each;
         reader = so.reader;
         writer = so.writer;
         reader_made = so.reader_made;

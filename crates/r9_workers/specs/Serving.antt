@@ -1,13 +1,17 @@
 -- What workers promise beside each other, and what that says of the history of their lock.
-use Rattle.std.specs.Prelude.{◌≡◌, ◌≤◌, ◌/◌, ◌^◌, ◌==◌, ℕ, Bool, true, false, List, count_by, All, Contains, Option, Some, None, IfSome, is_some}
+use Rattle.std.specs.Prelude.{◌≡◌, ◌≢◌, ◌≤◌, ◌/◌, ◌^◌, ◌==◌, ◌⊎◌, ℕ, Bool, true, false, List, length, count_by, All, Contains, Option, Some, None, IfSome, IfNone, is_some}
 use Rattle.std.specs.List.{flat_map}
 use Rattle.std.specs.List.Sorted.{IsPermutation, IsNonDecreasingBy}
 use Rattle.r9_event.specs.declared.event.Event.{Event}
-use Rattle.r9_event.specs.declared.event.Event.TheVariants.{Begin}
+use Rattle.r9_event.specs.declared.event.Event.TheVariants.{Begin, End, Stop}
 use Rattle.r9_event.specs.declared.event.Entry.{Entry}
 use Rattle.r9_lock.specs.Histories.{IsPrefix}
 use Rattle.r9_lock.specs.Passes.{Known}
 use Rattle.model_session.specs.Server.{Server}
+use Rattle.r9_attend.specs.declared.ends.ReadEnd.{ReadEnd}
+use Rattle.r9_attend.specs.declared.ends.ReadEnd.TheVariants.{Closed, Memory, Spent, Crowded}
+use Rattle.r9_attend.specs.declared.ends.WriteEnd.{WriteEnd}
+use Rattle.r9_attend.specs.declared.ends.WriteEnd.TheVariants as written
 use Rattle.r9_attend.specs.Passes.{GoesOn, made_since}
 use Rattle.r9_attend.specs.Sessions.{RanOut, RanOutWriting}
 use Rattle.r9_attend.specs.Calls.{Call, Attends, Holds}
@@ -34,13 +38,27 @@ abbrev pub is_call_of : (c : ℕ) → Option ℕ → Bool
 is_call_of c None = false
 is_call_of c (Some d) = d == c
 
+-- the count of a lock that has no more turns: it is large, and the history has at least half of it as entries
+abbrev pub IsSpentAt : (history : List Event) (count : ℕ) → Type 0
+IsSpentAt history count = (2 ^ 62 ≤ count) × (count / 2 ≤ length history)
+
+-- Both ends say why no session began: there were too many sessions, there was no memory, or the lock had no more turns.
+abbrev pub NoSession : (history : List Event) → ReadEnd → WriteEnd → Type 0
+NoSession history Crowded written.Crowded = Unit {0}
+NoSession history Memory written.Memory = Unit {0}
+NoSession history (Spent count) (written.Spent same) = (same ≡ count) × IsSpentAt history count
+NoSession history _ _ = ⊥
+
 module _ {D I O : Type 0} (doors : Doors D I O) (s : Server) where
-  -- a call of `attend`, with a sink that held nothing, and with passes whose entries a pass has seen
+  -- a call of `attend`, with a sink that held nothing, and with passes of which a pass has seen all that they have seen, and knows of
+  -- as many entries as they do
   pub record IsCall (pass : Known Entry) (k : Call I O) : Type 0 where
     pub attends : Attends doors.ends s k
     pub fresh : IsFresh doors k
     pub reader_seen : IsPrefix k.reader.seen pass.seen
     pub writer_seen : IsPrefix k.writer.seen pass.seen
+    pub reader_least : k.reader.least ≤ pass.least
+    pub writer_least : k.writer.least ≤ pass.least
 
   -- Workers, from this number on, each at its door. Together they made what the pass has made since, worker after worker. Of the
   -- doors that failed the lowest worker's is named, and of a lock that is spent the count, at least half of which the
@@ -65,11 +83,24 @@ module _ {D I O : Type 0} (doors : Doors D I O) (s : Server) where
 
   -- ---- the history
 
-  -- a call's session was begun in the history, and what `attend` says of it holds there
-  abbrev pub IsOfHistory : (history : List Event) → Call I O → Type 0
-  IsOfHistory history k = IfSome k.attended.session (λ c. Contains history (Begin c) × Holds doors.ends s k c history)
+  -- The history begins session c. It ends it, or has a Stop, or has so many entries that the lock had no more turns. Where the reader
+  -- found the session closed, the history ends it, and the writer met a fault or had no memory. What `attend` says of the session
+  -- holds in the history.
+  pub record IsSessionOf (history : List Event) (k : Call I O) (c : ℕ) : Type 0 where
+    pub begun : Contains history (Begin c)
+    pub ended : Contains history (End c) ⊎ Contains history Stop ⊎ (2 ^ 61 ≤ length history)
+    pub closed : k.attended.reader ≡ Closed → Contains history (End c) × ((k.attended.writer ≡ written.WriteFault) ⊎ (k.attended.writer ≡ written.Memory))
+    pub read_spent : (count : ℕ) → k.attended.reader ≡ Spent count → IsSpentAt history count
+    pub write_spent : (count : ℕ) → k.attended.writer ≡ written.Spent count → IsSpentAt history count
+    pub uncrowded : k.attended.reader ≢ Crowded
+    pub holds : Holds doors.ends s k c history
 
-  -- each session that the history begins is that of one call
+  -- a call's session stands in the history, or both ends say why none began
+  pub record IsOfHistory (history : List Event) (k : Call I O) : Type 0 where
+    pub some : IfSome k.attended.session (IsSessionOf history k)
+    pub none : IfNone k.attended.session (NoSession history k.attended.reader k.attended.writer)
+
+  -- each session that the history begins is that of one call, and each call is told of in the history
   pub record InHistory (history : List Event) (calls : List (Call I O)) : Type 0 where
     pub once : (c : ℕ) → Contains history (Begin c) → count_by (λ (k : Call I O). is_call_of c k.attended.session) calls ≡ 1
     pub each : All (IsOfHistory history) calls

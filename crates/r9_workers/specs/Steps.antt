@@ -69,12 +69,14 @@ module _ {D I O : Type 0} (doors : Doors D I O) (s : Server) where
   IsNext (Err fault.Failed) old new = Unmoved old new × Rose (doors.faults old.door) (doors.faults new.door)
   IsNext (Err fault.Memory) old new = Unmoved old new
 
-  -- a call of a worker whose passes have seen its entries
+  -- a call of a worker whose passes have seen its entries, and know of as many entries as its passes do
   pub record IsCallAt (now : Place D) (k : Call I O) : Type 0 where
     pub attends : Attends doors.ends s k
     pub fresh : IsFresh doors k
     pub reader_seen : IsPrefix k.reader.seen now.reader.seen
     pub writer_seen : IsPrefix k.writer.seen now.writer.seen
+    pub reader_least : k.reader.least ≤ now.reader.least
+    pub writer_least : k.writer.least ≤ now.writer.least
 
   -- the count of a spent lock, at least half of which one of the passes knows the history to have as entries
   abbrev pub IsLarge : (now : Place D) → ℕ → Type 0
