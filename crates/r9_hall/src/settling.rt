@@ -80,19 +80,30 @@ fn stirred(alloc: Global, notes: &[(u32, Note)], wrote: u32) -> Result<Vec<u32>,
 }
 
 impl Sessions {
+    /// The sessions to ask after an event in which something happened at these windows, in ascending order: those whose reads that
+    /// may have woken, and that of the event where reads of it wait.
+    fn woken_at(&self, alloc: Global, session: u32, windows: &[u32]) -> Result<Vec<u32>, Memory>
+        ensures { IfOk result (λ asked. AreWoken session windows.now self.now.live.entries asked.items) }
+    {
+        let mut asked = Vec::new(alloc);
+        for (number, found) in &self.live {
+            if found.may_wake(windows) || *number == session && found.is_waiting() {
+                asked.push(*number)?;
+            }
+        }
+        Ok(asked)
+    }
+
     /// The sessions to ask after an event, in ascending order: those whose reads something may have woken, and that of the event
     /// where reads of it wait.
     pub(crate) fn woken(&self, alloc: Global, session: u32, wrote: u32) -> Result<Vec<u32>, Memory>
         ensures { IfOk result (λ asked. AreWoken session (stirred (desktop_of self.now.desktop).notes wrote) self.now.live.entries asked.items) }
     {
-        let windows = stirred(alloc, self.desktop.notes(), wrote)?;
-        let mut asked = Vec::new(alloc);
-        for (number, found) in &self.live {
-            if found.may_wake(&windows) || *number == session && found.is_waiting() {
-                asked.push(*number)?;
-            }
+        if self.desktop.notes().is_empty() {
+            return self.woken_at(alloc, session, &[wrote]);
         }
-        Ok(asked)
+        let windows = stirred(alloc, self.desktop.notes(), wrote)?;
+        self.woken_at(alloc, session, &windows)
     }
 
     /// Answers reads of a session, each time the earliest that can be, until none can be any more. No session below has one that
