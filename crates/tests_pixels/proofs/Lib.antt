@@ -1,2 +1,0 @@
-mod Living
-mod Sizes
