@@ -40,7 +40,7 @@ strip_within column row n q wide low h =
     holds_from cell q (record { left = omega (arith, ints, b.left); right = omega (arith, ints, b.right); top = omega (arith, ints, b.top); bottom = omega (arith, ints, b.bottom) })
 
 -- a cell is not left of the first nor right of the last
-column_below : (r : Rect) (p : Point) → holds r p ≡ true → distance r.min.x p.x / 32 < cells_across r
+pub column_below : (r : Rect) (p : Point) → holds r p ≡ true → distance r.min.x p.x / 32 < cells_across r
 column_below r p h = let at = place_of r p h in omega (arith, at.column)
 
 -- no two points have one place

@@ -29,7 +29,7 @@ blank_replicate n k =
     (cases_lt k n)
 
 -- a row without a tile in the place of another
-cell_blank : (rows : List (List (Option ℕ))) (i : ℕ) (row : List (Option ℕ)) → i < length rows → IsBlank (row_at rows i) → IsBlank row → (j k : ℕ) → cell_at (set rows i row) j k ≡ cell_at rows j k
+pub cell_blank : (rows : List (List (Option ℕ))) (i : ℕ) (row : List (Option ℕ)) → i < length rows → IsBlank (row_at rows i) → IsBlank row → (j k : ℕ) → cell_at (set rows i row) j k ≡ cell_at rows j k
 cell_blank rows i row below was now j k =
     ⊎_elim
     (λ (same : j ≡ i).
@@ -59,7 +59,7 @@ pub rows_more : (rows : List Row) (row : Row) → row.cells.items ≡ [] → row
 rows_more [] row none = ap (λ (r : List (Option ℕ)). r ∷ []) none
 rows_more (r ∷ rows) row none = ap (λ (rs : List (List (Option ℕ))). r.cells.items ∷ rs) (rows_more rows row none)
 
-row_more : (rows : List (List (Option ℕ))) (j : ℕ) → row_at (rows ++ ([] ∷ [])) j ≡ row_at rows j
+pub row_more : (rows : List (List (Option ℕ))) (j : ℕ) → row_at (rows ++ ([] ∷ [])) j ≡ row_at rows j
 row_more [] zero = refl
 row_more [] (suc j) = refl
 row_more (r ∷ rows) zero = refl

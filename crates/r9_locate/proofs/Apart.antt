@@ -8,7 +8,7 @@ use Rattle.r9_plane.specs.Pixels.{along}
 use Rattle.model_forest.specs.World.{World, image_at, parent_of, IsLive}
 use Rattle.model_forest.proofs.Changes.{live-standing}
 use Rattle.model_kept.specs.Keeping.{own, outward, is_shown, keeping, keeping_within, place_among, IsStanding, Place}
-use Rattle.r9_locate.specs.Lists.{HasBits}
+use Rattle.r9_locate.specs.Forms.{bits_in, Form, HasBits}
 use Rattle.model_kept.proofs.Storing.{carried-back, step_of}
 
 -- who keeps a pixel stands no higher than the image
@@ -69,20 +69,20 @@ keeping-injective world ok (suc depth) i y z live same =
         by_test false false e = ap (λ (k : Place). k.at) e
 
 -- what keeps a pixel of an image has as many bits a pixel
-pub keeping-bits : (world : World) → IsStanding world → (bits : ℕ → ℕ) → HasBits world bits → (depth i : ℕ) (y : Point) → IsLive world i → bits (keeping_within depth world i y).image ≡ bits i
-keeping-bits world ok bits same zero i y live = refl
-keeping-bits world ok bits same (suc depth) i y live =
-    by_parent (parent_of world i) refl (λ parent. keeping-bits world ok bits same depth parent (outward world parent i y))
+pub keeping-bits : (world : World) → IsStanding world → (forms : ℕ → Option Form) → HasBits world forms → (depth i : ℕ) (y : Point) → IsLive world i → bits_in forms (keeping_within depth world i y).image ≡ bits_in forms i
+keeping-bits world ok forms same zero i y live = refl
+keeping-bits world ok forms same (suc depth) i y live =
+    by_parent (parent_of world i) refl (λ parent. keeping-bits world ok forms same depth parent (outward world parent i y))
   where
-    by_parent : (o : Option ℕ) → parent_of world i ≡ o → ((parent : ℕ) → IsLive world parent → bits (keeping_within depth world parent (outward world parent i y)).image ≡ bits parent) → bits (option_map_or (step_of depth world i y) o (own i y)).image ≡ bits i
+    by_parent : (o : Option ℕ) → parent_of world i ≡ o → ((parent : ℕ) → IsLive world parent → bits_in forms (keeping_within depth world parent (outward world parent i y)).image ≡ bits_in forms parent) → bits_in forms (option_map_or (step_of depth world i y) o (own i y)).image ≡ bits_in forms i
     by_parent None stands above = refl
     by_parent (Some parent) stands above = by_test (is_shown world parent i (outward world parent i y))
       where
-        by_test : (b : Bool) → bits (if b then keeping_within depth world parent (outward world parent i y) else own i y).image ≡ bits i
+        by_test : (b : Bool) → bits_in forms (if b then keeping_within depth world parent (outward world parent i y) else own i y).image ≡ bits_in forms i
         by_test false = refl
         by_test true = above parent (ok.parents i parent live stands) ∙ sym (same i parent live stands)
 
 -- and so what keeps points side by side
-pub run_bits : (world : World) → IsStanding world → (bits : ℕ → ℕ) → HasBits world bits → (i j : ℕ) (start at : Point) (len : ℕ) → IsLive world i → 0 < len → ((k : ℕ) → k < len → keeping world i (along start k) ≡ own j (along at k)) → bits j ≡ bits i
-run_bits world ok bits same i j start at len live some found =
-    ap (λ (place : Place). bits place.image) (sym (found 0 some)) ∙ keeping-bits world ok bits same (image_at world i).depth i (along start 0) live
+pub run_bits : (world : World) → IsStanding world → (forms : ℕ → Option Form) → HasBits world forms → (i j : ℕ) (start at : Point) (len : ℕ) → IsLive world i → 0 < len → ((k : ℕ) → k < len → keeping world i (along start k) ≡ own j (along at k)) → bits_in forms j ≡ bits_in forms i
+run_bits world ok forms same i j start at len live some found =
+    ap (λ (place : Place). bits_in forms place.image) (sym (found 0 some)) ∙ keeping-bits world ok forms same (image_at world i).depth i (along start 0) live

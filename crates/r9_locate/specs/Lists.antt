@@ -1,8 +1,8 @@
 -- Images without their pixels, as a world.
-use Rattle.std.specs.Prelude.{◌≡◌, ◌^◌, ℕ, Bool, false, ◌&&◌, List, Option, None, Some, option_map, slice_index_or, All}
+use Rattle.std.specs.Prelude.{◌^◌, ℕ, Bool, ◌&&◌, List, Option, None, option_map, slice_index_or, All}
 use Rattle.r9_geom.specs.declared.Point.{Point}
 use Rattle.r9_geom.specs.Geometry.{holds, IsRectNearBy}
-use Rattle.model_forest.specs.World.{Image, World, image_at, parent_of, IsLive}
+use Rattle.model_forest.specs.World.{Image, World, image_at, IsLive}
 use Rattle.model_kept.specs.Keeping.{is_top}
 use Rattle.r9_locate.specs.declared.lists.Frame.{Frame}
 
@@ -10,9 +10,9 @@ use Rattle.r9_locate.specs.declared.lists.Frame.{Frame}
 abbrev pub frame_image : Frame → Image
 frame_image frame = record {
   r = frame.r;
-  clipr = frame.r;
-  repl = false;
-  chan = 0;
+  clipr = frame.clipr;
+  repl = frame.repl;
+  chan = frame.chan;
   standing = frame.standing;
   depth = frame.depth;
   canvas = λ _. 0;
@@ -32,7 +32,3 @@ IsNearby world = (i : ℕ) → IsLive world i → IsRectNearBy (2 ^ 40) (image_a
 -- an image shows a window of it
 abbrev pub shows : Frame → ℕ → Point → Bool
 shows frame i q = holds frame.r q && is_top frame.windows.items i q
-
--- the pixels of a window have as many bits as those of its parent
-abbrev pub HasBits : World → (ℕ → ℕ) → Type 0
-HasBits world bits = (i p : ℕ) → IsLive world i → parent_of world i ≡ Some p → bits i ≡ bits p

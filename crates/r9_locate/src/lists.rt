@@ -8,6 +8,7 @@ ghost use Rattle.model_kept.specs.Keeping.{HasOnePlaces, IsStanding};
 ghost use Rattle.r9_locate.specs.Lists.{shape_of, IsNearby};
 
 use model_forest::{Standing, Window};
+use r9_chan::Chan;
 use r9_geom::{Point, Rect};
 use std::alloc::Global;
 
@@ -15,6 +16,9 @@ use std::alloc::Global;
 #[derive(Drop)]
 pub struct Frame {
     pub r: Rect,
+    pub clipr: Rect,
+    pub repl: bool,
+    pub chan: Chan,
     pub standing: Option<Standing>,
     pub depth: u32,
     /// Topmost first.

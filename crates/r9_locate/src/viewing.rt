@@ -1,13 +1,13 @@
 //! Pixels read and written by rows, where they are kept.
 
-ghost use Rattle.std.specs.Prelude.{◌≡◌, ◌≢◌, ◌+◌, ◌^◌, ◌<◌, ◌≤◌, ℕ, Bool, true, length, slice_index, IsTrue};
+ghost use Rattle.std.specs.Prelude.{◌≡◌, ◌≢◌, ◌+◌, ◌^◌, ◌<◌, ◌≤◌, ℕ, Bool, true, length, slice_index, IsTrue, Option};
 ghost use Rattle.r9_geom.specs.declared.Point.{Point as Spot};
 ghost use Rattle.r9_geom.specs.Geometry.{holds, strip, IsNear};
 ghost use Rattle.r9_plane.specs.Pixels.{along};
 ghost use Rattle.model_forest.specs.World.{image_at, IsLive};
 ghost use Rattle.model_forest.specs.View as view;
 ghost use Rattle.model_kept.specs.Keeping.{keeping, own, Place};
-ghost use Rattle.r9_locate.specs.Lists.{HasBits};
+ghost use Rattle.r9_locate.specs.Forms.{bits_in, Form, HasBits};
 ghost use Rattle.r9_locate.specs.Table.{shape};
 
 use super::lists::Lists;
@@ -23,23 +23,23 @@ pub trait Pixels {
     ghost kept: { Self → Place → ℕ };
     // Whether there is such a place.
     ghost has: { Self → Place → Bool };
-    // How many bits each pixel of an image has.
-    ghost bits: { Self → ℕ → ℕ };
+    // What each image has for its pixels.
+    ghost forms: { Self → ℕ → Option Form };
 
     /// Reads pixels that an image keeps side by side.
     fn read(&self, i: u32, from: Point, raws: &mut [u32])
         requires { (k : ℕ) → k < length raws.old → has self.now (own i (along from k)) ≡ true }
         ensures pixels { (k : ℕ) → k < length raws.old → slice_index raws.new k ≡ kept self.now (own i (along from k)) }
-        ensures below { (k : ℕ) → k < length raws.old → slice_index raws.new k < 2 ^ bits self.now i };
+        ensures below { (k : ℕ) → k < length raws.old → slice_index raws.new k < 2 ^ bits_in (forms self.now) i };
 
     /// Writes pixels that an image keeps side by side, a step for each.
     fn write<L: Ledger>(&mut self, i: u32, at: Point, raws: &[u32], steps: &mut Steps<L>)
         requires has { (k : ℕ) → k < length raws.now → has self.old (own i (along at k)) ≡ true }
-        requires below { (k : ℕ) → k < length raws.now → slice_index raws.now k < 2 ^ bits self.old i }
+        requires below { (k : ℕ) → k < length raws.now → slice_index raws.now k < 2 ^ bits_in (forms self.old) i }
         ensures at { (k : ℕ) → k < length raws.now → kept self.new (own i (along at k)) ≡ slice_index raws.now k }
         ensures others { (place : Place) → ((k : ℕ) → k < length raws.now → place ≢ own i (along at k)) → kept self.new place ≡ kept self.old place }
         ensures has { has self.new ≡ has self.old }
-        ensures bits { bits self.new ≡ bits self.old }
+        ensures forms { forms self.new ≡ forms self.old }
         ensures steps { steps.new ≡ steps.old + length raws.now };
 }
 
@@ -60,8 +60,8 @@ pub fn read_view<P: Pixels>(lists: &Lists, pixels: &P, i: u32, from: Point, raws
     requires width { length raws.old ≤ 2 ^ 40 }
     requires inside { (p : Spot) → IsTrue (holds (strip from (length raws.old)) p) → IsTrue (holds (image_at (shape lists.now) i).r p) }
     requires has { (k : ℕ) → k < length raws.old → P.has pixels.now (keeping (shape lists.now) i (along from k)) ≡ true }
-    requires bits { HasBits (shape lists.now) (P.bits pixels.now) }
-    ensures below { (k : ℕ) → k < length raws.old → slice_index raws.new k < 2 ^ P.bits pixels.now i }
+    requires bits { HasBits (shape lists.now) (P.forms pixels.now) }
+    ensures below { (k : ℕ) → k < length raws.old → slice_index raws.new k < 2 ^ bits_in (P.forms pixels.now) i }
     ensures pixels { (k : ℕ) → k < length raws.old → slice_index raws.new k ≡ P.kept pixels.now (keeping (shape lists.now) i (along from k)) }
 {
     let mut done = 0;
@@ -86,12 +86,12 @@ pub fn write_view<P: Pixels, L: Ledger>(
     requires width { length raws.now ≤ 2 ^ 40 }
     requires inside { (p : Spot) → IsTrue (holds (strip at (length raws.now)) p) → IsTrue (holds (image_at (shape lists.now) i).r p) }
     requires has { (k : ℕ) → k < length raws.now → P.has pixels.old (keeping (shape lists.now) i (along at k)) ≡ true }
-    requires bits { HasBits (shape lists.now) (P.bits pixels.old) }
-    requires below { (k : ℕ) → k < length raws.now → slice_index raws.now k < 2 ^ P.bits pixels.old i }
+    requires bits { HasBits (shape lists.now) (P.forms pixels.old) }
+    requires below { (k : ℕ) → k < length raws.now → slice_index raws.now k < 2 ^ bits_in (P.forms pixels.old) i }
     ensures at { (k : ℕ) → k < length raws.now → P.kept pixels.new (keeping (shape lists.now) i (along at k)) ≡ slice_index raws.now k }
     ensures others { (place : Place) → ((k : ℕ) → k < length raws.now → place ≢ keeping (shape lists.now) i (along at k)) → P.kept pixels.new place ≡ P.kept pixels.old place }
     ensures has { P.has pixels.new ≡ P.has pixels.old }
-    ensures bits { P.bits pixels.new ≡ P.bits pixels.old }
+    ensures forms { P.forms pixels.new ≡ P.forms pixels.old }
     ensures steps { steps.new ≡ steps.old + length raws.now }
 {
     let mut done = 0;

@@ -1,1 +1,6 @@
+pub mod Coming
 pub mod Owning
+pub mod Points
+pub mod Standing
+pub mod Taking
+pub mod Telling

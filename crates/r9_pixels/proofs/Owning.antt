@@ -1,20 +1,25 @@
 -- What images keep their pixels in, as it is read and written.
-use Rattle.std.proofs.Common.{◌≡◌, ◌≢◌, ◌∙◌, ℕ, zero, suc, ◌<◌, arith, eq-eqb, Bool, true, false, List, length, get_or, set, Option, Some, None, ⊎_elim, sym, ap}
-use Rattle.std.specs.Prelude.{◌==◌, ◌&&◌}
+use Rattle.std.proofs.Common.{◌≡◌, ◌≢◌, ◌∙◌, ℕ, zero, suc, ◌<◌, arith, eq-eqb, Bool, true, false, List, length, get_or, set, Option, Some, None, ⊎_elim, refl, sym, ap}
+use Rattle.std.specs.Prelude.{◌==◌, ◌≤◌, ◌&&◌, option_map, if◌then◌else◌}
 use Rattle.std.specs.Option.{option_map_or}
-use Rattle.std.proofs.lemmas.Bool.{and_from, and_parts, cases_Bool, cases_eq, cases_lt, false≢true}
+use Rattle.std.proofs.lemmas.Bool.{and_from, and_parts, cases_Bool, cases_eq, cases_lt, false≢true, ne_eqb}
 use Rattle.std.proofs.lemmas.Bool.Decides.{Decides-eqb}
 use Rattle.std.proofs.lemmas.List.{get_or-set_other, get_or-set_same, get_or_past, get_or_read}
+use Rattle.std.proofs.Math.ListN.{length-set}
 use Rattle.r9_geom.specs.declared.Point.{Point}
+use Rattle.r9_geom.specs.declared.Rect.{Rect}
 use Rattle.r9_geom.specs.Geometry.{is_point}
 use Rattle.r9_geom.proofs.GeometryLemmas.{is_point_true, true_is_point}
 use Rattle.r9_plane.specs.declared.plane.Plane.{Plane}
-use Rattle.r9_cells.specs.Rows.{CellPlace}
+use Rattle.model_pixel.specs.Channels.{depth}
+use Rattle.r9_locate.specs.Forms.{Form}
+use Rattle.r9_cells.specs.Fitting.{IsCelled}
+use Rattle.r9_cells.specs.Rows.{cell_at, row_at, CellPlace}
 use Rattle.r9_cells.specs.declared.table.Cells.{Cells}
 use Rattle.r9_pixels.specs.declared.own.Extent.{Extent}
 use Rattle.r9_pixels.specs.declared.own.Own.{Own}
 use Rattle.r9_pixels.specs.declared.own.Own.TheVariants.{Whole, Hidden}
-use Rattle.r9_pixels.specs.Owns.{has_in, own_at}
+use Rattle.r9_pixels.specs.Owns.{form_in, has_in, own_at, IsTabled}
 
 -- an image that has a place is one of the table
 pub own_below : (owns : List (Option Own)) (cells : Cells) (i : ℕ) (p : Point) → option_map_or (has_in cells i p) (own_at owns i) false ≡ true → i < length owns
@@ -35,15 +40,47 @@ own_same owns i slot below = get_or-set_same owns i slot None below
 pub own_other : (owns : List (Option Own)) (i j : ℕ) (slot : Option Own) → j ≢ i → own_at (set owns i slot) j ≡ own_at owns j
 own_other owns i j slot other = get_or-set_other owns i j slot None other
 
--- a plane that was written is no window
-pub hidden_still : (owns : List (Option Own)) (i j : ℕ) (plane : Plane) (extent : Extent) → i < length owns → own_at (set owns i (Some (Whole plane))) j ≡ Some (Hidden extent) → own_at owns j ≡ Some (Hidden extent)
-hidden_still owns i j plane extent below is =
+-- a slot that keeps no window
+abbrev pub IsNoWindow : Option Own → Type 0
+IsNoWindow slot = (extent : Extent) → slot ≢ Some (Hidden extent)
+
+pub no_window : (plane : Plane) → IsNoWindow (Some (Whole plane))
+no_window plane extent is = cc
+
+pub none_window : (slot : Option Own) → slot ≡ None → IsNoWindow slot
+none_window slot none extent is = cc
+
+-- a slot without a form keeps nothing
+pub form_none : (slot : Option Own) → option_map form_in slot ≡ None → slot ≡ None
+form_none None e = refl
+form_none (Some kept) e = cc
+
+-- a window is another image than one whose slot was set to none, and stays
+pub hidden_set : (owns : List (Option Own)) (i j : ℕ) (slot : Option Own) (extent : Extent) → i < length owns → IsNoWindow slot → own_at (set owns i slot) j ≡ Some (Hidden extent) → (j ≢ i) × (own_at owns j ≡ Some (Hidden extent))
+hidden_set owns i j slot extent below none is =
     ⊎_elim
-    (λ (same : j ≡ i).
-    let both : Some (Whole plane) ≡ Some (Hidden extent) = sym (own_same owns i (Some (Whole plane)) below) ∙ ap (own_at (set owns i (Some (Whole plane)))) (sym same) ∙ is in
-    absurd (cc))
-    (λ (other : j ≢ i). sym (own_other owns i j (Some (Whole plane)) other) ∙ is)
+    (λ (same : j ≡ i). absurd (none extent (sym (own_same owns i slot below) ∙ ap (own_at (set owns i slot)) (sym same) ∙ is)))
+    (λ (other : j ≢ i). (other, sym (own_other owns i j slot other) ∙ is))
     (cases_eq j i)
+
+pub hidden_stays : (owns : List (Option Own)) (i j : ℕ) (slot : Option Own) (extent : Extent) → IsNoWindow (own_at owns i) → own_at owns j ≡ Some (Hidden extent) → own_at (set owns i slot) j ≡ Some (Hidden extent)
+hidden_stays owns i j slot extent none is =
+    ⊎_elim
+    (λ (same : j ≡ i). absurd (none extent (ap (own_at owns) (sym same) ∙ is)))
+    (λ (other : j ≢ i). own_other owns i j slot other ∙ is)
+    (cases_eq j i)
+
+-- what is told of each slot, after one was set
+pub set_each : {C : Type 0} (owns : List (Option Own)) (i : ℕ) (slot : Option Own) (tell : Option Own → C) → i < length owns → (n : ℕ) → tell (own_at (set owns i slot) n) ≡ (if n == i then tell slot else tell (own_at owns n))
+set_each owns i slot tell below n =
+    ⊎_elim
+    (λ (same : n ≡ i).
+    ap tell (ap (own_at (set owns i slot)) same ∙ own_same owns i slot below)
+    ∙ sym (ap (λ b. if b then tell slot else tell (own_at owns n)) (eq-eqb n i same)))
+    (λ (other : n ≢ i).
+    ap tell (own_other owns i n slot other)
+    ∙ sym (ap (λ b. if b then tell slot else tell (own_at owns n)) (ne_eqb n i other)))
+    (cases_eq n i)
 
 -- a slot that was set to what it was
 pub own_again : (owns : List (Option Own)) (i j : ℕ) (slot : Option Own) → i < length owns → own_at owns i ≡ slot → own_at (set owns i slot) j ≡ own_at owns j
@@ -55,6 +92,37 @@ own_again owns i j slot below is =
 
 pub extent_is : (a b : Extent) → Some (Hidden a) ≡ Some (Hidden b) → a ≡ b
 extent_is a b same = cc
+
+-- how many bits the pixels of a slot have
+abbrev pub own_bits : Option Own → ℕ
+own_bits slot = option_map_or (λ (form : Form). depth form.chan) (option_map form_in slot) 0
+
+-- the cells of a rectangle, where a row is as long
+pub celled_as : (rows more : List (List (Option ℕ))) (i : ℕ) (r : Rect) → length rows ≤ length more → length (row_at more i) ≡ length (row_at rows i) → IsCelled rows i r → IsCelled more i r
+celled_as rows more i r longer long celled = record {
+  near = celled.near;
+  ordered = celled.ordered;
+  image = omega (arith, longer, celled.image);
+  cells = long ∙ celled.cells;
+}
+
+-- the same windows, with rows of cells as long
+pub tabled_as : (owns new : List (Option Own)) (rows more : List (List (Option ℕ))) → length more ≡ length new → length rows ≤ length more → ((j : ℕ) (extent : Extent) → own_at new j ≡ Some (Hidden extent) → own_at owns j ≡ Some (Hidden extent)) → ((j : ℕ) (extent : Extent) → own_at owns j ≡ Some (Hidden extent) → own_at new j ≡ Some (Hidden extent)) → ((j : ℕ) → length (row_at more j) ≡ length (row_at rows j)) → ((j k : ℕ) → IsNoWindow (own_at new j) → cell_at rows j k ≡ None → cell_at more j k ≡ None) → IsTabled owns rows → IsTabled new more
+tabled_as owns new rows more long longer was stays lengths none tabled = record {
+  numbers = long;
+  windows = λ j extent is. celled_as rows more j extent.r longer (lengths j) (tabled.windows j extent (was j extent is));
+  others = λ j k no. none j k no (tabled.others j k (λ extent is. no extent (stays j extent is)));
+}
+
+-- and where a slot with no window was set to another
+pub tabled_set : (owns : List (Option Own)) (i : ℕ) (slot : Option Own) (rows : List (List (Option ℕ))) → i < length owns → IsNoWindow (own_at owns i) → IsNoWindow slot → IsTabled owns rows → IsTabled (set owns i slot) rows
+tabled_set owns i slot rows below was now tabled =
+    tabled_as owns (set owns i slot) rows rows (tabled.numbers ∙ sym (length-set owns i slot)) (omega arith)
+    (λ j extent is. (hidden_set owns i j slot extent below now is).1)
+    (λ j extent is. hidden_stays owns i j slot extent was is)
+    (λ j. refl)
+    (λ j k no none. none)
+    tabled
 
 -- one number below another passes a test, or none
 pub by_search : {C : Type 0} (n : ℕ) (test : ℕ → Bool) → ((k : ℕ) → k < n → test k ≡ true → C) → (((k : ℕ) → k < n → test k ≡ false) → C) → C

@@ -1,9 +1,15 @@
 -- The pixels of a table of images.
-use Rattle.std.specs.Prelude.{ℕ, Bool, false}
+use Rattle.std.specs.Prelude.{◌≡◌, ℕ, Bool, false, List, Option, length, option_map}
 use Rattle.std.specs.Option.{option_map_or}
+use Rattle.model_forest.specs.declared.Window.{Window}
+use Rattle.model_forest.specs.World.{World}
 use Rattle.model_kept.specs.Keeping.{Place}
+use Rattle.r9_store.specs.Tiles.{spare}
+use Rattle.r9_locate.specs.Forms.{Form}
+use Rattle.r9_cells.specs.Cells.{all_rows, tiles_in}
+use Rattle.r9_cells.specs.Fitting.{wanted_all}
 use Rattle.r9_pixels.specs.declared.keeping.KeptPixels.{KeptPixels}
-use Rattle.r9_pixels.specs.Owns.{bits_in, has_in, kept_in, own_at}
+use Rattle.r9_pixels.specs.Owns.{form_in, has_in, kept_in, own_at}
 
 -- the pixel at a place, 0 where there is none
 abbrev pub kept_at : KeptPixels → Place → ℕ
@@ -13,6 +19,24 @@ kept_at pixels place = option_map_or (kept_in pixels.cells place.image place.at)
 abbrev pub has_place : KeptPixels → Place → Bool
 has_place pixels place = option_map_or (has_in pixels.cells place.image place.at) (own_at pixels.owns.items place.image) false
 
--- how many bits a pixel of an image has
-abbrev pub bits_of : KeptPixels → ℕ → ℕ
-bits_of pixels i = option_map_or bits_in (own_at pixels.owns.items i) 0
+-- what an image has for its pixels
+abbrev pub form_at : KeptPixels → ℕ → Option Form
+form_at pixels i = option_map form_in (own_at pixels.owns.items i)
+
+-- the numbers below this one have room for an image
+abbrev pub room_of : KeptPixels → ℕ
+room_of pixels = length pixels.owns.items
+
+-- how many tiles are spare
+abbrev pub spare_in : KeptPixels → ℕ
+spare_in pixels = spare (tiles_in pixels.cells)
+
+-- how many cells that image p hides with these windows have no tile
+abbrev pub wanted_in : KeptPixels → World → ℕ → List Window → ℕ
+wanted_in pixels world p windows = wanted_all (all_rows pixels.cells) world p windows windows
+
+-- both keep the same, at the same places
+pub record IsUnchanged (old new : KeptPixels) : Type 0 where
+  pub kept : kept_at new ≡ kept_at old
+  pub has : has_place new ≡ has_place old
+  pub forms : form_at new ≡ form_at old

@@ -1,12 +1,15 @@
 -- What images keep their pixels in, by number.
-use Rattle.std.specs.Prelude.{◌≡◌, ◌^◌, ◌<◌, ℕ, Bool, List, Option, Some, None, slice_index_or, if◌then◌else◌}
+use Rattle.std.specs.Prelude.{◌≡◌, ◌≢◌, ◌^◌, ◌<◌, ℕ, Bool, true, false, length, List, Option, Some, None, slice_index_or, if◌then◌else◌}
 use Rattle.r9_geom.specs.declared.Point.{Point}
-use Rattle.r9_geom.specs.Geometry.{holds, IsRectNear}
+use Rattle.r9_geom.specs.Geometry.{holds}
 use Rattle.model_pixel.specs.Channels.{depth}
+use Rattle.r9_plane.specs.declared.plane.Plane.{Plane}
 use Rattle.r9_plane.specs.Pixels.{chan_of, pixel_at, rect_of}
+use Rattle.r9_locate.specs.Forms.{Form}
 use Rattle.r9_cells.specs.declared.table.Cells.{Cells}
 use Rattle.r9_cells.specs.Cells.{all_rows, cell_pixel, place_pixel}
-use Rattle.r9_cells.specs.Rows.{cell_place, has_tile}
+use Rattle.r9_cells.specs.Fitting.{IsCelled}
+use Rattle.r9_cells.specs.Rows.{cell_at, cell_place, has_tile}
 use Rattle.r9_pixels.specs.declared.own.Extent.{Extent}
 use Rattle.r9_pixels.specs.declared.own.Own.{Own}
 use Rattle.r9_pixels.specs.declared.own.Own.TheVariants.{Whole, Hidden}
@@ -23,14 +26,23 @@ abbrev pub has_in : Cells → ℕ → Point → Own → Bool
 has_in cells i p (Whole plane) = holds (rect_of plane) p
 has_in cells i p (Hidden extent) = has_tile (all_rows cells) i extent.r p
 
-abbrev pub bits_in : Own → ℕ
-bits_in (Whole plane) = depth (chan_of plane)
-bits_in (Hidden extent) = depth extent.chan
+-- the form of a plane, and of a window's tiles
+abbrev pub plane_form : Plane → Form
+plane_form plane = record { r = rect_of plane; chan = chan_of plane; is_window = false }
 
--- the windows' rectangles are near 0
-abbrev pub IsNearby : List (Option Own) → Type 0
-IsNearby owns = (i : ℕ) (extent : Extent) → own_at owns i ≡ Some (Hidden extent) → IsRectNear extent.r
+abbrev pub window_form : Extent → Form
+window_form extent = record { r = extent.r; chan = extent.chan; is_window = true }
+
+abbrev pub form_in : Own → Form
+form_in (Whole plane) = plane_form plane
+form_in (Hidden extent) = window_form extent
+
+-- each number has a row of cells: that of a window those of its rectangle, and the others none with a tile
+pub record IsTabled (owns : List (Option Own)) (rows : List (List (Option ℕ))) : Type 0 where
+  pub numbers : length rows ≡ length owns
+  pub windows : (i : ℕ) (extent : Extent) → own_at owns i ≡ Some (Hidden extent) → IsCelled rows i extent.r
+  pub others : (i k : ℕ) → ((extent : Extent) → own_at owns i ≢ Some (Hidden extent)) → cell_at rows i k ≡ None
 
 -- the pixels in a window's tiles have no more bits than its channels
-abbrev pub IsFitting : List (Option Own) → Cells → Type 0
-IsFitting owns cells = (i k : ℕ) (p : Point) (extent : Extent) → own_at owns i ≡ Some (Hidden extent) → cell_pixel cells i k p < 2 ^ depth extent.chan
+abbrev pub IsWithinBits : List (Option Own) → Cells → Type 0
+IsWithinBits owns cells = (i k : ℕ) (p : Point) (extent : Extent) → own_at owns i ≡ Some (Hidden extent) → cell_pixel cells i k p < 2 ^ depth extent.chan

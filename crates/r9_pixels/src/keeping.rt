@@ -5,7 +5,9 @@ ghost use Rattle.r9_plane.specs.Pixels.{along};
 ghost use Rattle.model_kept.specs.Keeping.{own, Place};
 ghost use Rattle.r9_pixels.specs.declared.own.Extent.{Extent as Size};
 ghost use Rattle.r9_pixels.specs.declared.own.Own.TheVariants.{Hidden};
-ghost use Rattle.r9_pixels.specs.Owns.{own_at, IsFitting, IsNearby};
+ghost use Rattle.r9_locate.specs.Forms.{bits_in};
+ghost use Rattle.r9_cells.specs.Cells.{all_rows};
+ghost use Rattle.r9_pixels.specs.Owns.{own_at, IsTabled, IsWithinBits};
 
 use super::own::{Extent, Own};
 use r9_cells::Cells;
@@ -18,18 +20,20 @@ use std::sync::ledger::Ledger;
 /// The pixels that images keep, by the number of the image.
 #[derive(Drop)]
 pub struct KeptPixels {
-    owns: Vec<Option<Own>>,
-    cells: Cells,
-    ghost near: { IsNearby owns.items },
-    ghost fits: { IsFitting owns.items cells },
+    pub(crate) owns: Vec<Option<Own>>,
+    pub(crate) cells: Cells,
+    ghost tabled: { IsTabled owns.items (all_rows cells) },
+    ghost bounded: { IsWithinBits owns.items cells },
 }
 
 impl KeptPixels {
-    ghost use Rattle.r9_pixels.specs.Kept.{bits_of, has_place, kept_at};
+    ghost use Rattle.r9_pixels.specs.Kept.{form_at, has_place, kept_at, room_of};
 
-    /// No image.
+    /// No image, and room for none.
     pub fn new(alloc: Global) -> Self
-        ensures { (place : Place) → has_place result place ≡ false }
+        ensures places { (place : Place) → has_place result place ≡ false }
+        ensures forms { (i : ℕ) → form_at result i ≡ None }
+        ensures room { room_of result ≡ 0 }
     {
         KeptPixels {
             owns: Vec::new(alloc),
@@ -54,7 +58,7 @@ impl KeptPixels {
         requires is { own_at self.now.owns.items i ≡ Some keeper.now }
         requires has { (k : ℕ) → k < length raws.old → has_place self.now (own i (along from k)) ≡ true }
         ensures pixels { (k : ℕ) → k < length raws.old → slice_index raws.new k ≡ kept_at self.now (own i (along from k)) }
-        ensures below { (k : ℕ) → k < length raws.old → slice_index raws.new k < 2 ^ bits_of self.now i }
+        ensures below { (k : ℕ) → k < length raws.old → slice_index raws.new k < 2 ^ bits_in (form_at self.now) i }
     {
         match keeper {
             Own::Whole(plane) => plane.get_row(from, raws),
@@ -67,11 +71,11 @@ impl KeptPixels {
         requires live { i < vec_len self.old.owns }
         requires whole { (extent : Size) → own_at self.old.owns.items i ≢ Some (Hidden extent) }
         requires has { (k : ℕ) → k < length raws.now → has_place self.old (own i (along at k)) ≡ true }
-        requires below { (k : ℕ) → k < length raws.now → slice_index raws.now k < 2 ^ bits_of self.old i }
+        requires below { (k : ℕ) → k < length raws.now → slice_index raws.now k < 2 ^ bits_in (form_at self.old) i }
         ensures at { (k : ℕ) → k < length raws.now → kept_at self.new (own i (along at k)) ≡ slice_index raws.now k }
         ensures others { (place : Place) → ((k : ℕ) → k < length raws.now → place ≢ own i (along at k)) → kept_at self.new place ≡ kept_at self.old place }
         ensures has { has_place self.new ≡ has_place self.old }
-        ensures bits { bits_of self.new ≡ bits_of self.old }
+        ensures forms { form_at self.new ≡ form_at self.old }
     {
         if let Some(Own::Whole(plane)) = &mut self.owns[i as usize] {
             plane.put_row(at, raws);
@@ -82,11 +86,11 @@ impl KeptPixels {
     fn put_hidden(&mut self, i: u32, extent: Extent, at: Point, raws: &[u32])
         requires hidden { own_at self.old.owns.items i ≡ Some (Hidden extent) }
         requires has { (k : ℕ) → k < length raws.now → has_place self.old (own i (along at k)) ≡ true }
-        requires below { (k : ℕ) → k < length raws.now → slice_index raws.now k < 2 ^ bits_of self.old i }
+        requires below { (k : ℕ) → k < length raws.now → slice_index raws.now k < 2 ^ bits_in (form_at self.old) i }
         ensures at { (k : ℕ) → k < length raws.now → kept_at self.new (own i (along at k)) ≡ slice_index raws.now k }
         ensures others { (place : Place) → ((k : ℕ) → k < length raws.now → place ≢ own i (along at k)) → kept_at self.new place ≡ kept_at self.old place }
         ensures has { has_place self.new ≡ has_place self.old }
-        ensures bits { bits_of self.new ≡ bits_of self.old }
+        ensures forms { form_at self.new ≡ form_at self.old }
     {
         self.cells.write(i as usize, &extent.r, at, raws);
     }
@@ -95,11 +99,11 @@ impl KeptPixels {
     fn put(&mut self, i: u32, at: Point, raws: &[u32])
         requires live { i < vec_len self.old.owns }
         requires has { (k : ℕ) → k < length raws.now → has_place self.old (own i (along at k)) ≡ true }
-        requires below { (k : ℕ) → k < length raws.now → slice_index raws.now k < 2 ^ bits_of self.old i }
+        requires below { (k : ℕ) → k < length raws.now → slice_index raws.now k < 2 ^ bits_in (form_at self.old) i }
         ensures at { (k : ℕ) → k < length raws.now → kept_at self.new (own i (along at k)) ≡ slice_index raws.now k }
         ensures others { (place : Place) → ((k : ℕ) → k < length raws.now → place ≢ own i (along at k)) → kept_at self.new place ≡ kept_at self.old place }
         ensures has { has_place self.new ≡ has_place self.old }
-        ensures bits { bits_of self.new ≡ bits_of self.old }
+        ensures forms { form_at self.new ≡ form_at self.old }
     {
         match self.extent(i) {
             Some(extent) => self.put_hidden(i, extent, at, raws),
@@ -109,13 +113,13 @@ impl KeptPixels {
 }
 
 impl Pixels for KeptPixels {
-    ghost use Rattle.r9_pixels.specs.Kept.{bits_of, has_place, kept_at};
+    ghost use Rattle.r9_pixels.specs.Kept.{form_at, has_place, kept_at};
 
     ghost kept = { kept_at };
 
     ghost has = { has_place };
 
-    ghost bits = { bits_of };
+    ghost forms = { form_at };
 
     fn read(&self, i: u32, from: Point, raws: &mut [u32]) {
         if raws.is_empty() {

@@ -9,7 +9,7 @@ ghost use Rattle.model_forest.specs.World.{image_at, parent_of, IsLive};
 ghost use Rattle.model_forest.specs.View as view;
 ghost use Rattle.model_forest.specs.View.{top_window};
 ghost use Rattle.model_kept.specs.Keeping.{is_top, keeping, outward, own, Place};
-ghost use Rattle.r9_locate.specs.Lists.{HasBits};
+ghost use Rattle.r9_locate.specs.Forms.{bits_in, HasBits};
 ghost use Rattle.r9_locate.specs.Table.{shape};
 ghost use Rattle.model_kept.specs.Restack.{with_list, IsRestacked};
 ghost use Rattle.r9_restack.specs.Moving.{more, IsFresh};
@@ -53,11 +53,11 @@ fn save<P: Pixels, L: Ledger>(
     requires live { (v : Stood) → a ≡ Some v → IsLive (shape lists.now) v.image }
     requires place { (v : Stood) → a ≡ Some v → IsNear v.place.min }
     requires has { (v : Stood) → a ≡ Some v → v.image ≢ w → (k : ℕ) → k < length raws.now → P.has pixels.old (own v.image (along (view.inward (shape lists.now) v q) k)) ≡ true }
-    requires below { (v : Stood) → a ≡ Some v → v.image ≢ w → (k : ℕ) → k < length raws.now → slice_index raws.now k < 2 ^ P.bits pixels.old v.image }
+    requires below { (v : Stood) → a ≡ Some v → v.image ≢ w → (k : ℕ) → k < length raws.now → slice_index raws.now k < 2 ^ bits_in (P.forms pixels.old) v.image }
     ensures saved { (v : Stood) → a ≡ Some v → v.image ≢ w → (k : ℕ) → k < length raws.now → P.kept pixels.new (own v.image (along (view.inward (shape lists.now) v q) k)) ≡ slice_index raws.now k }
     ensures others { (place : Place) → ((v : Stood) → a ≡ Some v → v.image ≢ w → (k : ℕ) → k < length raws.now → place ≢ own v.image (along (view.inward (shape lists.now) v q) k)) → P.kept pixels.new place ≡ P.kept pixels.old place }
     ensures has { P.has pixels.new ≡ P.has pixels.old }
-    ensures bits { P.bits pixels.new ≡ P.bits pixels.old }
+    ensures forms { P.forms pixels.new ≡ P.forms pixels.old }
     ensures steps { steps.new ≤ steps.old + length raws.now }
 {
     if let Some(v) = a {
@@ -84,7 +84,7 @@ fn fetch<P: Pixels, S: Source>(
     ensures none { b ≡ None → (k : ℕ) → k < length raws.old → slice_index raws.new k ≡ S.fill source.now (along q k) }
     ensures of_w { (v : Stood) → b ≡ Some v → v.image ≡ w → (k : ℕ) → k < length raws.old → slice_index raws.new k ≡ S.given source.now (along (view.inward (shape lists.now) v q) k) }
     ensures owned { (v : Stood) → b ≡ Some v → v.image ≢ w → (k : ℕ) → k < length raws.old → slice_index raws.new k ≡ P.kept pixels.now (own v.image (along (view.inward (shape lists.now) v q) k)) }
-    ensures below { (v : Stood) → b ≡ Some v → v.image ≢ w → (k : ℕ) → k < length raws.old → slice_index raws.new k < 2 ^ P.bits pixels.now v.image }
+    ensures below { (v : Stood) → b ≡ Some v → v.image ≢ w → (k : ℕ) → k < length raws.old → slice_index raws.new k < 2 ^ bits_in (P.forms pixels.now) v.image }
 {
     match b {
         None => source.fills(q, raws),
@@ -126,12 +126,12 @@ fn show<P: Pixels, S: Source, L: Ledger>(
     requires b_place { (v : Stood) → b ≡ Some v → IsNear v.place.min }
     requires b_has { (v : Stood) → b ≡ Some v → v.image ≢ w → (k : ℕ) → k < length raws.old → P.has pixels.old (own v.image (along (view.inward (shape lists.now) v q) k)) ≡ true }
     requires apart { (u v : Stood) → a ≡ Some u → b ≡ Some v → v.image ≢ w → u.image ≢ v.image }
-    requires bits { HasBits (shape lists.now) (P.bits pixels.old) }
-    requires given { (x : Spot) → S.given source.now x < 2 ^ P.bits pixels.old p }
-    requires fill { (z : Spot) → S.fill source.now z < 2 ^ P.bits pixels.old p }
+    requires bits { HasBits (shape lists.now) (P.forms pixels.old) }
+    requires given { (x : Spot) → S.given source.now x < 2 ^ bits_in (P.forms pixels.old) p }
+    requires fill { (z : Spot) → S.fill source.now z < 2 ^ bits_in (P.forms pixels.old) p }
     ensures shown { IsShownAnew (shape lists.now) p w a b (S.given source.now) (S.fill source.now) q (length raws.old) (P.kept pixels.old) (P.kept pixels.new) }
     ensures has { P.has pixels.new ≡ P.has pixels.old }
-    ensures bits { P.bits pixels.new ≡ P.bits pixels.old }
+    ensures forms { P.forms pixels.new ≡ P.forms pixels.old }
     ensures steps { steps.new ≤ steps.old + 2 * length raws.old }
 {
     read_view(lists, pixels, p, q, raws);
@@ -175,12 +175,12 @@ fn change_part<P: Pixels, S: Source, L: Ledger>(
     requires news { (k : ℕ) → k < length raws.old → top_window new.now (along q k) ≡ top_window new.now q }
     requires near_new { All (λ v. IsNear v.place.min) new.now }
     requires places { HasPlacesBut (shape lists.now) p new.now w (P.has pixels.old) }
-    requires bits { HasBits (shape lists.now) (P.bits pixels.old) }
-    requires given { (x : Spot) → S.given source.now x < 2 ^ P.bits pixels.old p }
-    requires fill { (z : Spot) → S.fill source.now z < 2 ^ P.bits pixels.old p }
+    requires bits { HasBits (shape lists.now) (P.forms pixels.old) }
+    requires given { (x : Spot) → S.given source.now x < 2 ^ bits_in (P.forms pixels.old) p }
+    requires fill { (z : Spot) → S.fill source.now z < 2 ^ bits_in (P.forms pixels.old) p }
     ensures moved { (before : Place → ℕ) (done : Spot → Bool) → IsFresh q (length raws.old) done → IsChanged (shape lists.now) p new.now w (S.given source.now) (S.fill source.now) before (P.kept pixels.old) done → IsChanged (shape lists.now) p new.now w (S.given source.now) (S.fill source.now) before (P.kept pixels.new) (more q (length raws.old) done) }
     ensures has { P.has pixels.new ≡ P.has pixels.old }
-    ensures bits { P.bits pixels.new ≡ P.bits pixels.old }
+    ensures forms { P.forms pixels.new ≡ P.forms pixels.old }
     ensures steps { steps.new ≤ steps.old + 2 * length raws.old }
 {
     let old = &lists.get(p).windows;
@@ -209,12 +209,12 @@ fn change_row<P: Pixels, S: Source, L: Ledger>(
     requires inside { (z : Spot) → IsTrue (holds (strip at n) z) → IsTrue (holds (image_at (shape lists.now) p).r z) }
     requires near_new { All (λ v. IsNear v.place.min) new.now }
     requires places { HasPlacesBut (shape lists.now) p new.now w (P.has pixels.old) }
-    requires bits { HasBits (shape lists.now) (P.bits pixels.old) }
-    requires given { (x : Spot) → S.given source.now x < 2 ^ P.bits pixels.old p }
-    requires fill { (z : Spot) → S.fill source.now z < 2 ^ P.bits pixels.old p }
+    requires bits { HasBits (shape lists.now) (P.forms pixels.old) }
+    requires given { (x : Spot) → S.given source.now x < 2 ^ bits_in (P.forms pixels.old) p }
+    requires fill { (z : Spot) → S.fill source.now z < 2 ^ bits_in (P.forms pixels.old) p }
     ensures moved { (before : Place → ℕ) (done : Spot → Bool) → IsFresh at n done → IsChanged (shape lists.now) p new.now w (S.given source.now) (S.fill source.now) before (P.kept pixels.old) done → IsChanged (shape lists.now) p new.now w (S.given source.now) (S.fill source.now) before (P.kept pixels.new) (more at n done) }
     ensures has { P.has pixels.new ≡ P.has pixels.old }
-    ensures bits { P.bits pixels.new ≡ P.bits pixels.old }
+    ensures forms { P.forms pixels.new ≡ P.forms pixels.old }
     ensures steps { steps.new ≤ steps.old + 2 * n }
 {
     let mut block = [0; BLOCK];
@@ -255,12 +255,12 @@ pub(crate) fn change_area<P: Pixels, S: Source, L: Ledger>(
     requires inside { (z : Spot) → IsTrue (holds area.now z) → IsTrue (holds (image_at (shape lists.now) p).r z) }
     requires near_new { All (λ v. IsNear v.place.min) new.now }
     requires places { HasPlacesBut (shape lists.now) p new.now w (P.has pixels.old) }
-    requires bits { HasBits (shape lists.now) (P.bits pixels.old) }
-    requires given { (x : Spot) → S.given source.now x < 2 ^ P.bits pixels.old p }
-    requires fill { (z : Spot) → S.fill source.now z < 2 ^ P.bits pixels.old p }
+    requires bits { HasBits (shape lists.now) (P.forms pixels.old) }
+    requires given { (x : Spot) → S.given source.now x < 2 ^ bits_in (P.forms pixels.old) p }
+    requires fill { (z : Spot) → S.fill source.now z < 2 ^ bits_in (P.forms pixels.old) p }
     ensures moved { IsChanged (shape lists.now) p new.now w (S.given source.now) (S.fill source.now) (P.kept pixels.old) (P.kept pixels.new) (holds area.now) }
     ensures has { P.has pixels.new ≡ P.has pixels.old }
-    ensures bits { P.bits pixels.new ≡ P.bits pixels.old }
+    ensures forms { P.forms pixels.new ≡ P.forms pixels.old }
     ensures steps { steps.new ≤ steps.old + 2 * area_of area.now }
 {
     let width = area.width() as usize;
@@ -299,12 +299,12 @@ pub fn change<P: Pixels, S: Source, L: Ledger>(
     requires outside { (z : Spot) → IsTrue (holds (image_at (shape lists.now) p).r z) → holds area.now z ≡ false → StaysTop (shape lists.now) p new.now w z }
     requires near_new { All (λ v. IsNear v.place.min) new.now }
     requires places { HasPlacesBut (shape lists.now) p new.now w (P.has pixels.old) }
-    requires bits { HasBits (shape lists.now) (P.bits pixels.old) }
-    requires given { (x : Spot) → S.given source.now x < 2 ^ P.bits pixels.old p }
-    requires fill { (z : Spot) → S.fill source.now z < 2 ^ P.bits pixels.old p }
+    requires bits { HasBits (shape lists.now) (P.forms pixels.old) }
+    requires given { (x : Spot) → S.given source.now x < 2 ^ bits_in (P.forms pixels.old) p }
+    requires fill { (z : Spot) → S.fill source.now z < 2 ^ bits_in (P.forms pixels.old) p }
     ensures moved { (as_before as_after : Place → ℕ) → IsGiven (shape lists.now) p new.now w (S.given source.now) (P.kept pixels.old) (P.kept pixels.new) as_before as_after → IsRestacked (shape lists.now) (with_list (shape lists.now) p new.now) p as_before as_after (S.fill source.now) }
     ensures has { P.has pixels.new ≡ P.has pixels.old }
-    ensures bits { P.bits pixels.new ≡ P.bits pixels.old }
+    ensures forms { P.forms pixels.new ≡ P.forms pixels.old }
     ensures steps { steps.new ≤ steps.old + 2 * area_of area.now }
 {
     change_area(lists, pixels, source, p, w, new, area, steps);

@@ -5,6 +5,7 @@ ghost use Rattle.r9_geom.specs.declared.Point.{Point as Spot};
 ghost use Rattle.r9_geom.specs.Geometry.{area_of, carried, holds, IsNear, IsOrdered, IsRectNear};
 ghost use Rattle.r9_plane.specs.Pixels.{along};
 ghost use Rattle.model_kept.specs.Keeping.{is_top, own, Place};
+ghost use Rattle.r9_locate.specs.Forms.{bits_in};
 
 use super::changing::Source;
 use model_forest::Window;
@@ -49,11 +50,11 @@ fn keep_part<P: Pixels, S: Source, L: Ledger>(
     steps: &mut Steps<L>,
 )
     requires has { is ≡ false → (k : ℕ) → k < length raws.old → P.has pixels.old (own w (along x k)) ≡ true }
-    requires given { (z : Spot) → S.given source.now z < 2 ^ P.bits pixels.old w }
+    requires given { (z : Spot) → S.given source.now z < 2 ^ bits_in (P.forms pixels.old) w }
     ensures kept { is ≡ false → (k : ℕ) → k < length raws.old → P.kept pixels.new (own w (along x k)) ≡ S.given source.now (along x k) }
     ensures others { (place : Place) → ((k : ℕ) → k < length raws.old → place ≢ own w (along x k)) → P.kept pixels.new place ≡ P.kept pixels.old place }
     ensures has { P.has pixels.new ≡ P.has pixels.old }
-    ensures bits { P.bits pixels.new ≡ P.bits pixels.old }
+    ensures forms { P.forms pixels.new ≡ P.forms pixels.old }
     ensures steps { steps.new ≤ steps.old + length raws.old }
 {
     if !is {
@@ -78,11 +79,11 @@ fn keep_row<P: Pixels, S: Source, L: Ledger>(
     requires q_near { IsNear q }
     requires width { n ≤ 2 ^ 41 }
     requires places { (k : ℕ) → k < n → (holds below.now (along q k) && is_top new.now w (along q k)) ≡ false → P.has pixels.old (own w (along x k)) ≡ true }
-    requires given { (z : Spot) → S.given source.now z < 2 ^ P.bits pixels.old w }
+    requires given { (z : Spot) → S.given source.now z < 2 ^ bits_in (P.forms pixels.old) w }
     ensures kept { (k : ℕ) → k < n → (holds below.now (along q k) && is_top new.now w (along q k)) ≡ false → P.kept pixels.new (own w (along x k)) ≡ S.given source.now (along x k) }
     ensures others { (place : Place) → ((k : ℕ) → k < n → place ≢ own w (along x k)) → P.kept pixels.new place ≡ P.kept pixels.old place }
     ensures has { P.has pixels.new ≡ P.has pixels.old }
-    ensures bits { P.bits pixels.new ≡ P.bits pixels.old }
+    ensures forms { P.forms pixels.new ≡ P.forms pixels.old }
     ensures steps { steps.new ≤ steps.old + n }
 {
     let mut block = [0; BLOCK];
@@ -118,11 +119,11 @@ pub fn keep_hidden<P: Pixels, S: Source, L: Ledger>(
     requires corner { IsNear corner }
     requires stands { (z : Spot) → IsTrue (holds r.now z) → IsNear (carried z r.now.min corner) }
     requires places { (z : Spot) → IsTrue (holds r.now z) → (holds below.now (carried z r.now.min corner) && is_top new.now w (carried z r.now.min corner)) ≡ false → P.has pixels.old (own w z) ≡ true }
-    requires given { (z : Spot) → S.given source.now z < 2 ^ P.bits pixels.old w }
+    requires given { (z : Spot) → S.given source.now z < 2 ^ bits_in (P.forms pixels.old) w }
     ensures kept { (z : Spot) → IsTrue (holds r.now z) → (holds below.now (carried z r.now.min corner) && is_top new.now w (carried z r.now.min corner)) ≡ false → P.kept pixels.new (own w z) ≡ S.given source.now z }
     ensures others { (place : Place) → place.image ≢ w → P.kept pixels.new place ≡ P.kept pixels.old place }
     ensures has { P.has pixels.new ≡ P.has pixels.old }
-    ensures bits { P.bits pixels.new ≡ P.bits pixels.old }
+    ensures forms { P.forms pixels.new ≡ P.forms pixels.old }
     ensures steps { steps.new ≤ steps.old + area_of r.now }
 {
     let width = r.width() as usize;

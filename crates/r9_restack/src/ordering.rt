@@ -6,7 +6,7 @@ ghost use Rattle.r9_geom.specs.Geometry.{area_of, holds, IsOrdered, IsRectNear};
 ghost use Rattle.model_forest.specs.World.{image_at, IsForest, IsLive, World};
 ghost use Rattle.model_forest.specs.Stack.{lowered, raised};
 ghost use Rattle.model_kept.specs.Restack.{with_list, IsRestacked};
-ghost use Rattle.r9_locate.specs.Lists.{HasBits};
+ghost use Rattle.r9_locate.specs.Forms.{HasBits};
 ghost use Rattle.r9_locate.specs.Table.{shape};
 ghost use Rattle.r9_restack.specs.Moving.{HasPlaces, IsReordering, IsSameTop};
 
@@ -51,10 +51,10 @@ pub fn reorder<P: Pixels, L: Ledger>(
     requires inside { (z : Spot) → IsTrue (holds area.now z) → IsTrue (holds (image_at (shape lists.now) p).r z) }
     requires outside { (z : Spot) → IsTrue (holds (image_at (shape lists.now) p).r z) → holds area.now z ≡ false → IsSameTop (shape lists.now) p new.now z }
     requires places { HasPlaces (shape lists.now) p new.now (P.has pixels.old) }
-    requires bits { HasBits (shape lists.now) (P.bits pixels.old) }
+    requires bits { HasBits (shape lists.now) (P.forms pixels.old) }
     ensures moved { (fill : Spot → ℕ) → IsRestacked (shape lists.now) (with_list (shape lists.now) p new.now) p (P.kept pixels.old) (P.kept pixels.new) fill }
     ensures has { P.has pixels.new ≡ P.has pixels.old }
-    ensures bits { P.bits pixels.new ≡ P.bits pixels.old }
+    ensures forms { P.forms pixels.new ≡ P.forms pixels.old }
     ensures steps { steps.new ≤ steps.old + 2 * area_of area.now }
 {
     change_area(lists, pixels, &Nothing, p, p, new, area, steps);

@@ -9,7 +9,7 @@ ghost use Rattle.model_forest.specs.World.{image_at, parent_of, IsLive};
 ghost use Rattle.model_kept.specs.Keeping as kept;
 ghost use Rattle.model_kept.specs.Keeping.{is_top, keeping, own, Place};
 ghost use Rattle.model_kept.specs.Restack.{with_list, with_own, IsRestacked};
-ghost use Rattle.r9_locate.specs.Lists.{HasBits};
+ghost use Rattle.r9_locate.specs.Forms.{bits_in, HasBits};
 ghost use Rattle.r9_locate.specs.Table.{shape};
 ghost use Rattle.r9_restack.specs.Changing.{HasPlacesBut, IsChange, StaysTop};
 
@@ -40,9 +40,9 @@ pub fn restack<P: Pixels, S: Source, L: Ledger>(
     requires outside { (z : Spot) → IsTrue (holds (image_at (shape lists.now) p).r z) → holds area.now z ≡ false → StaysTop (shape lists.now) p new.now w z }
     requires near_new { All (λ v. IsNear v.place.min) new.now }
     requires places { HasPlacesBut (shape lists.now) p new.now w (P.has pixels.old) }
-    requires bits { HasBits (shape lists.now) (P.bits pixels.old) }
-    requires given { (x : Spot) → S.given source.now x < 2 ^ P.bits pixels.old p }
-    requires fill { (z : Spot) → S.fill source.now z < 2 ^ P.bits pixels.old p }
+    requires bits { HasBits (shape lists.now) (P.forms pixels.old) }
+    requires given { (x : Spot) → S.given source.now x < 2 ^ bits_in (P.forms pixels.old) p }
+    requires fill { (z : Spot) → S.fill source.now z < 2 ^ bits_in (P.forms pixels.old) p }
     requires live { IsLive (shape lists.now) w }
     requires own_ordered { IsOrdered (image_at (shape lists.now) w).r }
     requires corner { IsNear (kept.place_among new.now w).min }
@@ -50,7 +50,7 @@ pub fn restack<P: Pixels, S: Source, L: Ledger>(
     requires own_places { (z : Spot) → IsTrue (holds (image_at (shape lists.now) w).r z) → (holds (image_at (shape lists.now) p).r (carried z (image_at (shape lists.now) w).r.min (kept.place_among new.now w).min) && is_top new.now w (carried z (image_at (shape lists.now) w).r.min (kept.place_among new.now w).min)) ≡ false → P.has pixels.old (own w z) ≡ true }
     ensures moved { (as_before : Place → ℕ) → ((place : Place) → place.image ≢ w → as_before place ≡ P.kept pixels.old place) → ((x : Spot) → holds (image_at (shape lists.now) w).r x ≡ true → as_before (keeping (shape lists.now) w x) ≡ S.given source.now x) → IsRestacked (shape lists.now) (with_list (shape lists.now) p new.now) p as_before (P.kept pixels.new) (S.fill source.now) }
     ensures has { P.has pixels.new ≡ P.has pixels.old }
-    ensures bits { P.bits pixels.new ≡ P.bits pixels.old }
+    ensures forms { P.forms pixels.new ≡ P.forms pixels.old }
     ensures steps { steps.new ≤ steps.old + 2 * area_of area.now + area_of (image_at (shape lists.now) w).r }
 {
     change(lists, pixels, source, p, w, new, area, steps);
@@ -79,12 +79,12 @@ pub fn leave<P: Pixels, S: Source, L: Ledger>(
     requires outside { (z : Spot) → IsTrue (holds (image_at (shape lists.now) p).r z) → holds area.now z ≡ false → StaysTop (shape lists.now) p new.now w z }
     requires near_new { All (λ v. IsNear v.place.min) new.now }
     requires places { HasPlacesBut (shape lists.now) p new.now w (P.has pixels.old) }
-    requires bits { HasBits (shape lists.now) (P.bits pixels.old) }
-    requires given { (x : Spot) → S.given source.now x < 2 ^ P.bits pixels.old p }
-    requires fill { (z : Spot) → S.fill source.now z < 2 ^ P.bits pixels.old p }
+    requires bits { HasBits (shape lists.now) (P.forms pixels.old) }
+    requires given { (x : Spot) → S.given source.now x < 2 ^ bits_in (P.forms pixels.old) p }
+    requires fill { (z : Spot) → S.fill source.now z < 2 ^ bits_in (P.forms pixels.old) p }
     ensures moved { IsRestacked (shape lists.now) (with_list (shape lists.now) p new.now) p (P.kept pixels.old) (with_own w (λ x. P.kept pixels.old (keeping (shape lists.now) w x)) (P.kept pixels.new)) (S.fill source.now) }
     ensures has { P.has pixels.new ≡ P.has pixels.old }
-    ensures bits { P.bits pixels.new ≡ P.bits pixels.old }
+    ensures forms { P.forms pixels.new ≡ P.forms pixels.old }
     ensures steps { steps.new ≤ steps.old + 2 * area_of area.now }
 {
     change(lists, pixels, source, p, w, new, area, steps);

@@ -2,6 +2,7 @@ use Rattle.std.proofs.Common.{◌≡◌, ◌∙◌, ◌+◌, ◌-◌, ◌<◌, �
 use Rattle.std.proofs.lemmas.Bool.{cases_lt}
 use Rattle.r9_plane.specs.Pixels.{along}
 use Rattle.model_kept.specs.Keeping.{keeping}
+use Rattle.r9_locate.specs.Forms.{bits_in}
 use Rattle.r9_locate.specs.Table.{shape}
 use Rattle.r9_locate.proofs.Locating.{run_found}
 use Rattle.r9_locate.proofs.Apart.{run_bits}
@@ -49,14 +50,14 @@ loop-done-preserved g c =
           (cases_lt k done);
       below = λ k below.
           ⊎_elim
-          (λ (early : k < done). subst (λ (raw : ℕ). raw < 2 ^ g.P.Pixels.bits c.args.pixels.now c.args.i) (sym (put_mid_before done size raws c.read.new.raws k within early)) (c.loop-done.invariant.below k early))
+          (λ (early : k < done). subst (λ (raw : ℕ). raw < 2 ^ bits_in (g.P.Pixels.forms c.args.pixels.now) c.args.i) (sym (put_mid_before done size raws c.read.new.raws k within early)) (c.loop-done.invariant.below k early))
           (λ (late : done ≤ k).
           let j = k - done in
           let place : k ≡ done + j = omega arith in
           let in_size : j < size = omega (arith, below, late) in
           let inside : j < length (take size (drop done raws)) = omega (arith, length-part raws done size fits, in_size) in
           let is : get_or (put_mid done size raws c.read.new.raws) k 0 ≡ get_or c.read.new.raws j 0 = ap (λ n. get_or (put_mid done size raws c.read.new.raws) n 0) place ∙ put_mid_inside done size raws c.read.new.raws j within long in_size in
-          let bits : 2 ^ g.P.Pixels.bits c.args.pixels.now run.image ≡ 2 ^ g.P.Pixels.bits c.args.pixels.now c.args.i = ap (λ n. 2 ^ n) (run_bits w c.args.lists.now.standing (g.P.Pixels.bits c.args.pixels.now) c.requires.bits c.args.i run.image c.along.result run.at run.len c.requires.live c.locate-run.ensures.some c.locate-run.ensures.kept) in
+          let bits : 2 ^ bits_in (g.P.Pixels.forms c.args.pixels.now) run.image ≡ 2 ^ bits_in (g.P.Pixels.forms c.args.pixels.now) c.args.i = ap (λ n. 2 ^ n) (run_bits w c.args.lists.now.standing (g.P.Pixels.forms c.args.pixels.now) c.requires.bits c.args.i run.image c.along.result run.at run.len c.requires.live c.locate-run.ensures.some c.locate-run.ensures.kept) in
           omega (arith, is, bits, c.read.ensures.below j inside))
           (cases_lt k done);
     }

@@ -1,6 +1,7 @@
 use Rattle.std.proofs.Common.{◌≡◌, ◌<◌, ◌≤◌, ◌-◌, ◌^◌, ℕ, get_or, length}
 use Rattle.r9_plane.specs.Pixels.{along}
 use Rattle.model_kept.specs.Keeping.{keeping}
+use Rattle.r9_locate.specs.Forms.{bits_in}
 use Rattle.r9_locate.specs.Table.{shape}
 use Rattle.r9_locate.proofs.viewing.read_view.Given as goal
 
@@ -8,7 +9,7 @@ abbrev pub invariant-loop-done : goal.invariant-loop-done
 invariant-loop-done g l = record {
   within : l.done ≤ length l.raws;
   read : (k : ℕ) → k < l.done → get_or l.raws k 0 ≡ g.P.Pixels.kept l.pixels (keeping (shape l.lists) l.i (along l.from k));
-  below : (k : ℕ) → k < l.done → get_or l.raws k 0 < 2 ^ g.P.Pixels.bits l.pixels l.i;
+  below : (k : ℕ) → k < l.done → get_or l.raws k 0 < 2 ^ bits_in (g.P.Pixels.forms l.pixels) l.i;
 }
 
 abbrev pub decreases-loop-done : goal.decreases-loop-done

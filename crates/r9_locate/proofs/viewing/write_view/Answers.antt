@@ -3,6 +3,7 @@ use Rattle.std.proofs.lemmas.Bool.{cases_lt}
 use Rattle.r9_plane.specs.Pixels.{along}
 use Rattle.model_forest.specs.World.{image_at}
 use Rattle.model_kept.specs.Keeping.{keeping, own}
+use Rattle.r9_locate.specs.Forms.{bits_in}
 use Rattle.r9_locate.specs.Table.{shape}
 use Rattle.r9_locate.proofs.Locating.{along-apart, run_found}
 use Rattle.r9_locate.proofs.Apart.{keeping-injective, run_bits}
@@ -32,8 +33,8 @@ write-requires-clause-below g c k below =
     let long = length-part raws done size fits in
     let in_size : k < size = omega (arith, below, long) in
     let here : done + k < length raws = omega (arith, in_size, fits) in
-    let same : 2 ^ g.P.Pixels.bits c.loop-done.pixels run.image ≡ 2 ^ g.P.Pixels.bits c.args.pixels.now run.image = ap (λ h. 2 ^ h run.image) c.loop-done.invariant.bits in
-    let bits : 2 ^ g.P.Pixels.bits c.args.pixels.now run.image ≡ 2 ^ g.P.Pixels.bits c.args.pixels.now c.args.i = ap (λ n. 2 ^ n) (run_bits w c.args.lists.now.standing (g.P.Pixels.bits c.args.pixels.now) c.requires.bits c.args.i run.image c.along.result run.at run.len c.requires.live c.locate-run.ensures.some c.locate-run.ensures.kept) in
+    let same : 2 ^ bits_in (g.P.Pixels.forms c.loop-done.pixels) run.image ≡ 2 ^ bits_in (g.P.Pixels.forms c.args.pixels.now) run.image = ap (λ forms. 2 ^ bits_in forms run.image) c.loop-done.invariant.forms in
+    let bits : 2 ^ bits_in (g.P.Pixels.forms c.args.pixels.now) run.image ≡ 2 ^ bits_in (g.P.Pixels.forms c.args.pixels.now) c.args.i = ap (λ n. 2 ^ n) (run_bits w c.args.lists.now.standing (g.P.Pixels.forms c.args.pixels.now) c.requires.bits c.args.i run.image c.along.result run.at run.len c.requires.live c.locate-run.ensures.some c.locate-run.ensures.kept) in
     omega (arith, get_or-part raws done size k in_size, c.requires.below (done + k) here, same, bits)
 
 pub loop-done-preserved : goal.loop-done-preserved
@@ -78,6 +79,6 @@ loop-done-preserved g c =
           apart (done + j) (omega (arith, short)) (same ∙ sym (run_found w c.args.i run.image c.args.at run.at c.along.result done run.len c.along.ensures c.locate-run.ensures.kept j short)))
           ∙ c.loop-done.invariant.others place (λ k lower. apart k (omega (arith, lower)));
       has = c.write.ensures.has ∙ c.loop-done.invariant.has;
-      bits = c.write.ensures.bits ∙ c.loop-done.invariant.bits;
+      forms = c.write.ensures.forms ∙ c.loop-done.invariant.forms;
       steps = omega (arith, c.write.ensures.steps, c.loop-done.invariant.steps, long);
     }

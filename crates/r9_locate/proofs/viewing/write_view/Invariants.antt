@@ -1,4 +1,4 @@
-use Rattle.std.proofs.Common.{◌≡◌, ◌≢◌, ◌+◌, ◌<◌, ◌≤◌, ◌-◌, ◌^◌, ℕ, get_or, length}
+use Rattle.std.proofs.Common.{◌≡◌, ◌≢◌, ◌+◌, ◌<◌, ◌≤◌, ◌-◌, ℕ, get_or, length}
 use Rattle.r9_plane.specs.Pixels.{along}
 use Rattle.model_kept.specs.Keeping.{keeping, Place}
 use Rattle.r9_locate.specs.Table.{shape}
@@ -10,7 +10,7 @@ invariant-loop-done g l = record {
   put : (k : ℕ) → k < l.done → g.P.Pixels.kept l.pixels (keeping (shape l.lists) l.i (along l.at k)) ≡ get_or l.raws k 0;
   others : (place : Place) → ((k : ℕ) → k < l.done → place ≢ keeping (shape l.lists) l.i (along l.at k)) → g.P.Pixels.kept l.pixels place ≡ g.P.Pixels.kept l.fn.pixels place;
   has : g.P.Pixels.has l.pixels ≡ g.P.Pixels.has l.fn.pixels;
-  bits : g.P.Pixels.bits l.pixels ≡ g.P.Pixels.bits l.fn.pixels;
+  forms : g.P.Pixels.forms l.pixels ≡ g.P.Pixels.forms l.fn.pixels;
   steps : l.steps ≡ l.fn.steps + l.done;
 }
 

@@ -1,7 +1,7 @@
-use Rattle.std.proofs.Common.{◌≡◌, ◌∙◌, ◌+◌, ◌<◌, ◌||◌, refl, sym, ap, arith, ℕ, ◌^◌, subst}
+use Rattle.std.proofs.Common.{◌≡◌, ◌∙◌, ◌+◌, ◌<◌, ◌||◌, refl, sym, ap, arith, ℕ, ◌^◌, subst, Option}
 use Rattle.r9_geom.specs.Geometry.{height, holds, strip, width}
 use Rattle.r9_geom.proofs.GeometryLemmas.{band, band_all, band_more, band_none, row_inside, width_most}
-use Rattle.r9_locate.specs.Lists.{HasBits}
+use Rattle.r9_locate.specs.Forms.{bits_in, Form, HasBits}
 use Rattle.r9_locate.specs.Table.{shape}
 use Rattle.r9_restack.specs.Moving.{more}
 use Rattle.r9_restack.proofs.Changes.{changed-none, changed-same}
@@ -12,7 +12,7 @@ pub loop-row-init : goal.loop-row-init
 loop-row-init g c = record {
   moved = changed-none (shape c.args.lists.now) c.args.p c.args.new.now c.args.w (g.S.Source.given c.args.source.now) (g.S.Source.fill c.args.source.now) (g.P.Pixels.kept c.args.pixels.now) (holds (band c.args.area.now 0)) (band_none c.args.area.now);
   has = refl;
-  bits = refl;
+  forms = refl;
   steps = omega arith;
 }
 
@@ -27,13 +27,13 @@ change_row-requires-clause-inside g c z h =
     c.requires.inside z (row_inside area c.point_at.result z c.loop-row.row c.requires.ordered is.0 is.1 below (ap (λ n. holds (strip c.point_at.result n) z) (sym c.width-width.ensures) ∙ h))
 
 pub change_row-requires-clause-bits : goal.change_row-requires-clause-bits
-change_row-requires-clause-bits g c = subst (HasBits (shape c.args.lists.now)) (sym c.loop-row.invariant.bits) c.requires.bits
+change_row-requires-clause-bits g c = subst (HasBits (shape c.args.lists.now)) (sym c.loop-row.invariant.forms) c.requires.bits
 
 pub change_row-requires-clause-given : goal.change_row-requires-clause-given
-change_row-requires-clause-given g c x = subst (λ (bits : ℕ → ℕ). g.S.Source.given c.args.source.now x < 2 ^ bits c.args.p) (sym c.loop-row.invariant.bits) (c.requires.given x)
+change_row-requires-clause-given g c x = subst (λ (forms : ℕ → Option Form). g.S.Source.given c.args.source.now x < 2 ^ bits_in forms c.args.p) (sym c.loop-row.invariant.forms) (c.requires.given x)
 
 pub change_row-requires-clause-fill : goal.change_row-requires-clause-fill
-change_row-requires-clause-fill g c z = subst (λ (bits : ℕ → ℕ). g.S.Source.fill c.args.source.now z < 2 ^ bits c.args.p) (sym c.loop-row.invariant.bits) (c.requires.fill z)
+change_row-requires-clause-fill g c z = subst (λ (forms : ℕ → Option Form). g.S.Source.fill c.args.source.now z < 2 ^ bits_in forms c.args.p) (sym c.loop-row.invariant.forms) (c.requires.fill z)
 
 pub loop-row-preserved : goal.loop-row-preserved
 loop-row-preserved g c =
@@ -48,7 +48,7 @@ loop-row-preserved g c =
           (λ z. band_more area at z row c.requires.ordered is.0 is.1 ∙ ap (λ n. holds (strip at n) z || holds (band area row) z) (sym c.width-width.ensures))
           (c.change_row.ensures.moved (kept c.args.pixels.now) (holds (band area row)) (fresh_row area at row c.width-width.result c.point_at.ensures) c.loop-row.invariant.moved);
       has = c.change_row.ensures.has ∙ c.loop-row.invariant.has;
-      bits = c.change_row.ensures.bits ∙ c.loop-row.invariant.bits;
+      forms = c.change_row.ensures.forms ∙ c.loop-row.invariant.forms;
       steps = row_grown _ _ _ row (width area) c.width-width.result c.width-width.ensures c.change_row.ensures.steps c.loop-row.invariant.steps;
     }
 

@@ -9,6 +9,6 @@ abbrev pub invariant-loop-row : goal.invariant-loop-row
 invariant-loop-row g l = record {
   moved : IsChanged (shape l.lists) l.p l.new l.w (g.S.Source.given l.source) (g.S.Source.fill l.source) (g.P.Pixels.kept l.fn.pixels) (g.P.Pixels.kept l.pixels) (holds (band l.area l.row));
   has : g.P.Pixels.has l.pixels ≡ g.P.Pixels.has l.fn.pixels;
-  bits : g.P.Pixels.bits l.pixels ≡ g.P.Pixels.bits l.fn.pixels;
+  forms : g.P.Pixels.forms l.pixels ≡ g.P.Pixels.forms l.fn.pixels;
   steps : l.steps ≤ l.fn.steps + 2 * (l.row * width l.area);
 }

@@ -1,11 +1,11 @@
-use Rattle.std.proofs.Common.{◌≡◌, ◌∙◌, ℕ, ◌+◌, ◌≤◌, ◌^◌, length, length-append, length-drop, take, drop, refl, sym, subst, ap, arith, ◌<◌}
+use Rattle.std.proofs.Common.{◌≡◌, ◌∙◌, ℕ, ◌+◌, ◌≤◌, ◌^◌, length, length-append, length-drop, take, drop, refl, sym, subst, ap, arith, ◌<◌, Option}
 use Rattle.std.proofs.lemmas.List.{length-take-le}
 use Rattle.r9_geom.specs.declared.Point.{Point}
 use Rattle.r9_geom.specs.Geometry.{IsNear}
 use Rattle.r9_geom.proofs.GeometryLemmas.{near_point}
 use Rattle.r9_plane.specs.Pixels.{along}
 use Rattle.model_forest.specs.World.{image_at}
-use Rattle.r9_locate.specs.Lists.{HasBits}
+use Rattle.r9_locate.specs.Forms.{bits_in, Form, HasBits}
 use Rattle.r9_locate.specs.Table.{shape}
 use Rattle.r9_restack.specs.Moving.{more, IsFresh}
 use Rattle.r9_restack.specs.Changing.{IsChanged}
@@ -20,7 +20,7 @@ loop-done-init g c = record {
   moved = λ before also fresh m. changed-same (shape c.args.lists.now) c.args.p c.args.new.now c.args.w (g.S.Source.given c.args.source.now) (g.S.Source.fill c.args.source.now) before (g.P.Pixels.kept c.args.pixels.now) also (more c.args.at 0 also) (λ z. more_none c.args.at z also) m;
   long = refl;
   has = refl;
-  bits = refl;
+  forms = refl;
   steps = omega arith;
 }
 
@@ -31,13 +31,13 @@ change_part-requires-clause-near g c =
     subst IsNear (sym c.along-q.ensures) (near_point (2 ^ 40) (image_at w c.args.p).r (along c.args.at c.loop-done.done) (nearby c.args.lists.now c.args.p c.requires.change.live).0 inside)
 
 pub change_part-requires-clause-bits : goal.change_part-requires-clause-bits
-change_part-requires-clause-bits g c = subst (HasBits (shape c.args.lists.now)) (sym c.loop-done.invariant.bits) c.requires.bits
+change_part-requires-clause-bits g c = subst (HasBits (shape c.args.lists.now)) (sym c.loop-done.invariant.forms) c.requires.bits
 
 pub change_part-requires-clause-given : goal.change_part-requires-clause-given
-change_part-requires-clause-given g c x = subst (λ (bits : ℕ → ℕ). g.S.Source.given c.args.source.now x < 2 ^ bits c.args.p) (sym c.loop-done.invariant.bits) (c.requires.given x)
+change_part-requires-clause-given g c x = subst (λ (forms : ℕ → Option Form). g.S.Source.given c.args.source.now x < 2 ^ bits_in forms c.args.p) (sym c.loop-done.invariant.forms) (c.requires.given x)
 
 pub change_part-requires-clause-fill : goal.change_part-requires-clause-fill
-change_part-requires-clause-fill g c z = subst (λ (bits : ℕ → ℕ). g.S.Source.fill c.args.source.now z < 2 ^ bits c.args.p) (sym c.loop-done.invariant.bits) (c.requires.fill z)
+change_part-requires-clause-fill g c z = subst (λ (forms : ℕ → Option Form). g.S.Source.fill c.args.source.now z < 2 ^ bits_in forms c.args.p) (sym c.loop-done.invariant.forms) (c.requires.fill z)
 
 pub loop-done-preserved : goal.loop-done-preserved
 loop-done-preserved g c =
@@ -59,7 +59,7 @@ loop-done-preserved g c =
           (c.change_part.ensures.moved before (more c.args.at done also) ready so_far);
       long = omega (arith, length-append c.change_part.new.raws (drop len c.loop-done.block), length-drop len c.loop-done.block, c.change_part.auto.raws, long, c.loop-done.invariant.long, c.steady_top-len.ensures.most, c.steady_top.ensures.most, c.min.ensures);
       has = c.change_part.ensures.has ∙ c.loop-done.invariant.has;
-      bits = c.change_part.ensures.bits ∙ c.loop-done.invariant.bits;
+      forms = c.change_part.ensures.forms ∙ c.loop-done.invariant.forms;
       steps = omega (arith, c.change_part.ensures.steps, c.loop-done.invariant.steps, long);
     }
 

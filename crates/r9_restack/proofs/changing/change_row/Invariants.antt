@@ -12,7 +12,7 @@ invariant-loop-done g l = record {
   moved : (before : Place → ℕ) (also : Point → Bool) → IsFresh l.at l.n also → IsChanged (shape l.lists) l.p l.new l.w (g.S.Source.given l.source) (g.S.Source.fill l.source) before (g.P.Pixels.kept l.fn.pixels) also → IsChanged (shape l.lists) l.p l.new l.w (g.S.Source.given l.source) (g.S.Source.fill l.source) before (g.P.Pixels.kept l.pixels) (more l.at l.done also);
   long : length l.block ≡ 256;
   has : g.P.Pixels.has l.pixels ≡ g.P.Pixels.has l.fn.pixels;
-  bits : g.P.Pixels.bits l.pixels ≡ g.P.Pixels.bits l.fn.pixels;
+  forms : g.P.Pixels.forms l.pixels ≡ g.P.Pixels.forms l.fn.pixels;
   steps : l.steps ≤ l.fn.steps + 2 * l.done;
 }
 

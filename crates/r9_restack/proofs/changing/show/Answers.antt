@@ -4,8 +4,8 @@ use Rattle.std.proofs.lemmas.Bool.{cases_eq}
 use Rattle.r9_plane.specs.Pixels.{along}
 use Rattle.model_forest.specs.declared.Window.{Window}
 use Rattle.model_forest.specs.View.{inward}
-use Rattle.r9_locate.specs.Lists.{HasBits}
 use Rattle.model_kept.specs.Keeping.{own, Place}
+use Rattle.r9_locate.specs.Forms.{bits_in, HasBits}
 use Rattle.r9_locate.specs.Table.{shape}
 use Rattle.r9_locate.proofs.Apart.{own-apart}
 use Rattle.r9_restack.proofs.changing.show.Goals as goal
@@ -16,20 +16,19 @@ save-requires-clause-below g c v a_is apart k below =
     omega (arith, same, c.read_view.ensures.below k (omega (arith, below, c.read_view.auto.raws)))
 
 pub write_view-requires-clause-bits : goal.write_view-requires-clause-bits
-write_view-requires-clause-bits g c = subst (HasBits (shape c.args.lists.now)) (sym c.save.ensures.bits) c.requires.bits
+write_view-requires-clause-bits g c = subst (HasBits (shape c.args.lists.now)) (sym c.save.ensures.forms) c.requires.bits
 
 pub write_view-requires-clause-below : goal.write_view-requires-clause-below
 write_view-requires-clause-below g c k below =
-    let bits = g.P.Pixels.bits in
     let short : k < length c.read_view.new.raws = omega (arith, below, c.fetch.auto.raws) in
-    let same : 2 ^ bits c.save.new.pixels c.args.p ≡ 2 ^ bits c.args.pixels.now c.args.p = ap (λ h. 2 ^ h c.args.p) c.save.ensures.bits in
-    let by_window : (b : Option Window) → c.args.b ≡ b → slice_index c.fetch.new.raws k < 2 ^ bits c.save.new.pixels c.args.p = λ b. elim b as (λ o. c.args.b ≡ o → slice_index c.fetch.new.raws k < 2 ^ bits c.save.new.pixels c.args.p) [
+    let same : 2 ^ bits_in (g.P.Pixels.forms c.save.new.pixels) c.args.p ≡ 2 ^ bits_in (g.P.Pixels.forms c.args.pixels.now) c.args.p = ap (λ forms. 2 ^ bits_in forms c.args.p) c.save.ensures.forms in
+    let by_window : (b : Option Window) → c.args.b ≡ b → slice_index c.fetch.new.raws k < 2 ^ bits_in (g.P.Pixels.forms c.save.new.pixels) c.args.p = λ b. elim b as (λ o. c.args.b ≡ o → slice_index c.fetch.new.raws k < 2 ^ bits_in (g.P.Pixels.forms c.save.new.pixels) c.args.p) [
       | None ↦ λ is. omega (arith, same, c.fetch.ensures.none is k short, c.requires.fill (along c.args.q k))
       | Some v ↦ λ is.
           ⊎_elim
           (λ (of_w : v.image ≡ c.args.w). omega (arith, same, c.fetch.ensures.of_w v is of_w k short, c.requires.given (along (inward (shape c.args.lists.now) v c.args.q) k)))
           (λ (other : v.image ≢ c.args.w).
-          let one = ap (λ h. 2 ^ h v.image) c.save.ensures.bits in
+          let one = ap (λ forms. 2 ^ bits_in forms v.image) c.save.ensures.forms in
           let both = ap (λ n. 2 ^ n) (c.requires.bits v.image c.args.p (c.requires.b_live v is) (c.requires.b_stands v is)) in
           omega (arith, same, one, both, c.fetch.ensures.below v is other k short))
           (cases_eq v.image c.args.w)

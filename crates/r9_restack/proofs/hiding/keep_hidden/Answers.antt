@@ -1,4 +1,4 @@
-use Rattle.std.proofs.Common.{◌≡◌, ◌∙◌, ℕ, ◌+◌, ◌*◌, ◌<◌, ◌≤◌, ◌^◌, true, refl, sym, subst, ap, arith}
+use Rattle.std.proofs.Common.{◌≡◌, ◌∙◌, ℕ, ◌+◌, ◌*◌, ◌<◌, ◌≤◌, ◌^◌, true, refl, sym, subst, ap, arith, Option}
 use Rattle.std.specs.Prelude.{◌&&◌}
 use Rattle.std.proofs.lemmas.Int.{ints}
 use Rattle.r9_geom.specs.Geometry.{carried, height, holds, strip, width, IsNear}
@@ -7,6 +7,7 @@ use Rattle.r9_plane.specs.Pixels.{along}
 use Rattle.r9_plane.proofs.PlaneLemmas.{along_holds}
 use Rattle.model_kept.specs.Keeping.{is_top, own, Place}
 use Rattle.std.proofs.lemmas.Bool.{false≢true}
+use Rattle.r9_locate.specs.Forms.{bits_in, Form}
 use Rattle.r9_locate.proofs.Locating.{along-carried, along_none, strip_at}
 use Rattle.r9_restack.proofs.Orders.{or_cases}
 use Rattle.r9_restack.proofs.Parting.{row_begins}
@@ -26,7 +27,7 @@ loop-row-init g c = record {
   kept = λ z h hid. absurd (false≢true (sym (band_none c.args.r.now z) ∙ h));
   others = λ place apart. refl;
   has = refl;
-  bits = refl;
+  forms = refl;
   steps = omega arith;
 }
 
@@ -38,7 +39,7 @@ keep_row-requires-clause-q_near g c =
     subst IsNear (sym c.carried.ensures) (c.requires.stands c.point_at-x.result inside)
 
 pub keep_row-requires-clause-given : goal.keep_row-requires-clause-given
-keep_row-requires-clause-given g c z = subst (λ (bits : ℕ → ℕ). g.S.Source.given c.args.source.now z < 2 ^ bits c.args.w) (sym c.loop-row.invariant.bits) (c.requires.given z)
+keep_row-requires-clause-given g c z = subst (λ (forms : ℕ → Option Form). g.S.Source.given c.args.source.now z < 2 ^ bits_in forms c.args.w) (sym c.loop-row.invariant.forms) (c.requires.given z)
 
 pub keep_row-requires-clause-places : goal.keep_row-requires-clause-places
 keep_row-requires-clause-places g c k below hid =
@@ -76,7 +77,7 @@ loop-row-preserved g c =
           c.keep_row.ensures.others place (λ k lower same. apart (ap (λ (l : Place). l.image) same))
           ∙ c.loop-row.invariant.others place apart;
       has = c.keep_row.ensures.has ∙ c.loop-row.invariant.has;
-      bits = c.keep_row.ensures.bits ∙ c.loop-row.invariant.bits;
+      forms = c.keep_row.ensures.forms ∙ c.loop-row.invariant.forms;
       steps = one_more _ _ _ row (width r) c.width-width.result c.width-width.ensures c.keep_row.ensures.steps c.loop-row.invariant.steps;
     }
   where

@@ -1,15 +1,16 @@
-use Rattle.std.proofs.Common.{◌≡◌, ◌∙◌, ◌+◌, ◌-◌, ◌<◌, ◌≤◌, ◌^◌, subst, ℕ, false, length-append, length-drop, drop, ⊎_elim, sym, ap, arith}
+use Rattle.std.proofs.Common.{◌≡◌, ◌∙◌, ◌+◌, ◌-◌, ◌<◌, ◌≤◌, ◌^◌, subst, ℕ, false, length-append, length-drop, drop, ⊎_elim, sym, ap, arith, Option}
 use Rattle.std.specs.Prelude.{◌&&◌}
 use Rattle.std.proofs.lemmas.Bool.{cases_lt}
 use Rattle.std.proofs.lemmas.List.{length-take-le}
 use Rattle.r9_geom.specs.Geometry.{holds}
 use Rattle.r9_plane.specs.Pixels.{along}
 use Rattle.model_kept.specs.Keeping.{is_top, own, Place}
+use Rattle.r9_locate.specs.Forms.{bits_in, Form}
 use Rattle.r9_locate.proofs.Locating.{along-along, along-apart}
 use Rattle.r9_restack.proofs.hiding.keep_row.Goals as goal
 
 pub keep_part-requires-clause-given : goal.keep_part-requires-clause-given
-keep_part-requires-clause-given g c z = subst (λ (bits : ℕ → ℕ). g.S.Source.given c.args.source.now z < 2 ^ bits c.args.w) (sym c.loop-done.invariant.bits) (c.requires.given z)
+keep_part-requires-clause-given g c z = subst (λ (forms : ℕ → Option Form). g.S.Source.given c.args.source.now z < 2 ^ bits_in forms c.args.w) (sym c.loop-done.invariant.forms) (c.requires.given z)
 
 pub keep_part-requires-clause-has : goal.keep_part-requires-clause-has
 keep_part-requires-clause-has g c is k below =
@@ -58,6 +59,6 @@ loop-done-preserved g c =
           ∙ c.loop-done.invariant.others place (λ k lower. apart k (omega (arith, lower)));
       long = omega (arith, length-append c.keep_part.new.raws (drop len c.loop-done.block), length-drop len c.loop-done.block, c.keep_part.auto.raws, long, c.loop-done.invariant.long, c.shown_over-over.ensures.most, c.min.ensures);
       has = c.keep_part.ensures.has ∙ c.loop-done.invariant.has;
-      bits = c.keep_part.ensures.bits ∙ c.loop-done.invariant.bits;
+      forms = c.keep_part.ensures.forms ∙ c.loop-done.invariant.forms;
       steps = omega (arith, c.keep_part.ensures.steps, c.loop-done.invariant.steps, long);
     }

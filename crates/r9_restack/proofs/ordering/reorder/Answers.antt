@@ -1,5 +1,6 @@
 use Rattle.std.proofs.lemmas.Nat.{pow_pos}
 use Rattle.r9_geom.specs.Geometry.{holds}
+use Rattle.r9_locate.specs.Forms.{bits_in}
 use Rattle.r9_locate.specs.Table.{shape}
 use Rattle.r9_restack.proofs.Orders.{moved-all, moved-changed}
 use Rattle.r9_restack.proofs.Parting.{near_all, nearby, setting}
@@ -24,10 +25,10 @@ change_area-requires-clause-places g c = record {
 }
 
 pub change_area-requires-clause-given : goal.change_area-requires-clause-given
-change_area-requires-clause-given g c x = pow_pos (g.P.Pixels.bits c.args.pixels.now c.args.p)
+change_area-requires-clause-given g c x = pow_pos (bits_in (g.P.Pixels.forms c.args.pixels.now) c.args.p)
 
 pub change_area-requires-clause-fill : goal.change_area-requires-clause-fill
-change_area-requires-clause-fill g c z = pow_pos (g.P.Pixels.bits c.args.pixels.now c.args.p)
+change_area-requires-clause-fill g c z = pow_pos (bits_in (g.P.Pixels.forms c.args.pixels.now) c.args.p)
 
 pub returns-clause-moved : goal.returns-clause-moved
 returns-clause-moved g c fill =

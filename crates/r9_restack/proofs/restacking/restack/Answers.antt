@@ -4,6 +4,7 @@ use Rattle.r9_geom.specs.declared.Rect.{Rect}
 use Rattle.r9_geom.specs.Geometry.{carried, holds, IsRectNear}
 use Rattle.model_forest.specs.World.{Image, image_at}
 use Rattle.model_kept.specs.Keeping.{is_top}
+use Rattle.r9_locate.specs.Forms.{bits_in}
 use Rattle.r9_locate.specs.Table.{shape}
 use Rattle.r9_restack.proofs.Changes.{inside_w, shown_then}
 use Rattle.r9_restack.proofs.Parting.{nearby}
@@ -15,7 +16,7 @@ keep_hidden-requires-clause-near g c = subst (λ (im : Image). IsRectNear im.r) 
 pub keep_hidden-requires-clause-given : goal.keep_hidden-requires-clause-given
 keep_hidden-requires-clause-given g c z =
     let same = ap (λ n. 2 ^ n) (c.requires.bits c.args.w c.args.p c.requires.live c.requires.above) in
-    let still = ap (λ h. 2 ^ h c.args.w) c.change.ensures.bits in
+    let still = ap (λ forms. 2 ^ bits_in forms c.args.w) c.change.ensures.forms in
     omega (arith, same, still, c.requires.given z)
 
 pub returns-clause-moved : goal.returns-clause-moved

@@ -8,7 +8,8 @@ use Rattle.r9_cells.specs.Cells.{all_rows, place_pixel}
 use Rattle.r9_cells.specs.Rows.{cell_place}
 use Rattle.r9_cells.proofs.Places.{tile_parts}
 use Rattle.r9_pixels.specs.declared.own.Own.TheVariants.{Whole, Hidden}
-use Rattle.r9_pixels.specs.Owns.{bits_in, has_in, kept_in, own_at}
+use Rattle.r9_pixels.specs.Owns.{has_in, kept_in, own_at}
+use Rattle.r9_pixels.proofs.Owning.{own_bits}
 use Rattle.r9_pixels.proofs.keeping.KeptPixels.get.Goals as goal
 
 pub get_row-requires : goal.get_row-requires
@@ -23,7 +24,7 @@ get_row-requires c = record {
 pub read-requires-clause-near : goal.read-requires-clause-near
 read-requires-clause-near c =
     let was : own_at c.args.self.now.owns.items c.args.i ≡ Some (Hidden c.in-Hidden.extent) = c.requires.is ∙ ap (λ o. Some o) c.in-Hidden.is in
-    c.args.self.now.near c.args.i c.in-Hidden.extent was
+    (c.args.self.now.tabled.windows c.args.i c.in-Hidden.extent was).near
 
 pub read-requires-clause-has : goal.read-requires-clause-has
 read-requires-clause-has c k below =
@@ -38,7 +39,7 @@ returns-in-Whole-clause-pixels c k below =
 pub returns-in-Whole-clause-below : goal.returns-in-Whole-clause-below
 returns-in-Whole-clause-below c k below =
     let was : own_at c.args.self.now.owns.items c.args.i ≡ Some (Whole c.in-Whole.plane) = c.requires.is ∙ ap (λ o. Some o) c.in-Whole.is in
-    subst (λ n. slice_index c.get_row.new.raws k < 2 ^ n) (sym (ap (λ o. option_map_or bits_in o 0) was)) (c.get_row.ensures.range k below)
+    subst (λ n. slice_index c.get_row.new.raws k < 2 ^ n) (sym (ap own_bits was)) (c.get_row.ensures.range k below)
 
 pub returns-in-Hidden-clause-pixels : goal.returns-in-Hidden-clause-pixels
 returns-in-Hidden-clause-pixels c k below =
@@ -53,6 +54,6 @@ pub returns-in-Hidden-clause-below : goal.returns-in-Hidden-clause-below
 returns-in-Hidden-clause-below c k below =
     let was : own_at c.args.self.now.owns.items c.args.i ≡ Some (Hidden c.in-Hidden.extent) = c.requires.is ∙ ap (λ o. Some o) c.in-Hidden.is in
     let place = cell_place c.args.i c.in-Hidden.extent.r (along c.args.from k) in
-    let small = c.args.self.now.fits c.args.i place.cell place.at c.in-Hidden.extent was in
-    let bits = ap (λ o. 2 ^ option_map_or bits_in o 0) was in
+    let small = c.args.self.now.bounded c.args.i place.cell place.at c.in-Hidden.extent was in
+    let bits = ap (λ o. 2 ^ own_bits o) was in
     omega (arith, c.read.ensures k below, small, bits)

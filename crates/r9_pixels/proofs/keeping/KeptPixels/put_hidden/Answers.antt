@@ -1,19 +1,20 @@
-use Rattle.std.proofs.Common.{◌≡◌, ◌∙◌, ◌<◌, ◌^◌, ℕ, true, false, length, Option, Some, None, ⊎_elim, refl, sym, ap, arith}
+use Rattle.std.proofs.Common.{◌≡◌, ◌∙◌, ◌<◌, ◌^◌, ℕ, true, false, length, Option, Some, None, ⊎_elim, refl, sym, subst, ap, arith}
 use Rattle.std.specs.Prelude.{slice_index, if◌then◌else◌}
 use Rattle.std.specs.Option.{option_map_or}
 use Rattle.std.proofs.lemmas.Bool.{cases_Bool, false≢true}
 use Rattle.r9_geom.specs.Geometry.{holds}
 use Rattle.model_pixel.specs.Channels.{depth}
 use Rattle.r9_plane.specs.Pixels.{along}
+use Rattle.r9_locate.specs.Forms.{bits_in}
 use Rattle.r9_cells.specs.Cells.{all_rows, cell_pixel, place_pixel}
 use Rattle.r9_cells.specs.Rows.{cell_place, has_tile, CellPlace}
 use Rattle.r9_cells.proofs.Places.{place_injective, tile_parts}
 use Rattle.r9_pixels.specs.declared.own.Extent.{Extent}
 use Rattle.r9_pixels.specs.declared.own.Own.{Own}
 use Rattle.r9_pixels.specs.declared.own.Own.TheVariants.{Whole, Hidden}
-use Rattle.r9_pixels.specs.Kept.{bits_of}
-use Rattle.r9_pixels.specs.Owns.{bits_in, has_in, kept_in, own_at}
-use Rattle.r9_pixels.proofs.Owning.{by_search, extent_is, is_place, place_true, true_place}
+use Rattle.r9_pixels.specs.Kept.{form_at}
+use Rattle.r9_pixels.specs.Owns.{has_in, kept_in, own_at, IsTabled}
+use Rattle.r9_pixels.proofs.Owning.{by_search, extent_is, is_place, own_bits, place_true, true_place}
 use Rattle.r9_pixels.proofs.keeping.KeptPixels.put_hidden.Goals as goal
 use Rattle.r9_pixels.proofs.keeping.KeptPixels.put_hidden.Goals.{Start}
 
@@ -21,15 +22,15 @@ tiled : (c : Start) (k : ℕ) → k < length c.args.raws.now → has_tile (all_r
 tiled c k below = sym (ap (λ o. option_map_or (has_in c.args.self.now.cells c.args.i (along c.args.at k)) o false) c.requires.hidden) ∙ c.requires.has k below
 
 pub write-requires-clause-near : goal.write-requires-clause-near
-write-requires-clause-near c = c.args.self.now.near c.args.i c.args.extent c.requires.hidden
+write-requires-clause-near c = (c.args.self.now.tabled.windows c.args.i c.args.extent c.requires.hidden).near
 
 pub write-requires-clause-has : goal.write-requires-clause-has
 write-requires-clause-has c k below = sym (ap (λ o. option_map_or (has_in c.args.self.now.cells c.args.i (along c.args.at k)) o false) c.requires.hidden) ∙ c.requires.has k below
 
 pub invariant_of-self : goal.invariant_of-self
 invariant_of-self c = record {
-  near = c.args.self.now.near;
-  fits = λ j l q extent is.
+  tabled = subst (IsTabled c.args.self.now.owns.items) (sym c.write.ensures.rows) c.args.self.now.tabled;
+  bounded = λ j l q extent is.
       let place : CellPlace = record { image = j; cell = l; at = q } in
       let there = λ (k : ℕ). cell_place c.args.i c.args.extent.r (along c.args.at k) in
       by_search (length c.args.raws.now) (λ k. is_place place (there k))
@@ -38,12 +39,12 @@ invariant_of-self c = record {
       let image : j ≡ c.args.i = ap (λ (p : CellPlace). p.image) same in
       let one : c.args.extent ≡ extent = extent_is c.args.extent extent (sym c.requires.hidden ∙ ap (own_at c.args.self.now.owns.items) (sym image) ∙ is) in
       let value : cell_pixel c.write.new.self j l q ≡ slice_index c.args.raws.now k = ap (place_pixel c.write.new.self) same ∙ c.write.ensures.at k below in
-      let bits : bits_of c.args.self.now c.args.i ≡ depth extent.chan = ap (λ o. option_map_or bits_in o 0) c.requires.hidden ∙ ap (λ (e : Extent). depth e.chan) one in
+      let bits : bits_in (form_at c.args.self.now) c.args.i ≡ depth extent.chan = ap own_bits c.requires.hidden ∙ ap (λ (e : Extent). depth e.chan) one in
       let small = c.requires.below k below in
       omega (arith, value, ap (λ n. 2 ^ n) bits, small))
       (λ none.
       let still : cell_pixel c.write.new.self j l q ≡ cell_pixel c.args.self.now.cells j l q = c.write.ensures.others place (λ k below same. false≢true (sym (none k below) ∙ true_place place (there k) same)) in
-      omega (arith, still, c.args.self.now.fits j l q extent is));
+      omega (arith, still, c.args.self.now.bounded j l q extent is));
 }
 
 pub returns-clause-at : goal.returns-clause-at

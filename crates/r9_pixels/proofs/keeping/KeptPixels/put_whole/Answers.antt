@@ -1,19 +1,20 @@
-use Rattle.std.proofs.Common.{◌≡◌, ◌≢◌, ◌∙◌, ◌<◌, ℕ, false, length, Option, Some, ⊎_elim, refl, sym, ap, arith}
-use Rattle.std.specs.Prelude.{slice_index, slice_set, if◌then◌else◌}
+use Rattle.std.proofs.Common.{◌≡◌, ◌≢◌, ◌∙◌, ◌<◌, ℕ, false, length, Option, Some, ⊎_elim, refl, sym, subst, ap, arith}
+use Rattle.std.specs.Prelude.{option_map, slice_index, slice_set, if◌then◌else◌}
 use Rattle.std.specs.Option.{option_map_or}
 use Rattle.std.proofs.lemmas.Bool.{cases_eq, false_from_ne_true}
+use Rattle.std.proofs.Math.ListN.{length-set}
 use Rattle.r9_geom.specs.Geometry.{distance, holds}
 use Rattle.r9_geom.proofs.GeometryLemmas.{strip_distance}
-use Rattle.model_pixel.specs.Channels.{depth}
 use Rattle.r9_plane.specs.Pixels.{along, pixel_at, rect_of}
 use Rattle.r9_plane.proofs.PlaneLemmas.{along_holds}
 use Rattle.model_kept.specs.Keeping.{Place}
 use Rattle.r9_locate.proofs.Locating.{strip_at}
+use Rattle.r9_cells.specs.Cells.{all_rows}
 use Rattle.r9_pixels.specs.declared.own.Own.{Own}
 use Rattle.r9_pixels.specs.declared.own.Own.TheVariants.{Whole}
-use Rattle.r9_pixels.specs.Kept.{bits_of, has_place}
-use Rattle.r9_pixels.specs.Owns.{bits_in, has_in, kept_in, own_at}
-use Rattle.r9_pixels.proofs.Owning.{hidden_still, own_again, own_is, own_other, own_same}
+use Rattle.r9_pixels.specs.Kept.{has_place}
+use Rattle.r9_pixels.specs.Owns.{form_in, has_in, kept_in, own_at, plane_form}
+use Rattle.r9_pixels.proofs.Owning.{hidden_set, no_window, own_again, own_is, own_other, own_same, tabled_as, tabled_set, IsNoWindow}
 use Rattle.r9_pixels.proofs.keeping.KeptPixels.put_whole.Goals as goal
 
 pub put_row-requires-clause-inside : goal.put_row-requires-clause-inside
@@ -28,20 +29,26 @@ put_row-requires-clause-inside c p h =
 pub invariant_of-self : goal.invariant_of-self
 invariant_of-self c =
     let owns = c.args.self.now.owns.items in
+    let rows = all_rows c.args.self.now.cells in
     let below_owns : c.args.i < length owns = omega (arith, c.requires.live, c.args.self.now.owns.ok.0) in
+    let was : own_at owns c.args.i ≡ Some (Whole c.in-Some-Whole.plane) = own_is owns c.args.i c.index_mut.result.now below_owns c.index_mut.ensures.value ∙ c.in-Some-Whole.is ∙ ap (λ o. Some o) c.in-Some-Whole.field-0-is in
+    let new : Option Own = Some (Whole c.put_row.new.self) in
+    let old_none : IsNoWindow (own_at owns c.args.i) = subst IsNoWindow (sym was) (no_window c.in-Some-Whole.plane) in
     record {
-      near = λ j extent is. c.args.self.now.near j extent (hidden_still owns c.args.i j c.put_row.new.self extent below_owns is);
-      fits = λ j l q extent is. c.args.self.now.fits j l q extent (hidden_still owns c.args.i j c.put_row.new.self extent below_owns is);
+      tabled = tabled_set owns c.args.i new rows below_owns old_none (no_window c.put_row.new.self) c.args.self.now.tabled;
+      bounded = λ j l q extent is. c.args.self.now.bounded j l q extent (hidden_set owns c.args.i j new extent below_owns (no_window c.put_row.new.self) is).1;
     }
 
 pub invariant_of-self-in_default-2 : goal.invariant_of-self-in_default-2
 invariant_of-self-in_default-2 c =
     let owns = c.args.self.now.owns.items in
+    let rows = all_rows c.args.self.now.cells in
+    let slot = c.index_mut.result.now in
     let below_owns : c.args.i < length owns = omega (arith, c.requires.live, c.args.self.now.owns.ok.0) in
-    let is_was = own_is owns c.args.i c.index_mut.result.now below_owns c.index_mut.ensures.value in
+    let again = λ (j : ℕ). own_again owns c.args.i j slot below_owns (own_is owns c.args.i slot below_owns c.index_mut.ensures.value) in
     record {
-      near = λ j extent is. c.args.self.now.near j extent (sym (own_again owns c.args.i j c.index_mut.result.now below_owns is_was) ∙ is);
-      fits = λ j l q extent is. c.args.self.now.fits j l q extent (sym (own_again owns c.args.i j c.index_mut.result.now below_owns is_was) ∙ is);
+      tabled = tabled_as owns (slice_set owns c.args.i slot) rows rows (c.args.self.now.tabled.numbers ∙ sym (length-set owns c.args.i slot)) (omega arith) (λ j extent is. sym (again j) ∙ is) (λ j extent is. again j ∙ is) (λ j. refl) (λ j k no none. none) c.args.self.now.tabled;
+      bounded = λ j l q extent is. c.args.self.now.bounded j l q extent (sym (again j) ∙ is);
     }
 
 pub returns-in-Some-Whole-clause-at : goal.returns-in-Some-Whole-clause-at
@@ -88,18 +95,19 @@ returns-in-Some-Whole-clause-has c =
     (cases_eq place.image c.args.i) in
     λ j place. each place j
 
-pub returns-in-Some-Whole-clause-bits : goal.returns-in-Some-Whole-clause-bits
-returns-in-Some-Whole-clause-bits c =
+pub returns-in-Some-Whole-clause-forms : goal.returns-in-Some-Whole-clause-forms
+returns-in-Some-Whole-clause-forms c =
     let owns = c.args.self.now.owns.items in
     let below_owns : c.args.i < length owns = omega (arith, c.requires.live, c.args.self.now.owns.ok.0) in
     let was : own_at owns c.args.i ≡ Some (Whole c.in-Some-Whole.plane) = own_is owns c.args.i c.index_mut.result.now below_owns c.index_mut.ensures.value ∙ c.in-Some-Whole.is ∙ ap (λ o. Some o) c.in-Some-Whole.field-0-is in
     let new : Option Own = Some (Whole c.put_row.new.self) in
-    let each : (n : ℕ) → option_map_or bits_in (own_at (slice_set owns c.args.i new) n) 0 ≡ bits_of c.args.self.now n = λ n.
+    let form : plane_form c.put_row.new.self ≡ plane_form c.in-Some-Whole.plane = λ j. record { r = c.put_row.ensures.rect j; chan = c.put_row.ensures.chan j; is_window = false } in
+    let each : (n : ℕ) → option_map form_in (own_at (slice_set owns c.args.i new) n) ≡ option_map form_in (own_at owns n) = λ n.
     ⊎_elim
     (λ (same : n ≡ c.args.i).
-    ap (λ o. option_map_or bits_in o 0) (ap (own_at (slice_set owns c.args.i new)) same ∙ own_same owns c.args.i new below_owns)
-    ∙ ap depth c.put_row.ensures.chan
-    ∙ sym (ap (λ o. option_map_or bits_in o 0) (ap (own_at owns) same ∙ was)))
-    (λ (other : n ≢ c.args.i). ap (λ o. option_map_or bits_in o 0) (own_other owns c.args.i n new other))
+    ap (option_map form_in) (ap (own_at (slice_set owns c.args.i new)) same ∙ own_same owns c.args.i new below_owns)
+    ∙ ap (λ f. Some f) form
+    ∙ sym (ap (option_map form_in) (ap (own_at owns) same ∙ was)))
+    (λ (other : n ≢ c.args.i). ap (option_map form_in) (own_other owns c.args.i n new other))
     (cases_eq n c.args.i) in
     λ j n. each n j

@@ -1,0 +1,7 @@
+use Rattle.r9_cells.specs.Cells.{all_rows}
+use Rattle.r9_locate.specs.Table.{shape}
+use Rattle.r9_pixels.proofs.Standing.{windowed}
+use Rattle.r9_pixels.proofs.keeping.KeptPixels.reserve_hidden.Goals as goal
+
+pub reserve_hidden-requires-clause-windows : goal.reserve_hidden-requires-clause-windows
+reserve_hidden-requires-clause-windows c = windowed c.args.self.now.owns.items (all_rows c.args.self.now.cells) (shape c.args.lists.now) c.args.p c.args.windows.now c.requires.forms c.args.self.now.tabled c.requires.windows

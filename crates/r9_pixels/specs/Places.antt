@@ -1,0 +1,41 @@
+-- The places that windows have for their pixels, with the cells in which those lie.
+use Rattle.std.specs.Prelude.{◌≡◌, ℕ, Bool, true, Option, Some, List, ◌==◌, ◌&&◌, if◌then◌else◌}
+use Rattle.std.specs.List.{list_any}
+use Rattle.r9_geom.specs.declared.Point.{Point}
+use Rattle.r9_geom.specs.Geometry.{holds, IsRectNear}
+use Rattle.model_forest.specs.declared.Window.{Window}
+use Rattle.model_forest.specs.World.{World, image_at, parent_of}
+use Rattle.model_kept.specs.Cells.{cell_of, cell_part, hides}
+use Rattle.model_kept.specs.Keeping.{own, Place}
+use Rattle.r9_locate.specs.Forms.{Form}
+use Rattle.r9_cells.specs.Fitting.{hides_of, shows_of}
+
+-- places of one image, over those of others
+abbrev pub with_places : ℕ → (Point → Bool) → (Place → Bool) → Place → Bool
+with_places i places has place = if place.image == i then places place.at else has place
+
+-- one image has another form, or none
+abbrev pub with_form : ℕ → Option Form → (ℕ → Option Form) → ℕ → Option Form
+with_form i form forms n = if n == i then form else forms n
+
+-- the windows have places just in their cells that have a hidden point
+abbrev pub HasCells : World → (Place → Bool) → Type 0
+HasCells world has =
+    (i p : ℕ) (x : Point) → parent_of world i ≡ Some p → holds (image_at world i).r x ≡ true
+    → has (own i x) ≡ hides world i (cell_part (image_at world i).r (cell_of (image_at world i).r x))
+
+-- a window stands on image p
+pub record StandsOn (world : World) (p : ℕ) (w : Window) : Type 0 where
+  pub stands : parent_of world w.image ≡ Some p
+  pub near : IsRectNear w.place
+
+-- the place is in a cell that image p hides with these windows, or in one that it shows
+abbrev pub in_hidden : World → ℕ → List Window → Place → Bool
+in_hidden world p windows place =
+    let r = (image_at world place.image).r in
+    holds r place.at && list_any (hides_of world p windows place.image (cell_of r place.at)) windows
+
+abbrev pub in_shown : World → ℕ → List Window → Place → Bool
+in_shown world p windows place =
+    let r = (image_at world place.image).r in
+    holds r place.at && list_any (shows_of world p windows place.image (cell_of r place.at)) windows

@@ -1,0 +1,62 @@
+//! Tiles for the hidden cells of the windows of an image, when that gets another list of them.
+
+ghost use Rattle.std.specs.Prelude.{◌≡◌, ◌≤◌, ◌&&◌, ◌||◌, not, All, OnErr, OnOk, if◌then◌else◌};
+ghost use Rattle.model_forest.specs.World.{IsLive};
+ghost use Rattle.model_kept.specs.Keeping.{Place};
+ghost use Rattle.r9_locate.specs.Forms.{forms_of};
+ghost use Rattle.r9_locate.specs.Table.{shape};
+ghost use Rattle.r9_pixels.specs.Places.{in_hidden, in_shown, StandsOn};
+
+use super::keeping::KeptPixels;
+use model_forest::Window;
+use r9_locate::Lists;
+use r9_memory::Memory;
+
+impl KeptPixels {
+    ghost use Rattle.r9_pixels.specs.Kept.{form_at, has_place, kept_at, room_of, spare_in, wanted_in, IsUnchanged};
+
+    /// Makes room for the tiles of all cells that image p hides with these windows and that have none.
+    pub fn reserve_hidden(
+        &mut self,
+        lists: &Lists,
+        p: u32,
+        windows: &[Window],
+    ) -> Result<(), Memory>
+        requires live { IsLive (shape lists.now) p }
+        requires forms { form_at self.old ≡ forms_of (shape lists.now) }
+        requires windows { All (StandsOn (shape lists.now) p) windows.now }
+        ensures spare { OnOk result (wanted_in self.new (shape lists.now) p windows.now ≤ spare_in self.new) }
+        ensures kept { IsUnchanged self.old self.new }
+        ensures room { room_of self.new ≡ room_of self.old }
+        ensures err { OnErr result (spare_in self.new ≡ spare_in self.old) }
+    {
+        self.cells.reserve_hidden(lists, p, windows)
+    }
+
+    /// Takes tiles for all cells that image p hides with these windows. No pixel changes, and it takes no memory.
+    pub fn take_hidden(&mut self, lists: &Lists, p: u32, windows: &[Window])
+        requires live { IsLive (shape lists.now) p }
+        requires forms { form_at self.old ≡ forms_of (shape lists.now) }
+        requires windows { All (StandsOn (shape lists.now) p) windows.now }
+        requires spare { wanted_in self.old (shape lists.now) p windows.now ≤ spare_in self.old }
+        ensures kept { kept_at self.new ≡ kept_at self.old }
+        ensures has { (place : Place) → has_place self.new place ≡ (has_place self.old place || in_hidden (shape lists.now) p windows.now place) }
+        ensures forms { form_at self.new ≡ form_at self.old }
+        ensures room { room_of self.new ≡ room_of self.old }
+    {
+        self.cells.take_hidden(lists, p, windows);
+    }
+
+    /// Gives back the tiles of all cells of these windows that image p shows with them. It takes no memory.
+    pub fn give_shown(&mut self, lists: &Lists, p: u32, windows: &[Window])
+        requires live { IsLive (shape lists.now) p }
+        requires forms { form_at self.old ≡ forms_of (shape lists.now) }
+        requires windows { All (StandsOn (shape lists.now) p) windows.now }
+        ensures kept { (place : Place) → kept_at self.new place ≡ (if has_place self.new place then kept_at self.old place else 0) }
+        ensures has { (place : Place) → has_place self.new place ≡ (not (in_shown (shape lists.now) p windows.now place) && has_place self.old place) }
+        ensures forms { form_at self.new ≡ form_at self.old }
+        ensures room { room_of self.new ≡ room_of self.old }
+    {
+        self.cells.give_shown(lists, p, windows);
+    }
+}
