@@ -1,9 +1,11 @@
 -- Images without their pixels, as a world.
-use Rattle.std.specs.Prelude.{◌^◌, ℕ, Bool, ◌&&◌, List, Option, None, option_map, slice_index_or, All}
+use Rattle.std.specs.Prelude.{◌^◌, ℕ, Bool, ◌&&◌, option_map, All}
 use Rattle.r9_geom.specs.declared.Point.{Point}
 use Rattle.r9_geom.specs.Geometry.{holds, IsRectNearBy}
 use Rattle.model_forest.specs.World.{Image, World, image_at, IsLive}
 use Rattle.model_kept.specs.Keeping.{is_top}
+use Rattle.r9_numbered.specs.declared.Numbered.{Numbered}
+use Rattle.r9_numbered.specs.Numbered.{value_at}
 use Rattle.r9_locate.specs.declared.lists.Frame.{Frame}
 
 -- an image whose pixels are all 0
@@ -19,11 +21,8 @@ frame_image frame = record {
   windows = frame.windows.items;
 }
 
-abbrev pub frame_at : List (Option Frame) → ℕ → Option Frame
-frame_at slots n = slice_index_or slots n None
-
-abbrev pub shape_of : List (Option Frame) → World
-shape_of slots = λ n. option_map frame_image (frame_at slots n)
+abbrev pub shape_of : Numbered Frame → World
+shape_of frames = λ n. option_map frame_image (value_at frames n)
 
 -- all coordinates are far from the ends of 64 bits
 abbrev pub IsNearby : World → Type 0

@@ -1,16 +1,20 @@
 //! Images by number, without their pixels.
 
-ghost use Rattle.std.specs.Prelude.{◌≡◌, None};
+ghost use Rattle.std.specs.Prelude.{◌≡◌, ◌+◌, ◌≤◌, ℕ, None, Some, max, OnOk};
 ghost use Rattle.std.specs.Option.{option_map_or};
-ghost use Rattle.model_forest.specs.World.{image_at, no_rect, IsLive};
+ghost use Rattle.model_forest.specs.World.{image_at, no_rect, with_image, IsLive};
 ghost use Rattle.model_kept.specs.Keeping as kept;
 ghost use Rattle.model_kept.specs.Keeping.{HasOnePlaces, IsStanding};
+ghost use Rattle.model_kept.specs.Restack.{with_list};
 ghost use Rattle.r9_locate.specs.Lists.{shape_of, IsNearby};
 
 use model_forest::{Standing, Window};
 use r9_chan::Chan;
 use r9_geom::{Point, Rect};
+use r9_memory::Memory;
+use r9_numbered::Numbered;
 use std::alloc::Global;
+use std::mem;
 
 /// What an image has beside its pixels.
 #[derive(Drop)]
@@ -25,13 +29,13 @@ pub struct Frame {
     pub windows: Vec<Window>,
 }
 
-/// Images by number, and where they stand.
+/// Images by number, and where they stand. An image that stands on another may be missing in the list of that.
 #[derive(Drop)]
 pub struct Lists {
-    slots: Vec<Option<Frame>>,
-    ghost standing: { IsStanding (shape_of slots.items) },
-    ghost places: { HasOnePlaces (shape_of slots.items) },
-    ghost near: { IsNearby (shape_of slots.items) },
+    frames: Numbered<Frame>,
+    ghost standing: { IsStanding (shape_of frames) },
+    ghost places: { HasOnePlaces (shape_of frames) },
+    ghost near: { IsNearby (shape_of frames) },
 }
 
 /// The place of an image in a list of windows.
@@ -56,15 +60,24 @@ fn place_of(found: Option<Window>) -> Rect
 
 impl Lists {
     ghost use Rattle.r9_locate.specs.Lists.{frame_image};
-    ghost use Rattle.r9_locate.specs.Table.{shape};
+    ghost use Rattle.r9_locate.specs.Table.{made, shape, HasRoom};
 
-    /// No image.
+    /// No image, and no number given out.
     pub fn new(alloc: Global) -> Self
-        ensures { shape result ≡ (λ _. None) }
+        ensures world { shape result ≡ (λ _. None) }
+        ensures made { made result ≡ 0 }
     {
         Lists {
-            slots: Vec::new(alloc),
+            frames: Numbered::new(alloc),
         }
+    }
+
+    /// How many numbers were given out.
+    pub fn len(&self) -> usize
+        ensures value { result ≡ made self.now }
+        ensures most { result ≤ 4294967295 }
+    {
+        self.frames.len()
     }
 
     /// The image of a number.
@@ -72,9 +85,59 @@ impl Lists {
         requires { IsLive (shape self.now) i }
         ensures { image_at (shape self.now) i ≡ frame_image result.now }
     {
-        match &self.slots[i as usize] {
+        match self.frames.get(i) {
             Some(frame) => frame,
             None => unreachable!(),
         }
+    }
+
+    /// Makes room for one more image, also under the next number.
+    pub fn reserve(&mut self) -> Result<(), Memory>
+        ensures room { OnOk result ((i : ℕ) → i ≤ made self.old → HasRoom self.new i) }
+        ensures world { shape self.new ≡ shape self.old }
+        ensures made { made self.new ≡ made self.old }
+    {
+        self.frames.reserve()
+    }
+
+    /// Puts an image under a number that has none, or is the next one. Nothing is said of the list of its parent.
+    pub fn insert(&mut self, i: u32, frame: Frame)
+        requires room { HasRoom self.old i }
+        requires free { shape self.old i ≡ None }
+        requires standing { IsStanding (with_image (shape self.old) i (Some (frame_image frame))) }
+        requires places { HasOnePlaces (with_image (shape self.old) i (Some (frame_image frame))) }
+        requires near { IsNearby (with_image (shape self.old) i (Some (frame_image frame))) }
+        ensures world { shape self.new ≡ with_image (shape self.old) i (Some (frame_image frame)) }
+        ensures made { made self.new ≡ max (made self.old) (i + 1) }
+    {
+        self.frames.insert(i, frame);
+    }
+
+    /// Takes an image away, which stands in no list. It takes no memory.
+    pub fn remove(&mut self, i: u32)
+        requires live { IsLive (shape self.old) i }
+        requires standing { IsStanding (with_image (shape self.old) i None) }
+        requires places { HasOnePlaces (with_image (shape self.old) i None) }
+        requires near { IsNearby (with_image (shape self.old) i None) }
+        ensures world { shape self.new ≡ with_image (shape self.old) i None }
+        ensures made { made self.new ≡ made self.old }
+    {
+        let _ = self.frames.remove(i);
+    }
+
+    /// Gives an image another list of windows, for the one that it had. It takes no memory.
+    pub fn set_windows(&mut self, p: u32, windows: Vec<Window>) -> Vec<Window>
+        requires live { IsLive (shape self.old) p }
+        requires standing { IsStanding (with_list (shape self.old) p windows.items) }
+        requires places { HasOnePlaces (with_list (shape self.old) p windows.items) }
+        requires near { IsNearby (with_list (shape self.old) p windows.items) }
+        ensures had { result.items ≡ (image_at (shape self.old) p).windows }
+        ensures world { shape self.new ≡ with_list (shape self.old) p windows.items }
+        ensures made { made self.new ≡ made self.old }
+    {
+        let mut frame = self.frames.remove(p);
+        let had = mem::replace(&mut frame.windows, windows);
+        self.frames.insert(p, frame);
+        had
     }
 }
