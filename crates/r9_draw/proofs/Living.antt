@@ -13,11 +13,11 @@ use Rattle.r9_dmsg.specs.Listed.{has_list}
 use Rattle.model_text.specs.Map.{lookup, with}
 use Rattle.model_images.specs.Release.{Freed}
 use Rattle.model_draw.specs.World.{Client, World, after_freed, look, with_book}
-use Rattle.r9_draw.specs.declared.plan.Plan.{Plan}
-use Rattle.r9_draw.specs.declared.plan.Plan.TheVariants.{Nothing, Make, SetClip, Draw, Free, FreeScreen, MakeFont, LoadCell, MakeScreen, ShareScreen, Move, SetOperator, Read, Write}
-use Rattle.r9_draw.specs.Fonts.{after_load_cell}
-use Rattle.r9_draw.specs.Plans.{after, after_free, after_free_screen, after_make, after_make_screen, after_read, after_share, after_task, freed_by, screen_freed_by}
-use Rattle.r9_draw.proofs.Worlds.{fold-things}
+use Rattle.r9_messages.specs.declared.plan.Plan.{Plan}
+use Rattle.r9_messages.specs.declared.plan.Plan.TheVariants.{Nothing, Make, SetClip, Draw, Free, FreeScreen, MakeFont, LoadCell, MakeScreen, ShareScreen, Move, SetOperator, Read, Write}
+use Rattle.r9_messages.specs.Fonts.{after_load_cell}
+use Rattle.r9_messages.specs.Plans.{after, after_free, after_free_screen, after_make, after_make_screen, after_read, after_share, after_task, freed_by, screen_freed_by}
+use Rattle.r9_device.proofs.Worlds.{fold-things}
 
 with-live : {A : Type 0} (es : List (ℕ × A)) (k : ℕ) (value : A) → IsSome (lookup es k) → IsSome (lookup (with es k value) k)
 with-live [] k value h = h

@@ -1,13 +1,5 @@
-pub mod Kept
-pub mod Spare
 pub mod World
 pub mod Refused
-pub mod Fonts
-pub mod Strings
-pub mod Plans
-pub mod Gone
 pub mod Steps
 pub mod Described
-pub mod Restacking
-pub mod Ordering
 pub mod Shown

@@ -1,11 +1,9 @@
 //! The files `data` and `ctl` of a connection.
 
-ghost use Rattle.std.specs.Prelude.{◌≡◌, ◌==◌, ◌≤◌, ◌^◌, ◌++◌, true, false, length, is_some, MatchOption, Ok, Err, IfOk, IfErr, OnOk, OnErr, IsSome};
+ghost use Rattle.std.specs.Prelude.{◌≡◌, ◌==◌, ◌^◌, true, false, length, MatchOption, Ok, Err, IfOk, IfErr, OnOk, OnErr, IsSome};
 ghost use Rattle.std.specs.Int.{w32, from_le_bytes};
-ghost use Rattle.r9_geom.specs.Geometry.{IsOrdered, IsRectNearBy};
-ghost use Rattle.r9_layers.specs.Told.{info_of};
+ghost use Rattle.r9_geom.specs.Geometry.{IsRectNearBy};
 ghost use Rattle.model_text.specs.Map.{lookup};
-ghost use Rattle.model_draw.specs.World.{at_number};
 ghost use Rattle.r9_draw.specs.Described.{fields_of};
 ghost use Rattle.model_draw.specs.Files.{read_data, read_ctl, write_ctl};
 ghost use Rattle.r9_draw.specs.Refused.{IfRefused};
@@ -15,7 +13,7 @@ use crate::draw::Draw;
 use crate::fault::DrawFault;
 use r9_client::{describe, described_by, pending_len, replace_pending};
 use r9_imgfile::push_rect;
-use r9_layers::{ImageNo, Info};
+use r9_layers::Info;
 use r9_memory::Memory;
 use r9_text::{Bytes, push_number, push_word};
 use std::alloc::Global;
@@ -57,15 +55,15 @@ impl Draw {
         ensures refused { IfErr result (λ f. IfRefused f (λ n. read_data client (world_of self.old) most ≡ Err n)) }
         ensures kept { OnErr result (world_of self.new ≡ world_of self.old) }
     {
-        let len = pending_len(&self.clients, client);
+        let len = pending_len(&self.device.clients, client);
         if len == 0 {
             return Err(DrawFault::Refused(26));
         }
         if len > most as usize {
             return Err(DrawFault::Refused(25));
         }
-        let none = Bytes::new(self.alloc);
-        Ok(replace_pending(&mut self.clients, client, none))
+        let none = Bytes::new(self.device.alloc);
+        Ok(replace_pending(&mut self.device.clients, client, none))
     }
 
     /// What `ctl` says of the image that it describes: twelve fields, of which the first is the number of the connection that
@@ -77,25 +75,14 @@ impl Draw {
         ensures len { IfOk result (λ bytes. length bytes ≡ 144) }
         ensures refused { IfErr result (λ f. IfRefused f (λ n. read_ctl client (world_of self.now) number ≡ Err n)) }
     {
-        let id = described_by(&self.clients, client);
-        let image = match self.look(client, id) {
+        let id = described_by(&self.device.clients, client);
+        let image = match self.device.look(client, id) {
             Ok(image) => image,
             Err(refusal) => return Err(DrawFault::Refused(refusal)),
         };
-        let info = self.image_info(image);
-        let bytes = description(self.alloc, number, id, &info)?;
+        let info = self.device.image_info(image);
+        let bytes = description(self.device.alloc, number, id, &info)?;
         Ok(bytes)
-    }
-
-    // What an image tells of itself.
-    pub(crate) fn image_info(&self, image: ImageNo) -> Info
-        requires { is_some ((world_of self.now).images image.0) ≡ true }
-        ensures told { result ≡ info_of (at_number (world_of self.now) image.0) }
-        ensures near { IsRectNearBy (2 ^ 33) result.r }
-        ensures clip { IsRectNearBy (2 ^ 33) result.clipr }
-        ensures ordered { IsOrdered result.r }
-    {
-        self.forest.info(image)
     }
 
     /// Chooses the image id that `ctl` describes from now on. Refused by 27 exactly where there are not four bytes, and by 4
@@ -110,10 +97,10 @@ impl Draw {
         let Some(id) = id_of(bytes) else {
             return Err(DrawFault::Refused(27));
         };
-        if id != 0 && !self.knows(client, id) {
+        if id != 0 && !self.device.knows(client, id) {
             return Err(DrawFault::Refused(4));
         }
-        describe(&mut self.clients, client, id);
+        describe(&mut self.device.clients, client, id);
         Ok(())
     }
 }

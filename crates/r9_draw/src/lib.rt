@@ -1,22 +1,12 @@
-//! The draw device (draw(3)): images and windows, what ids refer to, connections, and the messages that they write.
+//! The draw device (draw(3)): messages that are written, orders of the window manager, connections, and what is shown.
 #![tactic(auto)]
 
 mod draw;
 mod fault;
 mod files;
-mod fonts;
-mod image;
 mod listed;
-mod lookup;
 mod message;
-mod naming;
-mod orders;
-mod pixels;
-mod plan;
-mod screen;
 mod shown;
-mod string;
-mod window;
 mod write;
 
 pub use draw::Draw;

@@ -11,12 +11,12 @@ ghost use Rattle.model_draw.specs.Files.{screen_file};
 ghost use Rattle.model_draw.specs.Orders.{picture_of};
 ghost use Rattle.model_draw.specs.World.{at_number};
 ghost use Rattle.r9_layers.specs.Told.{info_of};
-ghost use Rattle.r9_draw.specs.Plans.{IsLiveIn};
+ghost use Rattle.r9_device.specs.Live.{IsLiveIn};
 ghost use Rattle.r9_draw.specs.Shown.{picture_in, shown_in};
 ghost use Rattle.r9_draw.specs.World.{world_of};
 
 use crate::draw::Draw;
-use crate::plan::DISPLAY;
+use r9_device::DISPLAY;
 use r9_geom::Rect;
 use r9_imgfile::{header, part, touched_rows};
 use r9_layers::{ImageNo, Info};
@@ -38,7 +38,7 @@ impl Draw {
     {
         match image {
             Shown::Display => ImageNo(DISPLAY),
-            Shown::Window(serial) => self.image_shown(serial),
+            Shown::Window(serial) => self.device.image_shown(serial),
         }
     }
 
@@ -48,7 +48,7 @@ impl Draw {
         ensures near { IsRectNearBy (2 ^ 33) result.r }
         ensures ordered { IsOrdered result.r }
     {
-        self.image_info(self.image_of(image))
+        self.device.image_info(self.image_of(image))
     }
 
     /// The rows of a rectangle of it (image(6)): what is painted from back to front, on it and on all that stands on it.
@@ -58,7 +58,7 @@ impl Draw {
         requires inside { (p : Point) → IsTrue (holds r p) → IsTrue (holds (at_number (world_of self.now) (shown_in (world_of self.now) image)).r p) }
         ensures { IfOk result (λ rows. rows ≡ rows_of r (depth (at_number (world_of self.now) (shown_in (world_of self.now) image)).chan) (paint (world_of self.now).images (shown_in (world_of self.now) image))) }
     {
-        self.forest.unload(self.image_of(image), r)
+        self.device.forest.unload(self.image_of(image), r)
     }
 
     /// The display as an image file: what is painted from back to front, on it and on all that stands on it (image(6)). It is the
@@ -68,7 +68,7 @@ impl Draw {
         ensures picture { picture_of (world_of self.now) 0 ≡ screen_file (world_of self.now) }
     {
         let info = self.info(Shown::Display);
-        let mut file = header(self.alloc, &info)?;
+        let mut file = header(self.device.alloc, &info)?;
         let rows = self.unload(Shown::Display, info.r)?;
         file.push_all(rows.as_slice())?;
         Ok(file)
@@ -81,6 +81,6 @@ impl Draw {
     {
         let info = self.info(image);
         let rows = self.unload(image, touched_rows(&info, offset, count))?;
-        part(self.alloc, &info, rows.as_slice(), offset, count)
+        part(self.device.alloc, &info, rows.as_slice(), offset, count)
     }
 }

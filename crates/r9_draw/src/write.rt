@@ -7,7 +7,7 @@ ghost use Rattle.model_draw.specs.Memory.{MayRunOut};
 ghost use Rattle.r9_draw.specs.World.{world_of};
 
 use crate::draw::Draw;
-use crate::message::{Step, behind};
+use crate::message::{Step, behind, one_message};
 use r9_memory::Memory;
 
 /// How a write ended.
@@ -48,7 +48,7 @@ impl Draw {
         let mut done = 0;
         'messages: while !rest.is_empty() {
             let marked = is_marked(mark, done);
-            match self.one_message(client, rest, marked) {
+            match one_message(&mut self.device, client, rest, marked) {
                 Step::Done(len) => rest = behind(rest, len),
                 Step::Refused(refusal) => {
                     return Ok(Wrote {

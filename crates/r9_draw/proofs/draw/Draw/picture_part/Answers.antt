@@ -11,7 +11,7 @@ use Rattle.model_forest.specs.Paint.{paint}
 use Rattle.r9_imgfile.specs.Touched.{touched}
 use Rattle.r9_draw.specs.Shown.{picture_in, shown_in}
 use Rattle.r9_draw.specs.World.{world_of}
-use Rattle.r9_draw.proofs.Fitting.{picture-painted}
+use Rattle.r9_draw.proofs.Pictures.{picture-painted}
 use Rattle.r9_draw.proofs.draw.Draw.picture_part.Goals as goal
 
 pub unload-requires-clause-inside : goal.unload-requires-clause-inside

@@ -8,7 +8,7 @@ use Rattle.model_forest.specs.Paint.{paint}
 use Rattle.model_draw.specs.World.{at_number}
 use Rattle.model_draw.specs.Files.{screen_file}
 use Rattle.r9_draw.specs.World.{world_of}
-use Rattle.r9_draw.proofs.Fitting.{display-picture}
+use Rattle.r9_draw.proofs.Pictures.{display-picture}
 use Rattle.r9_draw.proofs.draw.Draw.screen.Goals as goal
 
 pub unload-requires-clause-inside : goal.unload-requires-clause-inside
@@ -25,13 +25,13 @@ returns-clause-file c =
     ∙ ap (λ (info : Info). file_header info.chan info.r ++ rows_of info.r (depth image.chan) (paint world.images 0)) c.info-info.ensures.told
 
 pub returns-clause-picture : goal.returns-clause-picture
-returns-clause-picture c = display-picture (world_of c.args.self.now) c.args.self.now.kept
+returns-clause-picture c = display-picture (world_of c.args.self.now) c.args.self.now.device.kept
 
 pub returns-in_err-file-clause-picture : goal.returns-in_err-file-clause-picture
-returns-in_err-file-clause-picture c = display-picture (world_of c.args.self.now) c.args.self.now.kept
+returns-in_err-file-clause-picture c = display-picture (world_of c.args.self.now) c.args.self.now.device.kept
 
 pub returns-in_err-rows-clause-picture : goal.returns-in_err-rows-clause-picture
-returns-in_err-rows-clause-picture c = display-picture (world_of c.args.self.now) c.args.self.now.kept
+returns-in_err-rows-clause-picture c = display-picture (world_of c.args.self.now) c.args.self.now.device.kept
 
 pub returns-in_err-push_all-clause-picture : goal.returns-in_err-push_all-clause-picture
-returns-in_err-push_all-clause-picture c = display-picture (world_of c.args.self.now) c.args.self.now.kept
+returns-in_err-push_all-clause-picture c = display-picture (world_of c.args.self.now) c.args.self.now.device.kept

@@ -1,4 +1,5 @@
 use Rattle.std.proofs.Common.{◌<◌, Bool, length, rules, tests, sym, subst, ℕ, List, ◌+◌}
+use Rattle.r9_device.specs.World as device
 use Rattle.r9_draw.specs.World.{world_of}
 use Rattle.r9_draw.specs.Steps.{IsShortOf, IsDone}
 use Rattle.r9_draw.proofs.Writing.{IsWriting, begins, refused, short-cause, short-written, step-done}
@@ -10,22 +11,22 @@ messages-init c = begins c.args.client (world_of c.args.self.now) c.args.bytes.n
 pub returns-in-Refused-clause-plain : goal.returns-in-Refused-clause-plain
 returns-in-Refused-clause-plain c = λ _.
     let some : 0 < length c.messages.rest.now = search (rules, tests) in
-    refused c.args.client (world_of c.args.self.now) c.args.bytes.now c.args.mark (world_of c.messages.self) (world_of c.one_message.new.self) c.messages.rest.now c.messages.done c.in-Refused.refusal c.messages.invariant some c.in-Refused.ensures
+    refused c.args.client (world_of c.args.self.now) c.args.bytes.now c.args.mark (world_of c.messages.self) (device.world_of c.one_message.new.device) c.messages.rest.now c.messages.done c.in-Refused.refusal c.messages.invariant some c.in-Refused.ensures
 
 pub returns-in-Short-clause-short : goal.returns-in-Short-clause-short
 returns-in-Short-clause-short c = λ _.
     let some : 0 < length c.messages.rest.now = search (rules, tests) in
-    short-written c.args.client (world_of c.args.self.now) c.args.bytes.now c.args.mark (world_of c.messages.self) (world_of c.one_message.new.self) c.messages.rest.now c.messages.done c.is_marked-marked.result c.messages.invariant some c.in-Short.ensures
+    short-written c.args.client (world_of c.args.self.now) c.args.bytes.now c.args.mark (world_of c.messages.self) (device.world_of c.one_message.new.device) c.messages.rest.now c.messages.done c.is_marked-marked.result c.messages.invariant some c.in-Short.ensures
 
 pub returns-in-Short-clause-cause : goal.returns-in-Short-clause-cause
 returns-in-Short-clause-cause c = λ _.
-    let P : Bool → Type 0 = λ b. IsShortOf c.args.client (world_of c.messages.self) c.messages.rest.now b (world_of c.one_message.new.self) in
-    short-cause c.args.client (world_of c.args.self.now) c.args.bytes.now c.args.mark (world_of c.messages.self) (world_of c.one_message.new.self) c.messages.rest.now c.messages.done c.messages.invariant (subst P c.is_marked-marked.ensures c.in-Short.ensures)
+    let P : Bool → Type 0 = λ b. IsShortOf c.args.client (world_of c.messages.self) c.messages.rest.now b (device.world_of c.one_message.new.device) in
+    short-cause c.args.client (world_of c.args.self.now) c.args.bytes.now c.args.mark (world_of c.messages.self) (device.world_of c.one_message.new.device) c.messages.rest.now c.messages.done c.messages.invariant (subst P c.is_marked-marked.ensures c.in-Short.ensures)
 
 pub messages-preserved : goal.messages-preserved
 messages-preserved c =
     let some : 0 < length c.messages.rest.now = search (rules, tests) in
-    let P : Bool → Type 0 = λ b. IsDone c.args.client (world_of c.messages.self) c.messages.rest.now b c.in-Done.len (world_of c.one_message.new.self) in
-    let Q : List ℕ → Type 0 = λ r. IsWriting c.args.client (world_of c.args.self.now) c.args.bytes.now c.args.mark (world_of c.one_message.new.self) r (c.messages.done + 1) in
+    let P : Bool → Type 0 = λ b. IsDone c.args.client (world_of c.messages.self) c.messages.rest.now b c.in-Done.len (device.world_of c.one_message.new.device) in
+    let Q : List ℕ → Type 0 = λ r. IsWriting c.args.client (world_of c.args.self.now) c.args.bytes.now c.args.mark (device.world_of c.one_message.new.device) r (c.messages.done + 1) in
     subst Q (sym c.behind-rest.ensures)
-    (step-done c.args.client (world_of c.args.self.now) c.args.bytes.now c.args.mark (world_of c.messages.self) (world_of c.one_message.new.self) c.messages.rest.now c.messages.done c.in-Done.len c.messages.invariant some (subst P c.is_marked-marked.ensures c.in-Done.ensures))
+    (step-done c.args.client (world_of c.args.self.now) c.args.bytes.now c.args.mark (world_of c.messages.self) (device.world_of c.one_message.new.device) c.messages.rest.now c.messages.done c.in-Done.len c.messages.invariant some (subst P c.is_marked-marked.ensures c.in-Done.ensures))

@@ -1,0 +1,16 @@
+pub mod Lookups
+pub mod Going
+pub mod Kept
+pub mod Rects
+pub mod Spare
+pub mod Screens
+pub mod Manager
+pub mod Worlds
+pub mod Releasing
+pub mod AllUsed
+pub mod Starting
+pub mod Raising
+pub mod Ties
+pub mod Named
+pub mod Adding
+pub mod Shifting

@@ -1,5 +1,0 @@
-use Rattle.r9_draw.proofs.Bordering.{IsFilling}
-use Rattle.r9_draw.proofs.orders.fill_parts.Given as goal
-
-abbrev pub invariant-loop-part : goal.invariant-loop-part
-invariant-loop-part l = IsFilling l.initial.forest l.forest l.image.0 l.raw l.parts l.part-index

@@ -1,0 +1,72 @@
+use Rattle.std.proofs.Common.{◌≡◌, ℕ, List, sym, ap, subst, ◌∙◌}
+use Rattle.std.specs.List.{fold}
+use Rattle.model_text.specs.Map.{lookup}
+use Rattle.model_images.specs.declared.Thing.{Thing}
+use Rattle.model_images.specs.Release.{Freed}
+use Rattle.model_draw.specs.World.{Client, World}
+use Rattle.r9_layers.specs.Forest.{numbers, world}
+use Rattle.r9_device.specs.World.{world_of}
+use Rattle.r9_device.specs.Gone.{CanRelease, images_without, numbers_without}
+use Rattle.r9_device.proofs.Kept.{can-release}
+use Rattle.r9_messages.proofs.Freeing.{freed-world}
+use Rattle.r9_device.proofs.Worlds.{kept-after}
+use Rattle.r9_device.proofs.Manager.{manager-with, not_manager, not_owner}
+use Rattle.model_images.proofs.Spare.{free_id-gives}
+use Rattle.r9_device.proofs.Spare.{spare-freed}
+use Rattle.r9_device.proofs.Ties.{ties-freed}
+use Rattle.r9_messages.proofs.image.free_id.Goals as goal
+
+pub release-requires : goal.release-requires
+release-requires c =
+    let before = c.args.device.now in
+    let freed : Freed = record { book = c.free_id.new.self.book; gone = c.in-Ok.gone } in (
+      before.book.book,
+      subst (λ (gone : List Thing). CanRelease (world before.forest) before.book.book gone) (sym c.as_slice.ensures)
+          (can-release (world before.forest) before.book.book freed before.kept
+          (c.free_id_frees.ensures.freed before.book.book c.args.client c.args.id freed before.kept.screens c.in-Ok.ensures.freed)
+          (c.free_id_frees.ensures.order before.book.book c.args.client c.args.id freed c.in-Ok.ensures.freed)),
+    )
+
+pub invariant_of-device-2-clause-kept : goal.invariant_of-device-2-clause-kept
+invariant_of-device-2-clause-kept c =
+    let before = c.args.device.now in
+    let freed : Freed = record { book = c.free_id.new.self.book; gone = c.in-Ok.gone } in
+    kept-after (world before.forest) (world c.release.new.forest) before.book.book freed before.kept c.keeps.ensures
+    (c.free_id_frees.ensures.freed before.book.book c.args.client c.args.id freed before.kept.screens c.in-Ok.ensures.freed) (
+      c.free_id_frees.ensures.complete before.book.book c.args.client c.args.id freed before.kept.finds c.in-Ok.ensures.freed,
+      c.free_id_frees.ensures.finds before.book.book c.args.client c.args.id freed before.kept.finds c.in-Ok.ensures.freed,
+    )
+    (c.free_id_frees.ensures.order before.book.book c.args.client c.args.id freed c.in-Ok.ensures.freed)
+    (c.free_id_frees.ensures.rest before.book.book c.args.client c.args.id freed c.in-Ok.ensures.freed)
+    (c.free_id_frees.ensures.others before.book.book c.args.client c.args.id freed c.in-Ok.ensures.freed 0 0 (not_owner c.args.client (not_manager before.clients.entries c.args.client c.requires.live before.manager)))
+    (c.release.ensures.world ∙ ap (λ (gone : List Thing). fold images_without (world before.forest) gone) c.as_slice.ensures)
+
+pub invariant_of-device-2-clause-manager : goal.invariant_of-device-2-clause-manager
+invariant_of-device-2-clause-manager c =
+    ap (λ (es : List (ℕ × Client)). lookup es 0) c.forget.ensures ∙ manager-with c.args.device.now.clients.entries c.args.client _ c.requires.live c.args.device.now.manager
+
+pub returns-clause-freed : goal.returns-clause-freed
+returns-clause-freed c =
+    let before = c.args.device.now in
+    let freed : Freed = record { book = c.free_id.new.self.book; gone = c.in-Ok.gone } in
+    let images : world c.release.new.forest ≡ fold images_without (world before.forest) freed.gone =
+    c.release.ensures.world ∙ ap (λ (gone : List Thing). fold images_without (world before.forest) gone) c.as_slice.ensures in
+    let given : numbers c.release.new.forest ≡ fold numbers_without (numbers before.forest) freed.gone =
+    c.release.ensures.numbers ∙ ap (λ (gone : List Thing). fold numbers_without (numbers before.forest) gone) c.as_slice.ensures in
+    (λ i. let w : World = record { opening = (world_of before).opening; images = images i; numbers = given i; book = freed.book; clients = c.forget.ensures i } in w)
+    ∙ sym (freed-world (world_of before) c.args.client c.args.id freed c.in-Ok.ensures.freed)
+
+pub invariant_of-device-2-clause-spare : goal.invariant_of-device-2-clause-spare
+invariant_of-device-2-clause-spare c =
+    let before = c.args.device.now in
+    let freed : Freed = record { book = c.free_id.new.self.book; gone = c.in-Ok.gone } in
+    spare-freed before.book.book freed before.spare before.kept.screens
+    (c.free_id_frees.ensures.freed before.book.book c.args.client c.args.id freed before.kept.screens c.in-Ok.ensures.freed)
+    (c.free_id_frees.ensures.rest before.book.book c.args.client c.args.id freed c.in-Ok.ensures.freed)
+    (free_id-gives before.book.book c.args.client c.args.id freed c.in-Ok.ensures.freed)
+
+pub invariant_of-device-2-clause-ties : goal.invariant_of-device-2-clause-ties
+invariant_of-device-2-clause-ties c =
+    let before = c.args.device.now in
+    let freed : Freed = record { book = c.free_id.new.self.book; gone = c.in-Ok.gone } in
+    ties-freed before.book.book c.args.client c.args.id freed (not_manager before.clients.entries c.args.client c.requires.live before.manager) before.ties c.in-Ok.ensures.freed

@@ -1,0 +1,22 @@
+use Rattle.std.proofs.Common.{◌≡◌, true, [], Ok, OnOk, sym, subst}
+use Rattle.std.specs.Prelude.{is_ok}
+use Rattle.model_draw.specs.Act.{act}
+use Rattle.r9_dmsg.specs.declared.listed.Listed.{Listed}
+use Rattle.r9_dmsg.specs.Listed.{listed_message}
+use Rattle.r9_device.specs.World.{world_of}
+use Rattle.r9_messages.proofs.Restacking.{accepted-shows, restacked-done}
+use Rattle.r9_messages.proofs.listed.do_listed.Goals as goal
+
+pub restack-requires : goal.restack-requires
+restack-requires c =
+    let w = world_of c.args.device.now in
+    let P : Listed → Type 0 = λ l. is_ok (act c.args.client w (listed_message l) []) ≡ true in
+    accepted-shows c.args.client w c.in-Restack.asked (subst P c.in-Restack.is c.requires.accepted)
+
+pub returns-in-Restack-clause-done : goal.returns-in-Restack-clause-done
+returns-in-Restack-clause-done c =
+    let w = world_of c.args.device.now in
+    let next = world_of c.restack.new.device in
+    let P : Listed → Type 0 = λ l. is_ok (act c.args.client w (listed_message l) []) ≡ true in
+    let Q : Listed → Type 0 = λ l. OnOk c.restack.result (act c.args.client w (listed_message l) [] ≡ Ok next) in
+    subst Q (sym c.in-Restack.is) (restacked-done c.restack.result c.args.client w next c.in-Restack.asked (subst P c.in-Restack.is c.requires.accepted) c.restack.ensures.restacked)

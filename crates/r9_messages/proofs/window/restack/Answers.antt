@@ -1,0 +1,34 @@
+use Rattle.std.proofs.Common.{List, map, ap, ◌∙◌}
+use Rattle.r9_info.specs.declared.ImageNo.{ImageNo}
+use Rattle.r9_layers.specs.Forest.{world}
+use Rattle.r9_device.specs.World.{world_of}
+use Rattle.r9_messages.specs.Restacking.{ids_of}
+use Rattle.r9_messages.proofs.Restacking.{group-stands}
+use Rattle.r9_device.proofs.Raising.{kept-lowered, kept-raised}
+use Rattle.r9_messages.proofs.window.restack.Goals as goal
+
+pub raise-requires : goal.raise-requires
+raise-requires c =
+    let before = c.args.device.now in
+    record { windows = group-stands c.args.client (world_of before) (ids_of c.args.asked.now) c.deref.result.now before.kept c.requires (ap (λ (xs : List ImageNo). map (λ i. i.0) xs) c.deref.ensures.value ∙ c.in_ok-group.ensures) }
+
+pub invariant_of-device-clause-kept : goal.invariant_of-device-clause-kept
+invariant_of-device-clause-kept c =
+    let before = c.args.device.now in
+    let windows = group-stands c.args.client (world_of before) (ids_of c.args.asked.now) c.deref.result.now before.kept c.requires (ap (λ (xs : List ImageNo). map (λ i. i.0) xs) c.deref.ensures.value ∙ c.in_ok-group.ensures) in
+    kept-raised c.raise.result (world before.forest) (world c.raise.new.self) before.book.book c.deref.result.now before.kept c.keeps.ensures windows c.raise.ensures.raised c.raise.ensures.err
+
+pub lower-requires : goal.lower-requires
+lower-requires c =
+    let before = c.args.device.now in
+    record {
+      windows = group-stands c.args.client (world_of before) (ids_of c.args.asked.now) c.deref-else-asked-ne0.result.now before.kept c.requires
+          (ap (λ (xs : List ImageNo). map (λ i. i.0) xs) c.deref-else-asked-ne0.ensures.value ∙ c.in_ok-group.ensures);
+    }
+
+pub invariant_of-device-else-asked-ne0-clause-kept : goal.invariant_of-device-else-asked-ne0-clause-kept
+invariant_of-device-else-asked-ne0-clause-kept c =
+    let before = c.args.device.now in
+    let windows = group-stands c.args.client (world_of before) (ids_of c.args.asked.now) c.deref-else-asked-ne0.result.now before.kept c.requires
+    (ap (λ (xs : List ImageNo). map (λ i. i.0) xs) c.deref-else-asked-ne0.ensures.value ∙ c.in_ok-group.ensures) in
+    kept-lowered c.lower.result (world before.forest) (world c.lower.new.self) before.book.book c.deref-else-asked-ne0.result.now before.kept c.keeps.ensures windows c.lower.ensures.lowered c.lower.ensures.err

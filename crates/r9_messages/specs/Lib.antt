@@ -1,0 +1,4 @@
+pub mod Fonts
+pub mod Strings
+pub mod Plans
+pub mod Restacking

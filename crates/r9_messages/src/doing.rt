@@ -1,0 +1,47 @@
+//! What a message does that has no list and is not refused.
+
+ghost use Rattle.model_text.specs.Map.{lookup};
+ghost use Rattle.r9_messages.specs.Plans.{IsReady, after, is_spare};
+ghost use Rattle.r9_device.specs.World.{world_of};
+ghost use Rattle.std.specs.Prelude.{IsOk, IsSome, OnErr, OnOk, true, ◌≡◌};
+
+use crate::fonts::{load_cell, make_font};
+use crate::image::{clip, free_id, make_image};
+use crate::pixels::{draw, read_pixels, set_operator, write_pixels};
+use crate::plan::Plan;
+use crate::screen::{free_screen_id, make_screen, share_screen};
+use crate::window::move_window;
+use r9_device::Device;
+use r9_memory::Memory;
+
+/// Does what a message asks for, behind which these bytes stand. After Memory all is as before.
+pub fn carry_out(device: &mut Device, client: u64, plan: &Plan, rest: &[u8]) -> Result<(), Memory>
+    requires live { IsSome (lookup (world_of device.old).clients client) }
+    requires ready { IsReady client (world_of device.old) plan.now rest.now }
+    ensures done { OnOk result (world_of device.new ≡ after client (world_of device.old) plan.now rest.now) }
+    ensures kept { OnErr result (world_of device.new ≡ world_of device.old) }
+    ensures memory { is_spare (world_of device.old) plan.now ≡ true → IsOk result }
+{
+    match plan {
+        Plan::Nothing => Ok(()),
+        Plan::Make(making) => make_image(device, client, making),
+        Plan::SetClip { image, repl, clipr } => {
+            clip(device, *image, *repl, *clipr);
+            Ok(())
+        }
+        Plan::Draw(task) => draw(device, client, task),
+        Plan::Free { id } => free_id(device, client, *id),
+        Plan::FreeScreen { id } => free_screen_id(device, client, *id),
+        Plan::MakeFont { id, n, ascent } => make_font(device, client, *id, *n, *ascent),
+        Plan::LoadCell(loading) => load_cell(device, client, loading),
+        Plan::MakeScreen(screening) => make_screen(device, client, screening),
+        Plan::ShareScreen { id, screen } => share_screen(device, client, *id, *screen),
+        Plan::Move { image, rmin, scr } => move_window(device, *image, *rmin, *scr),
+        Plan::SetOperator(op) => {
+            set_operator(device, client, *op);
+            Ok(())
+        }
+        Plan::Read { image, r } => read_pixels(device, client, *image, *r),
+        Plan::Write { image, r, len } => write_pixels(device, *image, *r, &rest[..*len]),
+    }
+}

@@ -1,0 +1,51 @@
+//! The messages that have lists. What they are refused for is found without memory.
+
+ghost use Rattle.std.specs.Prelude.{◌≡◌, [], true, Ok, Err, IfErr, OnOk, OnErr, IsSome, is_ok};
+ghost use Rattle.model_text.specs.Map.{lookup};
+ghost use Rattle.model_draw.specs.Act.{act};
+ghost use Rattle.r9_dmsg.specs.Listed.{listed_message, HasShortList, IsNearListed};
+ghost use Rattle.r9_device.specs.World.{world_of};
+
+use crate::naming::{look_name_use, look_naming, name_image, use_name};
+use crate::string::{lettering, write_string};
+use crate::window::{restack, restacking};
+use r9_device::Device;
+use r9_dmsg::Listed;
+use r9_memory::Memory;
+
+/// The first refusal of a message that has a list.
+#[tactic(auto, unfolding(model_draw::specs::Act::act))]
+pub fn look_listed(device: &Device, client: u64, asked: &Listed<'_>) -> Result<(), u8>
+    requires live { IsSome (lookup (world_of device.now).clients client) }
+    requires near { IsNearListed asked.now }
+    ensures accepted { OnOk result (is_ok (act client (world_of device.now) (listed_message asked.now) []) ≡ true) }
+    ensures refused { IfErr result (λ n. act client (world_of device.now) (listed_message asked.now) [] ≡ Err n) }
+{
+    match asked {
+        Listed::Restack(asked) => restacking(device, client, asked),
+        Listed::Name(asked) => look_naming(device, client, asked),
+        Listed::UseName(asked) => look_name_use(device, client, asked),
+        Listed::Write(asked) => {
+            lettering(device, client, asked)?;
+            Ok(())
+        }
+    }
+}
+
+/// Does what a message with a list asks for, which is not refused. After Memory all is as before.
+#[tactic(auto, unfolding(model_draw::specs::Act::act))]
+pub fn do_listed(device: &mut Device, client: u64, asked: &Listed<'_>) -> Result<(), Memory>
+    requires live { IsSome (lookup (world_of device.old).clients client) }
+    requires near { IsNearListed asked.now }
+    requires short { HasShortList asked.now }
+    requires accepted { is_ok (act client (world_of device.old) (listed_message asked.now) []) ≡ true }
+    ensures done { OnOk result (act client (world_of device.old) (listed_message asked.now) [] ≡ Ok (world_of device.new)) }
+    ensures kept { OnErr result (world_of device.new ≡ world_of device.old) }
+{
+    match asked {
+        Listed::Restack(asked) => restack(device, client, asked),
+        Listed::Name(asked) => name_image(device, client, asked),
+        Listed::UseName(asked) => use_name(device, client, asked),
+        Listed::Write(asked) => write_string(device, client, asked),
+    }
+}

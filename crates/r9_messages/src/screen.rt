@@ -1,0 +1,180 @@
+//! Screens: images on which windows stand (draw(3)).
+
+ghost use Rattle.model_draw.specs.Making.{free_screen_id, make_screen, screen_named, share_screen};
+ghost use Rattle.model_images.specs.Book.{fill_of, image_of, is_screen_id_taken, public, screen_numbered};
+ghost use Rattle.model_images.specs.Release.{free_screen};
+ghost use Rattle.model_text.specs.Map.{lookup};
+ghost use Rattle.r9_device.specs.Live.{IsLiveIn};
+ghost use Rattle.r9_messages.specs.Plans.{CanScreen, after_free_screen, after_make_screen, after_share};
+ghost use Rattle.r9_device.specs.World.{world_of};
+ghost use Rattle.std.specs.Prelude.{Err, IfErr, IfOk, IfSome, IsSome, Ok, OnErr, OnOk, is_ok, is_some, true, ◌≡◌};
+
+use crate::plan::Screening;
+use model_images::free_screen_frees;
+use r9_device::{Device, release};
+use r9_layers::ImageNo;
+use r9_memory::Memory;
+
+// How deep an image may stand that is made a screen.
+const DEEPEST_SCREEN: u32 = 15;
+
+// The screen of an id, or none where it is 0.
+pub(crate) fn screen_named(device: &Device, client: u64, id: u32) -> Result<Option<u32>, u8>
+    ensures found { IfOk result (λ s. screen_named (world_of device.now) client id ≡ Ok s) }
+    ensures there { IfOk result (λ s. IfSome s (λ n. is_some (screen_numbered (world_of device.now).book n) ≡ true)) }
+    ensures image { IfOk result (λ s. IfSome s (λ n. IsLiveIn (world_of device.now) (image_of (world_of device.now).book n))) }
+    ensures fill { IfOk result (λ s. IfSome s (λ n. IsLiveIn (world_of device.now) (fill_of (world_of device.now).book n))) }
+    ensures refused { IfErr result (λ n. screen_named (world_of device.now) client id ≡ Err n) }
+{
+    if id == 0 {
+        return Ok(None);
+    }
+    let screen = device.book.screen(client, id)?;
+    Ok(Some(screen))
+}
+
+// Whether the connection has the screen id, or it is to be public and there is a public screen of it.
+#[tactic(auto, unfolding(model_images::specs::Book::screen, model_images::specs::Book::public))]
+pub(crate) fn is_screen_taken(device: &Device, client: u64, id: u32, public: bool) -> bool
+    ensures { result ≡ is_screen_id_taken (world_of device.now).book client id public }
+{
+    device.book.screen(client, id).is_ok() || public && device.book.public(id).is_ok()
+}
+
+// `A`.
+#[tactic(auto, unfolding(model_draw::specs::Making::make_screen, crate::specs::Plans::after_make_screen))]
+pub(crate) fn screening(
+    device: &Device,
+    client: u64,
+    id: u32,
+    imageid: u32,
+    fillid: u32,
+    public: bool,
+) -> Result<Screening, u8>
+    ensures made { IfOk result (λ s. make_screen client (world_of device.now) id imageid fillid public ≡ Ok (after_make_screen client (world_of device.now) s)) }
+    ensures ready { IfOk result (λ s. CanScreen (world_of device.now) s) }
+    ensures refused { IfErr result (λ n. make_screen client (world_of device.now) id imageid fillid public ≡ Err n) }
+{
+    if id == 0 {
+        return Err(23);
+    }
+    if is_screen_taken(device, client, id, public) {
+        return Err(7);
+    }
+    let image = device.look(client, imageid)?;
+    let fill = device.look(client, fillid)?;
+    let info = device.forest.info(image);
+    if info.repl {
+        return Err(11);
+    }
+    if info.depth > DEEPEST_SCREEN {
+        return Err(23);
+    }
+    Ok(Screening {
+        id,
+        public,
+        image,
+        fill,
+    })
+}
+
+// The public screen of an id.
+pub(crate) fn public_screen(device: &Device, id: u32) -> Result<u32, u8>
+    ensures found { IfOk result (λ s. public (world_of device.now).book id ≡ Ok s) }
+    ensures there { IfOk result (λ s. is_some (screen_numbered (world_of device.now).book s) ≡ true) }
+    ensures image { IfOk result (λ s. IsLiveIn (world_of device.now) (image_of (world_of device.now).book s)) }
+    ensures refused { IfErr result (λ n. public (world_of device.now).book id ≡ Err n) }
+{
+    let screen = device.book.public(id)?;
+    Ok(screen)
+}
+
+// `S`.
+#[tactic(auto, unfolding(model_draw::specs::Making::share_screen, crate::specs::Plans::after_share))]
+pub(crate) fn sharing(device: &Device, client: u64, id: u32, chan: u32) -> Result<u32, u8>
+    ensures shared { IfOk result (λ s. share_screen client (world_of device.now) id chan ≡ Ok (after_share client (world_of device.now) id s)) }
+    ensures ready { IfOk result (λ s. is_some (screen_numbered (world_of device.now).book s) ≡ true) }
+    ensures refused { IfErr result (λ n. share_screen client (world_of device.now) id chan ≡ Err n) }
+{
+    if id == 0 {
+        return Err(23);
+    }
+    if is_screen_taken(device, client, id, false) {
+        return Err(7);
+    }
+    let screen = public_screen(device, id)?;
+    let image = ImageNo(device.book.image_of(screen));
+    if device.forest.info(image).chan.word() != chan {
+        return Err(11);
+    }
+    Ok(screen)
+}
+
+// `F`.
+#[tactic(auto, unfolding(model_draw::specs::Making::free_screen_id, crate::specs::Plans::after_free_screen, model_images::specs::Release::free_screen, model_images::specs::Book::screen))]
+pub(crate) fn free_screen(device: &Device, client: u64, id: u32) -> Result<(), u8>
+    ensures freed { OnOk result (free_screen_id client (world_of device.now) id ≡ Ok (after_free_screen client (world_of device.now) id)) }
+    ensures ready { OnOk result (is_ok (free_screen (world_of device.now).book client id) ≡ true) }
+    ensures refused { IfErr result (λ n. free_screen_id client (world_of device.now) id ≡ Err n) }
+{
+    device.book.screen(client, id)?;
+    Ok(())
+}
+
+// `A`.
+#[tactic(auto, unfolding(crate::specs::Plans::after_make_screen))]
+pub(crate) fn make_screen(
+    device: &mut Device,
+    client: u64,
+    screening: &Screening,
+) -> Result<(), Memory>
+    requires { CanScreen (world_of device.old) screening.now }
+    ensures made { OnOk result (world_of device.new ≡ after_make_screen client (world_of device.old) screening.now) }
+    ensures kept { OnErr result (world_of device.new ≡ world_of device.old) }
+{
+    let Screening {
+        id,
+        public,
+        image,
+        fill,
+    } = *screening;
+    match device.book.new_screen(client, id, public, image.0, fill.0) {
+        Ok(_) => Ok(()),
+        Err(_) => Err(Memory),
+    }
+}
+
+// `S`.
+#[tactic(auto, unfolding(crate::specs::Plans::after_share))]
+pub(crate) fn share_screen(
+    device: &mut Device,
+    client: u64,
+    id: u32,
+    screen: u32,
+) -> Result<(), Memory>
+    requires { is_some (screen_numbered (world_of device.old).book screen) ≡ true }
+    ensures shared { OnOk result (world_of device.new ≡ after_share client (world_of device.old) id screen) }
+    ensures kept { OnErr result (world_of device.new ≡ world_of device.old) }
+{
+    match device.book.add_screen(client, id, screen, false) {
+        Ok(()) => Ok(()),
+        Err(_) => Err(Memory),
+    }
+}
+
+// `F`.
+#[tactic(auto, unfolding(crate::specs::Plans::after_free_screen))]
+pub(crate) fn free_screen_id(device: &mut Device, client: u64, id: u32) -> Result<(), Memory>
+    requires live { IsSome (lookup (world_of device.old).clients client) }
+    requires ready { is_ok (free_screen (world_of device.old).book client id) ≡ true }
+    ensures freed { OnOk result (world_of device.new ≡ after_free_screen client (world_of device.old) id) }
+    ensures kept { OnErr result (world_of device.new ≡ world_of device.old) }
+{
+    free_screen_frees();
+    device.forest.keeps();
+    let Ok(gone) = device.book.free_screen(client, id) else {
+        return Err(Memory);
+    };
+    release(&mut device.forest, gone.as_slice());
+    Ok(())
+}

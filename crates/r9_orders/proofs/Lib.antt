@@ -1,0 +1,9 @@
+pub mod Ordered
+pub mod Managed
+pub mod Pending
+pub mod Bordering
+pub mod Fitting
+pub mod Hosting
+pub mod Renewing
+pub mod Windows
+pub mod Freed

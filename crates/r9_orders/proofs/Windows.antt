@@ -1,0 +1,191 @@
+-- A window that comes, and what it gets in place of its image.
+use Rattle.std.proofs.Common.{◌≡◌, ℕ, Bool, true, false, ℤ, pos, neg_ℤ, ◌≤ℤ◌, ◌-ℤ◌, int_lt, List, Option, Some, None, Result, Ok, Err, OnOk, refl, sym, ap, subst, ◌∙◌, arith}
+use Rattle.std.specs.Prelude.{◌&&◌, ◌==◌, ◌^◌, not, is_some, IsSome, if◌then◌else◌}
+use Rattle.std.specs.Ordering.{int_eq}
+use Rattle.std.specs.List.{list_any}
+use Rattle.std.specs.Option.{option_map_or}
+use Rattle.std.proofs.lemmas.Bool.{eqb-true}
+use Rattle.std.proofs.lemmas.Bool.Decides.{nat_tests}
+use Rattle.std.proofs.lemmas.Int.{ints}
+use Rattle.r9_geom.specs.declared.Rect.{Rect}
+use Rattle.r9_geom.specs.Geometry.{HasPoints, IsRectNearBy, at_min, is_empty}
+use Rattle.model_forest.specs.World.{SameSize, World as Images, image_at, parent_of}
+use Rattle.model_forest.specs.Steps.{after_replace, after_replace_on, outside}
+use Rattle.model_images.specs.declared.Thing.TheVariants.{Screen}
+use Rattle.model_images.specs.declared.ScreenId.{ScreenId}
+use Rattle.model_images.specs.Book.{fill_of, image_of, screen_id}
+use Rattle.model_images.specs.Release.{is_used}
+use Rattle.model_draw.specs.World.{World, after_freed, at_number, next_image, with_book}
+use Rattle.model_draw.specs.Making.{farthest, is_near, is_near_rect, with_made}
+use Rattle.model_draw.specs.Orders.{bordered, can_keep, corner, has_rio, has_window, image_freed, image_shown, inside_border, is_window_rect, stands_on, white, with_window, next_white, replace_window, rio_screen, with_window_name}
+use Rattle.r9_orders.specs.declared.next.Next.{Next}
+use Rattle.r9_device.specs.Kept.{IsKept}
+use Rattle.r9_orders.specs.Ordering.{CanReplace, IsNext, images_replaced, is_used_by_id, renewed}
+use Rattle.r9_orders.proofs.Fitting.{window-lives, window-rect-near, window-rect-points, window-stands}
+use Rattle.r9_device.proofs.Lookups.{fill-of-used, find-any, image-of-used}
+use Rattle.r9_device.proofs.Raising.{stands}
+
+-- ---- rectangles
+
+left-of : (a b : Bool) → (a && b) ≡ true → a ≡ true
+left-of true b h = refl
+left-of false b h = absurd cc
+
+at_least : (x y : ℤ) → not (int_lt x y) ≡ true → y ≤ℤ x
+at_least x y h = grind (arith, ints)
+
+last-of : (a b : Bool) → (a && b) ≡ true → b ≡ true
+last-of true b h = h
+last-of false b h = absurd cc
+
+close : (x : ℤ) → is_near farthest x ≡ true → (neg_ℤ (pos (2 ^ 29)) ≤ℤ x) × (x ≤ℤ pos (2 ^ 29))
+close x h = (
+  at_least x (neg_ℤ (pos (2 ^ 29))) (left-of (not (int_lt x (neg_ℤ (pos (2 ^ 29))))) (not (int_lt (pos (2 ^ 29)) x)) h),
+  at_least (pos (2 ^ 29)) x (last-of (not (int_lt x (neg_ℤ (pos (2 ^ 29))))) (not (int_lt (pos (2 ^ 29)) x)) h),
+)
+
+-- each coordinate of a window's rectangle is close to 0
+record IsClose (r : Rect) : Type 0 where
+  left : (neg_ℤ (pos (2 ^ 29)) ≤ℤ r.min.x) × (r.min.x ≤ℤ pos (2 ^ 29))
+  top : (neg_ℤ (pos (2 ^ 29)) ≤ℤ r.min.y) × (r.min.y ≤ℤ pos (2 ^ 29))
+  right : (neg_ℤ (pos (2 ^ 29)) ≤ℤ r.max.x) × (r.max.x ≤ℤ pos (2 ^ 29))
+  bottom : (neg_ℤ (pos (2 ^ 29)) ≤ℤ r.max.y) × (r.max.y ≤ℤ pos (2 ^ 29))
+
+window-rect-close : (r : Rect) → is_window_rect r ≡ true → IsClose r
+window-rect-close r h =
+    let near = left-of (is_near_rect farthest r) (not (is_empty (inside_border r))) h in
+    let abc = left-of (is_near farthest r.min.x && is_near farthest r.min.y && is_near farthest r.max.x) (is_near farthest r.max.y) near in
+    let ab = left-of (is_near farthest r.min.x && is_near farthest r.min.y) (is_near farthest r.max.x) abc in
+    record {
+      left = close r.min.x (left-of (is_near farthest r.min.x) (is_near farthest r.min.y) ab);
+      top = close r.min.y (last-of (is_near farthest r.min.x) (is_near farthest r.min.y) ab);
+      right = close r.max.x (last-of (is_near farthest r.min.x && is_near farthest r.min.y) (is_near farthest r.max.x) abc);
+      bottom = close r.max.y (last-of (is_near farthest r.min.x && is_near farthest r.min.y && is_near farthest r.max.x) (is_near farthest r.max.y) near);
+    }
+
+-- it stays near far outside
+pub outside-near : (r : Rect) → is_window_rect r ≡ true → IsRectNearBy (2 ^ 32) (at_min r outside)
+outside-near r h =
+    let c = window-rect-close r h in
+    let a = c.left.0 in
+    let b = c.left.1 in
+    let d = c.top.0 in
+    let e = c.top.1 in
+    let f = c.right.0 in
+    let g = c.right.1 in
+    let k = c.bottom.0 in
+    let l = c.bottom.1 in
+    record {
+      min = record { left = omega (arith, ints); right = omega (arith, ints); top = omega (arith, ints); bottom = omega (arith, ints) };
+      max = record { left = omega (arith, ints); right = omega (arith, ints); top = omega (arith, ints); bottom = omega (arith, ints) };
+    }
+
+pub outside-points : (r : Rect) → is_window_rect r ≡ true → HasPoints (at_min r outside)
+outside-points r h =
+    let points = window-rect-points r h in
+    let across = points.across in
+    let down = points.down in
+    record { across = omega (arith, ints); down = omega (arith, ints) }
+
+-- and where it comes back from there
+pub back-near : (r placed : Rect) → is_window_rect r ≡ true → placed ≡ at_min r outside → IsRectNearBy (2 ^ 32) (at_min placed r.min)
+back-near r placed h e =
+    let c = window-rect-close r h in
+    let a = c.left.0 in
+    let b = c.left.1 in
+    let d = c.top.0 in
+    let i = c.top.1 in
+    let f = c.right.0 in
+    let g = c.right.1 in
+    let k = c.bottom.0 in
+    let l = c.bottom.1 in
+    let back : IsRectNearBy (2 ^ 32) (at_min (at_min r outside) r.min) = record {
+      min = record { left = omega (arith, ints); right = omega (arith, ints); top = omega (arith, ints); bottom = omega (arith, ints) };
+      max = record { left = omega (arith, ints); right = omega (arith, ints); top = omega (arith, ints); bottom = omega (arith, ints) };
+    } in
+    subst (λ (s : Rect). IsRectNearBy (2 ^ 32) (at_min s r.min)) (sym e) back
+
+-- ---- what comes in place of an image
+
+equal : (a b : ℤ) → int_eq a b ≡ true → a ≡ b
+equal a b h = grind (arith, ints)
+
+split : (a b : Bool) → (a && b) ≡ true → (a ≡ true) × (b ≡ true)
+split true true h = (refl, refl)
+split true false h = absurd cc
+split false b h = absurd cc
+
+pub kept-size : (w : World) (window s : ℕ) (r : Rect) → can_keep w window s r ≡ true → SameSize r (at_number w (image_shown w window)).r
+kept-size w window s r h =
+    let old = at_number w (image_shown w window) in
+    let sizes = split (int_eq (r.max.x -ℤ r.min.x) (old.r.max.x -ℤ old.r.min.x) && int_eq (r.max.y -ℤ r.min.y) (old.r.max.y -ℤ old.r.min.y)) (old.chan == (at_number w (image_of w.book s)).chan) h in
+    let both = split (int_eq (r.max.x -ℤ r.min.x) (old.r.max.x -ℤ old.r.min.x)) (int_eq (r.max.y -ℤ r.min.y) (old.r.max.y -ℤ old.r.min.y)) sizes.0 in
+    record { width = equal _ _ both.0; height = equal _ _ both.1 }
+
+pub kept-chan : (w : World) (window s : ℕ) (r : Rect) → can_keep w window s r ≡ true → (at_number w (image_of w.book s)).chan ≡ (at_number w (image_shown w window)).chan
+kept-chan w window s r h =
+    let old = at_number w (image_shown w window) in
+    let sizes = split (int_eq (r.max.x -ℤ r.min.x) (old.r.max.x -ℤ old.r.min.x) && int_eq (r.max.y -ℤ r.min.y) (old.r.max.y -ℤ old.r.min.y)) (old.chan == (at_number w (image_of w.book s)).chan) h in
+    sym (eqb-true old.chan (at_number w (image_of w.book s)).chan sizes.1)
+
+pub can-replace : (w : World) (window s : ℕ) (r : Rect) (keep : Bool) (next : Next) → IsKept w.images w.book → has_window w window ≡ true → is_used w.book (Screen s) ≡ true → is_window_rect r ≡ true
+    → (keep ≡ true → can_keep w window s r ≡ true) → IsNext w window s next → next.r ≡ r → next.keep ≡ keep → CanReplace w.images next
+can-replace w window s r keep next kept has used rect keeps is same_rect same_keep =
+    let there = kept.screens s used in
+    let kept_of : next.keep ≡ true → can_keep w window s r ≡ true = λ h. keeps (sym same_keep ∙ h) in
+    record {
+      old = ap (λ n. is_some (w.images n)) is.old ∙ window-lives w window kept has;
+      window = subst (λ (n : ℕ). IsSome (parent_of w.images n)) (sym is.old) (stands w.images w.book (image_shown w window) kept (window-stands w window has));
+      parent = ap (λ n. is_some (w.images n)) is.parent ∙ kept.live _ (image-of-used w.book s there);
+      fill = ap (λ n. is_some (w.images n)) is.fill ∙ kept.live _ (fill-of-used w.book s there);
+      points = subst HasPoints (sym same_rect) (window-rect-points r rect);
+      near = subst (IsRectNearBy (2 ^ 32)) (sym same_rect) (window-rect-near r rect);
+      size = λ h. (let P : Rect → ℕ → Type 0 = λ a n. SameSize a (image_at w.images n).r in subst (λ (a : Rect). P a next.old.0) (sym same_rect) (subst (P r) (sym is.old) (kept-size w window s r (kept_of h))));
+      chan = λ h. ap (λ n. (image_at w.images n).chan) is.parent ∙ kept-chan w window s r (kept_of h) ∙ sym (ap (λ n. (image_at w.images n).chan) is.old);
+    }
+
+-- ---- the window with its new image
+
+same-next : (w : World) (window s : ℕ) (next : Next) → IsNext w window s next → images_replaced w.images (next_image w) next ≡ next_white w (image_shown w window) s next.r next.keep next.hidden
+same-next w window s next is =
+    (λ j. if next.above then
+    after_replace w.images i (is.old j) next.r (corner next.r next.hidden) (white (image_at w.images (is.old j)).chan) next.keep
+    else
+    after_replace_on w.images i (is.old j) (is.parent j) (is.fill j) next.r (corner next.r next.hidden) (white (image_at w.images (is.parent j)).chan) next.keep)
+    ∙ by next.above (sym is.above)
+  where
+    i : ℕ
+    i = next_image w
+
+    old : ℕ
+    old = image_shown w window
+
+    by : (b : Bool) → stands_on w.book old s ≡ b
+        → (if b then after_replace w.images i old next.r (corner next.r next.hidden) (white (image_at w.images old).chan) next.keep
+        else after_replace_on w.images i old (image_of w.book s) (fill_of w.book s) next.r (corner next.r next.hidden) (white (image_at w.images (image_of w.book s)).chan) next.keep)
+        ≡ next_white w old s next.r next.keep next.hidden
+    by true e = rw e refl
+    by false e = rw e refl
+
+pub replaced-window : (w one two : World) (window host s : ℕ) (next : Next) (name : List ℕ) → s ≡ rio_screen w host → IsNext w window (rio_screen w host) next
+    → one ≡ renewed w window s next → two ≡ with_book one (with_window_name one.book window name) → two ≡ replace_window w window host next.r name next.keep next.hidden
+unfolding renewed replace_window
+replaced-window w one two window host s next name at is first second =
+    let i = next_image w in
+    let same = same-next w window (rio_screen w host) next is in
+    let left : Images → World = λ images. after_freed (with_made w (if next.keep then images else bordered images i) w.book) (image_freed w.book window) in
+    let whole : Images → ℕ → World = λ images n. with_window (left images) window i n name in
+    second ∙ ap (λ (v : World). with_book v (with_window_name v.book window name)) first ∙ (λ j. whole (same j) (at j))
+
+pub replaced-ok : {A E : Type 0} (o : Result A E) (w one two : World) (window host s : ℕ) (next : Next) (name : List ℕ) → s ≡ rio_screen w host → IsNext w window (rio_screen w host) next
+    → one ≡ renewed w window s next → OnOk o (two ≡ with_book one (with_window_name one.book window name)) → OnOk o (two ≡ replace_window w window host next.r name next.keep next.hidden)
+replaced-ok (Ok x) w one two window host s next name at is first second = replaced-window w one two window host s next name at is first second
+replaced-ok (Err x) w one two window host s next name at is first second = tt
+
+-- the id of a rio has its screen
+pub rio-by-id : (w : World) (host : ℕ) → has_rio w host ≡ true → is_used_by_id w.book (rio_screen w host) ≡ true
+rio-by-id w host h = by (screen_id w.book 0 host) refl h
+  where
+    by : (o : Option ScreenId) → screen_id w.book 0 host ≡ o → is_some o ≡ true → list_any (λ y. y.screen == option_map_or (λ e. e.screen) o 0) w.book.screen_ids ≡ true
+    by (Some x) e h = find-any _ (λ y. y.screen == x.screen) w.book.screen_ids x e (grind (arith, nat_tests))
+    by None e h = absurd cc

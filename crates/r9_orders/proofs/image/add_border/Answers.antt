@@ -1,0 +1,29 @@
+use Rattle.std.proofs.Common.{◌≡◌, ℕ, All, take, ap, sym, subst, ◌∙◌, rules}
+use Rattle.std.specs.List.{list_any}
+use Rattle.r9_geom.specs.Geometry.{holds}
+use Rattle.r9_info.specs.declared.Info.{Info}
+use Rattle.model_forest.specs.World.{image_at}
+use Rattle.model_draw.specs.Orders.{border_pixel}
+use Rattle.r9_layers.specs.Forest.{world}
+use Rattle.r9_orders.specs.Ordering.{CanFill}
+use Rattle.r9_orders.proofs.Bordering.{border-made, parts-border, parts-fill}
+use Rattle.r9_orders.proofs.image.add_border.Goals as goal
+
+pub fill_parts-requires-clause-parts : goal.fill_parts-requires-clause-parts
+fill_parts-requires-clause-parts c =
+    let r = (image_at (world c.args.forest.now) c.args.image.0).r in
+    let parts = c.minus-border.result in
+    subst (λ (n : ℕ). All (CanFill r) (take n parts.part)) (sym c.from.ensures)
+    (parts-fill r (take parts.count parts.part) c.requires.near c.minus-border.ensures.solid
+    (parts-border r c.info-info.result.r c.inside_border.result parts (ap (λ (x : Info). x.r) c.info-info.ensures) c.inside_border.ensures c.minus-border.ensures.points))
+
+pub returns-clause-world : goal.returns-clause-world
+returns-clause-world c =
+    let images = world c.args.forest.now in
+    let r = (image_at images c.args.image.0).r in
+    let parts = c.minus-border.result in
+    let raw : c.pack-raw.result ≡ border_pixel (image_at images c.args.image.0).chan = search rules in
+    c.fill_parts.ensures.world
+    ∙ border-made images c.args.image.0 c.pack-raw.result (take c.from.result parts.part) raw
+    (λ p. ap (λ (n : ℕ). list_any (λ q. holds q p) (take n parts.part)) c.from.ensures
+    ∙ parts-border r c.info-info.result.r c.inside_border.result parts (ap (λ (x : Info). x.r) c.info-info.ensures) c.inside_border.ensures c.minus-border.ensures.points p)

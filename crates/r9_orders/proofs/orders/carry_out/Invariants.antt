@@ -1,0 +1,7 @@
+use Rattle.std.proofs.Common.{◌≡◌, drop}
+use Rattle.model_draw.specs.Orders.{carried_out}
+use Rattle.r9_device.specs.World.{world_of}
+use Rattle.r9_orders.proofs.orders.carry_out.Given as goal
+
+abbrev pub invariant-loop-order : goal.invariant-loop-order
+invariant-loop-order l = carried_out (world_of l.device) (drop l.order-index l.fn.list) ≡ carried_out (world_of l.fn.device) l.fn.list

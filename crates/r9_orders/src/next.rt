@@ -1,0 +1,80 @@
+//! The image that a window gets in place of another.
+
+ghost use Rattle.model_draw.specs.Orders.{corner, white};
+ghost use Rattle.model_forest.specs.Numbers.{next_number, taken};
+ghost use Rattle.r9_orders.specs.Ordering.{CanReplace, images_renewed, images_replaced};
+ghost use Rattle.r9_layers.specs.Forest.{numbers, room, world};
+ghost use Rattle.std.specs.Prelude.{IfOk, None, OnErr, OnOk, ◌<◌, ◌≡◌, ◌≤◌};
+
+use crate::image::{add_border, white};
+use crate::rects::corner;
+use r9_geom::Rect;
+use r9_images::Book;
+use r9_layers::{Forest, ImageNo};
+use r9_memory::Memory;
+
+// What a window gets in place of its image: an image directly above the old one, or topmost on a parent.
+#[derive(Clone, Copy)]
+pub(crate) struct Next {
+    pub old: ImageNo,
+    pub above: bool,
+    pub parent: ImageNo,
+    pub fill: ImageNo,
+    pub r: Rect,
+    pub keep: bool,
+    pub hidden: bool,
+}
+
+// A white image in place of another, or one of the same contents.
+fn next_white(forest: &mut Forest, next: &Next) -> Result<ImageNo, Memory>
+    requires next { CanReplace (world forest.old) next.now }
+    ensures number { IfOk result (λ i. i.0 ≡ next_number (numbers forest.old)) }
+    ensures free { IfOk result (λ i. world forest.old i.0 ≡ None) }
+    ensures made { IfOk result (λ i. world forest.new ≡ images_replaced (world forest.old) i.0 next.now) }
+    ensures taken { OnOk result (numbers forest.new ≡ taken (numbers forest.old)) }
+    ensures room { room forest.old ≤ room forest.new }
+    ensures kept_images { OnErr result (world forest.new ≡ world forest.old) }
+    ensures kept_numbers { OnErr result (numbers forest.new ≡ numbers forest.old) }
+{
+    let corner = corner(&next.r, next.hidden);
+    if next.above {
+        let raw = white(forest.info(next.old).chan);
+        return forest.replace(next.old, next.r, corner, raw, next.keep);
+    }
+    let raw = white(forest.info(next.parent).chan);
+    forest.replace_on(
+        next.old,
+        next.parent,
+        next.fill,
+        next.r,
+        corner,
+        raw,
+        next.keep,
+    )
+}
+
+// The same with its border, where it does not keep the contents. There is room in the book for its id first.
+pub(crate) fn next_window(
+    forest: &mut Forest,
+    book: &mut Book,
+    next: &Next,
+) -> Result<ImageNo, Memory>
+    requires next { CanReplace (world forest.old) next.now }
+    ensures number { IfOk result (λ i. i.0 ≡ next_number (numbers forest.old)) }
+    ensures free { OnOk result (world forest.old (next_number (numbers forest.old)) ≡ None) }
+    ensures made { OnOk result (world forest.new ≡ images_renewed (world forest.old) (next_number (numbers forest.old)) next.now) }
+    ensures taken { OnOk result (numbers forest.new ≡ taken (numbers forest.old)) }
+    ensures room { room forest.old ≤ room forest.new }
+    ensures kept_images { OnErr result (world forest.new ≡ world forest.old) }
+    ensures kept_numbers { OnErr result (numbers forest.new ≡ numbers forest.old) }
+    ensures book { book.new.book ≡ book.old.book }
+    ensures space { OnOk result (0 < book.new.room) }
+{
+    forest.keeps();
+    book.reserve()?;
+    let image = next_white(forest, next)?;
+    if !next.keep {
+        add_border(forest, image);
+    }
+    Ok(image)
+}

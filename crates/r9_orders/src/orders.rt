@@ -1,0 +1,72 @@
+//! What the window manager orders: images for its windows, and screens on them for the rios in windows (rio(4)). It is
+//! connection 0. An order that does not fit changes nothing.
+
+ghost use Rattle.model_draw.specs.Orders.{after_order, replace_window, carried_out, drop_window, fits, host_rio, make_window, ordered, place_window, rio_screen};
+ghost use Rattle.r9_device.specs.World.{world_of};
+ghost use Rattle.r9_event.specs.declared.rio.Order.TheVariants.{Host};
+ghost use Rattle.std.specs.Prelude.{OnOk, true, ◌<◌, ◌≡◌};
+
+use crate::rio::host_rio;
+use crate::there::{fits, rio_screen};
+use crate::window::{
+    drop_window, lower_window, make_window, next_of, place_window, raise_window, replace_window,
+};
+use r9_device::Device;
+use r9_event::{Order, Orders};
+use r9_memory::Memory;
+
+// An order that fits.
+fn obey(device: &mut Device, order: &Order) -> Result<(), Memory>
+    requires { fits (world_of device.old) order.now ≡ true }
+    ensures { OnOk result (world_of device.new ≡ after_order (world_of device.old) order.now) }
+{
+    match order {
+        Order::Make {
+            window,
+            host,
+            r,
+            name,
+            hide,
+            ..
+        } => make_window(device, *window, *host, *r, name.as_slice(), *hide),
+        Order::Place { window, at } => place_window(device, *window, *at),
+        Order::Replace {
+            window,
+            host,
+            r,
+            name,
+            keep,
+            hidden,
+        } => {
+            let screen = rio_screen(device, *host);
+            let next = next_of(device, *window, screen, *r, *keep, *hidden);
+            replace_window(device, *window, *host, &next, name.as_slice())
+        }
+        Order::Raise { window } => raise_window(device, *window),
+        Order::Lower { window } => lower_window(device, *window),
+        Order::Drop { window } => drop_window(device, *window),
+        Order::Host { window, fill } => host_rio(device, *window, *fill),
+        Order::Leave { client } => device.leave(*client),
+    }
+}
+
+// One that does not fit changes nothing.
+fn carry_out_order(device: &mut Device, order: &Order) -> Result<(), Memory>
+    ensures { OnOk result (world_of device.new ≡ ordered (world_of device.old) order.now) }
+{
+    if !fits(device, order) {
+        return Ok(());
+    }
+    obey(device, order)
+}
+
+/// Carries out orders of the window manager, one after the other. One that does not fit changes nothing. After Memory some
+/// may have been carried out.
+pub fn carry_out(device: &mut Device, list: &Orders) -> Result<(), Memory>
+    ensures done { OnOk result (world_of device.new ≡ carried_out (world_of device.old) list.now) }
+{
+    for order in list.as_slice() {
+        carry_out_order(device, order)?;
+    }
+    Ok(())
+}

@@ -1,0 +1,74 @@
+//! Rios in windows.
+
+ghost use Rattle.model_draw.specs.Orders.{fits, has_rio, host_rio, image_shown, inside_border, is_window_rect, rio_screen, screen_freed};
+ghost use Rattle.model_draw.specs.World.{after_freed, at_number, with_images};
+ghost use Rattle.model_forest.specs.Draw.{after_fill};
+ghost use Rattle.model_images.specs.Book.{fill_of};
+ghost use Rattle.model_pixel.specs.Channels.{colour_of, pack};
+ghost use Rattle.r9_orders.specs.Ordering.{with_rio};
+ghost use Rattle.r9_device.specs.World.{world_of};
+ghost use Rattle.r9_event.specs.declared.rio.Order.TheVariants.{Host};
+ghost use Rattle.std.specs.Prelude.{OnErr, OnOk, false, true, ◌<◌, ◌≡◌};
+
+use crate::rects::inside_border;
+use crate::there::rio_screen;
+use model_images::free_screen_frees;
+use r9_chan::Colour;
+use r9_device::{Device, release};
+use r9_images::BookFault;
+use r9_memory::Memory;
+
+// The screen of the rio in a window goes, where there is one.
+pub(crate) fn close_rio(device: &mut Device, window: u32) -> Result<(), Memory>
+    ensures closed { OnOk result (world_of device.new ≡ after_freed (world_of device.old) (screen_freed (world_of device.old).book window)) }
+    ensures kept { OnErr result (world_of device.new ≡ world_of device.old) }
+{
+    free_screen_frees();
+    device.forest.keeps();
+    match device.book.free_screen(0, window) {
+        Ok(gone) => {
+            release(&mut device.forest, gone.as_slice());
+            Ok(())
+        }
+        Err(BookFault::Refused(_)) => Ok(()),
+        Err(BookFault::Memory) => Err(Memory),
+    }
+}
+
+// The inside of a window becomes grey.
+fn fill_window(device: &mut Device, window: u32)
+    requires { is_window_rect (at_number (world_of device.old) (image_shown (world_of device.old) window)).r ≡ true }
+    ensures { world_of device.new ≡ with_images (world_of device.old) (after_fill (world_of device.old).images (image_shown (world_of device.old) window) (inside_border (at_number (world_of device.old) (image_shown (world_of device.old) window)).r) (pack (at_number (world_of device.old) (image_shown (world_of device.old) window)).chan (colour_of 0x777777ff))) }
+{
+    let image = device.image_shown(window);
+    let info = device.forest.info(image);
+    let grey = info.chan.pack(Colour::of_word(0x7777_77ff));
+    device.forest.fill(image, inside_border(&info.r), grey);
+}
+
+// A screen on the window's image, which the root rio's fill fills.
+fn open_rio(device: &mut Device, window: u32) -> Result<(), Memory>
+    requires { has_rio (world_of device.old) 0 ≡ true }
+    ensures opened { OnOk result (world_of device.new ≡ with_rio (world_of device.old) window (image_shown (world_of device.old) window)) }
+    ensures kept { OnErr result (world_of device.new ≡ world_of device.old) }
+{
+    let image = device.image_shown(window);
+    let fill = device.book.fill_of(rio_screen(device, 0));
+    match device.book.new_screen(0, window, false, image.0, fill) {
+        Ok(_) | Err(BookFault::Refused(_)) => Ok(()),
+        Err(BookFault::Memory) => Err(Memory),
+    }
+}
+
+// A rio comes in a window, whose inside becomes grey first where it says so.
+#[tactic(auto, unfolding(model_draw::specs::Orders::host_rio))]
+pub(crate) fn host_rio(device: &mut Device, window: u32, fill: bool) -> Result<(), Memory>
+    requires { fits (world_of device.old) (Host window fill) ≡ true }
+    ensures { OnOk result (world_of device.new ≡ host_rio (world_of device.old) window fill) }
+{
+    if fill {
+        fill_window(device, window);
+    }
+    close_rio(device, window)?;
+    open_rio(device, window)
+}

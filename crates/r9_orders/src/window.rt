@@ -1,0 +1,253 @@
+//! Windows that come, move, get another image, and go.
+
+ghost use Rattle.model_draw.specs.Orders.{bordered, can_keep, corner, new_white, replace_window, drop_window, has_rio, has_window, image_freed, image_shown, is_near_point, is_window_rect, make_window, place_window, rio_screen, stands_on, white, with_window_id, with_window_name};
+ghost use Rattle.model_draw.specs.Making.{with_made};
+ghost use Rattle.model_draw.specs.World.{after_freed, at_number, next_image, with_book, with_images};
+ghost use Rattle.model_forest.specs.Stack.{after_lower, after_raise};
+ghost use Rattle.model_forest.specs.Steps.{after_origin, outside};
+ghost use Rattle.model_images.specs.Book.{fill_of, image_id, image_of};
+ghost use Rattle.model_images.specs.Release.{is_used};
+ghost use Rattle.model_images.specs.declared.Thing.TheVariants.{Screen};
+ghost use Rattle.r9_orders.specs.Ordering.{CanReplace, IsNext, is_used_by_id, renewed, with_white};
+ghost use Rattle.r9_device.specs.Live.{IsLiveIn};
+ghost use Rattle.r9_device.specs.World.{world_of};
+ghost use Rattle.r9_geom.specs.Geometry.{HasPoints, IsRectNearBy, at_min};
+ghost use Rattle.std.specs.Prelude.{IfOk, OnErr, OnOk, [], false, is_none, true, ◌<◌, ◌==◌, ◌^◌, ◌≡◌, ◌∷◌};
+
+use crate::image::{add_border, add_window, put_white, stands_on, tie_window};
+use crate::next::{Next, next_window};
+use crate::rects::OUTSIDE;
+use crate::rio::close_rio;
+use crate::there::rio_screen;
+use model_images::free_id_frees;
+use r9_device::{Device, release};
+use r9_geom::{Point, Rect};
+use r9_images::BookFault;
+use r9_layers::ImageNo;
+use r9_memory::Memory;
+
+// The window's image gets another corner on the image that it stands on.
+pub(crate) fn place_window(device: &mut Device, window: u32, at: Point) -> Result<(), Memory>
+    requires { is_near_point at ≡ true }
+    ensures placed { OnOk result (world_of device.new ≡ place_window (world_of device.old) window at) }
+    ensures kept { OnErr result (world_of device.new ≡ world_of device.old) }
+{
+    device.forest.keeps();
+    let image = device.image_shown(window);
+    let min = device.rect(image).min;
+    device.forest.origin(image, min, at)
+}
+
+// The image id of a window goes.
+fn free_window(device: &mut Device, window: u32) -> Result<(), Memory>
+    requires { (window == 0) ≡ false }
+    ensures freed { OnOk result (world_of device.new ≡ after_freed (world_of device.old) (image_freed (world_of device.old).book window)) }
+    ensures kept { OnErr result (world_of device.new ≡ world_of device.old) }
+{
+    free_id_frees();
+    device.forest.keeps();
+    match device.book.free_id(0, window) {
+        Ok(gone) => {
+            release(&mut device.forest, gone.as_slice());
+            Ok(())
+        }
+        Err(BookFault::Refused(_)) => Ok(()),
+        Err(BookFault::Memory) => Err(Memory),
+    }
+}
+
+// A window goes, and the screen of the rio in it.
+#[tactic(auto, unfolding(model_draw::specs::Orders::drop_window))]
+pub(crate) fn drop_window(device: &mut Device, window: u32) -> Result<(), Memory>
+    requires { has_window (world_of device.old) window ≡ true }
+    ensures { OnOk result (world_of device.new ≡ drop_window (world_of device.old) window) }
+{
+    place_window(device, window, OUTSIDE)?;
+    close_rio(device, window)?;
+    free_window(device, window)
+}
+
+// The window comes to the top of its rio.
+pub(crate) fn raise_window(device: &mut Device, window: u32) -> Result<(), Memory>
+    requires { has_window (world_of device.old) window ≡ true }
+    ensures { OnOk result (world_of device.new ≡ with_images (world_of device.old) (after_raise (world_of device.old).images (image_shown (world_of device.old) window ∷ []))) }
+{
+    device.forest.keeps();
+    let image = device.image_shown(window);
+    device.forest.raise(&[image])
+}
+
+// The window goes to the bottom of its rio.
+pub(crate) fn lower_window(device: &mut Device, window: u32) -> Result<(), Memory>
+    requires { has_window (world_of device.old) window ≡ true }
+    ensures { OnOk result (world_of device.new ≡ with_images (world_of device.old) (after_lower (world_of device.old).images (image_shown (world_of device.old) window ∷ []))) }
+{
+    device.forest.keeps();
+    let image = device.image_shown(window);
+    device.forest.lower(&[image])
+}
+
+// A white image comes, topmost on a screen, and has the id of a window.
+fn add_white(device: &mut Device, window: u32, screen: u32, place: Rect) -> Result<ImageNo, Memory>
+    requires fresh { is_none (image_id (world_of device.old).book 0 window) ≡ true }
+    requires screen { is_used (world_of device.old).book (Screen screen) ≡ true }
+    requires near { IsRectNearBy (2 ^ 32) place }
+    requires points { HasPoints place }
+    ensures number { IfOk result (λ i. i.0 ≡ next_image (world_of device.old)) }
+    ensures made { OnOk result (world_of device.new ≡ with_white (world_of device.old) window screen place) }
+    ensures live { IfOk result (λ i. IsLiveIn (world_of device.new) i.0) }
+    ensures rect { IfOk result (λ i. (at_number (world_of device.new) i.0).r ≡ place) }
+    ensures kept { OnErr result (world_of device.new ≡ world_of device.old) }
+{
+    put_white(&mut device.forest, &mut device.book, window, screen, place)
+}
+
+// An image gets a corner of its own coordinates, and stands far outside.
+fn hide_image(device: &mut Device, image: ImageNo, min: Point) -> Result<(), Memory>
+    requires live { IsLiveIn (world_of device.old) image.0 }
+    requires near { IsRectNearBy (2 ^ 32) (at_min (at_number (world_of device.old) image.0).r min) }
+    ensures moved { OnOk result (world_of device.new ≡ with_images (world_of device.old) (after_origin (world_of device.old).images image.0 min outside)) }
+    ensures live { IsLiveIn (world_of device.new) image.0 }
+    ensures kept { OnErr result (world_of device.new ≡ world_of device.old) }
+{
+    device.forest.keeps();
+    device.forest.origin(image, min, OUTSIDE)
+}
+
+// An image gets the border of a window.
+fn frame(device: &mut Device, image: ImageNo)
+    requires { IsLiveIn (world_of device.old) image.0 }
+    ensures { world_of device.new ≡ with_images (world_of device.old) (bordered (world_of device.old).images image.0) }
+{
+    add_border(&mut device.forest, image);
+}
+
+// A window has a name from now on, unless another has it.
+fn name_window(device: &mut Device, window: u32, name: &[u8]) -> Result<(), Memory>
+    ensures named { OnOk result (world_of device.new ≡ with_book (world_of device.old) (with_window_name (world_of device.old).book window name.now)) }
+    ensures kept { OnErr result (world_of device.new ≡ world_of device.old) }
+{
+    tie_window(&mut device.book, window, name)
+}
+
+// A white image of a window comes, which stands far outside where it is hidden.
+fn white_window(
+    device: &mut Device,
+    window: u32,
+    screen: u32,
+    r: Rect,
+    hide: bool,
+) -> Result<ImageNo, Memory>
+    requires fresh { is_none (image_id (world_of device.old).book 0 window) ≡ true }
+    requires screen { is_used (world_of device.old).book (Screen screen) ≡ true }
+    requires rect { is_window_rect r ≡ true }
+    ensures number { IfOk result (λ i. i.0 ≡ next_image (world_of device.old)) }
+    ensures made { OnOk result (world_of device.new ≡ with_made (world_of device.old) (new_white (world_of device.old) screen r hide) (with_window_id (world_of device.old).book window (next_image (world_of device.old)) screen)) }
+    ensures live { IfOk result (λ i. IsLiveIn (world_of device.new) i.0) }
+{
+    if !hide {
+        return add_white(device, window, screen, r);
+    }
+    let image = add_white(device, window, screen, r.at_min(OUTSIDE))?;
+    hide_image(device, image, r.min)?;
+    Ok(image)
+}
+
+// A window comes with an image, white with its border.
+#[tactic(auto, unfolding(model_draw::specs::Orders::make_window))]
+pub(crate) fn make_window(
+    device: &mut Device,
+    window: u32,
+    host: u32,
+    r: Rect,
+    name: &[u8],
+    hide: bool,
+) -> Result<(), Memory>
+    requires rio { has_rio (world_of device.old) host ≡ true }
+    requires fresh { is_none (image_id (world_of device.old).book 0 window) ≡ true }
+    requires rect { is_window_rect r ≡ true }
+    ensures { OnOk result (world_of device.new ≡ make_window (world_of device.old) window host r name.now hide) }
+{
+    let screen = rio_screen(device, host);
+    let image = white_window(device, window, screen, r, hide)?;
+    frame(device, image);
+    name_window(device, window, name)
+}
+
+// What a window gets in place of its image.
+pub(crate) fn next_of(
+    device: &Device,
+    window: u32,
+    screen: u32,
+    r: Rect,
+    keep: bool,
+    hidden: bool,
+) -> Next
+    requires window { has_window (world_of device.now) window ≡ true }
+    requires screen { is_used (world_of device.now).book (Screen screen) ≡ true }
+    requires rect { is_window_rect r ≡ true }
+    requires keep { keep ≡ true → can_keep (world_of device.now) window screen r ≡ true }
+    ensures next { IsNext (world_of device.now) window screen result }
+    ensures rect { result.r ≡ r }
+    ensures keep { result.keep ≡ keep }
+    ensures hidden { result.hidden ≡ hidden }
+    ensures ready { CanReplace (world_of device.now).images result }
+{
+    let old = device.image_shown(window);
+    Next {
+        old,
+        above: stands_on(&device.book, old, screen),
+        parent: ImageNo(device.book.image_of(screen)),
+        fill: ImageNo(device.book.fill_of(screen)),
+        r,
+        keep,
+        hidden,
+    }
+}
+
+// A window has another image. The id of the old one goes first, and what nothing refers to any more goes when the new one
+// is there, so that after Memory each image has an id or has gone.
+fn renew_window(device: &mut Device, window: u32, screen: u32, next: &Next) -> Result<(), Memory>
+    requires window { has_window (world_of device.old) window ≡ true }
+    requires screen { is_used_by_id (world_of device.old).book screen ≡ true }
+    requires next { IsNext (world_of device.old) window screen next.now }
+    requires ready { CanReplace (world_of device.old).images next.now }
+    ensures { OnOk result (world_of device.new ≡ renewed (world_of device.old) window screen next.now) }
+{
+    free_id_frees();
+    device.forest.keeps();
+    let gone = match device.book.free_id(0, window) {
+        Ok(gone) => gone,
+        Err(_) => return Err(Memory),
+    };
+    let made = next_window(&mut device.forest, &mut device.book, next);
+    device.forest.keeps();
+    release(&mut device.forest, gone.as_slice());
+    match made {
+        Ok(image) => {
+            add_window(&mut device.book, window, image, screen);
+            Ok(())
+        }
+        Err(memory) => Err(memory),
+    }
+}
+
+// A window has another image, and another name.
+#[tactic(auto, unfolding(model_draw::specs::Orders::replace_window))]
+pub(crate) fn replace_window(
+    device: &mut Device,
+    window: u32,
+    host: u32,
+    next: &Next,
+    name: &[u8],
+) -> Result<(), Memory>
+    requires window { has_window (world_of device.old) window ≡ true }
+    requires rio { has_rio (world_of device.old) host ≡ true }
+    requires next { IsNext (world_of device.old) window (rio_screen (world_of device.old) host) next.now }
+    requires ready { CanReplace (world_of device.old).images next.now }
+    ensures { OnOk result (world_of device.new ≡ replace_window (world_of device.old) window host next.now.r name.now next.now.keep next.now.hidden) }
+{
+    let screen = rio_screen(device, host);
+    renew_window(device, window, screen, next)?;
+    name_window(device, window, name)
+}
