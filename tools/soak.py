@@ -10,7 +10,9 @@ seed, its kind and its number. Each job, of which there are 2 where nothing is s
 
 Where they differ the record is kept in FOLDER, the present one where nothing is said, without the lines that can go, and the
 command that shows it again is printed. The program's memory is looked at on inputs of 4,000,000 bytes or more: beside what it has
-on a record of no events, and what it prints, of which nothing may go out before the end, it is to be at most twice the input.
+on a record of no events, and what it prints, of which nothing may go out before the end, it is to be at most twice the input. A
+message of some bytes can ask for an image of megabytes: where there is more, it is to be at most 1.1 times what the peer has, and
+the record counts as one of large images.
 Status 1 tells that something is otherwise, 2 that a word or a file is wrong.
 
 It is outside the proof. Needs: Linux, Python 3.9 or later, its standard library alone.
@@ -39,7 +41,7 @@ from run import PROGRAM, most_memory
 
 SECONDS = 600  # that a run may take, on a machine that does much else
 SHRINKS = 60  # seconds to make a record smaller
-LEAST_WATCHED, MOST_PART = 4 * 10**6, 2.0
+LEAST_WATCHED, MOST_PART, MOST_BESIDE = 4 * 10**6, 2.0, 1.1
 SIZES = (13, 24)  # of junk, as powers of two
 REFUSAL = re.compile(rb"^R [0-9]+ [0-9a-f]{8}6b", re.MULTILINE)
 KINDS = {"sessions": made_records.sessions, "junk": made_records.junk}
@@ -69,6 +71,13 @@ class Pair:
         processes = [self.start(number, words, given) for number in range(2)]
         memory = watch(processes[0]) if len(text) >= LEAST_WATCHED else 0
         return [self.ending(number, process) for number, process in enumerate(processes)], memory
+
+    def memory_of_peer(self, text, words):
+        """The most memory of the peer on a record."""
+        given = os.path.join(self.room, "given")
+        with open(given, "wb") as file:
+            file.write(text)
+        return watch(self.start(1, words, given))
 
     def start(self, number, words, given):
         paths = [os.path.join(self.room, f"{number}.{name}") for name in ("out", "err")]
@@ -138,19 +147,21 @@ class Tally:
     refusals: int = 0
     statuses: collections.Counter = field(default_factory=collections.Counter)
     part: float = 0.0
+    images: int = 0
     wrong: list = field(default_factory=list)
 
     def add(self, other):
         self.records, self.size, self.junk = self.records + other.records, self.size + other.size, self.junk + other.junk
         self.replies, self.refusals = self.replies + other.replies, self.refusals + other.refusals
         self.statuses.update(other.statuses)
-        self.part, self.wrong = max(self.part, other.part), self.wrong + other.wrong
+        self.part, self.images, self.wrong = max(self.part, other.part), self.images + other.images, self.wrong + other.wrong
 
     def line(self):
         statuses = ", ".join(f"{status}: {count}" for status, count in sorted(self.statuses.items(), key=str))
         return (
             f"{self.records} records of {self.size / 1e6:.1f} MB, {self.junk / 1e6:.1f} MB of it junk; {self.replies} replies, "
-            f"{self.refusals} of them refusals; statuses {statuses}; memory {self.part:.2f} of the input at most; {len(self.wrong)} wrong"
+            f"{self.refusals} of them refusals; statuses {statuses}; memory {self.part:.2f} of the input at most, and {self.images} of large images; "
+            f"{len(self.wrong)} wrong"
         )
 
 
@@ -175,6 +186,9 @@ class Soak:
         (ours, theirs), memory = self.pair.endings(made.text, made.words)
         part = max(0, memory - self.base - len(ours.out)) / max(1, len(made.text))
         found = difference(ours, theirs)
+        has_images = part > MOST_PART and memory <= MOST_BESIDE * self.pair.memory_of_peer(made.text, made.words)
+        if has_images:
+            part = 0.0
         if found is None and part > MOST_PART:
             found = f"{memory / 1e6:.1f} MB of memory on an input of {len(made.text) / 1e6:.1f} MB"
             text = made.text
@@ -182,7 +196,7 @@ class Soak:
             text = smaller(made.text, lambda less: difference(*self.pair.endings(less, made.words)[0]) is not None)
         wrong = [] if found is None else [f"{kind} {number}: {found}; {self.keep(kind, number, text, made.words)}"]
         replies, refusals = ours.out.count(b"\nR ") + ours.out.startswith(b"R "), len(REFUSAL.findall(ours.out))
-        return Tally(1, len(made.text), made.junk, replies, refusals, collections.Counter([ours.status]), part, wrong)
+        return Tally(1, len(made.text), made.junk, replies, refusals, collections.Counter([ours.status]), part, int(has_images), wrong)
 
     def keep(self, kind, number, text, words):
         """Keeps a record, and tells where, and what shows it again."""

@@ -106,9 +106,10 @@ class Comparison(unittest.TestCase):
 
     def test_memory_is_looked_at(self):
         text = b"rio9 1\n" + bytes(soak.LEAST_WATCHED)
-        pair = soak.Pair([[self.program("sleeps", SLEEPS)], ["/bin/true"]], str(self.room))
-        _, memory = pair.endings(text, ())
+        sleeps = self.program("sleeps", SLEEPS)
+        _, memory = soak.Pair([[sleeps], ["/bin/true"]], str(self.room)).endings(text, ())
         self.assertGreater(memory, 0)
+        self.assertGreater(soak.Pair([["/bin/true"], [sleeps]], str(self.room)).memory_of_peer(text, ()), 0)
 
 
 if __name__ == "__main__":
