@@ -1,0 +1,5 @@
+pub mod Canvases
+pub mod Making
+pub mod Near
+pub mod Numbers
+pub mod Sounding
