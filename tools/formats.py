@@ -50,6 +50,17 @@ class Words(argparse.ArgumentParser):
         stop(self.prog, f"{message} (--help tells the words)")
 
 
+def at_least(least):
+    """What reads an option's number, from this one on and of at most 12 digits."""
+
+    def number_of(text):
+        if not re.fullmatch(r"0|[1-9][0-9]{0,11}", text) or int(text) < least:
+            raise argparse.ArgumentTypeError(f"no number from {least} on: {text}")
+        return int(text)
+
+    return number_of
+
+
 @dataclass(frozen=True)
 class Event:
     """A line of a record behind its header; `kind` is its letter. Session is 0 for a stop, which has none."""

@@ -12,11 +12,9 @@ otherwise, 2 that a word or a file is wrong.
 It is outside the proof. Needs: Linux with glibc, Python 3.9 or later, its standard library alone, and cc.
 """
 
-import argparse
 import collections
 import multiprocessing.pool
 import os
-import re
 import subprocess
 import sys
 import tempfile
@@ -103,17 +101,11 @@ def check(run, library, room, options):
     return kinds[None] == 0
 
 
-def count_of(text):
-    if not re.fullmatch(r"[1-9][0-9]{0,8}", text):
-        raise argparse.ArgumentTypeError(f"no number from 1 on: {text}")
-    return int(text)
-
-
 def main(words):
     parser = formats.Words(prog="refused_memory.py", description=__doc__.split("\n")[0])
     parser.add_argument("--program", default=PROGRAM, help="another program than the built one")
-    parser.add_argument("--every", type=count_of, default=1, metavar="K")
-    parser.add_argument("--jobs", type=count_of, default=2, metavar="N")
+    parser.add_argument("--every", type=formats.at_least(1), default=1, metavar="K")
+    parser.add_argument("--jobs", type=formats.at_least(1), default=2, metavar="N")
     options = parser.parse_args(words)
     if not (os.path.isfile(options.program) and os.access(options.program, os.X_OK)):
         formats.stop("refused_memory.py", f"no program: {options.program}")

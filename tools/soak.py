@@ -18,7 +18,6 @@ Status 1 tells that something is otherwise, 2 that a word or a file is wrong.
 It is outside the proof. Needs: Linux, Python 3.9 or later, its standard library alone.
 """
 
-import argparse
 import collections
 import multiprocessing
 import os
@@ -242,20 +241,14 @@ def soak(options):
     return total
 
 
-def count_of(text):
-    if not re.fullmatch(r"0|[1-9][0-9]{0,11}", text):
-        raise argparse.ArgumentTypeError(f"no number: {text}")
-    return int(text)
-
-
 def main(words):
     parser = formats.Words(prog="soak.py", description=__doc__.split("\n")[0])
     parser.add_argument("peer", metavar="PEER", help="a program with the same words, which may have words of its own before them")
     parser.add_argument("--program", default=PROGRAM, help="another program than the built one")
-    parser.add_argument("--records", type=count_of, default=1000, metavar="N", help="records of sessions")
-    parser.add_argument("--junk", type=count_of, default=10**7, metavar="BYTES", help="bytes of junk")
-    parser.add_argument("--seed", type=count_of, default=1, metavar="S")
-    parser.add_argument("--jobs", type=count_of, default=2, metavar="N")
+    parser.add_argument("--records", type=formats.at_least(0), default=1000, metavar="N", help="records of sessions")
+    parser.add_argument("--junk", type=formats.at_least(0), default=10**7, metavar="BYTES", help="bytes of junk")
+    parser.add_argument("--seed", type=formats.at_least(0), default=1, metavar="S")
+    parser.add_argument("--jobs", type=formats.at_least(1), default=2, metavar="N")
     parser.add_argument("--keep", default=".", metavar="FOLDER", help="where records that differ are kept")
     options = parser.parse_args(words)
     for program in (options.program, *shlex.split(options.peer)[:1]):

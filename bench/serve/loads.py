@@ -1,9 +1,7 @@
 """Read by the scripts beside it: builds the load generator, runs it, and reads what it leaves."""
 
-import argparse
 import mmap
 import os
-import re
 import subprocess
 import sys
 
@@ -16,18 +14,15 @@ import served
 
 WORKERS = 8
 
+# What reads an option that counts something.
+count_of = formats.at_least(1)
+
 
 def need(name, *programs):
     """Ends with one line where a program cannot be run."""
     for program in programs:
         if not (os.path.isfile(program) and os.access(program, os.X_OK)):
             formats.stop(name, f"no program: {program}")
-
-
-def count_of(text):
-    if not re.fullmatch(r"[1-9][0-9]{0,8}", text):
-        raise argparse.ArgumentTypeError(f"no number from 1 on: {text}")
-    return int(text)
 
 
 def built(room):
