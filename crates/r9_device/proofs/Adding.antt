@@ -1,7 +1,7 @@
 -- A new image, and an id for it that is free.
 use Rattle.r9_images.specs.declared.fault.BookFault.TheVariants as fault
 use Rattle.std.proofs.Common.{◌≡◌, ℕ, true, false, Option, Ok, Err, refl, sym, ap, ◌∙◌, None}
-use Rattle.std.specs.Prelude.{not, is_some, ◌==◌}
+use Rattle.std.specs.Prelude.{is_some, ◌==◌}
 use Rattle.std.specs.Result.{result_unwrap_or}
 use Rattle.model_images.specs.Book.{Book, add_id, is_image_id_taken}
 use Rattle.std.proofs.lemmas.Bool.{eqb-true}

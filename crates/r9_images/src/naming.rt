@@ -107,8 +107,8 @@ impl Book {
         Ok(())
     }
 
-    /// Ties a name to the image of an id. Refused by 16 exactly where the name is tied, or begins with `window.` and the
-    /// connection is not the manager's.
+    /// Ties a name to the image of an id. Refused first as `image` refuses the id, then by 16 exactly where the name is tied, or
+    /// begins with `window.` and the connection is not the manager's.
     pub fn tie(&mut self, client: u64, id: u32, name: &[u8]) -> Result<(), BookFault>
         ensures made { OnOk result (model.tie self.old.book client id name.now ≡ Ok self.new.book) }
         ensures refused { IfErr result (λ f. IfRefused f (λ n. model.tie self.old.book client id name.now ≡ Err n)) }
@@ -120,8 +120,9 @@ impl Book {
         Ok(())
     }
 
-    /// Ends the tie of a name. Refused by 17 exactly where no image has it, and by 19 exactly where it begins with `window.` and
-    /// the connection is not the manager's, or is tied to another image than the id's. Takes no memory.
+    /// Ends the tie of a name. Refused first as `image` refuses the id, then by 17 exactly where no image has the name, and by 19
+    /// exactly where it begins with `window.` and the connection is not the manager's, or is tied to another image than the id's.
+    /// Takes no memory.
     pub fn untie(&mut self, client: u64, id: u32, name: &[u8]) -> Result<(), BookFault>
         ensures made { OnOk result (model.untie self.old.book client id name.now ≡ Ok self.new.book) }
         ensures refused { IfErr result (λ f. IfRefused f (λ n. model.untie self.old.book client id name.now ≡ Err n)) }

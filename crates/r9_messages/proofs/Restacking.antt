@@ -6,7 +6,7 @@ use Rattle.std.proofs.lemmas.List.{get_or-map, length-map}
 use Rattle.r9_info.specs.declared.ImageNo.{ImageNo}
 use Rattle.model_text.specs.Outcome.{Outcome, ◌>>=◌, refuse_if}
 use Rattle.model_forest.specs.World.{parent_of}
-use Rattle.model_forest.specs.Stack.{after_lower, after_raise, lowered, raised}
+use Rattle.model_forest.specs.Stack.{after_lower, after_raise}
 use Rattle.model_images.specs.Book.{by_name}
 use Rattle.model_draw.specs.World.{World, look, with_images}
 use Rattle.model_draw.specs.Making.{flag, is_window}

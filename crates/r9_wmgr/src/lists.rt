@@ -154,10 +154,13 @@ pub(crate) fn without_rio(rios: &mut Vec<Rio>, host: u32)
     rios.retain(|rio| rio.host != host);
 }
 
-fn one_of(v: &Window, w: &Window) -> Window
-    ensures { result ≡ (if v.now.serial == w.now.serial then w.now else v.now) }
+// Only the one window is written: the others are not copied onto themselves.
+fn replace_one(v: &mut Window, w: &Window)
+    ensures { v.new ≡ (if v.old.serial == w.now.serial then w.now else v.old) }
 {
-    if v.serial == w.serial { *w } else { *v }
+    if v.serial == w.serial {
+        *v = *w;
+    }
 }
 
 /// Puts a window in place of the one with its serial.
@@ -165,7 +168,7 @@ pub(crate) fn replace(windows: &mut Vec<Window>, w: &Window)
     ensures { windows.new.items ≡ in_place w.now windows.old.items }
 {
     for v in windows.iter_mut() {
-        *v = one_of(v, w);
+        replace_one(v, w);
     }
 }
 

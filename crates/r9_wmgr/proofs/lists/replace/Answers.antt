@@ -8,7 +8,7 @@ use Rattle.r9_wmgr.proofs.lists.replace.Goals as goal
 
 pub loop-v-preserved : goal.loop-v-preserved
 loop-v-preserved c =
-    rw c.one_of.ensures
+    rw c.replace_one.ensures
     (map_over_more ((λ (v : Window). if v.serial == c.args.w.now.serial then c.args.w.now else v)) c.deref_mut-v-items.result.now c.loop-v.v-items c.loop-v.v-index _ c.loop-v-test.true c.loop-v.invariant
     (get_or_default c.loop-v.v-items c.loop-v.v-index _ _ (omega (arith, c.loop-v.auto.v-items))))
 
