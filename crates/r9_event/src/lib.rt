@@ -5,9 +5,11 @@
 mod ask;
 mod event;
 mod lists;
+mod own;
 mod rio;
 
 pub use ask::{Answer, Ask};
 pub use event::{Did, Entry, Event, Opening, Reply};
 pub use lists::{Entries, Notes, Orders, Replies};
+pub use own::{Item, Use};
 pub use rio::{Note, Order};
