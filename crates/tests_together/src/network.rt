@@ -60,6 +60,7 @@ fn served_there<R: Net<Listener = TcpListener, Stream = TcpStream> + Threads + W
 fn a_client_is_served_over_the_network(rt: HostRuntime) -> Result<(), Fail> {
     let alloc = rt.alloc();
     let listener = OnceLock::new();
+    assert!(rt; TcpDoor::new(&rt, &listener).listen("nowhere").is_err());
     let address = opened(&rt, &listener)?;
     let (served, answer) = join(
         &rt,
