@@ -1,6 +1,6 @@
 //! What the files of windows and rios have (rio(4)).
 
-ghost use Rattle.std.specs.Prelude.{◌≡◌, ◌≤◌, ℕ, length, Ok, IfOk};
+ghost use Rattle.std.specs.Prelude.{◌≡◌, ◌≤◌, ◌++◌, ℕ, length, Ok, IfOk};
 ghost use Rattle.model_console.specs.Console as console;
 ghost use Rattle.model_window.specs.Heard.{wctl_text, winid_text};
 ghost use Rattle.model_world.specs.Desktop.{pane_of};
@@ -60,6 +60,17 @@ pub(crate) fn wctl(alloc: Global, desktop: &Desktop, window: u32) -> Result<Byte
     }
 }
 
+// One text behind another, in a list that has room for both from the start.
+fn joined(alloc: Global, front: &[u8], back: &[u8]) -> Result<Bytes, Memory>
+    ensures { IfOk result (λ bytes. bytes ≡ front.now ++ back.now) }
+{
+    let mut bytes = Bytes::new(alloc);
+    bytes.reserve(front.len() + back.len())?;
+    bytes.push_all(front)?;
+    bytes.push_all(back)?;
+    Ok(bytes)
+}
+
 /// The text of snarf after a write: at its front another text, and at its end more of it. Elsewhere, and past the most that is
 /// kept, it is refused.
 fn next_snarf(alloc: Global, old: &[u8], offset: u64, bytes: &[u8]) -> Result<Bytes, Fault>
@@ -72,9 +83,7 @@ fn next_snarf(alloc: Global, old: &[u8], offset: u64, bytes: &[u8]) -> Result<By
         return Err(Fault::Refused(BAD_OFFSET));
     }
     if offset == old.len() as u64 && old.len() + bytes.len() <= MOST_SNARF {
-        let mut contents = Bytes::from_slice(alloc, old)?;
-        contents.push_all(bytes)?;
-        return Ok(contents);
+        return Ok(joined(alloc, old, bytes)?);
     }
     Err(Fault::Refused(BAD_OFFSET))
 }
