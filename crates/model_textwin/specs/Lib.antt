@@ -1,0 +1,4 @@
+pub mod Wrap
+pub mod Pieces
+pub mod Moves
+pub mod Layout
