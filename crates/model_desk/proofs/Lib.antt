@@ -1,0 +1,2 @@
+mod PilotLaws
+mod Rows

@@ -1,0 +1,4 @@
+pub mod Table
+pub mod Asked
+pub mod Spelled
+pub mod Pilot
