@@ -1,0 +1,34 @@
+//! The cursor that a mirror of the display shows, put over rows of packed pixels (image(6)). No call takes memory.
+#![tactic(auto)]
+
+ghost use Rattle.std.specs.Prelude.{◌≡◌, ◌*◌, length};
+ghost use Rattle.r9_geom.specs.Geometry.{height, IsNear, IsOrdered, IsRectNear};
+ghost use Rattle.model_pixel.specs.Channels.{depth};
+ghost use Rattle.model_pixel.specs.Rows.{row_bytes};
+ghost use Rattle.model_cursor.specs.Rows.{over_rows};
+
+mod cursor;
+
+use cursor::Cursor;
+use r9_chan::Chan;
+use r9_geom::{Point, Rect};
+use r9_plane::row_bytes;
+
+/// Puts the cursor at a point over the rows of a rectangle, in pixels of these channels (image(6)). Pixels that it does not
+/// cover, and bits beside the rectangle, stay as they are.
+pub fn over(rows: &mut [u8], r: Rect, chan: Chan, at: Point)
+    requires near { IsRectNear r }
+    requires ordered { IsOrdered r }
+    requires at { IsNear at }
+    requires rows { length rows.old ≡ row_bytes r (depth chan) * height r }
+    ensures { rows.new ≡ over_rows r chan at rows.old }
+{
+    let line_len = row_bytes(r, chan.depth()) as usize;
+    if line_len == 0 {
+        return;
+    }
+    let cursor = Cursor::new(r, chan, at);
+    for (k, byte) in rows.iter_mut().enumerate() {
+        *byte = cursor.row_byte((k / line_len) as u64, (k % line_len) as u64, *byte);
+    }
+}
