@@ -1,4 +1,5 @@
-//! A text in a window that scrolls: the definitions that contracts of other crates cite. No code.
+//! A text in a window that scrolls: the definitions that contracts of other crates cite, and a law
+//! about them as the contract of a function that does nothing.
 #![tactic(auto)]
 
 use r9_text::Bytes;
@@ -11,3 +12,7 @@ pub enum Move {
     /// Characters go to a row from a column on, where the row ends, each less 0x20.
     Put { row: u32, column: u32, codes: Bytes },
 }
+
+mod laws;
+
+pub use laws::pieces_are_the_text;

@@ -50,8 +50,8 @@ impl Desk {
         })
     }
 
-    /// An event comes. The texts are those that it writes, and the table is the one after it, or the one before where
-    /// there is no memory.
+    /// An event comes. The texts are those that it writes (rio(4), mouse(3)), and the table is the one after it. Where there
+    /// is no memory, or a window's number or place would leave 64 bits, the answer is Memory and the table the one before.
     #[tactic(auto, unfolding(model_desk::specs::Pilot::after, model_desk::specs::Pilot::written))]
     pub fn feed(&mut self, e: Mouse) -> Result<Texts, Memory>
         ensures texts { IfOk result (λ texts. texts ≡ written self.old e) }
