@@ -1,10 +1,13 @@
 //! The cursor that a mirror of the display shows, put over rows of packed pixels (image(6)). No call takes memory.
 #![tactic(auto)]
 
-ghost use Rattle.std.specs.Prelude.{◌≡◌, ◌*◌, length};
-ghost use Rattle.r9_geom.specs.Geometry.{height, IsNear, IsOrdered, IsRectNear};
+ghost use Rattle.std.specs.Prelude.{◌≡◌, ◌*◌, length, IsTrue};
+ghost use Rattle.std.specs.Option.{unwrap_or};
+ghost use Rattle.r9_geom.specs.declared.Point.{Point};
+ghost use Rattle.r9_geom.specs.Geometry.{height, holds, IsNear, IsOrdered, IsRectNear};
 ghost use Rattle.model_pixel.specs.Channels.{depth};
-ghost use Rattle.model_pixel.specs.Rows.{row_bytes};
+ghost use Rattle.model_pixel.specs.Rows.{row_bytes, row_pixel};
+ghost use Rattle.model_cursor.specs.Cursor.{cursor_at};
 ghost use Rattle.model_cursor.specs.Rows.{over_rows};
 
 mod cursor;
@@ -21,7 +24,8 @@ pub fn over(rows: &mut [u8], r: Rect, chan: Chan, at: Point)
     requires ordered { IsOrdered r }
     requires at { IsNear at }
     requires rows { length rows.old ≡ row_bytes r (depth chan) * height r }
-    ensures { rows.new ≡ over_rows r chan at rows.old }
+    ensures rows { rows.new ≡ over_rows r chan at rows.old }
+    ensures pixels { (p : Point) → IsTrue (holds r p) → row_pixel r (depth chan) rows.new p ≡ unwrap_or (cursor_at chan at p) (row_pixel r (depth chan) rows.old p) }
 {
     let line_len = row_bytes(r, chan.depth()) as usize;
     if line_len == 0 {
