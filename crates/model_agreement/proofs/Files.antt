@@ -1,0 +1,112 @@
+-- Over outsides that are alike, files give and take alike.
+use Rattle.std.proofs.Common.{◌≡◌, ℕ, Bool, List, Option, Some, None, Ok, refl}
+use Rattle.std.specs.Prelude.{IsTrue, nat_lt}
+use Rattle.model_text.specs.Outcome.{refuse_if}
+use Rattle.model_mouse.specs.Queue.{answer_text}
+use Rattle.model_console.specs.Console as console
+use Rattle.model_window.specs.Heard.{ConsoleRead, Labelled, MouseRead, Raw, Written, wctl_answer, wctl_text}
+use Rattle.model_tree.specs.declared.Kind.{Kind}
+use Rattle.model_tree.specs.declared.Kind.TheVariants as kind
+use Rattle.model_tree.specs.Node.{Node, is_directory}
+use Rattle.model_tree.specs.Listing.{stats}
+use Rattle.model_world.specs.Session.{Fid}
+use Rattle.model_world.specs.Outside.{Outside}
+use Rattle.model_world.specs.Reading.{Given, ctl_read, directory_read, file_read, given_in, given_now, mouse_len, node_read, told_now, wctl_len}
+use Rattle.model_world.specs.Writing.{file_written, line_of, raw_asked, with_raw_asked}
+use Rattle.model_agreement.specs.Agreement.{Alike, Ask, IsPlain, MayWrite, SameOption, SameOutcome, is_own}
+use Rattle.model_agreement.proofs.Relations.{bind_alike, check_alike, equal_alike, if_alike, map_alike}
+use Rattle.model_agreement.proofs.Trees.{stats_same}
+
+-- the same fid and bytes, and states that are so related
+pub record SameGiven {S T : Type 0} (Same : S → T → Type 0) (a : Given S) (b : Given T) : Type 0 where
+  pub fid : a.fid ≡ b.fid
+  pub bytes : a.bytes ≡ b.bytes
+  pub rest : Same a.rest b.rest
+
+module _ {S T : Type 0} (outer : Outside S) (inner : Outside T) (Same Later : S → T → Type 0) (HasWindow HasConnection : ℕ → Type 0) (May : S → Ask → Type 0) (alike : Alike outer inner Same Later HasWindow HasConnection May) where
+  -- ---- reads
+
+  -- what a read gives, or that it waits
+  abbrev pub Gives : Option (Given S) → Option (Given T) → Type 0
+  Gives a b = SameOption (SameGiven Same) a b
+
+  pub given_alike : (s : S) (t : T) (fid : Fid) (count : ℕ) (of : Kind) → Same s t → HasWindow fid.node.serial
+      → Gives (given_now outer s fid count of) (given_now inner t fid count of)
+  given_alike s t fid count kind.Mouse same has = rw (alike.pane s t same fid.node.serial has)
+      (map_alike (SameGiven Same) _ _ (answer_text (inner.pane t fid.node.serial).mouse) (λ bytes. record { fid = refl; bytes = refl; rest = alike.hear s t same fid.node.serial MouseRead has }))
+  given_alike s t fid count kind.Cons same has = rw (alike.pane s t same fid.node.serial has)
+      (map_alike (SameGiven Same) _ _ (console.read count (inner.pane t fid.node.serial).console) (λ bytes. record { fid = refl; bytes = refl; rest = alike.hear s t same fid.node.serial (ConsoleRead count) has }))
+  given_alike s t fid count kind.Wctl same has = rw (alike.pane s t same fid.node.serial has)
+      (map_alike (SameGiven Same) _ _ (wctl_answer fid.told (wctl_text (inner.pane t fid.node.serial).known)) (λ text. record { fid = refl; bytes = refl; rest = same }))
+  given_alike s t fid count _ same has = tt
+
+  given_in_alike : (s : S) (t : T) (fid : Fid) (least count : ℕ) (of : Kind) → Same s t → HasWindow fid.node.serial
+      → SameOutcome Gives (given_in outer s fid least count of) (given_in inner t fid least count of)
+  given_in_alike s t fid least count of same has =
+      check_alike Gives (refuse_if (nat_lt count least) 46) _ _ (λ _ _. given_alike s t fid count of same has)
+
+  ctl_same : (s : S) (t : T) (node : Node) (offset count : ℕ) → Same s t → HasConnection node.connection → ctl_read outer s node offset count ≡ ctl_read inner t node offset count
+  unfolding ctl_read
+  ctl_same s t node offset count same has = rw (alike.read_ctl s t same node.connection has) refl
+
+  file_alike : (s : S) (t : T) (fid : Fid) (offset count : ℕ) (of : Kind) → Same s t → IsTrue (is_own of) → IsPlain HasWindow HasConnection fid.node
+      → SameOutcome Gives (file_read outer s fid offset count of) (file_read inner t fid offset count of)
+  file_alike s t fid offset count kind.Ctl same own plain =
+      equal_alike Gives _ _ (told_now fid s) (told_now fid t) (ctl_same s t fid.node offset count same plain.connection) (λ bytes. record { fid = refl; bytes = refl; rest = same })
+  file_alike s t fid offset count kind.Data same own plain =
+      bind_alike (λ a b. (a.0 ≡ b.0) × Same a.1 b.1) Gives (outer.read_data s fid.node.connection count) (inner.read_data t fid.node.connection count) _ _
+      (alike.read_data s t same fid.node.connection count plain.connection) (λ a b p. record { fid = refl; bytes = p.0; rest = p.1 })
+  file_alike s t fid offset count kind.Screen same own plain = absurd cc
+  file_alike s t fid offset count kind.Snarf same own plain = absurd cc
+  file_alike s t fid offset count kind.Label same own plain = rw (alike.pane s t same fid.node.serial plain.window) (record { fid = refl; bytes = refl; rest = same })
+  file_alike s t fid offset count kind.Text same own plain = rw (alike.pane s t same fid.node.serial plain.window) (record { fid = refl; bytes = refl; rest = same })
+  file_alike s t fid offset count kind.Winid same own plain = rw (alike.pane s t same fid.node.serial plain.window) (record { fid = refl; bytes = refl; rest = same })
+  file_alike s t fid offset count kind.Winname same own plain = rw (alike.pane s t same fid.node.serial plain.window) (record { fid = refl; bytes = refl; rest = same })
+  file_alike s t fid offset count kind.Picture same own plain = rw (alike.picture s t same fid.node.serial plain.window) (record { fid = refl; bytes = refl; rest = same })
+  file_alike s t fid offset count kind.Mouse same own plain = given_in_alike s t fid mouse_len count kind.Mouse same plain.window
+  file_alike s t fid offset count kind.Wctl same own plain = given_in_alike s t fid wctl_len count kind.Wctl same plain.window
+  file_alike s t fid offset count kind.Cons same own plain = given_alike s t fid count kind.Cons same plain.window
+  file_alike s t fid offset count _ same own plain = tt
+
+  pub node_alike : (connections : List ℕ) (s : S) (t : T) (fid : Fid) (offset count : ℕ) → Same s t → IsTrue (is_own fid.node.kind) → IsPlain HasWindow HasConnection fid.node
+      → SameOutcome Gives (node_read outer connections s fid offset count) (node_read inner connections t fid offset count)
+  node_alike connections s t fid offset count same own plain =
+      if_alike Gives (is_directory fid.node) _ _ _ _
+      (rw (stats_same _ _ fid.node (alike.view s t same connections fid.node plain) plain.kind)
+      (check_alike Gives (directory_read (stats (inner.view t connections fid.node) fid.node) fid offset count) _ _ (λ got _.
+      record { fid = refl; bytes = refl; rest = same })))
+      (file_alike s t fid offset count fid.node.kind same own plain)
+
+  -- ---- writes
+
+  -- what a write leaves: later the same, and the same refusal
+  abbrev pub Leaves : S × Option ℕ → T × Option ℕ → Type 0
+  Leaves a b = Later a.0 b.0 × (a.1 ≡ b.1)
+
+  raw_alike : (s : S) (t : T) (window : ℕ) (asked : Option Bool) → Same s t → HasWindow window → Same (with_raw_asked outer s window asked) (with_raw_asked inner t window asked)
+  raw_alike s t window None same has = same
+  raw_alike s t window (Some raw) same has = alike.hear s t same window (Raw raw) has
+
+  pub written_alike : (s : S) (t : T) (node : Node) (offset : ℕ) (bytes : List ℕ) (mark told : Option ℕ) (of : Kind) → Same s t → IsTrue (is_own of)
+      → IsPlain HasWindow HasConnection node → MayWrite outer HasWindow HasConnection May s node bytes mark told of
+      → SameOutcome Leaves (file_written outer s node offset bytes mark of) (file_written inner t node offset bytes told of)
+  written_alike s t node offset bytes mark told kind.Ctl same own plain may =
+      bind_alike Same Leaves (outer.write_ctl s node.connection bytes) (inner.write_ctl t node.connection bytes) _ _
+      (alike.write_ctl s t same node.connection bytes plain.connection may) (λ a b p. (alike.unchanged a b p, refl))
+  written_alike s t node offset bytes mark told kind.Data same own plain may =
+      let w = alike.write_data s t same node.connection bytes mark told plain.connection may in (alike.unchanged _ _ w.0, w.1)
+  written_alike s t node offset bytes mark told kind.Cons same own plain may = (alike.unchanged _ _ (alike.hear s t same node.serial (Written bytes) plain.window), refl)
+  written_alike s t node offset bytes mark told kind.Consctl same own plain may =
+      bind_alike Same Leaves _ _ _ _
+      (check_alike Same (raw_asked (line_of bytes)) (λ asked. Ok (with_raw_asked outer s node.serial asked)) (λ asked. Ok (with_raw_asked inner t node.serial asked)) (λ asked _. raw_alike s t node.serial asked same plain.window))
+      (λ a b p. (alike.unchanged a b p, refl))
+  written_alike s t node offset bytes mark told kind.Mouse same own plain may = (alike.unchanged s t same, refl)
+  written_alike s t node offset bytes mark told kind.Label same own plain may = (alike.unchanged _ _ (alike.hear s t same node.serial (Labelled bytes) plain.window), refl)
+  written_alike s t node offset bytes mark told kind.Wctl same own plain may =
+      bind_alike Later Leaves (outer.command s node.serial bytes) (inner.command t node.serial bytes) _ _
+      (alike.command s t same node.serial bytes plain.window may) (λ a b p. (p, refl))
+  written_alike s t node offset bytes mark told kind.Mousein same own plain may = absurd cc
+  written_alike s t node offset bytes mark told kind.Kbdin same own plain may = absurd cc
+  written_alike s t node offset bytes mark told kind.Snarf same own plain may = absurd cc
+  written_alike s t node offset bytes mark told kind.DeviceWctl same own plain may = absurd cc
+  written_alike s t node offset bytes mark told _ same own plain may = refl

@@ -1,0 +1,4 @@
+pub mod Trees
+pub mod Relations
+pub mod Files
+pub mod Sessions
