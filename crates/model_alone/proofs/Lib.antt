@@ -1,0 +1,2 @@
+pub mod Unbegun
+mod Rows
