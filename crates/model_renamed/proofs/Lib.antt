@@ -1,0 +1,5 @@
+pub mod Views
+pub mod Changes
+pub mod Drawing
+pub mod Lists
+pub mod Making
