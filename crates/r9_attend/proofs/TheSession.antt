@@ -21,7 +21,7 @@ use Rattle.r9_attend.specs.declared.ends.WriteEnd.{WriteEnd}
 use Rattle.r9_attend.specs.declared.ends.WriteEnd.TheVariants as writer
 use Rattle.r9_attend.specs.Passes.{GoesOn, made_since, IsOwn, Turned}
 use Rattle.r9_attend.specs.Sessions.{Reads, EndsAt, IsRead, IsWritten, IsReaders, IsWriters, IsSessions, IsMade, IsTheirs, IsReady}
-use Rattle.r9_attend.specs.Steps.{HasRead, HasWritten, IsTold, NotBegun}
+use Rattle.r9_attend.specs.Steps.{HasRead, HasWritten, IsTold, NotBegun, HasBegun}
 use Rattle.r9_lock.proofs.Lists.{Contains-numbered}
 use Rattle.r9_attend.proofs.Growing.{since_is, since_two, goes_both, turn_made, turn_entered, seen_entered, All-entered, All-stayed}
 
@@ -63,9 +63,21 @@ numbered_event n (x ∷ xs) event h = go (λ k. numbered_event (n + 1) xs event 
     go later (inl k) = ((n, x), (zero, omega arith, refl), here k)
     go later (inr k) = let r = later k in (r.0, Contains-append_right ((n, x) ∷ []) (numbered (n + 1) xs) r.0 r.1, r.2)
 
+only_begin : (s : Server) (c : ℕ) (old new : Known Entry) (t : Turned s ask.Begin (answer.Began c) old new) → made_since old new ≡ (length t.before + 1, record { number = length t.before + 1; event = Begin c }) ∷ []
+only_begin s c old new t = turn_made s ask.Begin (answer.Began c) old new t ∙ ap (numbered (length t.before + 1)) (turn_entered s ask.Begin (answer.Began c) old new t (Begin c) t.may)
+
+-- a session that began in a turn has its begin among what the pass made
+pub begin_made : (s : Server) (c : ℕ) (old new : Known Entry) → HasBegun s c old new → IsMade (made_since old new) (Begin c)
+begin_made s c old new h =
+    let t = h.turn in
+    let first : ℕ × Entry = (length t.before + 1, record { number = length t.before + 1; event = Begin c }) in
+    let both = since_two old h.begun new (record { rest = numbered (length t.before + 1) t.entry; is = t.made }) h.on.made in
+    let here : Contains (made_since old h.begun) first = subst (λ l. Contains l first) (sym (only_begin s c old h.begun t)) (zero, omega arith, refl) in
+    (first, subst (λ l. Contains l first) (sym both) (Contains-append_left (made_since old h.begun) (made_since h.begun new) first here), refl)
+
 module _ (s : Server) (c : ℕ) (r₀ r₁ r₂ w₀ w₁ : Known Entry) (t : Turned s ask.Begin (answer.Began c) r₀ r₁) (g : GoesOn r₀ r₁) where
   begun_made : made_since r₀ r₁ ≡ (length t.before + 1, record { number = length t.before + 1; event = Begin c }) ∷ []
-  begun_made = turn_made s ask.Begin (answer.Began c) r₀ r₁ t ∙ ap (numbered (length t.before + 1)) (turn_entered s ask.Begin (answer.Began c) r₀ r₁ t (Begin c) t.may)
+  begun_made = only_begin s c r₀ r₁ t
 
   pub begun_ready : (id : TableId) → r₀.lock ≡ id → IsReady id c r₁
   begun_ready id e = record {
@@ -81,13 +93,8 @@ module _ (s : Server) (c : ℕ) (r₀ r₁ r₂ w₀ w₁ : Known Entry) (t : Tu
     pub both_go : GoesOn r₀ r₂ × GoesOn w₀ w₁
     both_go = (goes_both r₀ r₁ r₂ g hr.pass, hw.pass)
 
-    pub began : IsMade (made_since r₀ r₂) (Begin c)
-    began = (
-      (length t.before + 1, record { number = length t.before + 1; event = Begin c }),
-      subst (λ l. Contains l (length t.before + 1, record { number = length t.before + 1; event = Begin c })) (sym all_made)
-          (Contains-append_left (made_since r₀ r₁) (made_since r₁ r₂) _ (subst (λ l. Contains l (length t.before + 1, record { number = length t.before + 1; event = Begin c })) (sym begun_made) (zero, omega arith, refl))),
-      refl,
-    )
+    pub began : HasBegun s c r₀ r₂
+    began = record { begun = r₁; turn = t; on = hr.pass }
 
     pub made_theirs : All (IsSessions c) (made_since r₀ r₂) × All (IsSessions c) (made_since w₀ w₁)
     made_theirs = (

@@ -12,7 +12,7 @@ use Rattle.r9_attend.specs.declared.ends.ReadEnd.TheVariants.{Closed, ReadFault}
 use Rattle.r9_attend.specs.declared.ends.WriteEnd.TheVariants as writer_end
 use Rattle.r9_attend.specs.Passes.{GoesOn, made_since}
 use Rattle.r9_attend.specs.Sessions.{Reads, EndsAt, IsRead, IsExactEnd, IsWritten, IsExactWriteEnd, HasEnded, IsSessions, IsMade, IsTheirs, IsPlain, EndsPlainly}
-use Rattle.r9_attend.specs.Steps.{IsTold, IsSpent, NotBegun}
+use Rattle.r9_attend.specs.Steps.{IsTold, IsSpent, NotBegun, HasBegun}
 
 -- what sources and sinks tell: the bytes left and the faults, the bytes held, whether some are unflushed, and the faults
 pub record Tells (I O : Type 0) : Type 0 where
@@ -60,11 +60,11 @@ module _ {I O : Type 0} (tells : Tells I O) (s : Server) where
     pub complete : (Rose (tells.read_faults k.input_old) (tells.read_faults k.input) → ⊥) → (Rose (tells.write_faults k.output_old) (tells.write_faults k.output) → ⊥)
         → IsPlain s c (tells.left k.input_old) history → EndsPlainly k.attended.reader k.attended.writer
 
-  -- Session c began. What the passes made is its begin, other entries of it, and stops, and it has ended. In a history whose
-  -- entries of the session are these, the call holds, and a reader that found the session closed found it so by the writer, which
-  -- met a fault or had no memory.
+  -- Session c began in a turn of the reader's pass. What the passes made is its begin, other entries of it, and stops, and it has
+  -- ended. In a history whose entries of the session are these, the call holds, and a reader that found the session closed found it
+  -- so by the writer, which met a fault or had no memory.
   pub record IsOfSession (k : Call I O) (c : ℕ) : Type 0 where
-    pub began : IsMade (reader_made k) (event.Begin c)
+    pub began : HasBegun s c k.reader_old k.reader
     pub reader_made : All (IsSessions c) (reader_made k)
     pub writer_made : All (IsSessions c) (writer_made k)
     pub ended : HasEnded c k.reader

@@ -1,5 +1,5 @@
 -- What a call leaves of a pass, and the histories that a session's passes speak of.
-use Rattle.std.specs.Prelude.{◌≡◌, ℕ, ◌+◌, ◌/◌, ◌^◌, ◌≤◌, Bool, true, List, ◌++◌, length, drop, All, Contains}
+use Rattle.std.specs.Prelude.{◌≡◌, ℕ, ◌+◌, ◌/◌, ◌^◌, ◌≤◌, ◌<◌, Bool, true, List, ◌++◌, length, drop, All, Contains}
 use Rattle.r9_event.specs.declared.event.Event.{Event}
 use Rattle.r9_event.specs.declared.event.Entry.{Entry}
 use Rattle.r9_event.specs.declared.ask.Ask.{Ask}
@@ -26,10 +26,13 @@ pub record IsOwn (such : Event → Bool) (seen : List Entry) (made : List (ℕ �
   pub begins : IsPrefix seen history
   pub own : (m : ℕ × Entry) → Contains (numbered 1 history) m → such m.1.event ≡ true → Contains made m
 
--- a turn at a server: the history before it goes on from what the pass had seen, and has one entry more after it, or none
+-- a turn at a server: the history before it goes on from what the pass had seen, has all entries that the pass knew of and fewer than
+-- 2^61, and has one entry more after it, or none
 pub record Turned (s : Server) (ask : Ask) (answer : Answer) (old new : Known Entry) : Type 0 where
   pub before : List Entry
   pub begins : IsPrefix old.seen before
+  pub known : old.least ≤ length before
+  pub few : length before < 2 ^ 61
   pub entry : List Entry
   pub one : length entry ≤ 1
   pub may : May s before ask answer (before ++ entry)

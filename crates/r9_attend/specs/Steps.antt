@@ -139,3 +139,9 @@ NotBegun s _ _ old new = ⊥
 abbrev pub IsBegun : Server → Result ℕ (ReadEnd × WriteEnd) → (old new : Known Entry) → Type 0
 IsBegun s (Ok c) old new = Turned s ask.Begin (answer.Began c) old new
 IsBegun s (Err ends) old new = NotBegun s ends.0 ends.1 old new
+
+-- session c began in a turn of the pass, which then went on
+pub record HasBegun (s : Server) (c : ℕ) (old new : Known Entry) : Type 0 where
+  pub begun : Known Entry
+  pub turn : Turned s ask.Begin (answer.Began c) old begun
+  pub on : GoesOn begun new

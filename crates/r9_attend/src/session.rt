@@ -6,7 +6,7 @@ ghost use Rattle.r9_event.specs.declared.event.Event.{Event};
 ghost use Rattle.model_event.specs.Journal.{events_of};
 ghost use Rattle.r9_attend.specs.Passes.{GoesOn, made_since};
 ghost use Rattle.r9_attend.specs.Sessions.{Reads, EndsAt, IsRead, IsExactEnd, IsWritten, IsExactWriteEnd, HasEnded, IsSessions, IsMade, IsTheirs, IsReady, IsPlain, EndsPlainly};
-ghost use Rattle.r9_attend.specs.Steps.{IsTold, IsSpent, NotBegun, IsBegun, HasRead, HasWritten};
+ghost use Rattle.r9_attend.specs.Steps.{IsTold, IsSpent, NotBegun, IsBegun, HasBegun, HasRead, HasWritten};
 
 use crate::ends::{Attended, ReadEnd, WriteEnd};
 use crate::reading::read_in;
@@ -78,8 +78,8 @@ pub fn attend<T: Serves + Send, S: Source + Send, O: Sink + Send, R: Threads + W
     // Where no session began, both ends name the cause, and nothing was read or put.
     ensures not_begun { IfNone result.session (NotBegun T.server result.reader result.writer reader.old reader.new × (writer.new ≡ writer.old) × (input.new ≡ input.old) × (output.new ≡ output.old)) }
     ensures none_made { IfNone result.session (All (λ m. m.1.event ≡ Event.Stop) (made_since reader.old reader.new)) }
-    // What the passes made are the session's begin, other entries of it, and stops.
-    ensures began { IfSome result.session (λ c. IsMade (made_since reader.old reader.new) (Event.Begin c)) }
+    // The session began in a turn of the reader's pass. What the passes made are its begin, other entries of it, and stops.
+    ensures began { IfSome result.session (λ c. HasBegun T.server c reader.old reader.new) }
     ensures made { IfSome result.session (λ c. All (IsSessions c) (made_since reader.old reader.new) × All (IsSessions c) (made_since writer.old writer.new)) }
     ensures ended { IfSome result.session (λ c. HasEnded c reader.new) }
     // In a history whose entries of the session are these, its messages are those of the bytes that were read, ..

@@ -1,5 +1,5 @@
 -- What a pass is after each call.
-use Rattle.std.proofs.Common.{◌≡◌, ℕ, zero, suc, ◌+◌, ◌≤◌, ◌<◌, max, List, [], ◌∷◌, ◌++◌, length, sym, refl, ap, ◌∙◌, subst, arith, ⊎_elim}
+use Rattle.std.proofs.Common.{◌≡◌, ℕ, zero, suc, ◌+◌, ◌≤◌, ◌<◌, ◌^◌, max, List, [], ◌∷◌, ◌++◌, length, sym, refl, ap, ◌∙◌, subst, arith, ⊎_elim}
 use Rattle.std.specs.Prelude.{All, Contains}
 use Rattle.std.proofs.lemmas.List.Elements.{All-append, All-weaker, All-nil}
 use Rattle.atomic_table.specs.Table.{Me}
@@ -83,10 +83,12 @@ module _ {T E : Type 0} where
     }
 
     pub is_turn : (first : T → ℕ) (seen : ℕ) → IsPass seen m₀ → NeverFalls first m₁ m₂ → (asked : K) → ask ≡ asked → (old new : Known E)
-        → old.seen ≡ m₀.0.seen → old.made ≡ m₀.0.made → new.seen ≡ m₃.0.seen → new.made ≡ m₃.0.made → IsTurn stands first acts asked answer old new
-    is_turn first count p low asked is old new os om ns nm = record {
+        → found < 2 ^ 62 → old.least ≡ m₀.0.least → old.seen ≡ m₀.0.seen → old.made ≡ m₀.0.made → new.seen ≡ m₃.0.seen → new.made ≡ m₃.0.made → IsTurn stands first acts asked answer old new
+    is_turn first count p low asked is old new small ol os om ns nm = record {
       before = m₂.0.seen;
       begins = subst (λ l. IsPrefix l m₂.0.seen) (sym os) begins;
+      known = omega (arith, ol, t.more, t.known, ap length seen_is);
+      few = omega (arith, small, t.counted, ap length seen_is);
       value = t.carries.value;
       fits = subst (stands t.carries.value) (sym seen_is) t.carries.fits;
       entry = e.entry;

@@ -200,6 +200,7 @@ module _ {T E : Type 0} (stands : T → List E → Type 0) (first : T → ℕ) (
             begins = k.seen;
             counted = omega arith;
             more = omega arith;
+            known = k.least;
             now = refl;
           }),
           λ miss. absurd (miss hit),
@@ -382,6 +383,7 @@ module _ {T E : Type 0} where
     begins = subst (λ (z : Me T (View E)). IsPrefix z.0.seen p.0.seen) l.now t.begins;
     counted = t.counted;
     more = omega arith;
+    known = t.known;
     now = t.now ∙ ap (λ (z : Me T (View E)). view p.0.seen z.0.made z.0.told p.0.least z.0.shares true) l.now;
   }
 

@@ -1,5 +1,5 @@
 -- What contracts see of a lock and of a pass.
-use Rattle.std.specs.Prelude.{◌≡◌, ◌≢◌, ℕ, ◌+◌, ◌≤◌, ◌-◌, max, List, [], ◌++◌, length, sum_by, All, AllPairs, Contains}
+use Rattle.std.specs.Prelude.{◌≡◌, ◌≢◌, ℕ, ◌+◌, ◌≤◌, ◌<◌, ◌-◌, ◌^◌, max, List, [], ◌++◌, length, sum_by, All, AllPairs, Contains}
 use Rattle.atomic_table.specs.Seated.{TableId}
 use Rattle.r9_lock.specs.Histories.{IsPrefix, numbered, longer}
 
@@ -38,10 +38,13 @@ module _ {E : Type 0} where
   both_of p q = record { lock = p.lock; seen = longer p.seen q.seen; made = p.made ++ q.made; least = max p.least q.least; shares = p.shares + q.shares }
 
 -- a turn: the history before it begins with what the pass had seen, and has one entry more after it, or none, which the pass has made and seen.
--- The entry comes after all that the pass made before, and the number of the first entry that the value stores does not fall
+-- The history before has all entries that the pass knew of, and fewer than 2^61. The entry comes after all that the pass made before,
+-- and the number of the first entry that the value stores does not fall
 pub record IsTurn {T K A E : Type 0} (stands : T → List E → Type 0) (first : T → ℕ) (acts : List E → K → A → List E → Type 0) (ask : K) (answer : A) (old new : Known E) : Type 0 where
   pub before : List E
   pub begins : IsPrefix old.seen before
+  pub known : old.least ≤ length before
+  pub few : length before < 2 ^ 61
   pub value : T
   pub fits : stands value before
   pub entry : List E

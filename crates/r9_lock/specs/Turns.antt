@@ -116,12 +116,13 @@ module _ {T E : Type 0} (stands : T → List E → Type 0) where
     pub slot : m.1 ≡ (0, value) ∷ []
     pub fits : stands value m.0.seen
 
-  -- the seat has taken the turn: it has the value, and has seen the whole history
+  -- the seat has taken the turn: it has the value, and has seen the whole history, which has all entries that it knows of
   pub record Takes (found : ℕ) (m n : Me T (View E)) : Type 0 where
     pub carries : Carries n
     pub begins : IsPrefix m.0.seen n.0.seen
     pub counted : 2 * length n.0.seen ≡ found
     pub more : m.0.least ≤ n.0.least
+    pub known : n.0.least ≤ length n.0.seen
     pub now : n.0 ≡ view n.0.seen m.0.made m.0.told n.0.least m.0.shares true
 
   -- a try took the turn, found no more turns, or looked in vain

@@ -1,8 +1,9 @@
 -- What is so of a run in the history of its lock.
 use Rattle.std.proofs.Common.{◌≡◌, ◌≤◌, ◌-◌, ◌/◌, ◌^◌, ◌⊎◌, inl, inr, ℕ, true, false, List, ◌∷◌, [], length, take, Option, Some, None, refl, sym, ap, subst, ◌∙◌, arith}
-use Rattle.std.specs.Prelude.{IfSome, IfNone, slice_index_or}
+use Rattle.std.specs.Prelude.{All, IfSome, IfNone, slice_index_or}
 use Rattle.std.specs.List.{flat_map}
 use Rattle.std.specs.List.Sorted.{IsPermutation, IsNonDecreasingBy}
+use Rattle.std.proofs.lemmas.List.{length-take}
 use Rattle.std.proofs.lemmas.Option.{IfSome_then}
 use Rattle.std.proofs.lemmas.List.Elements.{All-nil, All-weaker}
 use Rattle.std.proofs.lemmas.List.Sorted.{IsPermutation-refl}
@@ -62,9 +63,10 @@ module _ {D I O : Type 0} (doors : Doors D I O) (s : Server) where
   nothing = record { once = λ c begun. absurd (omega (arith, begun.1)); each = All-nil (IsOfHistory doors s []) }
 
   came_ran : (share : ℕ → ℕ) (workers : ℕ) (old new : List D) (before after : Known Entry) (history : List Entry) (report : Report)
-      → (came : Came doors s share workers old new before after report) → InHistory doors s (events_of history) (calls_of came.served.works.shifts) → after.least ≤ length history
+      → (came : Came doors s share workers old new before after report) → InHistory doors s (events_of history) (calls_of came.served.works.shifts)
+      → (report.memory ≡ false → report.spent ≡ None → All IsFine (calls_of came.served.works.shifts)) → after.least ≤ length history
       → AreNumbered 1 history × IsLegal (events_of history) → Ran doors s share workers old new history report
-  came_ran share workers old new before after history report came sessions least lawful =
+  came_ran share workers old new before after history report came sessions fine least lawful =
       let works = came.served.works in
       record {
         opened = came.opened;
@@ -80,7 +82,7 @@ module _ {D I O : Type 0} (doors : Doors D I O) (s : Server) where
         rose = where_some report.door_fault (λ worker. (1 ≤ worker) × ((d : D) → Rose (doors.faults (slice_index_or old (worker - 1) d)) (doors.faults (slice_index_or new (worker - 1) d)))) (λ worker is. rose_since doors share workers works.shifts old came.opened new came.listened works.each worker (sym works.failed ∙ is));
         large = IfSome_then report.spent works.large (λ count l. (l.0, omega (arith, l.1, least)));
         steady = λ memory door i d lt. (none_failed doors 1 works.shifts (sym works.failed ∙ door) i d lt, (works.memory memory).doors i d lt);
-        fine = came.served.fine;
+        fine = fine;
       }
 
   not_opened_ran : (share : ℕ → ℕ) (workers : ℕ) (old new : List D) (report : Report) → NotOpened doors workers old new report → Ran doors s share workers old new [] report
@@ -124,10 +126,12 @@ module _ {D I O : Type 0} (doors : Doors D I O) (s : Server) where
   pub all_ran : (share : ℕ → ℕ) (workers : ℕ) (old new : List D) (before after : Known Entry) (history : List Entry) (report : Report)
       → Came doors s share workers old new before after report ⊎ (NotOpened doors workers old new report × (after ≡ before))
       → before.made ≡ [] → length after.made ≡ length history → after.least ≤ length history
-      → ((old new : List D) → (served : Served doors s share old new before after report) → InHistory doors s (events_of history) (calls_of served.works.shifts))
+      → ((old new : List D) → length old ≤ workers → (served : Served doors s share old new before after report) → InHistory doors s (events_of history) (calls_of served.works.shifts)
+      × (report.memory ≡ false → report.spent ≡ None → All IsFine (calls_of served.works.shifts)))
       → AreNumbered 1 history × IsLegal (events_of history) → Ran doors s share workers old new history report
   all_ran share workers old new before after history report (inl came) none all least told lawful =
-      came_ran share workers old new before after history report came (told (take workers came.opened) (take workers new) came.served) least lawful
+      let is = told (take workers came.opened) (take workers new) (omega (arith, length-take workers came.opened)) came.served in
+      came_ran share workers old new before after history report came is.0 is.1 least lawful
   all_ran share workers old new before after history report (inr not) none all least told lawful =
       let empty : history ≡ [] = empty_of after.made history (ap (λ (p : Known Entry). p.made) not.1 ∙ none) all in
       subst (λ (h : List Entry). Ran doors s share workers old new h report) (sym empty) (not_opened_ran share workers old new report not.0)

@@ -40,7 +40,7 @@ fn work<T: Serves + Send, D: Door + Send, R: Threads + Wait + Sync>(
     doors: &mut [D],
 ) -> Report
     requires lock { pass.old.lock ≡ lock.now.id }
-    requires workers { (0 < service.now.workers) × (service.now.workers < 2 ^ 30) × (service.now.workers ≤ length doors.old) }
+    requires workers { (0 < service.now.workers) × (service.now.workers < 1024) × (service.now.workers ≤ length doors.old) }
     requires shares { 2 * service.now.workers ≤ pass.old.shares }
     ensures { Came (told_doors D.ended D.over D.faults (told_ends D.In.left D.In.faults D.Out.held D.Out.unflushed D.Out.faults)) T.server (share_of service.now.sessions service.now.workers) service.now.workers doors.old doors.new pass.old pass.new result
         ⊎ (NotOpened (told_doors D.ended D.over D.faults (told_ends D.In.left D.In.faults D.Out.held D.Out.unflushed D.Out.faults)) service.now.workers doors.old doors.new result × (pass.new ≡ pass.old)) }
@@ -78,7 +78,7 @@ pub(crate) fn serve_over<
     doors: &mut [D],
     report: &mut Report,
 ) -> Recorder<'a, H, O>
-    requires workers { (0 < service.now.workers) × (service.now.workers < 2 ^ 30) × (service.now.workers ≤ length doors.old) }
+    requires workers { (0 < service.now.workers) × (service.now.workers < 1024) × (service.now.workers ≤ length doors.old) }
     requires recorder { Records H.first H.stands O.held O.faults J.loan recorder [] }
     requires first { H.first recorder.hall ≡ 1 }
     requires opening { H.opening recorder.hall ≡ J.opening }

@@ -31,7 +31,7 @@ fn serve_hall<
     err: &mut E,
     doors: &mut [D],
 ) -> Served
-    requires workers { (0 < service.now.workers) × (service.now.workers < 2 ^ 30) × (service.now.workers ≤ length doors.old) }
+    requires workers { (0 < service.now.workers) × (service.now.workers < 1024) × (service.now.workers ≤ length doors.old) }
     requires stands { H.stands hall [] }
     requires first { H.first hall ≡ 1 }
     requires opening { H.opening hall ≡ service.now.opening }
@@ -67,7 +67,7 @@ pub fn serve<R: Threads + Wait + Sync, O: Sink + Send, E: Sink, D: Door + Send>(
     err: &mut E,
     doors: &mut [D],
 ) -> Served
-    requires workers { (0 < service.now.workers) × (service.now.workers < 2 ^ 30) × (service.now.workers ≤ length doors.old) }
+    requires workers { (0 < service.now.workers) × (service.now.workers < 1024) × (service.now.workers ≤ length doors.old) }
     ensures { Serving (told_doors D.ended D.over D.faults (told_ends D.In.left D.In.faults D.Out.held D.Out.unflushed D.Out.faults)) service.now.opening service.now.sessions service.now.workers result.outcome result.told doors.old doors.new (side (O.held out.old) (O.unflushed out.old) (O.faults out.old)) (side (O.held out.new) (O.unflushed out.new) (O.faults out.new)) (side (E.held err.old) (E.unflushed err.old) (E.faults err.old)) (side (E.held err.new) (E.unflushed err.new) (E.faults err.new)) }
 {
     match Hall::start(alloc, service.opening) {

@@ -10,7 +10,7 @@ use Rattle.model_session.specs.Server.{Server}
 use Rattle.r9_attend.specs.declared.ends.ReadEnd.TheVariants.{Closed}
 use Rattle.r9_attend.specs.declared.ends.WriteEnd.TheVariants as writer_end
 use Rattle.r9_attend.specs.Sessions.{Reads, EndsAt, IsRead, IsExactEnd, IsWritten, IsExactWriteEnd, HasEnded, IsSessions, IsMade, IsTheirs, IsPlain, EndsPlainly}
-use Rattle.r9_attend.specs.Steps.{IsTold, IsSpent, NotBegun}
+use Rattle.r9_attend.specs.Steps.{IsTold, IsSpent, NotBegun, HasBegun}
 use Rattle.r9_attend.specs.Calls.{Tells, Call, IsOfSession, IsOfNone, reader_made, writer_made}
 
 module _ {I O : Type 0} (tells : Tells I O) (s : Server) (k : Call I O) where
@@ -22,7 +22,7 @@ module _ {I O : Type 0} (tells : Tells I O) (s : Server) (k : Call I O) where
   of_none None cause made = record { cause = cause.0; reader_made = made; writer_same = cause.1; input_same = cause.2; output_same = cause.3 }
   of_none (Some c) cause made = tt
 
-  pub of_session : (o : Option ℕ) → IfSome o (λ c. IsMade (reader_made k) (event.Begin c)) → IfSome o (λ c. All (IsSessions c) (reader_made k) × All (IsSessions c) (writer_made k))
+  pub of_session : (o : Option ℕ) → IfSome o (λ c. HasBegun s c k.reader_old k.reader) → IfSome o (λ c. All (IsSessions c) (reader_made k) × All (IsSessions c) (writer_made k))
       → IfSome o (λ c. HasEnded c k.reader)
       → IfSome o (λ c. (bytes : List ℕ) × Reads (tells.left k.input_old) bytes (tells.left k.input) × EndsAt k.attended.reader (tells.left k.input_old) bytes × ((history : List Entry) → IsTheirs c k.reader_old k.reader k.writer_old k.writer history → IsRead s c k.attended.reader bytes (events_of history)))
       → IfSome o (λ c. (history : List Entry) → IsTheirs c k.reader_old k.reader k.writer_old k.writer history → IsWritten s c k.attended.writer (tells.held k.output_old) (tells.held k.output) (events_of history))

@@ -15,7 +15,7 @@ use Rattle.r9_attend.specs.Passes.{GoesOn, made_since}
 use Rattle.r9_attend.specs.Calls.{Call}
 use Rattle.r9_attend.proofs.Growing.{since_is}
 use Rattle.r9_workers.specs.Lines.{unplain_of}
-use Rattle.r9_workers.specs.Shifts.{Shift, Doors, AtDoor, AtDoors, made_by, calls_of, failed_of, first_spent, lacks}
+use Rattle.r9_workers.specs.Shifts.{Shift, Doors, AtDoor, AtDoors, InTurn, made_by, calls_of, failed_of, first_spent, lacks}
 use Rattle.r9_workers.specs.Serving.{HadMemory, IsCall, Works}
 use Rattle.r9_workers.specs.Steps.{place, Lists, IsCallAt, IsLarge, Worked, Half}
 use Rattle.r9_workers.specs.declared.lines.Unplain.{Unplain}
@@ -101,6 +101,7 @@ module _ {D I O : Type 0} (doors : Doors D I O) (s : Server) where
             reader_least = let x : k.reader.least ≤ r.least = c.reader_least in let y = left_least old r w new 1 h.working.reader h.working.writer is in omega arith;
             writer_least = let x : k.writer.least ≤ w.least = c.writer_least in let y = right_least old r w new 1 h.working.reader h.working.writer is in omega arith;
           }) h.shift.calls h.working.each);
+      in_turn = All-cons (λ (shift : Shift I O). InTurn shift.calls) h.shift [] h.working.in_turn (All-nil (λ (shift : Shift I O). InTurn shift.calls));
       pass = both_go old r w new 1 h.working.reader h.working.writer is seen few;
       made = both_made old r w new 1 h.working.reader h.working.writer is ∙ (ap (λ l. l ++ made_since (given_of old 1) w) h.working.reader_made
           ∙ (ap (λ l. flat_map reader_made' h.shift.calls ++ l) h.working.writer_made ∙ sym (append-nil (made_by h.shift))));
@@ -157,6 +158,7 @@ module _ {D I O : Type 0} (doors : Doors D I O) (s : Server) where
           (All-append (IsCall doors s new) (calls_of h.works.shifts) (calls_of k.works.shifts)
           (All-weaker (IsCall doors s r) (IsCall doors s new) (λ j c. later_call r new j seen (left_least old r w new shares h.works.pass k.works.pass is) c) (calls_of h.works.shifts) h.works.calls)
           (All-weaker (IsCall doors s w) (IsCall doors s new) (λ j c. later_call w new j seen' (right_least old r w new shares h.works.pass k.works.pass is) c) (calls_of k.works.shifts) k.works.calls));
+      in_turn = All-append (λ (shift : Shift I O). InTurn shift.calls) h.works.shifts k.works.shifts h.works.in_turn k.works.in_turn;
       pass = both_go old r w new shares h.works.pass k.works.pass is seen few;
       made = both_made old r w new shares h.works.pass k.works.pass is ∙ (ap (λ l. l ++ made_since (given_of old shares) w) h.works.made
           ∙ (ap (λ l. flat_map made_by h.works.shifts ++ l) k.works.made ∙ sym (flat_map-append made_by h.works.shifts k.works.shifts)));

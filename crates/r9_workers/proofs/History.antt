@@ -9,6 +9,8 @@ use Rattle.std.proofs.lemmas.List.Elements.{All-contains, Contains-get_or, Conta
 use Rattle.r9_event.specs.declared.event.Event.{Event}
 use Rattle.r9_event.specs.declared.event.Event.TheVariants.{Begin, Msg, Take, End, Stop}
 use Rattle.r9_event.specs.declared.event.Entry.{Entry}
+use Rattle.r9_event.specs.declared.ask.Ask.TheVariants as ask
+use Rattle.r9_event.specs.declared.ask.Answer.TheVariants as answer
 use Rattle.r9_lock.specs.Histories.{IsPrefix, numbered}
 use Rattle.r9_lock.specs.Passes.{Known, IsWhole}
 use Rattle.r9_lock.proofs.Lists.{is_numbered, prefix_trans}
@@ -19,31 +21,21 @@ use Rattle.r9_attend.specs.declared.ends.ReadEnd.{ReadEnd}
 use Rattle.r9_attend.specs.declared.ends.ReadEnd.TheVariants.{Memory, Spent, Crowded}
 use Rattle.r9_attend.specs.declared.ends.WriteEnd.{WriteEnd}
 use Rattle.r9_attend.specs.declared.ends.WriteEnd.TheVariants as written
-use Rattle.r9_attend.specs.Passes.{made_since}
+use Rattle.r9_attend.specs.Passes.{Turned, made_since}
 use Rattle.r9_attend.specs.Sessions.{IsSessions, IsMade, IsTheirs}
 use Rattle.r9_attend.specs.Steps.{IsTold, IsSpent, NotBegun}
 use Rattle.r9_attend.specs.Calls.{Call, Attends, IsOfNone, IsOfSession, reader_made, writer_made}
 use Rattle.r9_attend.proofs.Growing.{since_is, since_none, number_above}
 use Rattle.r9_attend.proofs.Served.{events_has}
-use Rattle.r9_workers.specs.Shifts.{Shift, Doors, made_by, calls_of}
+use Rattle.r9_attend.proofs.TheSession.{begin_made}
+use Rattle.r9_workers.specs.Shifts.{Shift, Doors, InTurn, made_by, calls_of}
 use Rattle.r9_workers.specs.Serving.{IsCall, is_call_of, NoSession, IsSessionOf, IsOfHistory, InHistory}
+use Rattle.r9_workers.proofs.Crowds.{none_in, first_in, later_in, cases_in, in_parts}
+use Rattle.r9_workers.proofs.Uncrowded.{uncrowded}
 
 -- ---- lists
 
 module _ {X : Type 0} where
-  none_in : (x : X) → Contains [] x → ⊥
-  none_in x h = let k : h.0 < 0 = h.1 in omega arith
-
-  first_in : (y x : X) (xs : List X) → y ≡ x → Contains (y ∷ xs) x
-  first_in y x xs e = (zero, omega arith, e)
-
-  later_in : (y x : X) (xs : List X) → Contains xs x → Contains (y ∷ xs) x
-  later_in y x xs h = Contains-append_right (y ∷ []) xs x h
-
-  cases_in : (y x : X) (xs : List X) → Contains (y ∷ xs) x → (y ≡ x) ⊎ Contains xs x
-  cases_in y x xs (zero, within, is) = inl is
-  cases_in y x xs (suc k, within, is) = inr (k, omega arith, is)
-
   part : (w : X → ℕ) (xs : List X) (x : X) → Contains xs x → w x ≤ sum_by w xs
   part w [] x h = absurd (none_in x h)
   part w (y ∷ xs) x h = let e = sum_by-cons w y xs in
@@ -76,11 +68,6 @@ module _ {X : Type 0} where
       two v u e pv has pu = let a = one z (ap p e ∙ pv) in let b = one u pu in let c = part (weight p) xs u has in let t = sum_by-cons (weight p) z xs in let f : sum_by (weight p) (z ∷ xs) ≤ 1 = few in omega arith
 
 module _ {X Y : Type 0} (f : X → List Y) where
-  in_parts : (xs : List X) (y : Y) → Contains (flat_map f xs) y → (x : X) × Contains xs x × Contains (f x) y
-  in_parts [] y h = absurd (none_in y h)
-  in_parts (x ∷ xs) y h = ⊎_elim (λ (k : Contains (f x) y). (x, first_in x x xs refl, k))
-      (λ (k : Contains (flat_map f xs) y). let r = in_parts xs y k in (r.0, later_in x r.0 xs r.1, r.2)) (Contains-append_cases (f x) (flat_map f xs) y h)
-
   parts_in : (xs : List X) (x : X) (y : Y) → Contains xs x → Contains (f x) y → Contains (flat_map f xs) y
   parts_in [] x y h k = absurd (none_in x h)
   parts_in (z ∷ xs) x y h k = ⊎_elim (λ (e : z ≡ x). Contains-append_left (f z) (flat_map f xs) y (subst (λ v. Contains (f v) y) (sym e) k))
@@ -176,11 +163,12 @@ not_stop c event e f = let wrong : true ≡ false = sym f ∙ ap (is_of c) e in 
 -- ---- no session
 
 -- the cause that both ends of a call without a session name
-no_session : (s : Server) (old new : Known Entry) (history : List Event) → new.least ≤ length history → (read : ReadEnd) (write : WriteEnd) → NotBegun s read write old new → NoSession history read write
-no_session s old new history few Crowded written.Crowded h = tt
-no_session s old new history few Memory written.Memory h = tt
-no_session s old new history few (Spent count) (written.Spent same) h = (h.0, (h.1.large, (let l = h.1.least in omega arith)))
-no_session s old new history few _ _ h = absurd h
+no_session : (s : Server) (old new : Known Entry) (history : List Event) → new.least ≤ length history → (Turned s ask.Begin answer.Crowded old new → ⊥) → (read : ReadEnd) (write : WriteEnd) → NotBegun s read write old new
+    → NoSession history read write
+no_session s old new history few never Crowded written.Crowded h = never h
+no_session s old new history few never Memory written.Memory h = tt
+no_session s old new history few never (Spent count) (written.Spent same) h = (h.0, (h.1.large, (let l = h.1.least in omega arith)))
+no_session s old new history few never _ _ h = absurd h
 
 -- ---- calls
 
@@ -207,7 +195,7 @@ module _ {D I O : Type 0} (doors : Doors D I O) (s : Server) where
     where
       go : (o : Option ℕ) → is_call_of c o ≡ true → IfSome o (IsOfSession doors.ends s k) → IsMade (reader_made k) (Begin c)
       go None e some = absurd cc
-      go (Some d) e some = subst (λ n. IsMade (reader_made k) (Begin n)) (eqb-true d c e) some.began
+      go (Some d) e some = subst (λ n. IsMade (reader_made k) (Begin n)) (eqb-true d c e) (begin_made s d k.reader_old k.reader some.began)
 
   call_weight : (c : ℕ) → Call I O → ℕ
   call_weight c k = cond (is_call_of c k.attended.session) 1 0
@@ -247,7 +235,8 @@ module _ {D I O : Type 0} (doors : Doors D I O) (s : Server) where
       parts_in made_by shifts x.0 m x.1 (Contains-append_left (flat_map reader_made x.0.calls) (flat_map writer_made x.0.calls) m (parts_in reader_made x.0.calls k m x.2 h))
 
   module _ {T : Type 0} (stands : T → List Entry → Type 0) (before after : Known Entry) (value : T) (history : List Entry) (shifts : List (Shift I O)) (empty : before.made ≡ []) (goes : IsPrefix before.made after.made)
-      (made : made_since before after ≡ flat_map made_by shifts) (each : All (IsCall doors s after) (calls_of shifts)) (whole : IsWhole stands value history after) (legal : IsLegal (events_of history)) where
+      (made : made_since before after ≡ flat_map made_by shifts) (each : All (IsCall doors s after) (calls_of shifts)) (in_turn : All (λ (shift : Shift I O). InTurn shift.calls) shifts)
+      (workers : length shifts < 1024) (short : length (calls_of shifts) < 2 ^ 32) (whole : IsWhole stands value history after) (legal : IsLegal (events_of history)) where
     call : (k : Call I O) → Contains (calls_of shifts) k → IsCall doors s after k
     call k h = All-contains (IsCall doors s after) (calls_of shifts) k each h
 
@@ -281,10 +270,14 @@ module _ {D I O : Type 0} (doors : Doors D I O) (s : Server) where
     is_its : (c : ℕ) (o : Option ℕ) → o ≡ Some c → is_call_of c o ≡ true
     is_its c o e = ap (is_call_of c) e ∙ eq-eqb c c refl
 
+    -- a session that has begun is that of a call
+    its : (c : ℕ) → Contains (events_of history) (Begin c) → (k : Call I O) × Contains (calls_of shifts) k × (k.attended.session ≡ Some c)
+    its c h = let m = numbered_event 1 history (Begin c) h in let k = maker shifts m.0 (by_workers m.0 m.1) in
+        (k.0, k.1, makers k.0 (call k.0 k.1).attends c m.0 k.2 (ap (is_of c) m.2 ∙ eq-eqb c c refl))
+
     count : (c : ℕ) → Contains (events_of history) (Begin c) → count_by (λ (k : Call I O). is_call_of c k.attended.session) (calls_of shifts) ≡ 1
     unfolding call_weight
-    count c h = let m = numbered_event 1 history (Begin c) h in let k = maker shifts m.0 (by_workers m.0 m.1) in
-        let is = is_its c k.0.attended.session (makers k.0 (call k.0 k.1).attends c m.0 k.2 (ap (is_of c) m.2 ∙ eq-eqb c c refl)) in
+    count c h = let k = its c h in let is = is_its c k.0.attended.session k.2 in
         let w : call_weight c k.0 ≡ 1 = ap (λ (t : Bool). let n : ℕ = cond t 1 0 in n) is in
         let p = part (call_weight c) (calls_of shifts) k.0 k.1 in let f = few c in omega arith
 
@@ -317,7 +310,7 @@ module _ {D I O : Type 0} (doors : Doors D I O) (s : Server) where
 
     in_session : (k : Call I O) → Contains (calls_of shifts) k → (c : ℕ) → k.attended.session ≡ Some c → IsOfSession doors.ends s k c → IsSessionOf doors s (events_of history) k c
     in_session k has c is some = record {
-      begun = subst (Contains (events_of history)) some.began.2 (event_numbered 1 history some.began.0 (in_history some.began.0 (made_reader shifts k some.began.0 has some.began.1)));
+      begun = let m = begin_made s c k.reader_old k.reader some.began in subst (Contains (events_of history)) m.2 (event_numbered 1 history m.0 (in_history m.0 (made_reader shifts k m.0 has m.1)));
       ended = ⊎_elim (λ (h : Contains (events_of k.reader.seen) (End c)). inl (events_has (End c) (reader_in k has) h))
           (λ (h : Contains (events_of k.reader.seen) Stop ⊎ (2 ^ 61 ≤ k.reader.least)). inr (⊎_elim (λ (j : Contains (events_of k.reader.seen) Stop). inl (events_has Stop (reader_in k has) j))
           (λ (j : 2 ^ 61 ≤ k.reader.least). let l = reader_few k has in inr (omega arith)) h)) some.ended;
@@ -329,15 +322,16 @@ module _ {D I O : Type 0} (doors : Doors D I O) (s : Server) where
     }
 
     holds : (k : Call I O) → Contains (calls_of shifts) k → IsOfHistory doors s (events_of history) k
-    holds k has = record { some = some_in k.attended.session refl (call k has).attends.some; none = none_of k.attended.session (call k has).attends.none }
+    holds k has = record { some = some_in k.attended.session refl (call k has).attends.some; none = none_of k.attended.session refl (call k has).attends.none }
       where
         some_in : (o : Option ℕ) → k.attended.session ≡ o → IfSome o (IsOfSession doors.ends s k) → IfSome o (IsSessionOf doors s (events_of history) k)
         some_in None is some = tt
         some_in (Some c) is some = in_session k has c is some
 
-        none_of : (o : Option ℕ) → IfNone o (IsOfNone doors.ends s k) → IfNone o (NoSession (events_of history) k.attended.reader k.attended.writer)
-        none_of None none = no_session s k.reader_old k.reader (events_of history) (reader_few k has) k.attended.reader k.attended.writer none.cause
-        none_of (Some c) none = tt
+        none_of : (o : Option ℕ) → k.attended.session ≡ o → IfNone o (IsOfNone doors.ends s k) → IfNone o (NoSession (events_of history) k.attended.reader k.attended.writer)
+        none_of None is none = no_session s k.reader_old k.reader (events_of history) (reader_few k has)
+            (uncrowded doors s history legal shifts (λ j h. (call j h).attends) reader_in its in_turn workers short k has is) k.attended.reader k.attended.writer none.cause
+        none_of (Some c) is none = tt
 
     pub told : InHistory doors s (events_of history) (calls_of shifts)
     told = record { once = count; each = all_contained (IsOfHistory doors s (events_of history)) (calls_of shifts) holds }

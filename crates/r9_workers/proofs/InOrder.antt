@@ -1,11 +1,12 @@
 -- All workers, and a report in order.
-use Rattle.std.proofs.Common.{◌≡◌, ℕ, ◌/◌, ◌^◌, ◌≤◌, Bool, true, false, List, [], ◌∷◌, refl, sym, ◌∙◌, subst}
+use Rattle.std.proofs.Common.{◌≡◌, ℕ, ◌/◌, ◌^◌, ◌≤◌, ◌<◌, Bool, true, false, List, [], ◌∷◌, length, refl, sym, ◌∙◌, subst}
 use Rattle.std.specs.Prelude.{Option, Some, None, All, IfSome, IfNone, is_some, ◌||◌, slice_index_or}
 use Rattle.std.specs.List.{flat_map}
 use Rattle.std.specs.List.Sorted.{IsPermutation, IsNonDecreasingBy}
 use Rattle.std.specs.Option.{option_or}
 use Rattle.std.proofs.lemmas.List.Elements.{All-nil, All-cons}
 use Rattle.r9_lock.specs.Passes.{Known}
+use Rattle.r9_event.specs.declared.event.Event.{Event}
 use Rattle.r9_event.specs.declared.event.Entry.{Entry}
 use Rattle.model_session.specs.Server.{Server}
 use Rattle.r9_attend.specs.declared.ends.ReadEnd.{ReadEnd}
@@ -13,11 +14,10 @@ use Rattle.r9_attend.specs.declared.ends.ReadEnd.TheVariants as reader
 use Rattle.r9_attend.specs.declared.ends.WriteEnd.{WriteEnd}
 use Rattle.r9_attend.specs.declared.ends.WriteEnd.TheVariants as writer
 use Rattle.r9_attend.specs.Sessions.{RanOut, RanOutWriting}
-use Rattle.r9_attend.specs.Steps.{NotBegun}
-use Rattle.r9_attend.specs.Calls.{Call, Attends, IsOfNone}
+use Rattle.r9_attend.specs.Calls.{Call}
 use Rattle.r9_workers.specs.Lines.{unplain_of}
 use Rattle.r9_workers.specs.Shifts.{Doors, calls_of, first_spent, lacks, reader_lacks, writer_lacks, spent_of, reader_spent, writer_spent}
-use Rattle.r9_workers.specs.Serving.{IsFine, Served}
+use Rattle.r9_workers.specs.Serving.{IsFine, IsOfHistory, NoSession, Served}
 use Rattle.r9_workers.specs.Steps.{Lists, Half}
 use Rattle.r9_workers.specs.declared.lines.Unplain.{Unplain}
 use Rattle.r9_workers.specs.declared.report.Report.{Report}
@@ -48,42 +48,48 @@ writer_fine writer.Done e f h = h
 writer_fine writer.WriteFault e f h = h
 writer_fine writer.Crowded e f h = h
 
-none_fine : (s : Server) (read : ReadEnd) (write : WriteEnd) (old new : Known Entry) → reader_lacks read ≡ false → reader_spent read ≡ None → NotBegun s read write old new → ⊥
-none_fine s reader.Crowded write old new e f h = absurd cc
-none_fine s reader.Memory write old new e f h = absurd cc
-none_fine s (reader.Spent n) write old new e f h = absurd cc
-none_fine s reader.Ended write old new e f h = h
-none_fine s (reader.Cut n) write old new e f h = h
-none_fine s (reader.BadSize n) write old new e f h = h
-none_fine s (reader.Duplicate t) write old new e f h = h
-none_fine s reader.ReadFault write old new e f h = h
-none_fine s reader.Closed write old new e f h = h
+none_fine : (history : List Event) (read : ReadEnd) (write : WriteEnd) → reader_lacks read ≡ false → reader_spent read ≡ None → NoSession history read write → ⊥
+none_fine history reader.Memory write e f h = absurd cc
+none_fine history (reader.Spent n) write e f h = absurd cc
+none_fine history reader.Crowded write e f h = h
+none_fine history reader.Ended write e f h = h
+none_fine history (reader.Cut n) write e f h = h
+none_fine history (reader.BadSize n) write e f h = h
+none_fine history (reader.Duplicate t) write e f h = h
+none_fine history reader.ReadFault write e f h = h
+none_fine history reader.Closed write e f h = h
 
 module _ {D I O : Type 0} (doors : Doors D I O) (s : Server) where
-  call_fine : (k : Call I O) → Attends doors.ends s k → lacks k.attended ≡ false → spent_of k.attended ≡ None → IsFine k
-  call_fine k a e f = record {
-    began = go k.attended.session a.none;
+  call_fine : (history : List Event) (k : Call I O) → IsOfHistory doors s history k → lacks k.attended ≡ false → spent_of k.attended ≡ None → IsFine k
+  call_fine history k is e f = record {
+    began = go k.attended.session is.none;
     reader = reader_fine k.attended.reader (neither (reader_lacks k.attended.reader) (writer_lacks k.attended.writer) e).0 (no_count (reader_spent k.attended.reader) (writer_spent k.attended.writer) f).0;
     writer = writer_fine k.attended.writer (neither (reader_lacks k.attended.reader) (writer_lacks k.attended.writer) e).1 (no_count (reader_spent k.attended.reader) (writer_spent k.attended.writer) f).1;
   }
     where
-      go : (o : Option ℕ) → IfNone o (IsOfNone doors.ends s k) → is_some o ≡ true
+      go : (o : Option ℕ) → IfNone o (NoSession history k.attended.reader k.attended.writer) → is_some o ≡ true
       go (Some c) h = refl
-      go None h = absurd (none_fine s k.attended.reader k.attended.writer k.reader_old k.reader (neither (reader_lacks k.attended.reader) (writer_lacks k.attended.writer) e).0 (no_count (reader_spent k.attended.reader) (writer_spent k.attended.writer) f).0 h.cause)
+      go None h = absurd (none_fine history k.attended.reader k.attended.writer (neither (reader_lacks k.attended.reader) (writer_lacks k.attended.writer) e).0 (no_count (reader_spent k.attended.reader) (writer_spent k.attended.writer) f).0 h)
 
   none_spent : (calls : List (Call I O)) → first_spent calls ≡ None → All (λ k. spent_of k.attended ≡ None) calls
   none_spent [] e = All-nil (λ k. spent_of k.attended ≡ None)
   none_spent (k ∷ calls) e = let n = no_count (spent_of k.attended) (first_spent calls) e in All-cons (λ j. spent_of j.attended ≡ None) k calls n.0 (none_spent calls n.1)
 
-  pub in_order : (share : ℕ → ℕ) (old new : List D) (before after : Known Entry) (report report' : Report) → Half doors s share 1 old new before after report
+  -- calls that are told of in a history are fine, where neither memory nor turns ran out
+  pub all_fine : (history : List Event) (calls : List (Call I O)) → All (IsOfHistory doors s history) calls → All (λ k. lacks k.attended ≡ false) calls → first_spent calls ≡ None → All IsFine calls
+  all_fine history calls each had unspent k d within =
+      call_fine history (slice_index_or calls k d) (each k d within) (had k d within) (none_spent calls unspent k d within)
+
+  pub in_order : (share : ℕ → ℕ) (old new : List D) (before after : Known Entry) (report report' : Report) (h : Half doors s share 1 old new before after report) → length (calls_of h.works.shifts) < 2 ^ 32
       → report'.door_fault ≡ report.door_fault → report'.memory ≡ report.memory → report'.spent ≡ report.spent → is_some report'.sessions ≡ is_some report.sessions
       → ((lines : List Unplain) → Lists report lines → IfSome report'.sessions (λ list. IsPermutation lines list.items)) → IfSome report'.sessions (λ list. IsNonDecreasingBy (λ (ends : Unplain). ends.session) list.items)
       → Served doors s share old new before after report'
-  in_order share old new before after report report' h fault memory spent some listed ascending = record {
+  in_order share old new before after report report' h few fault memory spent some listed ascending = record {
     works = record {
       shifts = h.works.shifts;
       each = h.works.each;
       calls = h.works.calls;
+      in_turn = h.works.in_turn;
       pass = h.works.pass;
       made = h.works.made;
       failed = fault ∙ h.works.failed;
@@ -91,9 +97,7 @@ module _ {D I O : Type 0} (doors : Doors D I O) (s : Server) where
       large = subst (λ o. IfSome o (λ count. (2 ^ 62 ≤ count) × (count / 2 ≤ after.least))) (sym spent) h.works.large;
       memory = λ e. let m = h.works.memory (sym memory ∙ e) in record { doors = m.doors; calls = m.calls; sessions = some ∙ m.sessions };
     };
+    few = few;
     listed = listed (flat_map (λ k. unplain_of k.attended) (calls_of h.works.shifts)) h.lists;
     ascending = ascending;
-    fine = λ e f k d within.
-        let m = h.works.memory (sym memory ∙ e) in
-        call_fine (slice_index_or (calls_of h.works.shifts) k d) (h.works.calls k d within).attends (m.calls k d within) (none_spent (calls_of h.works.shifts) (sym (spent ∙ h.works.spent) ∙ f) k d within);
   }

@@ -1,6 +1,9 @@
 pub mod Calling
 pub mod OneWorker
 pub mod Halves
+pub mod Crowds
+pub mod Uncrowded
+pub mod Bounds
 pub mod History
 pub mod InOrder
 pub mod Listening

@@ -6,6 +6,7 @@ use Rattle.std.specs.Option.{option_map, option_or}
 use Rattle.std.proofs.lemmas.List.{map-append}
 use Rattle.std.proofs.lemmas.List.Concat.{flat_map-append}
 use Rattle.std.proofs.lemmas.List.Elements.{All-weaker, All-push, All-nil}
+use Rattle.std.proofs.lemmas.List.Quantifiers.{all_pairs_push}
 use Rattle.r9_event.specs.declared.event.Entry.{Entry}
 use Rattle.r9_outside.specs.Count.{Rose}
 use Rattle.r9_outside.specs.Door.{OneMore}
@@ -21,7 +22,7 @@ use Rattle.r9_attend.specs.Steps.{IsTold, IsSpent, NotBegun}
 use Rattle.r9_attend.specs.Calls.{Call, Attends, IsOfNone, IsOfSession, reader_made, writer_made}
 use Rattle.r9_attend.proofs.Growing.{since_two, since_none, goes_same, goes_both}
 use Rattle.r9_workers.specs.Lines.{unplain_of}
-use Rattle.r9_workers.specs.Shifts.{Doors, IsFresh, ended_by, first_spent, lacks, spent_of, reader_spent, writer_spent}
+use Rattle.r9_workers.specs.Shifts.{Doors, IsFresh, ComesBefore, ended_by, first_spent, lacks, spent_of, reader_spent, writer_spent}
 use Rattle.r9_workers.specs.Steps.{Place, place, Lists, IsCallAt, IsLarge, Working, SoFar, Worked, Called, Unmoved}
 use Rattle.r9_workers.specs.declared.lines.Unplain.{Unplain}
 use Rattle.r9_workers.specs.declared.report.Report.{Report}
@@ -129,6 +130,7 @@ module _ {D I O : Type 0} (doors : Doors D I O) (s : Server) where
       ended = none_ended (doors.ended d);
       counted = omega arith;
       each = All-nil (IsCallAt doors s (place d r w));
+      in_turn = λ i j e before within. absurd (omega arith);
       reader = goes_same r;
       writer = goes_same w;
       reader_made = since_none r;
@@ -173,6 +175,8 @@ module _ {D I O : Type 0} (doors : Doors D I O) (s : Server) where
             writer_least = let l = h.writer_least in let m = a.writer_goes.least in omega arith;
           }) calls so.each)
           (record { attends = a; fresh = fresh; reader_seen = prefix_refl k.reader.seen; writer_seen = prefix_refl k.writer.seen; reader_least = omega arith; writer_least = omega arith });
+      in_turn = all_pairs_push ComesBefore calls k so.in_turn (λ i e within.
+          let h = so.each i e within in record { seen = h.reader_seen; least = h.reader_least });
       reader = goes_both old.reader k.reader_old k.reader so.reader a.reader_goes;
       writer = goes_both old.writer k.writer_old k.writer so.writer a.writer_goes;
       reader_made = since_two old.reader k.reader_old k.reader so.reader.made a.reader_goes.made ∙ (ap (λ l. l ++ reader_made k) so.reader_made
@@ -217,6 +221,7 @@ module _ {D I O : Type 0} (doors : Doors D I O) (s : Server) where
         ended = un.ended ∙ so.ended;
         counted = let a = so.counted in let b = un.counted in omega arith;
         each = All-weaker (IsCallAt doors s (place d r w)) (IsCallAt doors s (place d' r w)) (λ j h. record { attends = h.attends; fresh = h.fresh; reader_seen = h.reader_seen; writer_seen = h.writer_seen; reader_least = h.reader_least; writer_least = h.writer_least }) calls so.each;
+        in_turn = so.in_turn;
         reader = so.reader;
         writer = so.writer;
         reader_made = so.reader_made;

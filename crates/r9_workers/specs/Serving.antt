@@ -1,5 +1,5 @@
 -- What workers promise beside each other, and what that says of the history of their lock.
-use Rattle.std.specs.Prelude.{◌≡◌, ◌≢◌, ◌≤◌, ◌/◌, ◌^◌, ◌==◌, ◌⊎◌, ℕ, Bool, true, false, List, length, count_by, All, Contains, Option, Some, None, IfSome, IfNone, is_some}
+use Rattle.std.specs.Prelude.{◌≡◌, ◌≢◌, ◌≤◌, ◌<◌, ◌/◌, ◌^◌, ◌==◌, ◌⊎◌, ℕ, Bool, true, false, List, length, count_by, All, Contains, Option, Some, None, IfSome, IfNone, is_some}
 use Rattle.std.specs.List.{flat_map}
 use Rattle.std.specs.List.Sorted.{IsPermutation, IsNonDecreasingBy}
 use Rattle.r9_event.specs.declared.event.Event.{Event}
@@ -16,7 +16,7 @@ use Rattle.r9_attend.specs.Passes.{GoesOn, made_since}
 use Rattle.r9_attend.specs.Sessions.{RanOut, RanOutWriting}
 use Rattle.r9_attend.specs.Calls.{Call, Attends, Holds}
 use Rattle.r9_workers.specs.Lines.{unplain_of}
-use Rattle.r9_workers.specs.Shifts.{Shift, Doors, AtDoors, IsFresh, made_by, calls_of, failed_of, first_spent, lacks}
+use Rattle.r9_workers.specs.Shifts.{Shift, Doors, AtDoors, IsFresh, InTurn, made_by, calls_of, failed_of, first_spent, lacks}
 use Rattle.r9_workers.specs.declared.lines.Unplain.{Unplain}
 use Rattle.r9_workers.specs.declared.report.Report.{Report}
 
@@ -42,9 +42,8 @@ is_call_of c (Some d) = d == c
 abbrev pub IsSpentAt : (history : List Event) (count : ℕ) → Type 0
 IsSpentAt history count = (2 ^ 62 ≤ count) × (count / 2 ≤ length history)
 
--- Both ends say why no session began: there were too many sessions, there was no memory, or the lock had no more turns.
+-- Both ends say why no session began: there was no memory, or the lock had no more turns.
 abbrev pub NoSession : (history : List Event) → ReadEnd → WriteEnd → Type 0
-NoSession history Crowded written.Crowded = Unit {0}
 NoSession history Memory written.Memory = Unit {0}
 NoSession history (Spent count) (written.Spent same) = (same ≡ count) × IsSpentAt history count
 NoSession history _ _ = ⊥
@@ -60,13 +59,14 @@ module _ {D I O : Type 0} (doors : Doors D I O) (s : Server) where
     pub reader_least : k.reader.least ≤ pass.least
     pub writer_least : k.writer.least ≤ pass.least
 
-  -- Workers, from this number on, each at its door. Together they made what the pass has made since, worker after worker. Of the
-  -- doors that failed the lowest worker's is named, and of a lock that is spent the count, at least half of which the
-  -- history has as entries.
+  -- Workers, from this number on, each at its door, with its calls one after the other. Together they made what the pass has made
+  -- since, worker after worker. Of the doors that failed the lowest worker's is named, and of a lock that is spent the count, at least
+  -- half of which the history has as entries.
   pub record Works (share : ℕ → ℕ) (worker : ℕ) (old new : List D) (before after : Known Entry) (report : Report) : Type 0 where
     pub shifts : List (Shift I O)
     pub each : AtDoors doors share worker shifts old new
     pub calls : All (IsCall after) (calls_of shifts)
+    pub in_turn : All (λ shift. InTurn shift.calls) shifts
     pub pass : GoesOn before after
     pub made : made_since before after ≡ flat_map made_by shifts
     pub failed : report.door_fault ≡ failed_of worker shifts
@@ -74,12 +74,12 @@ module _ {D I O : Type 0} (doors : Doors D I O) (s : Server) where
     pub large : IfSome report.spent (λ count. (2 ^ 62 ≤ count) × (count / 2 ≤ after.least))
     pub memory : report.memory ≡ false → HadMemory shifts report
 
-  -- the same of all workers, where the sessions that did not end plainly stand in ascending order
+  -- the same of all workers, with fewer calls than 2^32, where the sessions that did not end plainly stand in ascending order
   pub record Served (share : ℕ → ℕ) (old new : List D) (before after : Known Entry) (report : Report) : Type 0 where
     pub works : Works share 1 old new before after report
+    pub few : length (calls_of works.shifts) < 2 ^ 32
     pub listed : IfSome report.sessions (λ list. IsPermutation (flat_map (λ k. unplain_of k.attended) (calls_of works.shifts)) list.items)
     pub ascending : IfSome report.sessions (λ list. IsNonDecreasingBy (λ (ends : Unplain). ends.session) list.items)
-    pub fine : report.memory ≡ false → report.spent ≡ None → All IsFine (calls_of works.shifts)
 
   -- ---- the history
 

@@ -1,13 +1,14 @@
 -- What workers did at their doors, and what is reported of it.
-use Rattle.std.specs.Prelude.{◌≡◌, ◌≤◌, ◌<◌, ◌+◌, ◌/◌, ◌%◌, ◌⊎◌, ℕ, Bool, true, false, nat_le, List, [], ◌∷◌, ◌++◌, length, map, Option, Some, None, IfSome, slice_index_or, if◌then◌else◌, ◌||◌}
+use Rattle.std.specs.Prelude.{◌≡◌, ◌≤◌, ◌<◌, ◌+◌, ◌/◌, ◌%◌, ◌⊎◌, ℕ, Bool, true, false, nat_le, List, [], ◌∷◌, ◌++◌, length, map, Option, AllPairs, Some, None, IfSome, slice_index_or, if◌then◌else◌, ◌||◌}
 use Rattle.std.specs.List.{flat_map}
 use Rattle.std.specs.Option.{option_map, option_or}
 use Rattle.r9_event.specs.declared.event.Entry.{Entry}
+use Rattle.r9_lock.specs.Histories.{IsPrefix}
 use Rattle.r9_outside.specs.Count.{Rose}
 use Rattle.r9_outside.specs.Door.{Ended}
 use Rattle.r9_attend.specs.declared.ends.Attended.{Attended}
 use Rattle.r9_attend.specs.declared.ends.ReadEnd.{ReadEnd}
-use Rattle.r9_attend.specs.declared.ends.ReadEnd.TheVariants.{Memory, Spent, Crowded}
+use Rattle.r9_attend.specs.declared.ends.ReadEnd.TheVariants.{Memory, Spent}
 use Rattle.r9_attend.specs.declared.ends.WriteEnd.{WriteEnd}
 use Rattle.r9_attend.specs.declared.ends.WriteEnd.TheVariants as written
 use Rattle.r9_attend.specs.Calls.{Tells, Call, reader_made, writer_made}
@@ -20,15 +21,13 @@ share_of sessions workers worker = sessions / workers + (if nat_le worker (sessi
 
 abbrev pub reader_lacks : ReadEnd → Bool
 reader_lacks Memory = true
-reader_lacks Crowded = true
 reader_lacks _ = false
 
 abbrev pub writer_lacks : WriteEnd → Bool
 writer_lacks written.Memory = true
-writer_lacks written.Crowded = true
 writer_lacks _ = false
 
--- there was no memory, or no room for a session more
+-- there was no memory
 abbrev pub lacks : Attended → Bool
 lacks ends = reader_lacks ends.reader || writer_lacks ends.writer
 
@@ -53,6 +52,15 @@ pub record Shift (I O : Type 0) : Type 0 where
   pub short : Bool
 
 module _ {I O : Type 0} where
+  -- the reader's pass of the later call had seen when this began what that of the other had seen at its end, and knew of as many entries
+  pub record ComesBefore (k later : Call I O) : Type 0 where
+    pub seen : IsPrefix k.reader.seen later.reader_old.seen
+    pub least : k.reader.least ≤ later.reader_old.least
+
+  -- calls one after the other
+  abbrev pub InTurn : List (Call I O) → Type 0
+  InTurn calls = AllPairs ComesBefore calls
+
   -- what a worker's two passes made: its reader's, and then its writer's
   abbrev pub made_by : Shift I O → List (ℕ × Entry)
   made_by shift = flat_map reader_made shift.calls ++ flat_map writer_made shift.calls

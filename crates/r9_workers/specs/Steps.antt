@@ -15,7 +15,7 @@ use Rattle.r9_lock.specs.Histories.{IsPrefix}
 use Rattle.r9_attend.specs.Passes.{GoesOn, made_since}
 use Rattle.r9_attend.specs.Calls.{Call, Attends, reader_made, writer_made}
 use Rattle.r9_workers.specs.Lines.{unplain_of}
-use Rattle.r9_workers.specs.Shifts.{Shift, Doors, AtDoor, IsFresh, calls_of, ended_by, first_spent, lacks}
+use Rattle.r9_workers.specs.Shifts.{Shift, Doors, AtDoor, IsFresh, InTurn, calls_of, ended_by, first_spent, lacks}
 use Rattle.r9_workers.specs.Serving.{Works}
 use Rattle.r9_workers.specs.declared.lines.Unplain.{Unplain}
 use Rattle.r9_workers.specs.declared.report.Report.{Report}
@@ -87,6 +87,7 @@ module _ {D I O : Type 0} (doors : Doors D I O) (s : Server) where
     pub ended : doors.ended now.door ≡ option_map (λ list. list ++ map (ended_by doors) calls) (doors.ended old.door)
     pub counted : doors.faults old.door ≤ doors.faults now.door
     pub each : All (IsCallAt now) calls
+    pub in_turn : InTurn calls
     pub reader : GoesOn old.reader now.reader
     pub writer : GoesOn old.writer now.writer
     pub reader_made : made_since old.reader now.reader ≡ flat_map reader_made calls

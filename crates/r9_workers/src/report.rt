@@ -16,7 +16,7 @@ use std::alloc::Global;
 pub struct Report {
     /// The lowest worker whose door failed, from 1.
     pub door_fault: Option<u32>,
-    /// Memory ran out, or there was no room for another session.
+    /// Memory ran out.
     pub memory: bool,
     /// The count of a lock that had no more turns.
     pub spent: Option<u64>,
@@ -27,8 +27,7 @@ pub struct Report {
 fn lacks_memory(ends: Attended) -> bool
     ensures { result ≡ lacks ends }
 {
-    matches!(ends.reader, ReadEnd::Memory | ReadEnd::Crowded)
-        || matches!(ends.writer, WriteEnd::Memory | WriteEnd::Crowded)
+    matches!(ends.reader, ReadEnd::Memory) || matches!(ends.writer, WriteEnd::Memory)
 }
 
 fn spent_count(ends: Attended) -> Option<u64>

@@ -1,12 +1,12 @@
 //! Workers beside each other.
-ghost use Rattle.std.specs.Prelude.{◌≡◌, ◌≤◌, ◌<◌, ◌+◌, ◌*◌, ◌^◌, ℕ, List, [], ◌∷◌, length, take, drop};
+ghost use Rattle.std.specs.Prelude.{◌≡◌, ◌≤◌, ◌<◌, ◌+◌, ◌*◌, ◌^◌, ℕ, List, [], ◌∷◌, length, take, drop, All, None, false};
 ghost use Rattle.r9_event.specs.declared.event.Entry.{Entry};
 ghost use Rattle.r9_lock.specs.Passes.{Known, IsWhole};
 ghost use Rattle.model_event.specs.Legal.{IsLegal};
 ghost use Rattle.model_event.specs.Journal.{events_of};
 ghost use Rattle.r9_attend.specs.Calls.{told_ends};
 ghost use Rattle.r9_workers.specs.Shifts.{told_doors, share_of, calls_of};
-ghost use Rattle.r9_workers.specs.Serving.{Served, InHistory};
+ghost use Rattle.r9_workers.specs.Serving.{Served, InHistory, IsFine};
 ghost use Rattle.r9_workers.specs.Steps.{Half, CanWork};
 ghost use Rattle.std.specs.Thread.{IsSync, IsSend};
 ghost use Rattle.r9_workers.specs.declared.report.Report.{Report};
@@ -141,10 +141,12 @@ pub fn work_all<T: Serves + Send, D: Door + Send, R: Threads + Wait + Sync>(
     work_from(&room, 1, pass, &mut doors[..workers as usize]).in_order()
 }
 
-/// What workers did holds of the history of their lock, where nobody else has a pass of it, and the history is legal.
+/// What workers did, who are fewer than sessions may live at once, holds of the history of their lock, where nobody else has a pass of
+/// it, and the history is legal. Where neither memory nor turns ran out, each call had a session.
 pub fn told_of_history<T: Serves, D: Door>()
-    ensures { (share : ℕ → ℕ) (old new : List D) (before after : Known Entry) (report : Report) (value : T) (history : List Entry) → before.made ≡ []
+    ensures { (share : ℕ → ℕ) (old new : List D) (before after : Known Entry) (report : Report) (value : T) (history : List Entry) → length old < 1024 → before.made ≡ []
         → (served : Served (told_doors D.ended D.over D.faults (told_ends D.In.left D.In.faults D.Out.held D.Out.unflushed D.Out.faults)) T.server share old new before after report)
         → IsWhole T.stands value history after → IsLegal (events_of history)
-        → InHistory (told_doors D.ended D.over D.faults (told_ends D.In.left D.In.faults D.Out.held D.Out.unflushed D.Out.faults)) T.server (events_of history) (calls_of served.works.shifts) }
+        → InHistory (told_doors D.ended D.over D.faults (told_ends D.In.left D.In.faults D.Out.held D.Out.unflushed D.Out.faults)) T.server (events_of history) (calls_of served.works.shifts)
+        × (report.memory ≡ false → report.spent ≡ None → All IsFine (calls_of served.works.shifts)) }
 {}

@@ -1,4 +1,4 @@
-use Rattle.std.proofs.Common.{[], List, refl, sym, ap, subst, ◌∙◌}
+use Rattle.std.proofs.Common.{[], List, refl, sym, ap, subst, ◌∙◌, arith}
 use Rattle.r9_event.specs.declared.event.Entry.{Entry}
 use Rattle.r9_lock.specs.Histories.{history_of}
 use Rattle.model_served.specs.Served.{served}
@@ -34,6 +34,6 @@ returns-clause-ran g c =
       history,
       whole.fits.0,
       all_ran doors (served g.J.Runs.opening) (share_of service.sessions service.workers) service.workers c.args.doors.now c.work.new.doors before after history c.work.result c.work.ensures none whole.all_made whole.least
-          (λ old new did. c.told_of_history.ensures (share_of service.sessions service.workers) old new before after c.work.result value history none did whole lawful.1)
+          (λ old new few did. c.told_of_history.ensures (share_of service.sessions service.workers) old new before after c.work.result value history (omega (arith, few, c.requires.workers.1)) none did whole lawful.1)
           lawful,
     )

@@ -17,4 +17,4 @@ invariant_of-pass-2 g c = let took = c.in-Ok.ensures.ok.1 in
 pub returns-clause-ok : goal.returns-clause-ok
 returns-clause-ok g c = let took = c.in-Ok.ensures.ok.1 in
     is_turn g.T.Chronicle.stands g.T.Chronicle.acts _ _ _ c.pass.inside.seat.me c.take.new.seat.me c.act-answer.new.seat.me c.end-pass-inside.new.seat.me took c.act-answer.ensures.view c.end-pass-inside.ensures.ended
-    g.T.Chronicle.first c.pass.inside.seen c.pass.invariant c.act-answer.ensures.first c.args.ask c.of-asked.ensures c.args.pass.now _ (sym (ap (λ k. k.seen) c.pass.view_is)) (sym (ap (λ k. k.made) c.pass.view_is)) refl refl
+    g.T.Chronicle.first c.pass.inside.seen c.pass.invariant c.act-answer.ensures.first c.args.ask c.of-asked.ensures c.args.pass.now _ c.in-Ok.ensures.ok.0 (sym (ap (λ k. k.least) c.pass.view_is)) (sym (ap (λ k. k.seen) c.pass.view_is)) (sym (ap (λ k. k.made) c.pass.view_is)) refl refl
