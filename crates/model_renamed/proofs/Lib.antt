@@ -3,3 +3,4 @@ pub mod Changes
 pub mod Drawing
 pub mod Lists
 pub mod Making
+pub mod Going

@@ -26,7 +26,7 @@ module _ (P : Window → Window → Type 0) where
   zip_append (v ∷ vs) [] us xs zip more = absurd zip
   zip_append (v ∷ vs) (w ∷ ws) us xs zip more = (zip.0, zip_append vs ws us xs zip.1 more)
 
-  zip_filter : (f g : Window → Bool) → ((v w : Window) → P v w → f v ≡ g w) → (vs ws : List Window) → AllZip P vs ws → AllZip P (filter f vs) (filter g ws)
+  pub zip_filter : (f g : Window → Bool) → ((v w : Window) → P v w → f v ≡ g w) → (vs ws : List Window) → AllZip P vs ws → AllZip P (filter f vs) (filter g ws)
   zip_filter f g each [] [] zip = tt
   zip_filter f g each [] (w ∷ ws) zip = absurd zip
   zip_filter f g each (v ∷ vs) [] zip = absurd zip
@@ -52,7 +52,7 @@ module _ (Same : ℕ → ℕ → Type 0) (a b : World) (same : AreRenamed Same a
   Lists vs ws = AllZip One vs ws
 
   -- one number is another where it is so in the other world
-  number_same : (i j k l : ℕ) → Same i j → Same k l → (i == k) ≡ (j == l)
+  pub number_same : (i j k l : ℕ) → Same i j → Same k l → (i == k) ≡ (j == l)
   number_same i j k l is other = by (i == k) (j == l) refl refl
     where
       by : (x y : Bool) → (i == k) ≡ x → (j == l) ≡ y → x ≡ y
@@ -102,14 +102,14 @@ module _ (Same : ℕ → ℕ → Type 0) (a b : World) (same : AreRenamed Same a
   -- ---- another list of the windows beside one
 
   -- a list on an image that is none of these leaves all of these
-  list_left : (i : ℕ) → IsApartLeft Same a i → (f : List Window → List Window) (k l : ℕ) → Same k l → after_list a i f k ≡ a k
+  pub list_left : (i : ℕ) → IsApartLeft Same a i → (f : List Window → List Window) (k l : ℕ) → Same k l → after_list a i f k ≡ a k
   list_left i apart f k l pair = by (parent_of a i) refl
     where
       by : (p : Option ℕ) → parent_of a i ≡ p → option_map_or (λ parent. with_windows a parent (f (image_at a parent).windows)) p a k ≡ a k
       by None stands = refl
       by (Some p) stands = with_image-other a p k _ (λ is. apart p l stands (subst (λ (n : ℕ). Same n l) is pair))
 
-  list_right : (j : ℕ) → IsApartRight Same b j → (g : List Window → List Window) (k l : ℕ) → Same k l → after_list b j g l ≡ b l
+  pub list_right : (j : ℕ) → IsApartRight Same b j → (g : List Window → List Window) (k l : ℕ) → Same k l → after_list b j g l ≡ b l
   list_right j apart g k l pair = by (parent_of b j) refl
     where
       by : (p : Option ℕ) → parent_of b j ≡ p → option_map_or (λ parent. with_windows b parent (g (image_at b parent).windows)) p b l ≡ b l
@@ -142,7 +142,7 @@ module _ (Same : ℕ → ℕ → Type 0) (a b : World) (same : AreRenamed Same a
 
   -- ---- windows that move
 
-  list_stands : (w : World) (i n : ℕ) (f : List Window → List Window) → (image_at (after_list w i f) n).standing ≡ (image_at w n).standing
+  pub list_stands : (w : World) (i n : ℕ) (f : List Window → List Window) → (image_at (after_list w i f) n).standing ≡ (image_at w n).standing
   list_stands w i n f = by (parent_of w i)
     where
       by : (p : Option ℕ) → (image_at (option_map_or (λ parent. with_windows w parent (f (image_at w parent).windows)) p w) n).standing ≡ (image_at w n).standing

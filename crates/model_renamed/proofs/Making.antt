@@ -47,10 +47,10 @@ module _ (Same : ℕ → ℕ → Type 0) (a b : World) (same : AreRenamed Same a
     abbrev d : World
     d = with_image b n (Some y)
 
-    left_there : (i j : ℕ) → Same i j → image_at c i ≡ image_at a i
+    pub left_there : (i j : ℕ) → Same i j → image_at c i ≡ image_at a i
     left_there i j is = at_others a m i (Some x) (live-apart a m i free_left (same.left i j is))
 
-    right_there : (i j : ℕ) → Same i j → image_at d j ≡ image_at b j
+    pub right_there : (i j : ℕ) → Same i j → image_at d j ≡ image_at b j
     right_there i j is = at_others b n j (Some y) (live-apart b n j free_right (same.right i j is))
 
     more_window : (v w : Window) → SameWindow Same a b v w → SameWindow More c d v w
@@ -61,11 +61,11 @@ module _ (Same : ℕ → ℕ → Type 0) (a b : World) (same : AreRenamed Same a
           (subst (λ (u : Image). Same (fill_of a v.image) (option_map_or (λ s. s.fill) u.standing 0)) (sym (right_there v.image w.image one.image)) one.fill));
     }
 
-    more_apart_left : (p k : ℕ) → IsLive a p → ((l : ℕ) → Same p l → ⊥) → More p k → ⊥
+    pub more_apart_left : (p k : ℕ) → IsLive a p → ((l : ℕ) → Same p l → ⊥) → More p k → ⊥
     more_apart_left p k live apart (inl is) = apart k is
     more_apart_left p k live apart (inr is) = live-apart a m p free_left live is.0
 
-    more_apart_right : (q k : ℕ) → IsLive b q → ((l : ℕ) → Same l q → ⊥) → More k q → ⊥
+    pub more_apart_right : (q k : ℕ) → IsLive b q → ((l : ℕ) → Same l q → ⊥) → More k q → ⊥
     more_apart_right q k live apart (inl is) = apart k is
     more_apart_right q k live apart (inr is) = live-apart b n q free_right live is.1
 

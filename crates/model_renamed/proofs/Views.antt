@@ -1,5 +1,5 @@
 -- What is the same but for its number shows the same.
-use Rattle.std.proofs.Common.{◌≡◌, ℕ, zero, suc, Bool, true, false, List, [], ◌∷◌, Some, refl, ap, ◌∙◌}
+use Rattle.std.proofs.Common.{◌≡◌, ◌&&◌, ℕ, zero, suc, Bool, true, false, List, [], ◌∷◌, Some, refl, ap, ◌∙◌}
 use Rattle.std.specs.Prelude.{is_none, if◌then◌else◌}
 use Rattle.std.specs.List.{AllZip}
 use Rattle.std.specs.Option.{option_map_or}
@@ -10,6 +10,7 @@ use Rattle.model_forest.specs.declared.Window.{Window}
 use Rattle.model_forest.specs.World.{World, deepest, fill_of, image_at}
 use Rattle.model_forest.specs.View.{at, inward, is_bare, top_window, view, view_within}
 use Rattle.model_forest.specs.Draw.{reaches}
+use Rattle.model_forest.specs.Paint.{paint, paint_within, painted_over}
 use Rattle.model_forest.specs.Stack.{filled, uncovered}
 use Rattle.model_renamed.specs.Renamed.{AreRenamed, SameWindow}
 
@@ -81,3 +82,39 @@ module _ (Same : ℕ → ℕ → Type 0) (a b : World) (same : AreRenamed Same a
       (image_at a i).windows (image_at b j).windows (same.windows i j is)
       (λ v w one. filled_same (image_at b j).chan v w p one)
       ((same.faces i j is).canvas p))
+
+  -- ---- painted from back to front
+
+  painted_same : (r q : Rect) → r ≡ q → (f g : Window → Point → ℕ) (x y : Point → ℕ) (vs ws : List Window) → AllZip (SameWindow Same a b) vs ws
+      → ((v w : Window) (p : Point) → SameWindow Same a b v w → f v p ≡ g w p) → ((p : Point) → x p ≡ y p) → (p : Point)
+      → painted_over r f vs x p ≡ painted_over q g ws y p
+  painted_same r q is f g x y [] [] zip each under p = under p
+  painted_same r q is f g x y [] (w ∷ ws) zip each under p = absurd zip
+  painted_same r q is f g x y (v ∷ vs) [] zip each under p = absurd zip
+  painted_same r q is f g x y (v ∷ vs) (w ∷ ws) zip each under p =
+      by (holds r p) (holds q p) (holds v.place p) (holds w.place p) (ap (λ (s : Rect). holds s p) is) (ap (λ (s : Rect). holds s p) zip.0.place)
+      (each v w p zip.0) (painted_same r q is f g x y vs ws zip.1 each under p)
+    where
+      by : (s t k l : Bool) → s ≡ t → k ≡ l → f v p ≡ g w p → painted_over r f vs x p ≡ painted_over q g ws y p
+          → (if s && k then f v p else painted_over r f vs x p) ≡ (if t && l then g w p else painted_over q g ws y p)
+      by true true true true inside placed here more = here
+      by true true false false inside placed here more = more
+      by false false k l inside placed here more = more
+      by true true true false inside placed here more = absurd cc
+      by true true false true inside placed here more = absurd cc
+      by true false k l inside placed here more = absurd cc
+      by false true k l inside placed here more = absurd cc
+
+  paint_within_same : (depth i j : ℕ) (p : Point) → Same i j → paint_within depth a i p ≡ paint_within depth b j p
+  paint_within_same zero i j p is = refl
+  paint_within_same (suc depth) i j p is =
+      painted_same _ _ (same.faces i j is).r
+      (λ v q. paint_within depth a v.image (inward a v q)) (λ w q. paint_within depth b w.image (inward b w q)) _ _
+      (image_at a i).windows (image_at b j).windows (same.windows i j is)
+      (λ v w q one. paint_within_same depth v.image w.image (inward a v q) one.image
+      ∙ ap (λ (at : Point). paint_within depth b w.image at) (rw (one.place, (same.faces v.image w.image one.image).r) refl))
+      (same.faces i j is).canvas p
+
+  pub paint_same : (i j : ℕ) (p : Point) → Same i j → paint a i p ≡ paint b j p
+  unfolding paint
+  paint_same i j p is = paint_within_same (suc deepest) i j p is

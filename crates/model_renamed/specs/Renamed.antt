@@ -1,5 +1,5 @@
 -- Two worlds of images, some of whose images are the same but for their numbers (draw(3)).
-use Rattle.std.specs.Prelude.{◌≡◌, ◌⊎◌, ℕ, Option, Some, None}
+use Rattle.std.specs.Prelude.{◌≡◌, ◌≢◌, ◌⊎◌, ℕ, Option, Some, None}
 use Rattle.std.specs.List.{AllZip}
 use Rattle.r9_geom.specs.declared.Point.{Point}
 use Rattle.model_forest.specs.declared.Window.{Window}
@@ -56,3 +56,7 @@ SameMask Same _ _ = ⊥
 -- one pair more that is the same
 abbrev pub And : (Same : ℕ → ℕ → Type 0) → (m n : ℕ) → ℕ → ℕ → Type 0
 And Same m n i j = Same i j ⊎ ((i ≡ m) × (j ≡ n))
+
+-- the same but for one pair, whose first image is this
+abbrev pub But : (Same : ℕ → ℕ → Type 0) → (m : ℕ) → ℕ → ℕ → Type 0
+But Same m i j = Same i j × (i ≢ m)
