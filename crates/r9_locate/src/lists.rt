@@ -1,6 +1,6 @@
 //! Images by number, without their pixels.
 
-ghost use Rattle.std.specs.Prelude.{◌≡◌, ◌+◌, ◌≤◌, ℕ, None, Some, max, OnOk};
+ghost use Rattle.std.specs.Prelude.{◌≡◌, ◌+◌, ◌≤◌, ℕ, None, Some, max, min, OnOk};
 ghost use Rattle.std.specs.Option.{option_map_or};
 ghost use Rattle.model_forest.specs.World.{image_at, no_rect, with_image, IsLive};
 ghost use Rattle.model_kept.specs.Keeping as kept;
@@ -123,6 +123,15 @@ impl Lists {
         ensures made { made self.new ≡ made self.old }
     {
         let _ = self.frames.remove(i);
+    }
+
+    /// Takes the numbers from `count` on back, none of which has an image: they were not given out then. It takes no memory.
+    pub fn shorten(&mut self, count: usize)
+        requires { (n : ℕ) → count ≤ n → shape self.old n ≡ None }
+        ensures world { shape self.new ≡ shape self.old }
+        ensures made { made self.new ≡ min (made self.old) count }
+    {
+        self.frames.shorten(count);
     }
 
     /// Gives an image another list of windows, for the one that it had. It takes no memory.

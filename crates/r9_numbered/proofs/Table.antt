@@ -1,10 +1,10 @@
 -- A table of keys where a value comes or goes.
-use Rattle.std.proofs.Common.{◌≡◌, ◌≢◌, ℕ, ◌<◌, ◌≤◌, List, [], ◌∷◌, ◌++◌, length, get_or, set, Option, Some, None, refl, sym, ap, subst, ◌∙◌, ⊎_elim, arith, eq-eqb, length-append}
+use Rattle.std.proofs.Common.{◌≡◌, ◌≢◌, ℕ, ◌<◌, ◌≤◌, List, [], ◌∷◌, ◌++◌, length, get_or, set, take, Option, Some, None, refl, sym, ap, subst, ◌∙◌, ⊎_elim, arith, eq-eqb, length-append}
 use Rattle.std.specs.Prelude.{◌==◌, is_some, IsSome, if◌then◌else◌}
 use Rattle.std.specs.Option.{option_and_then}
 use Rattle.std.proofs.Math.ListN.{get_or-append, length-set}
 use Rattle.std.proofs.lemmas.Bool.{cases_eq, cases_lt, ne_eqb, true≢false}
-use Rattle.std.proofs.lemmas.List.{get_or-set_other, get_or-set_same, get_or_past, get_or_push, get_or_read}
+use Rattle.std.proofs.lemmas.List.{get_or-set_other, get_or-set_same, get_or-take, get_or_past, get_or_push, get_or_read, length-take}
 use Rattle.slab.specs.Slab.{Slab, ContainsKey, Updates, get}
 use Rattle.r9_numbered.specs.Table.{look, IsTable}
 
@@ -20,6 +20,16 @@ pushed_other keys k m other =
     (λ (within : m < length keys). get_or-append keys (k ∷ []) None m within)
     (λ past. get_or_past (keys ++ k ∷ []) m None (omega (arith, long, past, other)) ∙ sym (get_or_past keys m None past))
     (cases_lt m (length keys))
+
+-- the first of the keys
+pub take_key : (keys : List (Option ℕ)) (count n key : ℕ) → get_or (take count keys) n None ≡ Some key → get_or keys n None ≡ Some key
+take_key keys count n key is =
+    ⊎_elim
+    (λ (within : n < count). sym (get_or-take count keys n None within) ∙ is)
+    (λ past.
+    let none : get_or (take count keys) n None ≡ None = get_or_past (take count keys) n None (let long = length-take count keys in omega (arith, long, past)) in
+    absurd cc)
+    (cases_lt n count)
 
 module _ {T : Type 0} where
   -- a key with no value is no number's
@@ -145,3 +155,20 @@ module _ {T : Type 0} where
       look_changed old new keys (set keys n None) n key None None updates (not_others old keys n key table is)
       (λ m other. get_or-set_other keys n m None None other)
       (ap (option_and_then (get new)) (get_or-set_same keys n None None (given_out keys n key is)))
+
+  -- the numbers from a count on, none of which has a value, go
+  pub table_shorter : (slab : Slab T) (keys : List (Option ℕ)) (count : ℕ) → IsTable slab keys → IsTable slab (take count keys)
+  table_shorter slab keys count table = record {
+    there = λ n key is. table.there n key (take_key keys count n key is);
+    apart = λ n m key is also. table.apart n m key (take_key keys count n key is) (take_key keys count m key also);
+    most = let long = length-take count keys in omega (arith, table.most, long);
+  }
+
+  pub look_shorter : (slab : Slab T) (keys : List (Option ℕ)) (count : ℕ) → ((n : ℕ) → count ≤ n → look slab keys n ≡ None) → (n : ℕ) → look slab (take count keys) n ≡ look slab keys n
+  look_shorter slab keys count none n =
+      ⊎_elim
+      (λ (within : n < count). ap (option_and_then (get slab)) (get_or-take count keys n None within))
+      (λ past.
+      let long = length-take count keys in
+      ap (option_and_then (get slab)) (get_or_past (take count keys) n None (omega (arith, long, past))) ∙ sym (none n past))
+      (cases_lt n count)

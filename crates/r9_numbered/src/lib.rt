@@ -1,7 +1,7 @@
 //! Values by number, in a slab.
 #![tactic(auto)]
 
-ghost use Rattle.std.specs.Prelude.{◌≡◌, ◌+◌, ◌<◌, ◌≤◌, ◌==◌, ℕ, Some, None, max, option_copied, slice_index_or, IsSome, OnErr, OnOk, if◌then◌else◌};
+ghost use Rattle.std.specs.Prelude.{◌≡◌, ◌+◌, ◌<◌, ◌≤◌, ◌==◌, ℕ, Some, None, max, min, option_copied, slice_index_or, IsSome, OnErr, OnOk, if◌then◌else◌};
 ghost use Rattle.r9_numbered.specs.Table.{IsTable};
 
 use r9_memory::Memory;
@@ -93,6 +93,16 @@ impl<T> Numbered<T> {
             }
             None => unreachable!(),
         }
+    }
+
+    /// Takes the numbers from `count` on back, none of which has a value: they were not given out then. It takes no memory.
+    pub fn shorten(&mut self, count: usize)
+        requires { (n : ℕ) → count ≤ n → value_at self.old n ≡ None }
+        ensures kept { (n : ℕ) → value_at self.new n ≡ value_at self.old n }
+        ensures count { count_of self.new ≡ min (count_of self.old) count }
+    {
+        let _ = &self.values;
+        self.keys.truncate(count);
     }
 }
 
