@@ -1,6 +1,6 @@
 //! Images that get a plane or tiles for their pixels, and that lose them.
 
-ghost use Rattle.std.specs.Prelude.{◌≡◌, ◌+◌, ◌^◌, ◌<◌, ◌≤◌, ℕ, false, Some, None, max, OnErr, OnOk};
+ghost use Rattle.std.specs.Prelude.{◌≡◌, ◌+◌, ◌^◌, ◌<◌, ◌≤◌, ℕ, false, Some, None, OnErr, OnOk};
 ghost use Rattle.r9_geom.specs.Geometry.{height, holds, width, IsOrdered, IsRectNear};
 ghost use Rattle.r9_plane.specs.Pixels.{pixel_at, rect_of};
 ghost use Rattle.model_kept.specs.Restack.{with_own};
@@ -16,17 +16,24 @@ use r9_plane::Plane;
 impl KeptPixels {
     ghost use Rattle.r9_pixels.specs.Kept.{form_at, has_place, kept_at, room_of, spare_in, IsUnchanged};
 
-    /// Makes room for an image under a number, where there is room for all numbers below it.
+    /// Makes room for an image under a number.
     pub fn make_room(&mut self, i: u32) -> Result<(), Memory>
-        requires { i ≤ room_of self.old }
-        ensures room { OnOk result (room_of self.new ≡ max (room_of self.old) (i + 1)) }
+        ensures room { OnOk result (i < room_of self.new) }
         ensures kept { IsUnchanged self.old self.new }
         ensures spare { spare_in self.new ≡ spare_in self.old }
-        ensures err { OnErr result (room_of self.new ≡ room_of self.old) }
     {
-        if (i as usize) < self.owns.len() {
-            return Ok(());
+        while self.owns.len() <= i as usize {
+            self.push()?;
         }
+        Ok(())
+    }
+
+    // Makes room for one image more.
+    fn push(&mut self) -> Result<(), Memory>
+        ensures room { OnOk result (room_of self.new ≡ room_of self.old + 1) }
+        ensures kept { IsUnchanged self.old self.new }
+        ensures spare { spare_in self.new ≡ spare_in self.old }
+    {
         self.owns.reserve(1)?;
         self.cells.push()?;
         self.owns.push_reserved(None);
