@@ -74,7 +74,7 @@ bare_canvas shape kept = record {
     windows n None = refl
     windows n (Some image) = refl
 
-parent_same : (a b : World) → SameButCanvas a b → (n : ℕ) → parent_of b n ≡ parent_of a n
+pub parent_same : (a b : World) → SameButCanvas a b → (n : ℕ) → parent_of b n ≡ parent_of a n
 parent_same a b same n = ap (option_map (λ (s : Standing). s.parent)) (same.standing n)
 
 image_as : (a b : World) → SameButCanvas a b → (n : ℕ) → ((p : Point) → (image_at b n).canvas p < 2 ^ depth (image_at b n).chan) → IsImage (image_at a n) → IsImage (image_at b n)

@@ -1,5 +1,14 @@
+pub mod Bare
 pub mod Canvases
+pub mod Covering
+pub mod Entering
+pub mod Groups
 pub mod Making
+pub mod Meeting
 pub mod Near
 pub mod Numbers
+pub mod Relisted
 pub mod Sounding
+pub mod Surfaces
+pub mod Viewing
+pub mod Windows

@@ -51,24 +51,25 @@ made_forest shape kept plane i r chan raw free lawful fits near ordered ok is =
     (IsForest-after_image (with_kept shape kept) i r chan raw (ap (option_map {T = Image} (pictured shape kept i)) free) lawful fits near ordered ok)
 
 -- what the images have for their pixels
-pub made_forms : (shape : World) (forms : ℕ → Option Form) (plane : Plane) (i : ℕ) (r : Rect) (chan raw : ℕ) → forms ≡ forms_of shape → IsPlane plane r chan raw → with_form i (Some (plane_form plane)) forms ≡ forms_of (with_made shape i r chan)
-made_forms shape forms plane i r chan raw same is = λ j n. at n j
+pub put_forms : (shape : World) (forms : ℕ → Option Form) (form : Form) (i : ℕ) (image : Image) → forms ≡ forms_of shape → form ≡ form_of image → with_form i (Some form) forms ≡ forms_of (with_image shape i (Some image))
+put_forms shape forms form i image same is = λ j n. at n j
   where
-    form : plane_form plane ≡ form_of (bare_image r chan)
-    form = λ j. record { r = is.rect j; chan = is.channels j; is_window = false }
-
-    at : (n : ℕ) → with_form i (Some (plane_form plane)) forms n ≡ forms_of (with_made shape i r chan) n
+    at : (n : ℕ) → with_form i (Some form) forms n ≡ forms_of (with_image shape i (Some image)) n
     at n =
         ⊎_elim
         (λ (here : n ≡ i).
-        ap (λ b. if b then Some (plane_form plane) else forms n) (eq-eqb n i here)
-        ∙ ap (λ f. Some f) form
-        ∙ sym (ap (λ b. option_map form_of (if b then Some (bare_image r chan) else shape n)) (eq-eqb n i here)))
+        ap (λ b. if b then Some form else forms n) (eq-eqb n i here)
+        ∙ ap (λ f. Some f) is
+        ∙ sym (ap (λ b. option_map form_of (if b then Some image else shape n)) (eq-eqb n i here)))
         (λ (other : n ≢ i).
-        ap (λ b. if b then Some (plane_form plane) else forms n) (ne_eqb n i other)
+        ap (λ b. if b then Some form else forms n) (ne_eqb n i other)
         ∙ ap (λ (fs : ℕ → Option Form). fs n) same
-        ∙ sym (ap (λ b. option_map form_of (if b then Some (bare_image r chan) else shape n)) (ne_eqb n i other)))
+        ∙ sym (ap (λ b. option_map form_of (if b then Some image else shape n)) (ne_eqb n i other)))
         (cases_eq n i)
+
+pub made_forms : (shape : World) (forms : ℕ → Option Form) (plane : Plane) (i : ℕ) (r : Rect) (chan raw : ℕ) → forms ≡ forms_of shape → IsPlane plane r chan raw → with_form i (Some (plane_form plane)) forms ≡ forms_of (with_made shape i r chan)
+made_forms shape forms plane i r chan raw same is =
+    put_forms shape forms (plane_form plane) i (bare_image r chan) same (λ j. record { r = is.rect j; chan = is.channels j; is_window = false })
 
 -- and the places of windows
 pub made_cells : (shape : World) (kept : Place → ℕ) (has : Place → Bool) (inside : Point → Bool) (i : ℕ) (r : Rect) (chan : ℕ) → shape i ≡ None → IsForest (with_kept shape kept) → HasCells shape has → HasCells (with_made shape i r chan) (with_places i inside has)

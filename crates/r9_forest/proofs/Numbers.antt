@@ -1,10 +1,13 @@
 -- The numbers that were given out, where one is taken.
 use Rattle.std.proofs.Common.{◌≡◌, ◌≢◌, ◌∙◌, ℕ, ◌+◌, ◌<◌, ◌≤◌, ◌^◌, List, [], ◌∷◌, ◌++◌, length, get_or, Some, None, refl, sym, ap, subst, ⊎_elim, arith, reverse}
 use Rattle.std.specs.Prelude.{max}
-use Rattle.std.proofs.lemmas.List.{get_or_append_left, get_or_push, length_push, reverse-append}
+use Rattle.std.proofs.lemmas.List.{get_or_append_left, get_or_push, length_push, reverse-append, reverse-reverse}
+use Rattle.std.proofs.lemmas.Grind.{reverse_onto}
 use Rattle.model_forest.specs.Numbers.{next_of, taken_from}
-use Rattle.model_forest.specs.World.{Image, World, with_image}
-use Rattle.model_forest.proofs.Changes.{with_image-other}
+use Rattle.model_forest.specs.World.{Image, World, image_at, with_image, IsLive}
+use Rattle.model_forest.proofs.Changes.{live-apart, with_image-other}
+use Rattle.model_forest.specs.declared.Window.{Window}
+use Rattle.model_kept.specs.Restack.{with_list}
 use Rattle.r9_forest.specs.Numbered.{numbers_of, IsNumbered, IsTaken}
 
 numbers_as : (a b : ℕ) (rest : List ℕ) → a ≡ b → numbers_of a rest ≡ numbers_of b rest
@@ -53,6 +56,17 @@ back_taken made spare rest i same below =
     ap (λ ns. taken_from made (reverse ns)) same ∙ ap (taken_from made) (reverse-append rest (i ∷ []))
     ∙ numbers_as made (max made (i + 1)) rest most
 
+-- the number that would be taken is free
+pub peeked : (world : World) (made : ℕ) (spare : List ℕ) (i : ℕ) → i ≡ next_of made (reverse spare) → IsNumbered world made spare → (i ≤ made) × (world i ≡ None)
+peeked world made spare i next is = at (reverse spare) refl next
+  where
+    at : (back : List ℕ) → reverse spare ≡ back → i ≡ next_of made back → (i ≤ made) × (world i ≡ None)
+    at [] e same = (omega (arith, same), is.beyond i (omega (arith, same)))
+    at (n ∷ ns) e same =
+        let list : spare ≡ reverse ns ++ i ∷ [] = sym (reverse-reverse spare) ∙ ap reverse e ∙ reverse_onto ns n [] ∙ ap (λ m. reverse ns ++ m ∷ []) (sym same) in
+        let below = back_below world made spare (reverse ns) i list is in
+        (omega (arith, below), back_free world made spare (reverse ns) i list is)
+
 -- ---- and where none is back
 
 -- all that is known of the number that was taken
@@ -90,6 +104,12 @@ taken_next world made spare rest i taken is =
     })
     taken
 
+-- the number that was seen before is the one that is taken
+pub taken_peeked : (world : World) (made : ℕ) (spare rest : List ℕ) (i number : ℕ) → i ≡ next_of made (reverse spare) → IsTaken made spare rest number → IsNumbered world made spare → IsNext world made spare rest i
+taken_peeked world made spare rest i number next taken is =
+    let found = taken_next world made spare rest number taken is in
+    subst (IsNext world made spare rest) (sym (next ∙ found.next)) found
+
 -- an image comes under a number that none has
 pub put_numbered : (world : World) (made i : ℕ) (rest : List ℕ) (image : Image) → i ≤ made → made + 1 < 2 ^ 32 → ((k : ℕ) → k < length rest → get_or rest k 0 ≢ i) → IsNumbered world made rest → IsNumbered (with_image world i (Some image)) (max made (i + 1)) rest
 put_numbered world made i rest image most few apart is = record {
@@ -99,3 +119,16 @@ put_numbered world made i rest image most few apart is = record {
   apart = is.apart;
   beyond = λ n past. with_image-other world i n (Some image) (λ same. omega (arith, past, same)) ∙ is.beyond n (omega (arith, past));
 }
+
+-- an image gets another list
+pub list_numbered : (world : World) (made p : ℕ) (spare : List ℕ) (ws : List Window) → IsLive world p → IsNumbered world made spare → IsNumbered (with_list world p ws) made spare
+list_numbered world made p spare ws live is = record {
+  few = is.few;
+  below = is.below;
+  free = λ k l. stays (get_or spare k 0) (is.free k l);
+  apart = is.apart;
+  beyond = λ n past. stays n (is.beyond n past);
+}
+  where
+    stays : (n : ℕ) → world n ≡ None → with_list world p ws n ≡ None
+    stays n none = with_image-other world p n (Some (record (image_at world p) { windows = ws })) (λ e. live-apart world n p none live (sym e)) ∙ none

@@ -1,12 +1,12 @@
 -- What lists, kept pixels and numbers are together.
-use Rattle.std.specs.Prelude.{◌≡◌, ◌≤◌, ℕ, List}
+use Rattle.std.specs.Prelude.{◌≡◌, ℕ, List}
 use Rattle.model_forest.specs.World.{IsForest}
 use Rattle.model_kept.specs.Keeping.{with_kept}
 use Rattle.r9_locate.specs.declared.lists.Lists.{Lists}
 use Rattle.r9_locate.specs.Forms.{forms_of}
 use Rattle.r9_locate.specs.Table.{made, shape}
 use Rattle.r9_pixels.specs.declared.keeping.KeptPixels.{KeptPixels}
-use Rattle.r9_pixels.specs.Kept.{form_at, has_place, kept_at, room_of}
+use Rattle.r9_pixels.specs.Kept.{form_at, has_place, kept_at}
 use Rattle.r9_pixels.specs.Places.{HasCells}
 use Rattle.r9_forest.specs.Numbered.{IsNumbered}
 
@@ -17,4 +17,3 @@ pub record IsSound (lists : Lists) (pixels : KeptPixels) (spare : List ℕ) : Ty
   pub forms : form_at pixels ≡ forms_of (shape lists)
   pub cells : HasCells (shape lists) (has_place pixels)
   pub numbers : IsNumbered (shape lists) (made lists) spare
-  pub places : made lists ≤ room_of pixels

@@ -26,11 +26,11 @@ use std::alloc::Global;
 /// answers `Memory` leaves both as they were. Coordinates that are given are within 2^34 of 0.
 #[derive(Drop)]
 pub struct Images {
-    lists: Lists,
-    pixels: KeptPixels,
+    pub(crate) lists: Lists,
+    pub(crate) pixels: KeptPixels,
     // The numbers that came back, the last one at the end. There is room for all.
-    spare: Vec<u32>,
-    alloc: Global,
+    pub(crate) spare: Vec<u32>,
+    pub(crate) alloc: Global,
     ghost sound: { IsSound lists pixels spare.items },
     ghost back: { made lists ≤ vec_capacity spare },
 }
@@ -56,8 +56,8 @@ impl Images {
         ensures { IsForest (world self.now) }
     {}
 
-    // Makes room for an image under the next number, whichever that is.
-    fn reserve(&mut self) -> Result<(), Memory>
+    /// Makes room for an image under the next number, whichever that is.
+    pub(crate) fn reserve(&mut self) -> Result<(), Memory>
         ensures list { OnOk result ((i : ℕ) → i ≤ made self.new.lists → HasRoom self.new.lists i) }
         ensures pixels { OnOk result (made self.new.lists < room_of self.new.pixels) }
         ensures back { OnOk result (made self.new.lists < vec_capacity self.new.spare) }
@@ -92,8 +92,8 @@ impl Images {
     }
 }
 
-// Takes the number that came back last, or where none is back the next one.
-fn take_number(made: usize, spare: &mut Vec<u32>) -> u32
+/// Takes the number that came back last, or where none is back the next one.
+pub(crate) fn take_number(made: usize, spare: &mut Vec<u32>) -> u32
     requires { made < 2 ^ 32 }
     ensures number { IsTaken made spare.old.items spare.new.items result }
     ensures room { vec_capacity spare.new ≡ vec_capacity spare.old }

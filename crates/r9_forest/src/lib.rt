@@ -1,6 +1,10 @@
 //! Images by number and the windows that stand on them, where each pixel is kept once.
 #![tactic(auto)]
 
+mod coming;
 mod images;
+mod ordering;
+mod reading;
+mod relisting;
 
 pub use images::Images;

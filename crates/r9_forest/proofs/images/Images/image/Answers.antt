@@ -99,8 +99,8 @@ invariant_of-self c =
     record {
       sound =
           coming_sound c.reserve.new.self.lists c.insert.new.self c.reserve.new.self.pixels c.insert_whole.new.self c.in_ok-plane.plane c.reserve.new.self.spare.items c.take_number-number.new.spare.items c.take_number-number.result c.args.r c.args.chan c.args.raw
-          c.reserve.new.self.sound (coming before) (next before) (listed after) c.insert.ensures.made (few before) c.in_ok-reserve.ensures.pixels
-          c.insert_whole.ensures.room c.insert_whole.ensures.kept c.insert_whole.ensures.has c.insert_whole.ensures.forms;
+          c.reserve.new.self.sound (coming before) (next before) (listed after) c.insert.ensures.made (few before)
+          c.insert_whole.ensures.kept c.insert_whole.ensures.has c.insert_whole.ensures.forms;
       back = omega (arith, c.insert.ensures.made, (next before).most, c.in_ok-reserve.ensures.back, c.take_number-number.ensures.room);
     }
 

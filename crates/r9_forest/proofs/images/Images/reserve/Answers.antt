@@ -11,7 +11,7 @@ pub invariant_of-self : goal.invariant_of-self
 invariant_of-self c =
     let was = c.args.self.now in
     record {
-      sound = sound_same was.lists c.reserve.new.self was.pixels was.pixels was.spare.items c.reserve.ensures.world c.reserve.ensures.made (record { kept = refl; has = refl; forms = refl }) (omega arith) was.sound;
+      sound = sound_same was.lists c.reserve.new.self was.pixels was.pixels was.spare.items c.reserve.ensures.world c.reserve.ensures.made (record { kept = refl; has = refl; forms = refl }) was.sound;
       back = omega (arith, c.reserve.ensures.made, was.back);
     }
 
@@ -26,7 +26,7 @@ pub invariant_of-self-in-Break-branch-2 : goal.invariant_of-self-in-Break-branch
 invariant_of-self-in-Break-branch-2 c =
     let was = c.args.self.now in
     record {
-      sound = sound_same was.lists c.reserve.new.self was.pixels c.make_room.new.self was.spare.items c.reserve.ensures.world c.reserve.ensures.made c.make_room.ensures.kept (omega (arith, c.in_err-make_room.ensures.err)) was.sound;
+      sound = sound_same was.lists c.reserve.new.self was.pixels c.make_room.new.self was.spare.items c.reserve.ensures.world c.reserve.ensures.made c.make_room.ensures.kept was.sound;
       back = omega (arith, c.reserve.ensures.made, was.back);
     }
 
@@ -43,7 +43,7 @@ invariant_of-self-2 c =
     record {
       sound =
           subst (IsSound c.reserve.new.self c.make_room.new.self) (sym c.reserve-2.ensures.items)
-          (sound_same was.lists c.reserve.new.self was.pixels c.make_room.new.self was.spare.items c.reserve.ensures.world c.reserve.ensures.made c.make_room.ensures.kept (omega (arith, c.in_ok-make_room.ensures.room)) was.sound);
+          (sound_same was.lists c.reserve.new.self was.pixels c.make_room.new.self was.spare.items c.reserve.ensures.world c.reserve.ensures.made c.make_room.ensures.kept was.sound);
       back = omega (arith, c.reserve.ensures.made, was.back, c.reserve-2.ensures.capacity);
     }
 

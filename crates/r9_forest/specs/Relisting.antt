@@ -1,0 +1,35 @@
+-- Another list of the windows of an image, in which one window comes or moves, and what is known before.
+use Rattle.std.specs.Prelude.{◌≡◌, ◌≢◌, ℕ, Bool, true, false, List, Some}
+use Rattle.r9_geom.specs.declared.Point.{Point}
+use Rattle.r9_geom.specs.Geometry.{holds}
+use Rattle.model_forest.specs.declared.Window.{Window}
+use Rattle.model_forest.specs.View.{is_bare}
+use Rattle.model_forest.specs.World.{World, image_at, parent_of, IsForest, IsLive}
+use Rattle.model_kept.specs.Cells.{cell_of, cell_part, hides}
+use Rattle.model_kept.specs.Keeping.{is_top, keeping, outward, own, place_among, with_kept, Place}
+use Rattle.model_kept.specs.Restack.{fill_of_top, with_list}
+
+-- the others keep their places, and with that list it is a world of images
+pub record IsRelisting (world : World) (p w : ℕ) (ws : List Window) : Type 0 where
+  pub live : IsLive world p
+  pub stands : parent_of world w ≡ Some p
+  pub places : (i : ℕ) → i ≢ w → place_among ws i ≡ place_among (image_at world p).windows i
+  pub forest : IsForest (with_list world p ws)
+
+-- the windows of other images have places just in their cells that have a hidden point
+abbrev pub HasOtherCells : World → ℕ → (Place → Bool) → Type 0
+HasOtherCells world p has =
+    (i q : ℕ) (x : Point) → q ≢ p → parent_of world i ≡ Some q → holds (image_at world i).r x ≡ true
+    → has (own i x) ≡ hides world i (cell_part (image_at world i).r (cell_of (image_at world i).r x))
+
+-- there is a place for each pixel that the image shows and for each that is hidden of its windows but w
+pub record HasPlacesBefore (world : World) (p w : ℕ) (has : Place → Bool) : Type 0 where
+  pub surface : (z : Point) → holds (image_at world p).r z ≡ true → has (keeping world p z) ≡ true
+  pub hidden : (i : ℕ) (x : Point) → i ≢ w → parent_of world i ≡ Some p → holds (image_at world i).r x ≡ true → is_top (image_at world p).windows i (outward world p i x) ≡ false → has (own i x) ≡ true
+  pub others : HasOtherCells world p has
+
+-- the pixels that are kept before, with those that are given for w, and what fills is the fill of the window that is topmost
+pub record IsAsBefore (world : World) (p w : ℕ) (ws : List Window) (given fill : Point → ℕ) (kept as_before : Place → ℕ) : Type 0 where
+  pub others : (place : Place) → place.image ≢ w → as_before place ≡ kept place
+  pub pixels : (x : Point) → holds (image_at world w).r x ≡ true → as_before (keeping world w x) ≡ given x
+  pub fills : (q : Point) → holds (image_at world p).r q ≡ true → is_bare (image_at world p).windows q ≡ false → is_bare ws q ≡ true → fill q ≡ fill_of_top (with_kept world as_before) p q

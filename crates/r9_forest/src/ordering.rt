@@ -1,0 +1,87 @@
+//! Windows that change their order.
+
+ghost use Rattle.std.specs.Prelude.{◌≡◌, ◌*◌, ◌+◌, ◌<◌, ◌≤◌, [], map, All, IfNone, IfSome, IsSome, OnErr, OnOk};
+ghost use Rattle.r9_geom.specs.Geometry.{area_of};
+ghost use Rattle.model_forest.specs.World.{image_at, parent_of, IsForest};
+ghost use Rattle.model_forest.specs.Stack.{after_lower, after_raise, with_windows};
+ghost use Rattle.r9_forest.specs.Groups.{IsGroupOn};
+ghost use Rattle.r9_locate.specs.Table.{shape};
+ghost use Rattle.r9_restack.specs.Moving.{IsReordering};
+
+use super::images::Images;
+use super::relisting::reorder_windows;
+use model_forest::Window;
+use r9_info::ImageNo;
+use r9_lists::{lowered, raised};
+use r9_memory::Memory;
+use r9_steps::Steps;
+use std::sync::ledger::Ledger;
+
+impl Images {
+    ghost use Rattle.r9_forest.specs.Images.{numbers, world};
+
+    /// Raises windows of one image above its others, in their order.
+    pub fn raise<L: Ledger>(
+        &mut self,
+        group: &[ImageNo],
+        steps: &mut Steps<L>,
+    ) -> Result<(), Memory>
+        requires windows { All (λ i. IsSome (parent_of (world self.old) i.0)) group.now }
+        ensures raised { OnOk result (world self.new ≡ after_raise (world self.old) (map (λ i. i.0) group.now)) }
+        ensures numbers { numbers self.new ≡ numbers self.old }
+        ensures err { OnErr result (world self.new ≡ world self.old) }
+    {
+        let Some(parent) = self.parent_of_first(group) else {
+            return Ok(());
+        };
+        let list = raised(self.alloc, &self.lists.get(parent).windows, group)?;
+        self.set_order(parent, list, steps)
+    }
+
+    /// Lowers windows of one image below its others, in their order.
+    pub fn lower<L: Ledger>(
+        &mut self,
+        group: &[ImageNo],
+        steps: &mut Steps<L>,
+    ) -> Result<(), Memory>
+        requires windows { All (λ i. IsSome (parent_of (world self.old) i.0)) group.now }
+        ensures lowered { OnOk result (world self.new ≡ after_lower (world self.old) (map (λ i. i.0) group.now)) }
+        ensures numbers { numbers self.new ≡ numbers self.old }
+        ensures err { OnErr result (world self.new ≡ world self.old) }
+    {
+        let Some(parent) = self.parent_of_first(group) else {
+            return Ok(());
+        };
+        let list = lowered(self.alloc, &self.lists.get(parent).windows, group)?;
+        self.set_order(parent, list, steps)
+    }
+
+    // The image on which the first of a group stands, if there is a first.
+    fn parent_of_first(&self, group: &[ImageNo]) -> Option<u32>
+        requires windows { All (λ i. IsSome (parent_of (world self.now) i.0)) group.now }
+        ensures none { IfNone result (group.now ≡ []) }
+        ensures parent { IfSome result (λ p. IsGroupOn (world self.now) (map (λ i. i.0) group.now) p) }
+    {
+        let first = group.first()?;
+        let standing = self.lists.get(first.0).standing?;
+        Some(standing.parent)
+    }
+
+    // Gives an image its windows in another order.
+    fn set_order<L: Ledger>(
+        &mut self,
+        parent: u32,
+        list: Vec<Window>,
+        steps: &mut Steps<L>,
+    ) -> Result<(), Memory>
+        requires order { IsReordering (shape self.old.lists) parent list.items }
+        requires forest { IsForest (with_windows (world self.old) parent list.items) }
+        ensures world { OnOk result (world self.new ≡ with_windows (world self.old) parent list.items) }
+        ensures numbers { numbers self.new ≡ numbers self.old }
+        ensures err { OnErr result (world self.new ≡ world self.old) }
+    {
+        self.pixels.reserve_hidden(&self.lists, parent, &list)?;
+        reorder_windows(&mut self.lists, &mut self.pixels, parent, list, steps);
+        Ok(())
+    }
+}

@@ -1,0 +1,175 @@
+//! Another list of the windows of an image: tiles are taken, pixels are moved to where they are kept then, and tiles given back.
+
+ghost use Rattle.std.specs.Prelude.{◌≡◌, ◌^◌, ◌≢◌, ◌+◌, ◌*◌, ◌<◌, ◌≤◌, ◌&&◌, ℕ, false, true, IsTrue, Some};
+ghost use Rattle.r9_geom.specs.declared.Point.{Point as Spot};
+ghost use Rattle.r9_geom.specs.Geometry.{area_of, holds, IsOrdered, IsRectNear};
+ghost use Rattle.model_forest.specs.Stack.{with_windows};
+ghost use Rattle.model_forest.specs.World.{image_at, IsForest, IsLive};
+ghost use Rattle.model_kept.specs.Keeping.{with_kept, Place};
+ghost use Rattle.model_kept.specs.Restack.{with_list};
+ghost use Rattle.r9_locate.specs.Forms.{bits_in, forms_of};
+ghost use Rattle.r9_locate.specs.Table.{made, shape};
+ghost use Rattle.r9_pixels.specs.Kept.{form_at, has_place, kept_at, spare_in, wanted_in};
+ghost use Rattle.r9_pixels.specs.Places.{in_hidden, HasCells};
+ghost use Rattle.r9_restack.specs.Changing.{StaysTop};
+ghost use Rattle.r9_restack.specs.Moving.{IsReordering};
+ghost use Rattle.r9_forest.specs.Relisting.{HasOtherCells, HasPlacesBefore, IsAsBefore, IsRelisting};
+
+use model_forest::Window;
+use r9_geom::Rect;
+use r9_locate::Lists;
+use r9_pixels::KeptPixels;
+use r9_restack::{Source, reorder, restack};
+use r9_steps::Steps;
+use std::sync::ledger::Ledger;
+
+/// The points of both rectangles, where none are those of no points at the first one's min.
+pub fn common(a: &Rect, b: &Rect) -> Rect
+    requires near { IsRectNear a.now }
+    requires also { IsRectNear b.now }
+    ensures near { IsRectNear result }
+    ensures ordered { IsOrdered result }
+    ensures points { (p : Spot) → holds result p ≡ (holds a.now p && holds b.now p) }
+    ensures fewer { IsOrdered a.now → area_of result ≤ area_of a.now }
+{
+    let both = a.meet(b);
+    if both.is_empty() {
+        return Rect {
+            min: a.min,
+            max: a.min,
+        };
+    }
+    both
+}
+
+/// Gives back the tiles that another list of the windows of an image asks for no more, and sets it. It takes no memory.
+pub fn settle(lists: &mut Lists, pixels: &mut KeptPixels, p: u32, list: Vec<Window>)
+    requires live { IsLive (shape lists.old) p }
+    requires forms { form_at pixels.old ≡ forms_of (shape lists.old) }
+    requires forest { IsForest (with_list (shape lists.old) p list.items) }
+    requires others { HasOtherCells (shape lists.old) p (has_place pixels.old) }
+    requires hidden { (place : Place) → in_hidden (shape lists.old) p list.items place ≡ true → has_place pixels.old place ≡ true }
+    ensures lists { shape lists.new ≡ with_list (shape lists.old) p list.items }
+    ensures made { made lists.new ≡ made lists.old }
+    ensures kept { with_kept (shape lists.new) (kept_at pixels.new) ≡ with_kept (shape lists.new) (kept_at pixels.old) }
+    ensures cells { HasCells (shape lists.new) (has_place pixels.new) }
+    ensures forms { form_at pixels.new ≡ forms_of (shape lists.new) }
+{
+    pixels.give_shown(lists, p, &list);
+    let _ = lists.set_windows(p, list);
+}
+
+// Takes tiles for what another list of windows hides, and moves the pixels to where they are kept with it.
+fn move_pixels<S: Source, L: Ledger>(
+    lists: &Lists,
+    pixels: &mut KeptPixels,
+    source: &S,
+    p: u32,
+    w: u32,
+    new: &[Window],
+    area: &Rect,
+    steps: &mut Steps<L>,
+)
+    requires change { IsRelisting (shape lists.now) p w new.now }
+    requires forms { form_at pixels.old ≡ forms_of (shape lists.now) }
+    requires places { HasPlacesBefore (shape lists.now) p w (has_place pixels.old) }
+    requires spare { wanted_in pixels.old (shape lists.now) p new.now ≤ spare_in pixels.old }
+    requires near { IsRectNear area.now }
+    requires ordered { IsOrdered area.now }
+    requires inside { (z : Spot) → IsTrue (holds area.now z) → IsTrue (holds (image_at (shape lists.now) p).r z) }
+    requires outside { (z : Spot) → IsTrue (holds (image_at (shape lists.now) p).r z) → holds area.now z ≡ false → StaysTop (shape lists.now) p new.now w z }
+    requires given { (x : Spot) → S.given source.now x < 2 ^ bits_in (form_at pixels.old) p }
+    requires fill { (z : Spot) → S.fill source.now z < 2 ^ bits_in (form_at pixels.old) p }
+    ensures moved { (before : Place → ℕ) → IsAsBefore (shape lists.now) p w new.now (S.given source.now) (S.fill source.now) (kept_at pixels.old) before → with_kept (with_list (shape lists.now) p new.now) (kept_at pixels.new) ≡ with_windows (with_kept (shape lists.now) before) p new.now }
+    ensures others { HasOtherCells (shape lists.now) p (has_place pixels.new) }
+    ensures hidden { (place : Place) → in_hidden (shape lists.now) p new.now place ≡ true → has_place pixels.new place ≡ true }
+    ensures forms { form_at pixels.new ≡ forms_of (shape lists.now) }
+    ensures steps { steps.new ≤ steps.old + 2 * area_of area.now + area_of (image_at (shape lists.now) w).r }
+{
+    pixels.take_hidden(lists, p, new);
+    restack(lists, pixels, source, p, w, new, area, steps);
+}
+
+/// Gives an image another list of windows, in which one of them comes or moves, whose pixels are given, as are those that fill
+/// what becomes bare. Tiles for all cells that are hidden then are spare. It takes no memory.
+pub fn relist<S: Source, L: Ledger>(
+    lists: &mut Lists,
+    pixels: &mut KeptPixels,
+    source: &S,
+    p: u32,
+    w: u32,
+    list: Vec<Window>,
+    area: &Rect,
+    steps: &mut Steps<L>,
+)
+    requires change { IsRelisting (shape lists.old) p w list.items }
+    requires forms { form_at pixels.old ≡ forms_of (shape lists.old) }
+    requires places { HasPlacesBefore (shape lists.old) p w (has_place pixels.old) }
+    requires spare { wanted_in pixels.old (shape lists.old) p list.items ≤ spare_in pixels.old }
+    requires near { IsRectNear area.now }
+    requires ordered { IsOrdered area.now }
+    requires inside { (z : Spot) → IsTrue (holds area.now z) → IsTrue (holds (image_at (shape lists.old) p).r z) }
+    requires outside { (z : Spot) → IsTrue (holds (image_at (shape lists.old) p).r z) → holds area.now z ≡ false → StaysTop (shape lists.old) p list.items w z }
+    requires given { (x : Spot) → S.given source.now x < 2 ^ bits_in (form_at pixels.old) p }
+    requires fill { (z : Spot) → S.fill source.now z < 2 ^ bits_in (form_at pixels.old) p }
+    ensures lists { shape lists.new ≡ with_list (shape lists.old) p list.items }
+    ensures made { made lists.new ≡ made lists.old }
+    ensures world { (before : Place → ℕ) → IsAsBefore (shape lists.old) p w list.items (S.given source.now) (S.fill source.now) (kept_at pixels.old) before → with_kept (shape lists.new) (kept_at pixels.new) ≡ with_windows (with_kept (shape lists.old) before) p list.items }
+    ensures cells { HasCells (shape lists.new) (has_place pixels.new) }
+    ensures forms { form_at pixels.new ≡ forms_of (shape lists.new) }
+    ensures steps { steps.new ≤ steps.old + 2 * area_of area.now + area_of (image_at (shape lists.old) w).r }
+{
+    move_pixels(lists, pixels, source, p, w, &list, area, steps);
+    settle(lists, pixels, p, list);
+}
+
+// Takes tiles for what another order of windows hides, and moves the pixels to where they are kept with it.
+fn order_pixels<L: Ledger>(
+    lists: &Lists,
+    pixels: &mut KeptPixels,
+    p: u32,
+    new: &[Window],
+    steps: &mut Steps<L>,
+)
+    requires order { IsReordering (shape lists.now) p new.now }
+    requires before { IsForest (shape lists.now) }
+    requires forest { IsForest (with_list (shape lists.now) p new.now) }
+    requires forms { form_at pixels.old ≡ forms_of (shape lists.now) }
+    requires cells { HasCells (shape lists.now) (has_place pixels.old) }
+    requires spare { wanted_in pixels.old (shape lists.now) p new.now ≤ spare_in pixels.old }
+    ensures moved { with_kept (with_list (shape lists.now) p new.now) (kept_at pixels.new) ≡ with_windows (with_kept (shape lists.now) (kept_at pixels.old)) p new.now }
+    ensures others { HasOtherCells (shape lists.now) p (has_place pixels.new) }
+    ensures hidden { (place : Place) → in_hidden (shape lists.now) p new.now place ≡ true → has_place pixels.new place ≡ true }
+    ensures forms { form_at pixels.new ≡ forms_of (shape lists.now) }
+    ensures steps { steps.new ≤ steps.old + 2 * area_of (image_at (shape lists.now) p).r }
+{
+    pixels.take_hidden(lists, p, new);
+    let area = lists.get(p).r;
+    reorder(lists, pixels, p, new, &area, steps);
+}
+
+/// Gives an image its windows in another order, at the same places. Tiles for all cells that are hidden then are spare. It
+/// takes no memory.
+pub fn reorder_windows<L: Ledger>(
+    lists: &mut Lists,
+    pixels: &mut KeptPixels,
+    p: u32,
+    list: Vec<Window>,
+    steps: &mut Steps<L>,
+)
+    requires order { IsReordering (shape lists.old) p list.items }
+    requires before { IsForest (shape lists.old) }
+    requires forest { IsForest (with_list (shape lists.old) p list.items) }
+    requires forms { form_at pixels.old ≡ forms_of (shape lists.old) }
+    requires cells { HasCells (shape lists.old) (has_place pixels.old) }
+    requires spare { wanted_in pixels.old (shape lists.old) p list.items ≤ spare_in pixels.old }
+    ensures lists { shape lists.new ≡ with_list (shape lists.old) p list.items }
+    ensures made { made lists.new ≡ made lists.old }
+    ensures world { with_kept (shape lists.new) (kept_at pixels.new) ≡ with_windows (with_kept (shape lists.old) (kept_at pixels.old)) p list.items }
+    ensures cells { HasCells (shape lists.new) (has_place pixels.new) }
+    ensures forms { form_at pixels.new ≡ forms_of (shape lists.new) }
+    ensures steps { steps.new ≤ steps.old + 2 * area_of (image_at (shape lists.old) p).r }
+{
+    order_pixels(lists, pixels, p, &list, steps);
+    settle(lists, pixels, p, list);
+}
