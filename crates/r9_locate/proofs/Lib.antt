@@ -3,3 +3,4 @@ pub mod Slots
 pub mod Locating
 pub mod Apart
 pub mod Parts
+pub mod Clips

@@ -1,6 +1,7 @@
 -- Frames by number as a world.
 use Rattle.std.proofs.Common.{◌≡◌, ◌∙◌, ℕ, Bool, true, false, Option, Some, None, refl, sym, ap}
 use Rattle.std.specs.Prelude.{◌==◌, is_some, option_map, unwrap_or, if◌then◌else◌}
+use Rattle.r9_geom.specs.declared.Rect.{Rect}
 use Rattle.r9_numbered.specs.Numbered.{value_at}
 use Rattle.r9_numbered.specs.declared.Numbered.{Numbered}
 use Rattle.model_forest.specs.World.{Image, image_at, no_image, with_image, IsLive}
@@ -40,12 +41,23 @@ world_put old new i slot put =
 pub world_kept : (old new : Numbered Frame) → ((n : ℕ) → value_at new n ≡ value_at old n) → shape_of new ≡ shape_of old
 world_kept old new kept = World-same (shape_of new) (shape_of old) (λ n. ap (option_map frame_image) (kept n))
 
--- and where an image was taken out and put back with another list
-pub world_list : (old mid new : Numbered Frame) (p : ℕ) (was now : Frame) → value_at old p ≡ Some was → ((n : ℕ) → value_at mid n ≡ (if n == p then None else value_at old n)) → ((n : ℕ) → value_at new n ≡ (if n == p then Some now else value_at mid n)) → frame_image now ≡ record (frame_image was) { windows = now.windows.items } → shape_of new ≡ with_list (shape_of old) p now.windows.items
-world_list old mid new p was now is removed put same =
-    world_put old new p (Some now) (λ n. put n ∙ ap (λ o. if n == p then Some now else o) (removed n) ∙ once (n == p) (value_at old n))
-    ∙ ap (λ (image : Image). with_image (shape_of old) p (Some image)) (same ∙ ap (λ (image : Image). record image { windows = now.windows.items }) (sym (image_is old p was is)))
+-- and where an image was taken out and put back
+world_again : (old mid new : Numbered Frame) (i : ℕ) (now : Frame) → ((n : ℕ) → value_at mid n ≡ (if n == i then None else value_at old n)) → ((n : ℕ) → value_at new n ≡ (if n == i then Some now else value_at mid n)) → shape_of new ≡ with_image (shape_of old) i (Some (frame_image now))
+world_again old mid new i now removed put =
+    world_put old new i (Some now) (λ n. put n ∙ ap (λ o. if n == i then Some now else o) (removed n) ∙ once (n == i) (value_at old n))
   where
     once : (b : Bool) (o : Option Frame) → (if b then Some now else (if b then None else o)) ≡ (if b then Some now else o)
     once true o = refl
     once false o = refl
+
+-- with another list
+pub world_list : (old mid new : Numbered Frame) (p : ℕ) (was now : Frame) → value_at old p ≡ Some was → ((n : ℕ) → value_at mid n ≡ (if n == p then None else value_at old n)) → ((n : ℕ) → value_at new n ≡ (if n == p then Some now else value_at mid n)) → frame_image now ≡ record (frame_image was) { windows = now.windows.items } → shape_of new ≡ with_list (shape_of old) p now.windows.items
+world_list old mid new p was now is removed put same =
+    world_again old mid new p now removed put
+    ∙ ap (λ (image : Image). with_image (shape_of old) p (Some image)) (same ∙ ap (λ (image : Image). record image { windows = now.windows.items }) (sym (image_is old p was is)))
+
+-- or repeating or not, with another clip rectangle
+pub world_clip : (old mid new : Numbered Frame) (i : ℕ) (was now : Frame) (repl : Bool) (clipr : Rect) → value_at old i ≡ Some was → ((n : ℕ) → value_at mid n ≡ (if n == i then None else value_at old n)) → ((n : ℕ) → value_at new n ≡ (if n == i then Some now else value_at mid n)) → frame_image now ≡ record (frame_image was) { repl = repl; clipr = clipr } → shape_of new ≡ with_image (shape_of old) i (Some (record (image_at (shape_of old) i) { repl = repl; clipr = clipr }))
+world_clip old mid new i was now repl clipr is removed put same =
+    world_again old mid new i now removed put
+    ∙ ap (λ (image : Image). with_image (shape_of old) i (Some image)) (same ∙ ap (λ (image : Image). record image { repl = repl; clipr = clipr }) (sym (image_is old i was is)))

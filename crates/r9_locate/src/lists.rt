@@ -2,6 +2,7 @@
 
 ghost use Rattle.std.specs.Prelude.{◌≡◌, ◌+◌, ◌≤◌, ℕ, None, Some, max, min, OnOk};
 ghost use Rattle.std.specs.Option.{option_map_or};
+ghost use Rattle.model_forest.specs.Steps.{after_set};
 ghost use Rattle.model_forest.specs.World.{image_at, no_rect, with_image, IsLive};
 ghost use Rattle.model_kept.specs.Keeping as kept;
 ghost use Rattle.model_kept.specs.Keeping.{HasOnePlaces, IsStanding};
@@ -148,5 +149,17 @@ impl Lists {
         let had = mem::replace(&mut frame.windows, windows);
         self.frames.insert(p, frame);
         had
+    }
+
+    /// Makes an image repeat or not, and gives it another clip rectangle. It takes no memory.
+    pub fn set(&mut self, i: u32, repl: bool, clipr: Rect)
+        requires { IsLive (shape self.old) i }
+        ensures world { shape self.new ≡ after_set (shape self.old) i repl clipr }
+        ensures made { made self.new ≡ made self.old }
+    {
+        let mut frame = self.frames.remove(i);
+        frame.repl = repl;
+        frame.clipr = clipr;
+        self.frames.insert(i, frame);
     }
 }
