@@ -149,3 +149,16 @@ pub true_place : (a b : CellPlace) → a ≡ b → is_place a b ≡ true
 true_place a b same =
     and_from (a.image == b.image) ((a.cell == b.cell) && is_point a.at b.at) (eq-eqb a.image b.image (ap (λ (p : CellPlace). p.image) same))
     (and_from (a.cell == b.cell) (is_point a.at b.at) (eq-eqb a.cell b.cell (ap (λ (p : CellPlace). p.cell) same)) (true_is_point a.at b.at (ap (λ (p : CellPlace). p.at) same)))
+
+-- what has the form of no window has a plane
+pub whole_of : (slot : Option Own) → option_map (λ (form : Form). form.is_window) (option_map form_in slot) ≡ Some false → (plane : Plane) × (slot ≡ Some (Whole plane))
+whole_of None e = absurd cc
+whole_of (Some (Whole plane)) e = (plane, refl)
+whole_of (Some (Hidden extent)) e = absurd cc
+
+pub own_there : (owns : List (Option Own)) (i : ℕ) (kept : Own) → own_at owns i ≡ Some kept → i < length owns
+own_there owns i kept is =
+    ⊎_elim
+    (λ (below : i < length owns). below)
+    (λ past. let none : None ≡ Some kept = sym (get_or_past owns i None past) ∙ is in absurd cc)
+    (cases_lt i (length owns))

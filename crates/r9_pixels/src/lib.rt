@@ -12,6 +12,7 @@ mod keeping;
 mod making;
 mod own;
 mod sizing;
+mod whole;
 
 pub use keeping::KeptPixels;
 pub use own::{Extent, Own};
