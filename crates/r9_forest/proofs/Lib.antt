@@ -2,12 +2,17 @@ pub mod Bare
 pub mod Canvases
 pub mod Covering
 pub mod Entering
+pub mod Grids
 pub mod Groups
 pub mod Making
 pub mod Meeting
 pub mod Near
 pub mod Numbers
 pub mod Relisted
+pub mod Repeats
+pub mod Rows
+pub mod Setting
+pub mod Showing
 pub mod Sounding
 pub mod Surfaces
 pub mod Viewing

@@ -44,7 +44,7 @@ sound_same lists more pixels new spare world count kept sound = record {
 }
 
 -- lists have no pixels
-shape_bare : (lists : Lists) (n : ℕ) (p : Point) → (image_at (shape lists) n).canvas p ≡ 0
+pub shape_bare : (lists : Lists) (n : ℕ) (p : Point) → (image_at (shape lists) n).canvas p ≡ 0
 unfolding shape
 shape_bare lists n p = at (value_at lists.frames n)
   where

@@ -6,5 +6,6 @@ mod images;
 mod ordering;
 mod reading;
 mod relisting;
+mod telling;
 
 pub use images::Images;

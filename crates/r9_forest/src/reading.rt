@@ -1,35 +1,108 @@
-//! What images show and tell of themselves.
+//! What images show, read where it is kept.
 
-ghost use Rattle.std.specs.Prelude.{◌≡◌, ◌^◌, ◌<◌, IsTrue};
-ghost use Rattle.r9_geom.specs.Geometry.{holds};
+ghost use Rattle.std.specs.Prelude.{◌≡◌, ◌*◌, ◌^◌, ◌<◌, ◌≤◌, ℕ, None, true, length, slice_index, IfOk, IfSome, IsTrue, OnOk};
+ghost use Rattle.r9_geom.specs.declared.Point.{Point as Spot};
+ghost use Rattle.r9_geom.specs.Geometry as geometry;
+ghost use Rattle.r9_geom.specs.Geometry.{height, holds, reduced, strip, IsNearBy, IsOrdered, IsRectNearBy};
+ghost use Rattle.r9_plane.specs.Pixels.{along, chan_of, pixel_at, rect_of};
 ghost use Rattle.model_pixel.specs.Channels as channels;
-ghost use Rattle.model_forest.specs.World.{image_at, IsLive};
+ghost use Rattle.model_pixel.specs.Rows.{row_bytes, rows_of};
+ghost use Rattle.model_forest.specs.World.{image_at, parent_of, IsLive};
 ghost use Rattle.model_forest.specs.View as model;
-ghost use Rattle.r9_forest.specs.Told.{info_of};
+ghost use Rattle.model_forest.specs.View.{at, is_bare};
+ghost use Rattle.model_forest.specs.Paint.{paint};
+ghost use Rattle.model_forest.specs.Draw.{reaches};
 
 use super::images::Images;
-use r9_geom::Point;
-use r9_info::{ImageNo, Info};
-use r9_locate::read_view;
+use r9_geom::{Point, Rect, distance};
+use r9_locate::{along, read_view};
+use r9_memory::Memory;
+use r9_plane::{Plane, row_bytes};
+use r9_text::Bytes;
+
+// How many columns a rectangle has from a point of it on.
+fn columns_left(p: Point, r: &Rect) -> usize
+    requires { IsTrue (holds r.now p) }
+    ensures value { result ≡ geometry.distance p.x r.now.max.x }
+    ensures some { 0 < result }
+{
+    distance(p.x, r.max.x) as usize
+}
 
 impl Images {
     ghost use Rattle.r9_forest.specs.Images.{world};
 
-    /// What an image tells of itself.
-    pub fn info(&self, i: u32) -> Info
+    /// Reads what an image shows side by side, from a point of it to the right.
+    pub(crate) fn read_view(&self, i: u32, from: Point, raws: &mut [u32])
+        requires live { IsLive (world self.now) i }
+        requires inside { (p : Spot) → IsTrue (holds (strip from (length raws.old)) p) → IsTrue (holds (image_at (world self.now) i).r p) }
+        ensures { (k : ℕ) → k < length raws.old → slice_index raws.new k ≡ model.view (world self.now) i (along from k) }
+    {
+        if raws.is_empty() {
+            return;
+        }
+        read_view(&self.lists, &self.pixels, i, from, raws);
+    }
+
+    /// The one pixel that an image gives everywhere, where it repeats a single one.
+    pub fn single(&self, i: u32) -> Option<u32>
         requires { IsLive (world self.now) i }
-        ensures { result ≡ info_of (image_at (world self.now) i) }
+        ensures { IfSome result (λ raw. (p : Spot) → at (world self.now) i p ≡ raw) }
     {
         let frame = self.lists.get(i);
-        Info {
-            r: frame.r,
-            clipr: frame.clipr,
-            repl: frame.repl,
-            chan: frame.chan,
-            parent: frame.standing.map(|s| ImageNo(s.parent)),
-            depth: frame.depth,
-            windows: frame.windows.len() as u32,
+        let r = frame.r;
+        if frame.repl && r.width() == 1 && r.height() == 1 {
+            Some(self.view(i, r.min))
+        } else {
+            None
         }
+    }
+
+    /// Reads what an image gives where it is drawn from, side by side, from a point to the right.
+    pub fn read_row(&self, i: u32, from: Point, raws: &mut [u32])
+        requires live { IsLive (world self.now) i }
+        requires near { IsNearBy (2 ^ 41) from }
+        requires width { length raws.old ≤ 2 ^ 41 }
+        requires inside { (p : Spot) → IsTrue (holds (strip from (length raws.old)) p) → IsTrue (reaches (image_at (world self.now) i) p) }
+        ensures raws { (k : ℕ) → k < length raws.old → slice_index raws.new k ≡ at (world self.now) i (along from k) }
+        ensures range { (k : ℕ) → k < length raws.old → slice_index raws.new k < 2 ^ channels.depth (image_at (world self.now) i).chan }
+    {
+        if let Some(raw) = self.single(i) {
+            raws.fill(raw);
+        } else if self.lists.get(i).repl {
+            self.read_repeated(i, from, raws);
+        } else {
+            self.read_view(i, from, raws);
+        }
+    }
+
+    // The same of an image that repeats: one run of each copy of it after the other.
+    fn read_repeated(&self, i: u32, from: Point, raws: &mut [u32])
+        requires live { IsLive (world self.now) i }
+        requires near { IsNearBy (2 ^ 41) from }
+        requires width { length raws.old ≤ 2 ^ 41 }
+        requires repl { (image_at (world self.now) i).repl ≡ true }
+        ensures { (k : ℕ) → k < length raws.old → slice_index raws.new k ≡ model.view (world self.now) i (reduced (image_at (world self.now) i).r (along from k)) }
+    {
+        let r = self.lists.get(i).r;
+        let mut done = 0;
+        while done < raws.len() {
+            let p = along(from, done).reduced(r);
+            let end = done + columns_left(p, &r).min(raws.len() - done);
+            self.read_view(i, p, &mut raws[done..end]);
+            done = end;
+        }
+    }
+
+    /// Reads an image's own pixels side by side, from a point of it to the right. Where a window stands there, what is read
+    /// is any pixel.
+    pub fn read_bare_row(&self, i: u32, from: Point, raws: &mut [u32])
+        requires live { IsLive (world self.now) i }
+        requires inside { (p : Spot) → IsTrue (holds (strip from (length raws.old)) p) → IsTrue (holds (image_at (world self.now) i).r p) }
+        ensures raws { (k : ℕ) → k < length raws.old → is_bare (image_at (world self.now) i).windows (along from k) ≡ true → slice_index raws.new k ≡ model.view (world self.now) i (along from k) }
+        ensures range { (k : ℕ) → k < length raws.old → slice_index raws.new k < 2 ^ channels.depth (image_at (world self.now) i).chan }
+    {
+        self.read_view(i, from, raws);
     }
 
     /// The raw pixel that an image shows at a point of it.
@@ -40,7 +113,74 @@ impl Images {
         ensures range { result < 2 ^ channels.depth (image_at (world self.now) i).chan }
     {
         let mut raws = [0];
-        read_view(&self.lists, &self.pixels, i, p, &mut raws);
+        self.read_view(i, p, &mut raws);
         raws[0]
+    }
+
+    /// The plane of an image that stands nowhere: what the image shows, with all windows on it.
+    pub fn plane(&self, i: u32) -> &Plane
+        requires live { IsLive (world self.now) i }
+        requires nowhere { parent_of (world self.now) i ≡ None }
+        ensures rect { rect_of result.now ≡ (image_at (world self.now) i).r }
+        ensures chan { chan_of result.now ≡ (image_at (world self.now) i).chan }
+        ensures pixels { (p : Spot) → IsTrue (holds (image_at (world self.now) i).r p) → pixel_at result.now p ≡ model.view (world self.now) i p }
+    {
+        self.pixels.plane(i)
+    }
+
+    // What an image shows in a rectangle of it, as a plane.
+    fn shown(&self, i: u32, r: Rect) -> Result<Plane, Memory>
+        requires live { IsLive (world self.now) i }
+        requires near { IsRectNearBy (2 ^ 36) r }
+        requires ordered { IsOrdered r }
+        requires inside { (p : Spot) → IsTrue (holds r p) → IsTrue (holds (image_at (world self.now) i).r p) }
+        ensures rect { IfOk result (λ plane. rect_of plane ≡ r) }
+        ensures chan { IfOk result (λ plane. chan_of plane ≡ (image_at (world self.now) i).chan) }
+        ensures pixels { IfOk result (λ plane. (p : Spot) → IsTrue (holds r p) → pixel_at plane p ≡ model.view (world self.now) i p) }
+    {
+        let mut plane = Plane::new(self.alloc, r, self.lists.get(i).chan, 0)?;
+        let mut raws = vec![in self.alloc; 0; r.width() as usize]?;
+        for row in 0..r.height() {
+            let at = r.point_at(0, row);
+            self.read_view(i, at, &mut raws);
+            plane.put_row(at, &raws);
+        }
+        Ok(plane)
+    }
+
+    // Writes the rows of what an image shows in a rectangle.
+    fn unload_rows(&self, i: u32, r: Rect, rows: &mut [u8]) -> Result<(), Memory>
+        requires live { IsLive (world self.now) i }
+        requires near { IsRectNearBy (2 ^ 36) r }
+        requires ordered { IsOrdered r }
+        requires inside { (p : Spot) → IsTrue (holds r p) → IsTrue (holds (image_at (world self.now) i).r p) }
+        requires rows { length rows.old ≡ row_bytes r (channels.depth (image_at (world self.now) i).chan) * height r }
+        ensures { OnOk result (rows.new ≡ rows_of r (channels.depth (image_at (world self.now) i).chan) (model.view (world self.now) i)) }
+    {
+        if self.lists.get(i).standing.is_none() {
+            self.plane(i).unload(r, rows);
+        } else {
+            self.shown(i, r)?.unload(r, rows);
+        }
+        Ok(())
+    }
+
+    /// The rows of what an image shows in a rectangle (image(6)): the picture that is painted from back to front, too.
+    pub fn unload(&self, i: u32, r: Rect) -> Result<Bytes, Memory>
+        requires live { IsLive (world self.now) i }
+        requires near { IsRectNearBy (2 ^ 36) r }
+        requires ordered { IsOrdered r }
+        requires inside { (p : Spot) → IsTrue (holds r p) → IsTrue (holds (image_at (world self.now) i).r p) }
+        ensures view { IfOk result (λ rows. rows ≡ rows_of r (channels.depth (image_at (world self.now) i).chan) (model.view (world self.now) i)) }
+        ensures paint { IfOk result (λ rows. rows ≡ rows_of r (channels.depth (image_at (world self.now) i).chan) (paint (world self.now) i)) }
+    {
+        let depth = self.lists.get(i).chan.depth();
+        let size = match row_bytes(r, depth).checked_mul(r.height()) {
+            Some(size) => size as usize,
+            None => return Err(Memory),
+        };
+        let mut rows = vec![in self.alloc; 0; size]?;
+        self.unload_rows(i, r, &mut rows)?;
+        Ok(Bytes::from(rows))
     }
 }
