@@ -70,7 +70,7 @@ place_before row other column w early inside =
     omega (arith, more)
 
 -- how far a point of a row is from its start
-strip_column : (at q : Point) (n : ℕ) → holds (strip at n) q ≡ true → distance at.x q.x < n
+pub strip_column : (at q : Point) (n : ℕ) → holds (strip at n) q ≡ true → distance at.x q.x < n
 strip_column at q n h =
     let b = bounds_of (strip at n) q h in
     let d = distance_is at.x q.x b.left in

@@ -8,6 +8,7 @@ pub mod Making
 pub mod Meeting
 pub mod Near
 pub mod Numbers
+pub mod Putting
 pub mod Relisted
 pub mod Repeats
 pub mod Rows
@@ -15,5 +16,4 @@ pub mod Setting
 pub mod Showing
 pub mod Sounding
 pub mod Surfaces
-pub mod Viewing
 pub mod Windows

@@ -4,3 +4,4 @@ pub mod Numbered
 pub mod Relisting
 pub mod Sound
 pub mod Told
+pub mod Written

@@ -7,5 +7,6 @@ mod ordering;
 mod reading;
 mod relisting;
 mod telling;
+mod writing;
 
 pub use images::Images;
