@@ -7,13 +7,8 @@ use Rattle.r9_cells.specs.Rows.{cell_at}
 use Rattle.r9_pixels.specs.Owns.{form_in, own_at, IsTabled}
 use Rattle.r9_pixels.proofs.Coming.{cell_more, more_tabled, own_more}
 use Rattle.r9_pixels.proofs.Telling.{kept_of, kept_same, pixel_same, place_of, place_same}
-<<<<<<<< HEAD:crates/r9_pixels/proofs/keeping/KeptPixels/push/Answers.antt
 use Rattle.r9_pixels.proofs.keeping.KeptPixels.push.Goals as goal
 use Rattle.r9_pixels.proofs.keeping.KeptPixels.push.Goals.{After-push_reserved}
-========
-use Rattle.r9_pixels.proofs.keeping.KeptPixels.add_number.Goals as goal
-use Rattle.r9_pixels.proofs.keeping.KeptPixels.add_number.Goals.{After-push_reserved}
->>>>>>>> 0fa5c58 (Kept pixels give the plane of an image that stands nowhere, and make room for any number):crates/r9_pixels/proofs/keeping/KeptPixels/add_number/Answers.antt
 
 owns : (c : After-push_reserved) → c.push_reserved.new.self.items ≡ c.args.self.now.owns.items ++ (None ∷ [])
 owns c = c.push_reserved.ensures.items ∙ ap (λ items. items ++ (None ∷ [])) c.reserve.ensures.items
