@@ -1,2 +1,3 @@
 pub mod Unbegun
+pub mod Histories
 mod Rows
