@@ -21,7 +21,7 @@ pub record IsFollowed (c : ℕ) (Rel : Roll → World → LoneWorld → Watched 
   pub replies : replies_to c (step world event).replies ≡ (lone_after alone (judged c world seen event).items).1
   pub rest : Rel (roll_after roll event) (step world event).world (lone_after alone (judged c world seen event).items).0 (judged c world seen event).seen
 
-replies-append : (c : ℕ) (xs ys : List Reply) → replies_to c (xs ++ ys) ≡ replies_to c xs ++ replies_to c ys
+pub replies-append : (c : ℕ) (xs ys : List Reply) → replies_to c (xs ++ ys) ≡ replies_to c xs ++ replies_to c ys
 replies-append c [] ys = refl
 replies-append c (x ∷ xs) ys = by (x.session == c) (replies-append c xs ys)
   where
