@@ -2,3 +2,4 @@ pub mod Trees
 pub mod Relations
 pub mod Files
 pub mod Sessions
+pub mod Keeping

@@ -22,6 +22,7 @@ use Rattle.model_world.proofs.Standing.{IsLess, first_is_less, settled_ends}
 use Rattle.model_world.proofs.Waking.{waits_each}
 use Rattle.model_agreement.specs.Agreement.{Alike, Ask, KeepsToItself, SameLeft, SameOption}
 use Rattle.model_agreement.proofs.Sessions.{one_alike}
+use Rattle.model_agreement.proofs.Keeping.{one_keeps}
 use Rattle.model_alone.specs.Lone as alone
 use Rattle.model_alone.specs.Lone.{LoneDesktop, LoneWorld, all_settled, left_by, lone_desktop, replied, settled_alone}
 use Rattle.model_alone.specs.Isolated.{replies_to}
@@ -58,9 +59,7 @@ others-reply c d (Some reply) other = rw (not_key d c other) refl
 module _ (c : ℕ) (Same Later : Desktop → LoneDesktop → Type 0) (HasWindow HasConnection : ℕ → Type 0) (May : Desktop → Ask → Type 0)
     (alike : Alike (desktop_for c) lone_desktop Same Later HasWindow HasConnection May)
     (others : (d : ℕ) (session : Session) (desktop : Desktop) (after : Left Desktop) (t : LoneDesktop) → (d ≡ c → ⊥)
-    → one_answered (desktop_for d) session desktop ≡ Some after → Same desktop t → Same after.rest t)
-    (keeping : (session : Session) (desktop : Desktop) (after : Left Desktop) → KeepsToItself HasWindow HasConnection session
-    → one_answered (desktop_for c) session desktop ≡ Some after → KeepsToItself HasWindow HasConnection after.session) where
+    → one_answered (desktop_for d) session desktop ≡ Some after → Same desktop t → Same after.rest t) where
   -- the session is the same in both worlds, with what is outside of it
   pub record AreBoth (world : World) (lone : LoneWorld) : Type 0 where
     pub lives : lookup world.sessions c ≡ Some lone.session
@@ -125,7 +124,7 @@ module _ (c : ℕ) (Same Later : Desktop → LoneDesktop → Type 0) (HasWindow 
   own_both world lone left own both is = record {
     lives = with-here world.sessions c lone.session left.session both.lives ∙ ap Some own.session;
     same = own.same;
-    keeps = subst (KeepsToItself HasWindow HasConnection) own.session (keeping lone.session world.desktop left both.keeps is);
+    keeps = subst (KeepsToItself HasWindow HasConnection) own.session (one_keeps (desktop_for c) HasWindow HasConnection lone.session world.desktop left both.keeps is);
     order = ascend-with world.sessions c left.session both.order;
   }
 
