@@ -3,6 +3,7 @@ use Rattle.std.proofs.Common.{◌≡◌, ◌∙◌, ℕ, [], ◌∷◌, List, Op
 use Rattle.std.specs.Prelude.{is_some, option_map, slice_get, unwrap_or, IsSome}
 use Rattle.std.proofs.lemmas.Bool.{false≢true}
 use Rattle.std.proofs.lemmas.List.Elements.{All-head}
+use Rattle.r9_geom.specs.Geometry.{area_of}
 use Rattle.model_forest.specs.declared.Standing.{Standing}
 use Rattle.model_forest.specs.declared.Window.{Window}
 use Rattle.model_forest.specs.Stack.{after_restack, with_windows}
@@ -24,6 +25,7 @@ group_first world first rest s ok live stands =
     record {
       live = ok.parents first s.parent live parent;
       restacked = λ order. ap (λ (o : Option ℕ). with_windows world (unwrap_or o 0) (order (image_at world (unwrap_or o 0)).windows)) parent;
+      area = ap (λ (o : Option ℕ). area_of (image_at world (unwrap_or o 0)).r) parent;
     }
 
 pub group_on : (world : World) (group : List ImageNo) (first : ImageNo) (s : Standing) → IsForest world → Some first ≡ slice_get group 0 → (image_at world first.0).standing ≡ Some s → IsGroupOn world (map (λ i. i.0) group) s.parent

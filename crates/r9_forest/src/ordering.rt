@@ -4,7 +4,7 @@ ghost use Rattle.std.specs.Prelude.{◌≡◌, ◌*◌, ◌+◌, ◌<◌, ◌≤
 ghost use Rattle.r9_geom.specs.Geometry.{area_of};
 ghost use Rattle.model_forest.specs.World.{image_at, parent_of, IsForest};
 ghost use Rattle.model_forest.specs.Stack.{after_lower, after_raise, with_windows};
-ghost use Rattle.r9_forest.specs.Groups.{IsGroupOn};
+ghost use Rattle.r9_forest.specs.Groups.{group_area, IsGroupOn};
 ghost use Rattle.r9_locate.specs.Table.{shape};
 ghost use Rattle.r9_restack.specs.Moving.{IsReordering};
 
@@ -20,7 +20,8 @@ use std::sync::ledger::Ledger;
 impl Images {
     ghost use Rattle.r9_forest.specs.Images.{numbers, world};
 
-    /// Raises windows of one image above its others, in their order.
+    /// Raises windows of one image above its others, in their order. At most two pixels are written for each point of that
+    /// image.
     pub fn raise<L: Ledger>(
         &mut self,
         group: &[ImageNo],
@@ -30,6 +31,7 @@ impl Images {
         ensures raised { OnOk result (world self.new ≡ after_raise (world self.old) (map (λ i. i.0) group.now)) }
         ensures numbers { numbers self.new ≡ numbers self.old }
         ensures err { OnErr result (world self.new ≡ world self.old) }
+        ensures steps { steps.new ≤ steps.old + 2 * group_area (world self.old) (map (λ i. i.0) group.now) }
     {
         let Some(parent) = self.parent_of_first(group) else {
             return Ok(());
@@ -38,7 +40,8 @@ impl Images {
         self.set_order(parent, list, steps)
     }
 
-    /// Lowers windows of one image below its others, in their order.
+    /// Lowers windows of one image below its others, in their order. At most two pixels are written for each point of that
+    /// image.
     pub fn lower<L: Ledger>(
         &mut self,
         group: &[ImageNo],
@@ -48,6 +51,7 @@ impl Images {
         ensures lowered { OnOk result (world self.new ≡ after_lower (world self.old) (map (λ i. i.0) group.now)) }
         ensures numbers { numbers self.new ≡ numbers self.old }
         ensures err { OnErr result (world self.new ≡ world self.old) }
+        ensures steps { steps.new ≤ steps.old + 2 * group_area (world self.old) (map (λ i. i.0) group.now) }
     {
         let Some(parent) = self.parent_of_first(group) else {
             return Ok(());
@@ -79,6 +83,7 @@ impl Images {
         ensures world { OnOk result (world self.new ≡ with_windows (world self.old) parent list.items) }
         ensures numbers { numbers self.new ≡ numbers self.old }
         ensures err { OnErr result (world self.new ≡ world self.old) }
+        ensures steps { steps.new ≤ steps.old + 2 * area_of (image_at (world self.old) parent).r }
     {
         self.pixels.reserve_hidden(&self.lists, parent, &list)?;
         reorder_windows(&mut self.lists, &mut self.pixels, parent, list, steps);

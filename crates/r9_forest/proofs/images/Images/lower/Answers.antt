@@ -1,4 +1,4 @@
-use Rattle.std.proofs.Common.{◌≡◌, ◌∙◌, List, map, ap, sym, subst}
+use Rattle.std.proofs.Common.{◌≡◌, ◌∙◌, List, map, ap, sym, subst, arith}
 use Rattle.std.specs.Prelude.{IsSome}
 use Rattle.std.proofs.lemmas.List.Elements.{All-map}
 use Rattle.std.proofs.lemmas.Result.{on_ok_weaker}
@@ -58,3 +58,6 @@ returns-clause-lowered g c =
     on_ok_weaker c.set_order.result
     (λ is. is ∙ group_listed (world c.args.self.now) group c.in-Some.parent c.in_ok-list.list.items (lowered group) c.in-Some.ensures.parent (list g (goal.at.returns-clause-lowered g c).In_ok-list))
     c.set_order.ensures.world
+
+pub returns-clause-steps : goal.returns-clause-steps
+returns-clause-steps g c = let same = c.in-Some.ensures.parent.area in omega (arith, same, c.set_order.ensures.steps)

@@ -1,4 +1,6 @@
 use Rattle.std.proofs.Common.{◌≡◌, ◌∙◌, ◌≤◌, ℕ, All, List, refl, sym, subst, ap, arith}
+use Rattle.r9_geom.specs.Geometry.{area_of}
+use Rattle.r9_forest.proofs.Canvases.{bare_canvas}
 use Rattle.r9_forest.proofs.Entering.{on_err}
 use Rattle.model_forest.specs.declared.Window.{Window}
 use Rattle.model_forest.specs.Stack.{with_windows}
@@ -88,3 +90,9 @@ returns-clause-world g c = after g (goal.at.returns-clause-world g c).After-reor
 pub returns-clause-numbers : goal.returns-clause-numbers
 unfolding numbers
 returns-clause-numbers g c = λ j. numbers_of (c.reorder_windows.ensures.made j) c.args.self.now.spare.items
+
+pub returns-clause-steps : goal.returns-clause-steps
+unfolding world
+returns-clause-steps g c =
+    let same = ap area_of ((bare_canvas (shape c.args.self.now.lists) (kept_at c.args.self.now.pixels)).r c.args.parent) in
+    omega (arith, same, c.reorder_windows.ensures.steps)
