@@ -21,7 +21,7 @@ use Rattle.model_world.specs.Session.{Session}
 use Rattle.model_world.specs.Desktop.{Desktop}
 use Rattle.model_world.specs.Whole.{client}
 use Rattle.model_world.specs.World.{World}
-use Rattle.model_world.specs.Cut.{IsCut, IsCutEvent, IsCutWrite}
+use Rattle.model_world.specs.Cut.{IsCut, IsCutEvent, IsCutWrite, wants_for}
 use Rattle.model_world.specs.Replay.{marked}
 
 -- ---- a write of draw messages
@@ -109,14 +109,14 @@ unfolding message
 write_len tag fid offset bytes = omega arith
 
 told_mark : (c : ℕ) (session : Session) (desktop : Desktop) (fid : ℕ) (bytes : List ℕ) (mark : Option ℕ) (k : ℕ) → length bytes ≤ 65537 → IfSome mark (λ n. n ≤ 65535)
-    → IsCutWrite c session desktop fid bytes mark k → k ≤ 65535
+    → IsCutWrite (wants_for c) session desktop fid bytes mark k → k ≤ 65535
 told_mark c session desktop fid bytes mark k short fits cut = elim cut.cause [
   | inl own ↦ (let P : Option ℕ → Type 0 = λ o. IfSome o (λ n. n ≤ 65535) in subst P own fits)
   | inr out ↦ omega (arith, runs_out_early (client c cut.fid.node.connection) desktop.device bytes k out, short)
 ]
 
 cut_mark : (c : ℕ) (session : Session) (desktop : Desktop) (frame : List ℕ) (mark : Option ℕ) (k : ℕ) (m : T) → IsWhole frame → message_of frame ≡ Some m → IfSome mark (λ n. n ≤ 65535)
-    → IsCut c session desktop mark k m → k ≤ 65535
+    → IsCut (wants_for c) session desktop mark k m → k ≤ 65535
 cut_mark c session desktop frame mark k (Twrite tag fid offset bytes) whole is fits cut =
     let spells = t_takes frame (Twrite tag fid offset bytes) whole.are_bytes is in
     let len = write_len tag fid offset bytes in

@@ -14,40 +14,50 @@ use Rattle.model_world.specs.Fids.{is_kind}
 use Rattle.model_world.specs.Reading.{is_open_for}
 use Rattle.model_world.specs.Answer.{answer}
 use Rattle.model_world.specs.Refusal.{IsRefused}
+use Rattle.model_world.specs.Outside.{Outside}
 use Rattle.model_world.specs.Desktop.{Desktop}
 use Rattle.model_world.specs.Whole.{client, desktop_for}
 use Rattle.model_world.specs.World.{World}
 
+-- Where a data write of a connection may want memory: in the message behind so many of those that its bytes spell.
+abbrev pub Wants : Type 0 → Type 1
+Wants S = (connection : ℕ) → S → List ℕ → ℕ → Type 0
+
 -- A write of an open `data` file may stop after k of its draw messages: its mark says so, or the message behind them may want
 -- memory.
-pub record IsCutWrite (c : ℕ) (session : Session) (desktop : Desktop) (number : ℕ) (bytes : List ℕ) (mark : Option ℕ) (k : ℕ) : Type 0 where
+pub record IsCutWrite {S : Type 0} (wants : Wants S) (session : Session) (rest : S) (number : ℕ) (bytes : List ℕ) (mark : Option ℕ) (k : ℕ) : Type 0 where
   pub fid : Fid
   pub bound : lookup session.fids number ≡ Some fid
   pub opened : is_open_for writes fid ≡ true
   pub is_data : is_kind Data fid.node.kind ≡ true
-  pub cause : (mark ≡ Some k) ⊎ MayRunOut (client c fid.node.connection) desktop.device bytes k
+  pub cause : (mark ≡ Some k) ⊎ wants fid.node.connection rest bytes k
 
 -- the message is such a write
-abbrev pub IsCut : (c : ℕ) → Session → Desktop → (mark : Option ℕ) → (k : ℕ) → T → Type 0
-IsCut c session desktop mark k (Twrite tag fid offset bytes) = IsCutWrite c session desktop fid bytes mark k
-IsCut c session desktop mark k _ = ⊥
+abbrev pub IsCut : {S : Type 0} → Wants S → Session → S → (mark : Option ℕ) → (k : ℕ) → T → Type 0
+IsCut wants session rest mark k (Twrite tag fid offset bytes) = IsCutWrite wants session rest fid bytes mark k
+IsCut wants session rest mark k _ = ⊥
 
 -- the bytes of a message spell such a write
-pub record IsCutSpelled (c : ℕ) (session : Session) (desktop : Desktop) (bytes : List ℕ) (mark : Option ℕ) (k : ℕ) : Type 0 where
+pub record IsCutSpelled {S : Type 0} (wants : Wants S) (session : Session) (rest : S) (bytes : List ℕ) (mark : Option ℕ) (k : ℕ) : Type 0 where
   pub m : T
   pub spelled : message_of bytes ≡ Some m
-  pub cut : IsCut c session desktop mark k m
+  pub cut : IsCut wants session rest mark k m
 
 -- and with the mark k the reply to it is the refusal of want of memory
-pub record IsCutMessage (c : ℕ) (session : Session) (desktop : Desktop) (bytes : List ℕ) (mark : Option ℕ) (k : ℕ) : Type 0 where
-  pub spells : IsCutSpelled c session desktop bytes mark k
-  pub refused : IsRefused no_memory (answer (desktop_for c) session desktop bytes (Some k)).reply
+pub record IsCutMessage {S : Type 0} (outside : Outside S) (wants : Wants S) (session : Session) (rest : S) (bytes : List ℕ) (mark : Option ℕ) (k : ℕ) : Type 0 where
+  pub spells : IsCutSpelled wants session rest bytes mark k
+  pub refused : IsRefused no_memory (answer outside session rest bytes (Some k)).reply
+
+-- ---- of a whole server
+
+abbrev pub wants_for : (session : ℕ) → Wants Desktop
+wants_for session = λ connection desktop bytes k. MayRunOut (client session connection) desktop.device bytes k
 
 -- the event is such a message to a session that lives
 pub record IsCutServed (world : World) (c : ℕ) (bytes : List ℕ) (mark : Option ℕ) (k : ℕ) : Type 0 where
   pub session : Session
   pub lives : lookup world.sessions c ≡ Some session
-  pub cut : IsCutMessage c session world.desktop bytes mark k
+  pub cut : IsCutMessage (desktop_for c) (wants_for c) session world.desktop bytes mark k
 
 abbrev pub IsCutEvent : World → Event → ℕ → Type 0
 IsCutEvent world (Msg c bytes mark) k = IsCutServed world c bytes mark k

@@ -1,28 +1,40 @@
 -- Calls of a desktop, as what a write leaves of it.
-use Rattle.std.proofs.Common.{◌≡◌, true, Result, Ok, Err, OnOk, OnErr, refl}
+use Rattle.std.proofs.Common.{◌≡◌, ℕ, true, Option, Result, Ok, Err, OnOk, OnErr, refl, sym, ap, subst}
 use Rattle.std.specs.Prelude.{IfErr}
 use Rattle.model_text.specs.Outcome.{Outcome}
 use Rattle.model_tree.specs.declared.Kind.TheVariants.{Ctl, Data}
 use Rattle.model_tree.specs.Node.{row}
 use Rattle.model_tree.specs.Tree.{is_of_connection}
-use Rattle.model_world.specs.Desktop.{Desktop}
 use Rattle.r9_files.specs.declared.fault.Fault.{Fault}
 use Rattle.r9_files.specs.declared.fault.Fault.TheVariants as fault
-use Rattle.r9_desktop.specs.Words.{IfRefused}
-use Rattle.r9_access.specs.Writes.{IsDone}
+use Rattle.r9_around.specs.Words.{IfRefused}
+use Rattle.model_world.specs.Writing.{whole_or_refused}
+use Rattle.r9_around.specs.declared.wrote.Wrote.{Wrote}
+use Rattle.r9_access.specs.Writes.{IsDone, IsWritten, whole_of}
 
-pub done_of : (r : Result (Unit {0}) Fault) (before after : Desktop) (defined : Outcome Desktop) → OnOk r (defined ≡ Ok after) → IfErr r (λ f. IfRefused f (λ n. defined ≡ Err n))
-    → IfErr r (λ f. IfRefused f (λ n. after ≡ before)) → IsDone before r after defined
-done_of (Ok done) before after defined is refused kept = is
-done_of (Err (fault.Refused n)) before after defined is refused kept = (refused, kept)
-done_of (Err fault.Memory) before after defined is refused kept = tt
+pub done_of : {S : Type 0} (r : Result (Unit {0}) Fault) (before after : S) (defined : ℕ → Outcome S) (c : ℕ) → OnOk r ((c : ℕ) → defined c ≡ Ok after)
+    → IfErr r (λ f. IfRefused f (λ n. (c : ℕ) → defined c ≡ Err n)) → IfErr r (λ f. IfRefused f (λ n. after ≡ before)) → IsDone before r after (defined c)
+done_of (Ok done) before after defined c is refused kept = is c
+done_of (Err (fault.Refused n)) before after defined c is refused kept = (refused c, kept)
+done_of (Err fault.Memory) before after defined c is refused kept = tt
 
 -- where a refusal is said to leave all
-pub done_if : (r : Result (Unit {0}) Fault) (before after : Desktop) (defined : Outcome Desktop) → OnOk r (defined ≡ Ok after) → IfErr r (λ f. IfRefused f (λ n. defined ≡ Err n))
+pub done_if : {S : Type 0} (r : Result (Unit {0}) Fault) (before after : S) (defined : Outcome S) → OnOk r (defined ≡ Ok after) → IfErr r (λ f. IfRefused f (λ n. defined ≡ Err n))
     → OnErr r (after ≡ before) → IsDone before r after defined
 done_if (Ok done) before after defined is refused kept = is
 done_if (Err (fault.Refused n)) before after defined is refused kept = (refused, kept)
 done_if (Err fault.Memory) before after defined is refused kept = tt
+
+-- as a write that left nothing undone
+pub whole_written : {S : Type 0} (mark : Option ℕ) (r : Result (Unit {0}) Fault) (found : Result Wrote Fault) (before after : S) (defined : Outcome S) → found ≡ whole_of r → IsDone before r after defined
+    → IsWritten mark before found after (λ m. whole_or_refused defined)
+whole_written {S} mark r found before after defined is done =
+    subst (λ (w : Result Wrote Fault). IsWritten mark before w after (λ m. whole_or_refused defined)) (sym is) (by r done)
+  where
+    by : (r : Result (Unit {0}) Fault) → IsDone before r after defined → IsWritten mark before (whole_of r) after (λ m. whole_or_refused defined)
+    by (Ok _) is = ap (λ (o : Outcome S). whole_or_refused o) is
+    by (Err (fault.Refused n)) is = (ap (λ (o : Outcome S). whole_or_refused o) is.0, is.1)
+    by (Err fault.Memory) is = tt
 
 -- ctl and data are files of a connection
 pub of_ctl : is_of_connection Ctl ≡ true

@@ -1,4 +1,3 @@
-mod Short
 mod Done
 mod Readings
 mod Keys

@@ -1,7 +1,6 @@
 -- What a read of an open file promises.
-use Rattle.std.specs.Prelude.{◌≡◌, ℕ, true, IsSome, List, Option, Some, None, Result, Ok, Err}
+use Rattle.std.specs.Prelude.{◌≡◌, ℕ, Bool, true, List, Option, Some, None, Result, Ok, Err}
 use Rattle.model_text.specs.Outcome.{Outcome}
-use Rattle.model_text.specs.Map.{lookup}
 use Rattle.model_imgfile.specs.ImageFile.{file_part}
 use Rattle.model_console.specs.Console as console
 use Rattle.model_window.specs.Heard.{winid_text}
@@ -9,29 +8,27 @@ use Rattle.model_tree.specs.declared.Kind.{Kind}
 use Rattle.model_tree.specs.declared.Kind.TheVariants as kind
 use Rattle.model_tree.specs.Node.{Node}
 use Rattle.model_tree.specs.Tree.{is_of_connection}
-use Rattle.model_world.specs.Desktop.{Desktop}
 use Rattle.model_world.specs.Session.{Fid}
 use Rattle.model_world.specs.Outside.{Outside}
 use Rattle.model_world.specs.Reading.{Given, given_by, at_offset, ctl_read, mouse_len, wctl_len}
-use Rattle.model_world.specs.Whole.{client}
 use Rattle.r9_memory.specs.declared.Memory.{Memory}
 use Rattle.r9_files.specs.declared.fault.Fault.{Fault}
 use Rattle.r9_files.specs.declared.fault.Fault.TheVariants as fault
 
--- the connection that a file belongs to, where it belongs to one, lives in the draw device
-abbrev pub HasClient : (session : ℕ) → Node → Desktop → Type 0
-HasClient session node desktop = is_of_connection node.kind ≡ true → IsSome (lookup desktop.device.clients (client session node.connection))
+-- the connection that a file belongs to, where it belongs to one, lives outside
+abbrev pub HasClient : {S : Type 0} → (has : (connection : ℕ) → S → Bool) → Node → S → Type 0
+HasClient has node rest = is_of_connection node.kind ≡ true → has node.connection rest ≡ true
 
 -- What is given is what is defined, with what the fid keeps and what is left outside. Where the read waits, and where it is
 -- refused, fid and outside are as before. Nothing is said where memory ran out.
-abbrev pub IsFileRead : (old : Fid) (before : Desktop) (found : Result (Option (List ℕ)) Fault) (new : Fid) (after : Desktop) → Outcome (Option (Given Desktop)) → Type 0
+abbrev pub IsFileRead : {S : Type 0} → (old : Fid) (before : S) (found : Result (Option (List ℕ)) Fault) (new : Fid) (after : S) → Outcome (Option (Given S)) → Type 0
 IsFileRead old before (Ok (Some bytes)) new after defined = defined ≡ Ok (Some (given_by new after bytes))
 IsFileRead old before (Ok None) new after defined = (defined ≡ Ok None) × (new ≡ old) × (after ≡ before)
 IsFileRead old before (Err (fault.Refused n)) new after defined = (defined ≡ Err n) × (new ≡ old) × (after ≡ before)
 IsFileRead old before (Err fault.Memory) new after defined = Unit {0}
 
 -- the same of what a file gives now that may have nothing to give
-abbrev pub IsGivenNow : (old : Fid) (before : Desktop) (found : Result (Option (List ℕ)) Memory) (new : Fid) (after : Desktop) → Option (Given Desktop) → Type 0
+abbrev pub IsGivenNow : {S : Type 0} → (old : Fid) (before : S) (found : Result (Option (List ℕ)) Memory) (new : Fid) (after : S) → Option (Given S) → Type 0
 IsGivenNow old before (Ok (Some bytes)) new after defined = defined ≡ Some (given_by new after bytes)
 IsGivenNow old before (Ok None) new after defined = (defined ≡ None) × (new ≡ old) × (after ≡ before)
 IsGivenNow old before (Err _) new after defined = Unit {0}

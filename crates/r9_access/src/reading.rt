@@ -1,22 +1,17 @@
 //! Reading an open file that is no directory (read(5)).
 
-ghost use Rattle.std.specs.Prelude.{◌≡◌, ◌≤◌, ℕ, length, max, is_none, IfOk, IfSome, IsSome, Ok};
+ghost use Rattle.std.specs.Prelude.{◌≡◌, ◌≤◌, ℕ, length, max, is_none, true, IfOk, IfSome, Ok};
 ghost use Rattle.std.specs.Option.{option_map};
-ghost use Rattle.model_text.specs.Map.{lookup};
 ghost use Rattle.model_imgfile.specs.ImageFile.{file_part};
-ghost use Rattle.model_draw.specs.Orders.{picture_of};
 ghost use Rattle.model_tree.specs.declared.Kind.TheVariants as kinds;
 ghost use Rattle.model_tree.specs.Node.{kind_numbered};
 ghost use Rattle.model_window.specs.Heard.{wctl_answer, winid_text};
-ghost use Rattle.model_world.specs.Desktop.{pane_of};
 ghost use Rattle.model_world.specs.Reading.{at_offset, ctl_read, file_read, given_now};
-ghost use Rattle.model_world.specs.Whole.{client, desktop_for};
-ghost use Rattle.r9_desktop.specs.World.{desktop_of};
 ghost use Rattle.r9_tree.specs.View.{node_of};
 ghost use Rattle.r9_access.specs.Reads.{HasClient, IsFileRead, IsGivenNow, IsTold, IsToldOf, least_of, told_of};
 
 use crate::windows::{label, text, wctl, winid, winname};
-use r9_desktop::Desktop;
+use r9_around::Outside;
 use r9_files::{DRAW_READ_TOO_SHORT, Fault, Fid, READ_TOO_SHORT, at_offset};
 use r9_memory::Memory;
 use r9_text::Bytes;
@@ -51,40 +46,45 @@ fn part(alloc: Global, contents: &[u8], offset: u64, count: u32) -> Result<Bytes
 }
 
 /// What a read gives of the text that tells a window's number.
-fn part_of_winid(
+fn part_of_winid<O: Outside>(
     alloc: Global,
-    desktop: &Desktop,
+    outside: &O,
     window: u32,
     offset: u64,
     count: u32,
 ) -> Result<Bytes, Fault>
-    ensures read { IsTold result (Ok (at_offset (winid_text (pane_of (desktop_of desktop.now).panes window).known) offset count)) }
+    ensures read { (session : ℕ) → IsTold result (Ok (at_offset (winid_text ((O.outside session).pane (O.state outside.now) window).known) offset count)) }
     ensures short { IfOk result (λ bytes. length bytes ≤ count) }
 {
-    let text = winid(alloc, desktop, window)?;
+    let text = winid(alloc, outside, window)?;
     part(alloc, text.as_slice(), offset, count)
 }
 
 /// What a read gives of the picture of a window, or for 0 of the display.
-fn part_of_picture(desktop: &Desktop, window: u32, offset: u64, count: u32) -> Result<Bytes, Fault>
-    ensures read { IsTold result (Ok (file_part (picture_of (desktop_of desktop.now).device window) offset count)) }
+fn part_of_picture<O: Outside>(
+    outside: &O,
+    window: u32,
+    offset: u64,
+    count: u32,
+) -> Result<Bytes, Fault>
+    ensures read { (session : ℕ) → IsTold result (Ok (file_part ((O.outside session).picture (O.state outside.now) window) offset count)) }
     ensures short { IfOk result (λ bytes. length bytes ≤ count) }
 {
-    Ok(desktop.picture_part(window, offset, count)?)
+    Ok(outside.picture_part(window, offset, count)?)
 }
 
 /// Reads what the ctl of a connection tells: all at its front, and nothing behind it.
 #[tactic(auto, unfolding(model_world::specs::Reading::ctl_read))]
-fn read_ctl(
+fn read_ctl<O: Outside>(
     alloc: Global,
-    desktop: &Desktop,
+    outside: &O,
     session: u32,
     node: &Node,
     offset: u64,
     count: u32,
 ) -> Result<Bytes, Fault>
-    requires { IsSome (lookup (desktop_of desktop.now).device.clients (client session node.now.connection)) }
-    ensures read { IsTold result (ctl_read (desktop_for session) (desktop_of desktop.now) (node_of node.now) offset count) }
+    requires { O.has session node.now.connection (O.state outside.now) ≡ true }
+    ensures read { IsTold result (ctl_read (O.outside session) (O.state outside.now) (node_of node.now) offset count) }
     ensures short { IfOk result (λ bytes. length bytes ≤ count) }
 {
     if offset != 0 {
@@ -93,7 +93,7 @@ fn read_ctl(
     if count < CTL_LEN {
         return Err(Fault::Refused(DRAW_READ_TOO_SHORT));
     }
-    match desktop.read_ctl(session, node.connection) {
+    match outside.read_ctl(session, node.connection) {
         Ok(bytes) => Ok(bytes),
         Err(Fault::Refused(refusal)) => Err(Fault::Refused(refusal)),
         Err(Fault::Memory) => Err(Fault::Memory),
@@ -101,9 +101,9 @@ fn read_ctl(
 }
 
 /// What a read gives of a file that it leaves as it is; None where a read may change what it reads, or wait.
-fn read_told(
+fn read_told<O: Outside>(
     alloc: Global,
-    desktop: &Desktop,
+    outside: &O,
     session: u32,
     node: &Node,
     kind: Kind,
@@ -111,19 +111,19 @@ fn read_told(
     count: u32,
 ) -> Option<Result<Bytes, Fault>>
     requires kind { kind_numbered node.now.kind ≡ kind }
-    requires client { HasClient session (node_of node.now) (desktop_of desktop.now) }
-    ensures read { IsToldOf result (told_of (desktop_for session) (desktop_of desktop.now) (node_of node.now) offset count kind) }
+    requires client { HasClient (O.has session) (node_of node.now) (O.state outside.now) }
+    ensures read { IsToldOf result (told_of (O.outside session) (O.state outside.now) (node_of node.now) offset count kind) }
     ensures short { IfSome result (λ read. IfOk read (λ bytes. length bytes ≤ count)) }
 {
     let window = node.serial;
     match kind {
-        Kind::Ctl => Some(read_ctl(alloc, desktop, session, node, offset, count)),
-        Kind::Screen | Kind::Picture => Some(part_of_picture(desktop, window, offset, count)),
-        Kind::Snarf => Some(part(alloc, desktop.snarf(window), offset, count)),
-        Kind::Label => Some(part(alloc, label(desktop, window), offset, count)),
-        Kind::Text => Some(part(alloc, text(desktop, window), offset, count)),
-        Kind::Winid => Some(part_of_winid(alloc, desktop, window, offset, count)),
-        Kind::Winname => Some(part(alloc, winname(desktop, window), offset, count)),
+        Kind::Ctl => Some(read_ctl(alloc, outside, session, node, offset, count)),
+        Kind::Screen | Kind::Picture => Some(part_of_picture(outside, window, offset, count)),
+        Kind::Snarf => Some(part(alloc, outside.snarf(window), offset, count)),
+        Kind::Label => Some(part(alloc, label(outside, window), offset, count)),
+        Kind::Text => Some(part(alloc, text(outside, window), offset, count)),
+        Kind::Winid => Some(part_of_winid(alloc, outside, window, offset, count)),
+        Kind::Winname => Some(part(alloc, winname(outside, window), offset, count)),
         _ => None,
     }
 }
@@ -140,13 +140,13 @@ fn least_of(kind: Kind) -> u32
 }
 
 /// What a window's `wctl` gives now: None exactly where the fid gave that text last, and the read waits.
-fn wctl_now(alloc: Global, desktop: &Desktop, fid: &mut Fid) -> Result<Option<Bytes>, Memory>
-    ensures given { (session count : ℕ) → IsGivenNow fid.old (desktop_of desktop.now) result fid.new (desktop_of desktop.now) (given_now (desktop_for session) (desktop_of desktop.now) fid.old count kinds.Wctl) }
+fn wctl_now<O: Outside>(alloc: Global, outside: &O, fid: &mut Fid) -> Result<Option<Bytes>, Memory>
+    ensures given { (session count : ℕ) → IsGivenNow fid.old (O.state outside.now) result fid.new (O.state outside.now) (given_now (O.outside session) (O.state outside.now) fid.old count kinds.Wctl) }
     ensures short { IfOk result (λ given. IfSome given (λ bytes. length bytes ≤ 128)) }
     ensures file { fid.new.node ≡ fid.old.node }
     ensures mode { fid.new.mode ≡ fid.old.mode }
 {
-    let text = wctl(alloc, desktop, fid.node().serial)?;
+    let text = wctl(alloc, outside, fid.node().serial)?;
     if is_told(fid.told(), text.as_slice()) {
         return Ok(None);
     }
@@ -156,55 +156,55 @@ fn wctl_now(alloc: Global, desktop: &Desktop, fid: &mut Fid) -> Result<Option<By
 
 /// What a file gives now that may have nothing to give: an event of the mouse, of the console an ended line, the text of `wctl` where
 /// it is not the one that the fid gave last. None exactly where the read waits, as that of `refresh` always does. Where memory ran
-/// out nothing is said of the desktop, and of the fid no more than that its file and mode stay.
-pub fn read_now(
+/// out nothing is said of the outside, and of the fid no more than that its file and mode stay.
+pub fn read_now<O: Outside>(
     alloc: Global,
-    desktop: &mut Desktop,
+    outside: &mut O,
     session: u32,
     fid: &mut Fid,
     count: u32,
 ) -> Result<Option<Bytes>, Memory>
-    ensures given { IsGivenNow fid.old (desktop_of desktop.old) result fid.new (desktop_of desktop.new) (given_now (desktop_for session) (desktop_of desktop.old) fid.old count fid.old.node.kind) }
+    ensures given { IsGivenNow fid.old (O.state outside.old) result fid.new (O.state outside.new) (given_now (O.outside session) (O.state outside.old) fid.old count fid.old.node.kind) }
     ensures short { IfOk result (λ given. IfSome given (λ bytes. length bytes ≤ max count 128)) }
     ensures file { fid.new.node ≡ fid.old.node }
     ensures mode { fid.new.mode ≡ fid.old.mode }
 {
     let node = fid.node();
     match kind_of(node.kind) {
-        Kind::Mouse => desktop.read_mouse(node.serial),
-        Kind::Cons => desktop.read_console(node.serial, count),
-        Kind::Wctl => wctl_now(alloc, desktop, fid),
+        Kind::Mouse => outside.read_mouse(node.serial),
+        Kind::Cons => outside.read_console(node.serial, count),
+        Kind::Wctl => wctl_now(alloc, outside, fid),
         _ => Ok(None),
     }
 }
 
 /// Reads an open file that is no directory, told anew by each read; of a picture each read makes the rows that it gives something of.
 /// None exactly where the read waits. Refused as is defined, and then all is as before. Where memory ran out nothing is said of the
-/// desktop, and of the fid no more than that its file and mode stay.
-pub fn read_file(
+/// outside, and of the fid no more than that its file and mode stay.
+pub fn read_file<O: Outside>(
     alloc: Global,
-    desktop: &mut Desktop,
+    outside: &mut O,
     session: u32,
     fid: &mut Fid,
     offset: u64,
     count: u32,
 ) -> Result<Option<Bytes>, Fault>
-    requires client { HasClient session fid.old.node (desktop_of desktop.old) }
-    ensures read { IsFileRead fid.old (desktop_of desktop.old) result fid.new (desktop_of desktop.new) (file_read (desktop_for session) (desktop_of desktop.old) fid.old offset count fid.old.node.kind) }
+    requires client { HasClient (O.has session) fid.old.node (O.state outside.old) }
+    ensures read { IsFileRead fid.old (O.state outside.old) result fid.new (O.state outside.new) (file_read (O.outside session) (O.state outside.old) fid.old offset count fid.old.node.kind) }
     ensures short { IfOk result (λ given. IfSome given (λ bytes. length bytes ≤ max count 128)) }
     ensures file { fid.new.node ≡ fid.old.node }
     ensures mode { fid.new.mode ≡ fid.old.mode }
 {
     let node = fid.node();
     let kind = kind_of(node.kind);
-    if let Some(read) = read_told(alloc, desktop, session, &node, kind, offset, count) {
+    if let Some(read) = read_told(alloc, outside, session, &node, kind, offset, count) {
         return Ok(Some(read?));
     }
     if let Kind::Data = kind {
-        return Ok(Some(desktop.read_data(session, node.connection, count)?));
+        return Ok(Some(outside.read_data(session, node.connection, count)?));
     }
     if count < least_of(kind) {
         return Err(Fault::Refused(READ_TOO_SHORT));
     }
-    Ok(read_now(alloc, desktop, session, fid, count)?)
+    Ok(read_now(alloc, outside, session, fid, count)?)
 }

@@ -3,13 +3,11 @@
 ghost use Rattle.std.specs.Prelude.{◌≡◌, ◌≤◌, ◌++◌, ℕ, length, Ok, IfOk};
 ghost use Rattle.model_console.specs.Console as console;
 ghost use Rattle.model_window.specs.Heard.{wctl_text, winid_text};
-ghost use Rattle.model_world.specs.Desktop.{pane_of};
 ghost use Rattle.model_world.specs.Writing.{snarf_written};
-ghost use Rattle.r9_desktop.specs.World.{desktop_of};
 ghost use Rattle.r9_access.specs.Reads.{IsTold};
 ghost use Rattle.r9_access.specs.Writes.{IsDone, snarf_left};
 
-use r9_desktop::Desktop;
+use r9_around::Outside;
 use r9_files::{BAD_OFFSET, Fault};
 use r9_memory::Memory;
 use r9_pane::Pane;
@@ -20,41 +18,41 @@ use std::alloc::Global;
 const MOST_SNARF: usize = 0x10_0000;
 
 /// What a window's label is.
-pub(crate) fn label(desktop: &Desktop, window: u32) -> &[u8]
-    ensures { result.now ≡ (pane_of (desktop_of desktop.now).panes window).label }
+pub(crate) fn label<O: Outside>(outside: &O, window: u32) -> &[u8]
+    ensures { (session : ℕ) → result.now ≡ ((O.outside session).pane (O.state outside.now) window).label }
 {
-    match desktop.pane(window) {
+    match outside.pane(window) {
         Some(pane) => pane.label(),
         None => &[],
     }
 }
 
 /// The name of the image that a window has.
-pub(crate) fn winname(desktop: &Desktop, window: u32) -> &[u8]
-    ensures { result.now ≡ (pane_of (desktop_of desktop.now).panes window).known.name }
+pub(crate) fn winname<O: Outside>(outside: &O, window: u32) -> &[u8]
+    ensures { (session : ℕ) → result.now ≡ ((O.outside session).pane (O.state outside.now) window).known.name }
 {
-    match desktop.pane(window) {
+    match outside.pane(window) {
         Some(pane) => pane.name(),
         None => &[],
     }
 }
 
 /// The text that tells a window's number in its rio.
-pub(crate) fn winid(alloc: Global, desktop: &Desktop, window: u32) -> Result<Bytes, Memory>
-    ensures { IfOk result (λ text. text ≡ winid_text (pane_of (desktop_of desktop.now).panes window).known) }
+pub(crate) fn winid<O: Outside>(alloc: Global, outside: &O, window: u32) -> Result<Bytes, Memory>
+    ensures { IfOk result (λ text. (session : ℕ) → text ≡ winid_text ((O.outside session).pane (O.state outside.now) window).known) }
 {
-    match desktop.pane(window) {
+    match outside.pane(window) {
         Some(pane) => pane.winid(),
         None => Pane::new(alloc)?.winid(),
     }
 }
 
 /// The text that tells where a window is, and whether it is current and can be seen.
-pub(crate) fn wctl(alloc: Global, desktop: &Desktop, window: u32) -> Result<Bytes, Memory>
-    ensures text { IfOk result (λ text. text ≡ wctl_text (pane_of (desktop_of desktop.now).panes window).known) }
+pub(crate) fn wctl<O: Outside>(alloc: Global, outside: &O, window: u32) -> Result<Bytes, Memory>
+    ensures text { IfOk result (λ text. (session : ℕ) → text ≡ wctl_text ((O.outside session).pane (O.state outside.now) window).known) }
     ensures short { IfOk result (λ text. length text ≤ 128) }
 {
-    match desktop.pane(window) {
+    match outside.pane(window) {
         Some(pane) => pane.wctl(),
         None => Pane::new(alloc)?.wctl(),
     }
@@ -89,25 +87,25 @@ fn next_snarf(alloc: Global, old: &[u8], offset: u64, bytes: &[u8]) -> Result<By
 }
 
 /// Writes the text of the snarf of a rio.
-pub(crate) fn write_snarf(
+pub(crate) fn write_snarf<O: Outside>(
     alloc: Global,
-    desktop: &mut Desktop,
+    outside: &mut O,
     host: u32,
     offset: u64,
     bytes: &[u8],
 ) -> Result<(), Fault>
-    ensures { (session : ℕ) → IsDone (desktop_of desktop.old) result (desktop_of desktop.new) (snarf_left session (desktop_of desktop.old) host offset bytes.now) }
+    ensures { (session : ℕ) → IsDone (O.state outside.old) result (O.state outside.new) (snarf_left (O.outside session) (O.state outside.old) host offset bytes.now) }
 {
-    let contents = next_snarf(alloc, desktop.snarf(host), offset, bytes)?;
-    desktop.set_snarf(host, contents);
+    let contents = next_snarf(alloc, outside.snarf(host), offset, bytes)?;
+    outside.set_snarf(host, contents);
     Ok(())
 }
 
 /// What a window's `text` has.
-pub(crate) fn text(desktop: &Desktop, window: u32) -> &[u8]
-    ensures { result.now ≡ console.text (pane_of (desktop_of desktop.now).panes window).console }
+pub(crate) fn text<O: Outside>(outside: &O, window: u32) -> &[u8]
+    ensures { (session : ℕ) → result.now ≡ console.text ((O.outside session).pane (O.state outside.now) window).console }
 {
-    match desktop.pane(window) {
+    match outside.pane(window) {
         Some(pane) => pane.text(),
         None => &[],
     }

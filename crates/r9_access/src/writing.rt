@@ -2,22 +2,17 @@
 
 ghost use Rattle.std.specs.List.{list_any};
 ghost use Rattle.std.specs.Str.{chars};
-ghost use Rattle.std.specs.Prelude.{◌≡◌, ◌==◌, ◌&&◌, nat_le, ◌<◌, ◌^◌, ◌⊎◌, ◌↔◌, ℕ, Option, length, None, Some, IsSome, IfOk, IfSome};
-ghost use Rattle.model_text.specs.Outcome.{Outcome};
+ghost use Rattle.std.specs.Prelude.{◌≡◌, ◌==◌, ◌&&◌, nat_le, ◌<◌, ◌^◌, ◌⊎◌, ◌↔◌, ℕ, length, None, Some, IsSome, IfOk, IfSome};
 ghost use Rattle.model_draw.specs.Act.{no_memory};
-ghost use Rattle.model_draw.specs.Memory.{MayRunOut};
 ghost use Rattle.model_tree.specs.declared.Kind.TheVariants.{Data};
 ghost use Rattle.model_tree.specs.Node.{kind_numbered};
-ghost use Rattle.model_world.specs.Desktop as model;
-ghost use Rattle.model_world.specs.Whole.{client, desktop_for};
-ghost use Rattle.model_world.specs.Writing.{are_keys, file_written, line_of, most_keys, raw_asked, whole_or_refused};
-ghost use Rattle.r9_desktop.specs.World.{desktop_of};
+ghost use Rattle.model_world.specs.Writing.{are_keys, file_written, line_of, most_keys, raw_asked};
 ghost use Rattle.r9_tree.specs.View.{node_of, IsNode};
 ghost use Rattle.r9_access.specs.Reads.{HasClient};
-ghost use Rattle.r9_access.specs.Writes.{IsDone, IsWritten, keys_left, mouse_left, raw_left};
+ghost use Rattle.r9_access.specs.Writes.{IsDone, IsWritten, keys_left, mouse_left, raw_left, whole_of};
 
 use crate::windows::write_snarf;
-use r9_desktop::{Desktop, Wrote};
+use r9_around::{Outside, Wrote};
 use r9_files::{BAD_INPUT, BAD_WCTL_COMMAND, Fault, PERMISSION_DENIED};
 use r9_mouse::read_mouse;
 use r9_text::Bytes;
@@ -29,7 +24,7 @@ const MOST_KEYS: usize = 64;
 
 /// A write that left nothing undone, or its refusal, which leaves nothing.
 fn whole(done: Result<(), Fault>) -> Result<Wrote, Fault>
-    ensures written { (mark : Option ℕ) (before after : model.Desktop) (defined : Outcome model.Desktop) → IsDone before done after defined → IsWritten mark before result after (λ m. whole_or_refused defined) }
+    ensures written { result ≡ whole_of done }
     ensures whole { IfOk result (λ w. (w.short ≡ None) × (w.refusal ≡ None)) }
 {
     done?;
@@ -96,40 +91,40 @@ fn raw_asked(word: &[u8]) -> Result<Option<bool>, u8>
 }
 
 /// The mouse does what a text tells (mouse(3)).
-fn write_mouse(desktop: &mut Desktop, bytes: &[u8]) -> Result<(), Fault>
-    ensures { IsDone (desktop_of desktop.old) result (desktop_of desktop.new) (mouse_left (desktop_of desktop.old) bytes.now) }
+fn write_mouse<O: Outside>(outside: &mut O, bytes: &[u8]) -> Result<(), Fault>
+    ensures { (session : ℕ) → IsDone (O.state outside.old) result (O.state outside.new) (mouse_left (O.outside session) (O.state outside.old) bytes.now) }
 {
     match read_mouse(bytes) {
-        Some(event) => Ok(desktop.mouse(event)?),
+        Some(event) => Ok(outside.mouse(event)?),
         None => Err(Fault::Refused(BAD_INPUT)),
     }
 }
 
 /// Characters are typed.
-fn write_keys(alloc: Global, desktop: &mut Desktop, bytes: &[u8]) -> Result<(), Fault>
-    ensures { IsDone (desktop_of desktop.old) result (desktop_of desktop.new) (keys_left (desktop_of desktop.old) bytes.now) }
+fn write_keys<O: Outside>(alloc: Global, outside: &mut O, bytes: &[u8]) -> Result<(), Fault>
+    ensures { (session : ℕ) → IsDone (O.state outside.old) result (O.state outside.new) (keys_left (O.outside session) (O.state outside.old) bytes.now) }
 {
     if !are_keys(bytes) {
         return Err(Fault::Refused(BAD_INPUT));
     }
     let keys = Bytes::from_slice(alloc, bytes)?;
-    Ok(desktop.keys(keys)?)
+    Ok(outside.keys(keys)?)
 }
 
 /// Raw mode is asked for, or its end.
-fn write_consctl(desktop: &mut Desktop, window: u32, bytes: &[u8]) -> Result<(), Fault>
-    ensures { (session : ℕ) → IsDone (desktop_of desktop.old) result (desktop_of desktop.new) (raw_left session (desktop_of desktop.old) window bytes.now) }
+fn write_consctl<O: Outside>(outside: &mut O, window: u32, bytes: &[u8]) -> Result<(), Fault>
+    ensures { (session : ℕ) → IsDone (O.state outside.old) result (O.state outside.new) (raw_left (O.outside session) (O.state outside.old) window bytes.now) }
 {
     match raw_asked(line_of(bytes))? {
-        Some(raw) => Ok(desktop.set_raw(window, raw)?),
+        Some(raw) => Ok(outside.set_raw(window, raw)?),
         None => Ok(()),
     }
 }
 
 /// Writes an open file of a kind, as `write_file` does.
-fn write_kind(
+fn write_kind<O: Outside>(
     alloc: Global,
-    desktop: &mut Desktop,
+    outside: &mut O,
     session: u32,
     node: &Node,
     kind: Kind,
@@ -139,25 +134,25 @@ fn write_kind(
 ) -> Result<Wrote, Fault>
     requires node { IsNode node.now }
     requires kind { kind_numbered node.now.kind ≡ kind }
-    requires client { HasClient session (node_of node.now) (desktop_of desktop.old) }
+    requires client { HasClient (O.has session) (node_of node.now) (O.state outside.old) }
     requires few { length bytes.now < 2 ^ 32 }
-    ensures written { IsWritten mark (desktop_of desktop.old) result (desktop_of desktop.new) (λ m. file_written (desktop_for session) (desktop_of desktop.old) (node_of node.now) offset bytes.now m kind) }
-    ensures cause { IfOk result (λ w. IfSome w.short (λ k. (kind ≡ Data) × ((mark ≡ Some k) ⊎ MayRunOut (client session (node_of node.now).connection) (desktop_of desktop.old).device bytes.now k))) }
+    ensures written { IsWritten mark (O.state outside.old) result (O.state outside.new) (λ m. file_written (O.outside session) (O.state outside.old) (node_of node.now) offset bytes.now m kind) }
+    ensures cause { IfOk result (λ w. IfSome w.short (λ k. (kind ≡ Data) × ((mark ≡ Some k) ⊎ O.wants session (node_of node.now).connection (O.state outside.old) bytes.now k))) }
     ensures refused { IfOk result (λ w. IsSome w.short ↔ (w.refusal ≡ Some no_memory)) }
 {
     let window = node.serial;
     match kind {
-        Kind::Ctl => whole(desktop.write_ctl(session, node.connection, bytes)),
-        Kind::Data => Ok(desktop.write_data(session, node.connection, bytes, mark)?),
-        Kind::Mousein => whole(write_mouse(desktop, bytes)),
-        Kind::Kbdin => whole(write_keys(alloc, desktop, bytes)),
-        Kind::Snarf => whole(write_snarf(alloc, desktop, window, offset, bytes)),
-        Kind::DeviceWctl => whole(desktop.device_command(bytes)),
-        Kind::Cons => whole(Ok(desktop.write_text(window, bytes)?)),
-        Kind::Consctl => whole(write_consctl(desktop, window, bytes)),
+        Kind::Ctl => whole(outside.write_ctl(session, node.connection, bytes)),
+        Kind::Data => Ok(outside.write_data(session, node.connection, bytes, mark)?),
+        Kind::Mousein => whole(write_mouse(outside, bytes)),
+        Kind::Kbdin => whole(write_keys(alloc, outside, bytes)),
+        Kind::Snarf => whole(write_snarf(alloc, outside, window, offset, bytes)),
+        Kind::DeviceWctl => whole(outside.device_command(bytes)),
+        Kind::Cons => whole(Ok(outside.write_text(window, bytes)?)),
+        Kind::Consctl => whole(write_consctl(outside, window, bytes)),
         Kind::Mouse => whole(Ok(())),
-        Kind::Label => whole(Ok(desktop.set_label(window, bytes)?)),
-        Kind::Wctl => whole(desktop.command(window, bytes)),
+        Kind::Label => whole(Ok(outside.set_label(window, bytes)?)),
+        Kind::Wctl => whole(outside.command(window, bytes)),
         Kind::Device
         | Kind::Draw
         | Kind::New
@@ -176,10 +171,10 @@ fn write_kind(
 
 /// Writes an open file. A data write does its messages up to the first that is refused; where memory ran out in it, or its mark took
 /// effect, `short` tells after how many. Refused as is defined, and then all is as before. Where memory ran out otherwise nothing is
-/// said of the desktop.
-pub fn write_file(
+/// said of the outside.
+pub fn write_file<O: Outside>(
     alloc: Global,
-    desktop: &mut Desktop,
+    outside: &mut O,
     session: u32,
     node: &Node,
     offset: u64,
@@ -187,12 +182,12 @@ pub fn write_file(
     mark: Option<u32>,
 ) -> Result<Wrote, Fault>
     requires node { IsNode node.now }
-    requires client { HasClient session (node_of node.now) (desktop_of desktop.old) }
+    requires client { HasClient (O.has session) (node_of node.now) (O.state outside.old) }
     requires few { length bytes.now < 2 ^ 32 }
-    ensures written { IsWritten mark (desktop_of desktop.old) result (desktop_of desktop.new) (λ m. file_written (desktop_for session) (desktop_of desktop.old) (node_of node.now) offset bytes.now m (node_of node.now).kind) }
-    ensures cause { IfOk result (λ w. IfSome w.short (λ k. ((node_of node.now).kind ≡ Data) × ((mark ≡ Some k) ⊎ MayRunOut (client session (node_of node.now).connection) (desktop_of desktop.old).device bytes.now k))) }
+    ensures written { IsWritten mark (O.state outside.old) result (O.state outside.new) (λ m. file_written (O.outside session) (O.state outside.old) (node_of node.now) offset bytes.now m (node_of node.now).kind) }
+    ensures cause { IfOk result (λ w. IfSome w.short (λ k. ((node_of node.now).kind ≡ Data) × ((mark ≡ Some k) ⊎ O.wants session (node_of node.now).connection (O.state outside.old) bytes.now k))) }
     ensures refused { IfOk result (λ w. IsSome w.short ↔ (w.refusal ≡ Some no_memory)) }
 {
     let kind = kind_of(node.kind);
-    write_kind(alloc, desktop, session, node, kind, offset, bytes, mark)
+    write_kind(alloc, outside, session, node, kind, offset, bytes, mark)
 }

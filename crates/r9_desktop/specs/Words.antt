@@ -1,5 +1,5 @@
 -- What calls of a desktop promise.
-use Rattle.std.specs.Prelude.{◌≡◌, ◌==◌, ◌||◌, ℕ, Bool, List, [], ◌∷◌, Option, None, Some, if◌then◌else◌}
+use Rattle.std.specs.Prelude.{◌≡◌, ◌==◌, ◌||◌, ℕ, Bool, List, [], ◌∷◌, if◌then◌else◌}
 use Rattle.model_tree.specs.declared.Kind.{Kind}
 use Rattle.model_tree.specs.declared.Kind.TheVariants.{Wsys, Screen, Snarf}
 use Rattle.model_world.specs.Fids.{is_kind}
@@ -9,20 +9,10 @@ use Rattle.r9_draw.specs.declared.fault.DrawFault.TheVariants as draw
 use Rattle.r9_files.specs.declared.fault.Fault.{Fault}
 use Rattle.r9_files.specs.declared.fault.Fault.TheVariants as fault
 
--- a fact about the number of a refusal, where it is one
-abbrev pub IfRefused : Fault → (ℕ → Type 0) → Type 0
-IfRefused (fault.Refused n) P = P n
-IfRefused fault.Memory P = Unit {0}
-
 -- a fault of the draw device as one of a file
 abbrev pub fault_of_draw : DrawFault → Fault
 fault_of_draw (draw.Refused n) = fault.Refused n
 fault_of_draw draw.Memory = fault.Memory
-
--- the mark with which a data write stands in the history
-abbrev pub mark_after : (mark short : Option ℕ) → Option ℕ
-mark_after mark None = mark
-mark_after mark (Some k) = Some k
 
 -- no connection to the draw device is touched
 abbrev pub SameClients : (before after : Desktop) → Type 0

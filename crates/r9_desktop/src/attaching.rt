@@ -5,7 +5,8 @@ ghost use Rattle.std.specs.List.{fold};
 ghost use Rattle.model_world.specs.Whole.{desktop_for, left_one, made_by, window_made};
 ghost use Rattle.r9_wctl.specs.Values.{wctl_of};
 ghost use Rattle.r9_tree.specs.Attached.{attach_of_code};
-ghost use Rattle.r9_desktop.specs.Words.{IfRefused, SameClients};
+ghost use Rattle.r9_around.specs.Words.{IfRefused};
+ghost use Rattle.r9_desktop.specs.Words.{SameClients};
 ghost use Rattle.r9_desktop.specs.World.{desktop_of, parts_of};
 
 use crate::desktop::Desktop;

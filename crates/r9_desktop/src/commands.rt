@@ -2,7 +2,8 @@
 
 ghost use Rattle.std.specs.Prelude.{◌≡◌, Ok, Err, IfErr, OnOk};
 ghost use Rattle.model_world.specs.Whole.{commanded, device_commanded};
-ghost use Rattle.r9_desktop.specs.Words.{IfRefused, SameClients};
+ghost use Rattle.r9_around.specs.Words.{IfRefused};
+ghost use Rattle.r9_desktop.specs.Words.{SameClients};
 ghost use Rattle.r9_desktop.specs.World.{desktop_of};
 
 use crate::desktop::Desktop;

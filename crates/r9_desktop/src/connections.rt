@@ -5,10 +5,12 @@ ghost use Rattle.model_text.specs.Map.{lookup};
 ghost use Rattle.model_draw.specs.Act.{no_memory};
 ghost use Rattle.model_draw.specs.Memory.{MayRunOut};
 ghost use Rattle.model_world.specs.Whole.{client, desktop_for};
-ghost use Rattle.r9_desktop.specs.Words.{IfRefused, fault_of_draw, mark_after};
+ghost use Rattle.r9_around.specs.Words.{IfRefused, mark_after};
+ghost use Rattle.r9_desktop.specs.Words.{fault_of_draw};
 ghost use Rattle.r9_desktop.specs.World.{desktop_of};
 
 use crate::desktop::Desktop;
+use r9_around::Wrote;
 use r9_draw::DrawFault;
 use r9_files::Fault;
 use r9_memory::Memory;
@@ -16,15 +18,6 @@ use r9_text::Bytes;
 
 /// The refusal where memory ran out in a data write.
 const NO_IMAGE_MEMORY: u8 = 24;
-
-/// How a data write ended.
-#[derive(Clone, Copy, Debug, PartialEq, Eq)]
-pub struct Wrote {
-    /// The number of the refusal that stopped it.
-    pub refusal: Option<u8>,
-    /// Where memory ran out, or its mark took effect: how many of its messages were done.
-    pub short: Option<u32>,
-}
 
 /// The draw device's number of a session's connection: each session has 2^26 of its own.
 pub fn client(session: u32, connection: u32) -> u64
@@ -103,6 +96,7 @@ impl Desktop {
     pub fn read_data(&mut self, session: u32, connection: u32, most: u32) -> Result<Bytes, Fault>
         requires { IsSome (lookup (desktop_of self.old).device.clients (client session connection)) }
         ensures read { IfOk result (λ bytes. (desktop_for session).read_data (desktop_of self.old) connection most ≡ Ok (bytes, desktop_of self.new)) }
+        ensures short { IfOk result (λ bytes. length bytes ≤ most) }
         ensures refused { IfErr result (λ f. IfRefused f (λ n. (desktop_for session).read_data (desktop_of self.old) connection most ≡ Err n)) }
         ensures kept { OnErr result (desktop_of self.new ≡ desktop_of self.old) }
     {

@@ -4,7 +4,7 @@ ghost use Rattle.std.specs.Prelude.{◌≡◌, Some, None, Ok, Err, IfOk, IfErr}
 ghost use Rattle.model_wctl.specs.Reading.{command_of};
 ghost use Rattle.model_world.specs.Whole.{host_of, serial_of};
 ghost use Rattle.r9_wctl.specs.Values.{command_of_code};
-ghost use Rattle.r9_desktop.specs.Words.{IfRefused};
+ghost use Rattle.r9_around.specs.Words.{IfRefused};
 ghost use Rattle.r9_desktop.specs.World.{parts_of};
 
 use crate::desktop::Desktop;

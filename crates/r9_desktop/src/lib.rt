@@ -1,6 +1,7 @@
 //! What all sessions share (draw(3), rio(4)): the draw device, and the windows with what their files have.
 #![tactic(auto)]
 
+mod around;
 mod attaching;
 mod commands;
 mod connections;
@@ -14,5 +15,5 @@ mod telling;
 mod using;
 mod viewing;
 
-pub use connections::{Wrote, client};
+pub use connections::client;
 pub use desktop::Desktop;

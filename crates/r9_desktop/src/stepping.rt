@@ -6,7 +6,8 @@ ghost use Rattle.model_draw.specs.Orders.{carried_out};
 ghost use Rattle.model_rio.specs.Rio.{rio};
 ghost use Rattle.model_world.specs.Desktop.{panes_told, snarfs_ordered, stepped_if, stepped_or, users_told};
 ghost use Rattle.r9_wmgr.specs.Acts.{act_of, AreKeys};
-ghost use Rattle.r9_desktop.specs.Words.{IfRefused, SameClients};
+ghost use Rattle.r9_around.specs.Words.{IfRefused};
+ghost use Rattle.r9_desktop.specs.Words.{SameClients};
 ghost use Rattle.r9_desktop.specs.World.{parts_of};
 
 use crate::desktop::Desktop;

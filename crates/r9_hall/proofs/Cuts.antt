@@ -3,13 +3,14 @@ use Rattle.std.proofs.Common.{◌≡◌, ℕ, List, Option, None, Some, IfSome}
 use Rattle.model_text.specs.Map.{lookup}
 use Rattle.model_world.specs.Session.{Session}
 use Rattle.model_world.specs.Desktop.{Desktop}
+use Rattle.model_world.specs.Whole.{desktop_for}
 use Rattle.model_world.specs.World.{World}
-use Rattle.model_world.specs.Cut.{IsCutMessage, IsCutServed}
+use Rattle.model_world.specs.Cut.{IsCutMessage, IsCutServed, wants_for}
 use Rattle.r9_hall.specs.declared.sessions.Own.{Own}
 use Rattle.r9_hall.specs.StateView.{IsServed}
 
 cut_in : (world : World) (c : ℕ) (session : Session) (bytes : List ℕ) (mark short : Option ℕ) → lookup world.sessions c ≡ Some session
-    → IfSome short (λ k. IsCutMessage c session world.desktop bytes mark k) → IfSome short (λ k. IsCutServed world c bytes mark k)
+    → IfSome short (λ k. IsCutMessage (desktop_for c) (wants_for c) session world.desktop bytes mark k) → IfSome short (λ k. IsCutServed world c bytes mark k)
 cut_in world c session bytes mark None lives cut = tt
 cut_in world c session bytes mark (Some k) lives cut = record { session = session; lives = lives; cut = cut }
 

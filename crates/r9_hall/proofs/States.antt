@@ -25,7 +25,7 @@ use Rattle.model_world.specs.World.{World}
 use Rattle.model_world.proofs.Answers.{answer_holds}
 use Rattle.model_world.proofs.Steps.{gone_linked, linked_of, replied_linked}
 use Rattle.model_world.proofs.Waking.{all_wait, end_spares, fewer_wake, message_spares}
-use Rattle.r9_desktop.specs.Words.{mark_after}
+use Rattle.r9_around.specs.Words.{mark_after}
 use Rattle.r9_desktop.specs.World.{desktop_of}
 use Rattle.r9_hall.specs.Settling.{world_of, AreAsked, AreWoken, IsSettled, IsSkipped, WaitsAt}
 use Rattle.r9_hall.specs.StateView.{IsLeft, IsMade, IsServed, IsTurn, world_with}

@@ -9,14 +9,14 @@ use Rattle.model_draw.specs.Act.{no_memory}
 use Rattle.model_world.specs.Session.{Session}
 use Rattle.model_world.specs.Fids.{cleared}
 use Rattle.model_world.specs.Answer.{answer, taking}
-use Rattle.model_world.specs.Cut.{IsCutMessage}
+use Rattle.model_world.specs.Cut.{IsCutMessage, wants_for}
 use Rattle.model_world.specs.Refusal.{IsRefused}
 use Rattle.model_world.specs.Desktop.{Desktop}
 use Rattle.model_world.specs.Sleeping.{written_at}
 use Rattle.model_world.specs.Whole.{desktop_for}
 use Rattle.model_world.specs.World.{World}
 use Rattle.model_world.specs.Replay.{closing_tag, reply_to, step, turned}
-use Rattle.r9_desktop.specs.Words.{mark_after}
+use Rattle.r9_around.specs.Words.{mark_after}
 use Rattle.r9_desktop.specs.World.{desktop_of}
 use Rattle.r9_hall.specs.declared.sessions.Made.{Made}
 use Rattle.r9_hall.specs.declared.sessions.Own.{Own}
@@ -29,7 +29,7 @@ pub record IsAnswered (c : ℕ) (session : Session) (desktop : Desktop) (bytes :
   pub session_is : now ≡ (answer (desktop_for c) session desktop bytes (mark_after mark own.short)).session
   pub left_is : left ≡ (answer (desktop_for c) session desktop bytes (mark_after mark own.short)).rest
   pub closed_is : own.closed ≡ closing_tag bytes (taking session bytes)
-  pub cause : IfSome own.short (λ k. IsCutMessage c session desktop bytes mark k)
+  pub cause : IfSome own.short (λ k. IsCutMessage (desktop_for c) (wants_for c) session desktop bytes mark k)
   pub told : IsRefused no_memory (answer (desktop_for c) session desktop bytes (mark_after mark own.short)).reply → IsSome own.short
   pub wrote_is : own.wrote ≡ written_at session bytes
 

@@ -1,19 +1,15 @@
--- A session's connections as the draw device's.
-use Rattle.std.proofs.Common.{◌≡◌, ◌<◌, ◌≤◌, ◌+◌, ◌^◌, ◌&&◌, ◌||◌, ℕ, zero, suc, Bool, true, false, not, cond, eqb, List, [], ◌∷◌, length, get_or, Option, Some, None, Ok, IsSome, refl, ap, ◌∙◌, arith, All}
-use Rattle.std.specs.Prelude.{is_some, filter, ◌++◌}
+-- A session's connections, and how they end.
+use Rattle.std.proofs.Common.{◌≡◌, ◌<◌, ◌≤◌, ◌+◌, ◌^◌, ◌&&◌, ◌||◌, ℕ, zero, suc, Bool, true, false, not, cond, eqb, List, [], ◌∷◌, length, get_or, Ok, refl, sym, ap, ◌∙◌, arith, All}
+use Rattle.std.specs.Prelude.{filter, ◌++◌}
 use Rattle.std.proofs.lemmas.Bool.{eqb-true}
 use Rattle.model_text.specs.Outcome.{◌>>=◌, refuse_if}
-use Rattle.model_text.specs.Map.{lookup}
 use Rattle.model_map.specs.Ascending.{AreAbove, Ascend}
 use Rattle.model_map.proofs.Keys.{eqb-same}
 use Rattle.model_tree.specs.Node.{Node}
-use Rattle.model_tree.specs.Tree.{is_of_connection, is_gone, is_ended, check_live}
-use Rattle.model_draw.specs.World.{World, after_leave}
-use Rattle.model_world.specs.Session.{Session}
-use Rattle.model_world.specs.Whole.{client, view_of}
-use Rattle.model_world.specs.Desktop.{Desktop}
-use Rattle.model_world.specs.Links.{AreWithin, IsLinked, is_among, is_connected}
-use Rattle.model_world.proofs.Links.{among_none, left_others, ascend_filter}
+use Rattle.model_tree.specs.Tree.{View, is_of_connection, is_gone, is_ended, check_live}
+use Rattle.model_world.specs.Outside.{Outside}
+use Rattle.model_world.specs.Links.{AreCounted, AreWithin, is_among}
+use Rattle.model_world.proofs.Links.{among_none, ascend_filter}
 use Rattle.r9_session.specs.Clients.{MayLeave}
 
 first_or_other : (most n : ℕ) (ns : List ℕ) → n ≤ most → All (λ m. m ≤ most) ns → (k d : ℕ) → k < length (n ∷ ns) → get_or (n ∷ ns) k d ≤ most
@@ -25,76 +21,37 @@ pub all_from_within : (most : ℕ) (ns : List ℕ) → AreWithin most ns → All
 all_from_within most [] within = λ k d below. absurd (omega (arith, below))
 all_from_within most (n ∷ ns) within = λ k d below. first_or_other most n ns within.0 (all_from_within most ns within.1) k d below
 
-some_from : {A : Type 0} (o : Option A) → is_some o ≡ true → IsSome o
-some_from (Some x) is = is
-some_from None is = is
-
-none_from : {A : Type 0} (o : Option A) → is_some o ≡ false → o ≡ None
-none_from (Some x) is = cc is
-none_from None is = refl
-
 -- the next connection's number is free
-pub free_client : (c made : ℕ) (connections : List ℕ) (device : World) → IsLinked c made connections device → made + 1 < 2 ^ 26 → lookup device.clients (client c (made + 1)) ≡ None
-free_client c made connections device linked room =
-    none_from (lookup device.clients (client c (made + 1)))
-    (linked.linked (made + 1) room ∙ among_none made (made + 1) connections linked.counted.within (omega arith))
+pub free_client : (made : ℕ) (connections : List ℕ) → AreCounted made connections → is_among connections (made + 1) ≡ false
+free_client made connections counted = among_none made (made + 1) connections counted.within (omega arith)
 
 -- ---- a file of a connection that lives
 
-live_from : (b : Bool) → refuse_if b 34 ≡ Ok tt → b ≡ false
-live_from true e = cc e
-live_from false e = refl
+alive_from : (b : Bool) → refuse_if b 34 ≡ Ok tt → b ≡ false
+alive_from true e = cc e
+alive_from false e = refl
 
 ended_from : (a b : Bool) → (refuse_if a 42 >>= λ _. refuse_if b 34) ≡ Ok tt → b ≡ false
 ended_from true b e = cc e
-ended_from false b e = live_from b e
+ended_from false b e = alive_from b e
 
 not_ended : (a b : Bool) → a ≡ true → (a && not b) ≡ false → b ≡ true
 not_ended true true of e = refl
 not_ended true false of e = cc e
 not_ended false b of e = cc of
 
-pub live_client : (c : ℕ) (session : Session) (desktop : Desktop) (node : Node) → IsLinked c session.made session.connections desktop.device → is_of_connection node.kind ≡ true
-    → check_live (view_of desktop.table session.connections node) node ≡ Ok tt → node.connection < 2 ^ 26 → IsSome (lookup desktop.device.clients (client c node.connection))
-unfolding check_live view_of
-live_client c session desktop node linked of live few =
-    let view = view_of desktop.table session.connections node in
+pub live_client : (view : View) (connections : List ℕ) (node : Node) → view.connections ≡ connections → is_of_connection node.kind ≡ true → check_live view node ≡ Ok tt
+    → is_among connections node.connection ≡ true
+unfolding check_live
+live_client view connections node same of live =
     let ended : is_ended view node ≡ false = ended_from (is_gone view node) (is_ended view node) live in
-    let among : is_among session.connections node.connection ≡ true = not_ended (is_of_connection node.kind) (is_among session.connections node.connection) of ended in
-    some_from (lookup desktop.device.clients (client c node.connection)) (linked.linked node.connection few ∙ among)
+    ap (λ (ns : List ℕ). is_among ns node.connection) (sym same) ∙ not_ended (is_of_connection node.kind) (is_among view.connections node.connection) of ended
 
 -- ---- connections that end
-
--- the device has all of them
-AllConnected : ℕ → World → List ℕ → Type 0
-AllConnected c device [] = Unit {0}
-AllConnected c device (n ∷ ns) = (is_connected device (client c n) ≡ true) × AllConnected c device ns
-
-still_connected : (c n : ℕ) (ns : List ℕ) (device : World) → AreAbove n ns → AllConnected c device ns → AllConnected c (after_leave device (client c n)) ns
-unfolding AllConnected
-still_connected c n [] device above all = tt
-still_connected c n (m ∷ ms) device above all = (
-  left_others device (client c n) (client c m) (λ same. omega (arith, same, above.0)) ∙ all.0,
-  still_connected c n ms device above.1 all.1,
-)
-
-leaves : (c : ℕ) (ns : List ℕ) (device : World) → Ascend ns → AllConnected c device ns → MayLeave c ns device
-unfolding AllConnected
-leaves c [] device ascend all = tt
-leaves c (n ∷ ns) device ascend all =
-    (some_from (lookup device.clients (client c n)) all.0, leaves c ns (after_leave device (client c n)) ascend.1 (still_connected c n ns device ascend.0 all.1))
 
 or_right : (a b : Bool) → b ≡ true → (a || b) ≡ true
 or_right true b is = refl
 or_right false b is = is
-
-connected_from : (c : ℕ) (ns : List ℕ) (device : World) → ((n : ℕ) → is_among ns n ≡ true → is_connected device (client c n) ≡ true) → AllConnected c device ns
-unfolding AllConnected
-connected_from c [] device each = tt
-connected_from c (n ∷ ns) device each = (
-  each n (ap (λ (b : Bool). b || is_among ns n) (eqb-same n)),
-  connected_from c ns device (λ m among. each m (or_right (eqb n m) (is_among ns m) among)),
-)
 
 within_by : (most n m : ℕ) (ms : List ℕ) → m ≤ most → (b : Bool) → eqb m n ≡ b → (b || is_among ms n) ≡ true → (is_among ms n ≡ true → n ≤ most) → n ≤ most
 within_by most n m ms first true at among more = let same : m ≡ n = eqb-true m n at in omega (arith, same)
@@ -104,27 +61,52 @@ within_at : (most n : ℕ) (ns : List ℕ) → AreWithin most ns → is_among ns
 within_at most n [] within among = cc among
 within_at most n (m ∷ ms) within among = within_by most n m ms within.0 (eqb m n) refl among (λ more. within_at most n ms within.1 more)
 
-all_connected : (c made : ℕ) (connections : List ℕ) (device : World) → IsLinked c made connections device → AllConnected c device connections
-all_connected c made connections device linked =
-    connected_from c connections device (λ n among. linked.linked n (omega (arith, within_at made n connections linked.counted.within among, linked.counted.few)) ∙ among)
+-- where the end of one leaves the others
+module _ {S : Type 0} (outside : Outside S) (has : (connection : ℕ) → S → Bool) (others : (m n : ℕ) (rest : S) → (m ≡ n → ⊥) → has m (outside.leave rest n) ≡ has m rest) where
+  -- all of them live
+  AllLive : S → List ℕ → Type 0
+  AllLive rest [] = Unit {0}
+  AllLive rest (n ∷ ns) = (has n rest ≡ true) × AllLive rest ns
 
-connected_filter : (p : ℕ → Bool) (c : ℕ) (ns : List ℕ) (device : World) → AllConnected c device ns → AllConnected c device (filter p ns)
-unfolding AllConnected
-connected_filter p c [] device all = tt
-connected_filter p c (n ∷ ns) device all =
-    elim (p n) as (λ b. AllConnected c device (cond b (n ∷ filter p ns) (filter p ns))) [
-      | true ↦ (all.0, connected_filter p c ns device all.1)
-      | false ↦ connected_filter p c ns device all.1
-    ]
+  still_live : (n : ℕ) (ns : List ℕ) (rest : S) → AreAbove n ns → AllLive rest ns → AllLive (outside.leave rest n) ns
+  unfolding AllLive
+  still_live n [] rest above all = tt
+  still_live n (m ∷ ms) rest above all = (others m n rest (λ same. omega (arith, same, above.0)) ∙ all.0, still_live n ms rest above.1 all.1)
 
--- a session's connections may all end, or those that pass a test
-pub all_may_leave : (c made : ℕ) (connections : List ℕ) (device : World) → IsLinked c made connections device → MayLeave c connections device
-all_may_leave c made connections device linked =
-    leaves c connections device linked.counted.ascending (all_connected c made connections device linked)
+  leaves : (ns : List ℕ) (rest : S) → Ascend ns → AllLive rest ns → MayLeave outside has ns rest
+  unfolding AllLive
+  leaves [] rest ascend all = tt
+  leaves (n ∷ ns) rest ascend all = (all.0, leaves ns (outside.leave rest n) ascend.1 (still_live n ns rest ascend.0 all.1))
 
-pub some_may_leave : (p : ℕ → Bool) (c made : ℕ) (connections : List ℕ) (device : World) → IsLinked c made connections device → MayLeave c (filter p connections) device
-some_may_leave p c made connections device linked =
-    leaves c (filter p connections) device (ascend_filter p connections linked.counted.ascending) (connected_filter p c connections device (all_connected c made connections device linked))
+  live_from : (ns : List ℕ) (rest : S) → ((n : ℕ) → is_among ns n ≡ true → has n rest ≡ true) → AllLive rest ns
+  unfolding AllLive
+  live_from [] rest each = tt
+  live_from (n ∷ ns) rest each = (
+    each n (ap (λ (b : Bool). b || is_among ns n) (eqb-same n)),
+    live_from ns rest (λ m among. each m (or_right (eqb n m) (is_among ns m) among)),
+  )
+
+  all_live : (made : ℕ) (connections : List ℕ) (rest : S) → AreCounted made connections → ((n : ℕ) → n < 2 ^ 26 → has n rest ≡ is_among connections n) → AllLive rest connections
+  all_live made connections rest counted linked =
+      live_from connections rest (λ n among. linked n (omega (arith, within_at made n connections counted.within among, counted.few)) ∙ among)
+
+  live_filter : (p : ℕ → Bool) (ns : List ℕ) (rest : S) → AllLive rest ns → AllLive rest (filter p ns)
+  unfolding AllLive
+  live_filter p [] rest all = tt
+  live_filter p (n ∷ ns) rest all =
+      elim (p n) as (λ b. AllLive rest (cond b (n ∷ filter p ns) (filter p ns))) [
+        | true ↦ (all.0, live_filter p ns rest all.1)
+        | false ↦ live_filter p ns rest all.1
+      ]
+
+  -- a session's connections may all end, or those that pass a test
+  pub all_may_leave : (made : ℕ) (connections : List ℕ) (rest : S) → AreCounted made connections → ((n : ℕ) → n < 2 ^ 26 → has n rest ≡ is_among connections n) → MayLeave outside has connections rest
+  all_may_leave made connections rest counted linked = leaves connections rest counted.ascending (all_live made connections rest counted linked)
+
+  pub some_may_leave : (p : ℕ → Bool) (made : ℕ) (connections : List ℕ) (rest : S) → AreCounted made connections → ((n : ℕ) → n < 2 ^ 26 → has n rest ≡ is_among connections n)
+      → MayLeave outside has (filter p connections) rest
+  some_may_leave p made connections rest counted linked =
+      leaves (filter p connections) rest (ascend_filter p connections counted.ascending) (live_filter p connections rest (all_live made connections rest counted linked))
 
 -- ---- numbers that fit
 

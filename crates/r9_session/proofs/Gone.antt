@@ -7,8 +7,7 @@ use Rattle.model_map.proofs.Keys.{eqb-same, not_key}
 use Rattle.std.proofs.lemmas.Bool.Decides.{nat_tests}
 use Rattle.model_world.specs.Session.{Fid, Session}
 use Rattle.model_text.specs.Outcome.{Outcome, ◌>>=◌, refuse_if}
-use Rattle.model_world.specs.Desktop.{Desktop}
-use Rattle.model_world.specs.Whole.{desktop_for}
+use Rattle.model_world.specs.Outside.{Outside}
 use Rattle.model_world.specs.Answer.{agreed_on, version_answer}
 use Rattle.model_world.specs.Fids.{cleared, has_root, left_by, put}
 use Rattle.model_world.proofs.Links.{cleared_is}
@@ -116,15 +115,15 @@ refused_not : {A : Type 0} (n : ℕ) (b : Bool) (r : Outcome A) → b ≡ false 
 refused_not n true r is = absurd (cc is)
 refused_not n false r is = refl
 
-pub version_is : (c : ℕ) (session : Session) (desktop : Desktop) (tag msize : ℕ) (version : List ℕ) → nat_lt msize 256 ≡ false
-    → version_answer (desktop_for c) session desktop tag msize version ≡ Ok (agreed_on tag msize version (cleared (desktop_for c) session desktop))
+pub version_is : {S : Type 0} (outside : Outside S) (session : Session) (rest : S) (tag msize : ℕ) (version : List ℕ) → nat_lt msize 256 ≡ false
+    → version_answer outside session rest tag msize version ≡ Ok (agreed_on tag msize version (cleared outside session rest))
 unfolding version_answer
-version_is c session desktop tag msize version long =
-    refused_not 48 (nat_lt msize 256) (Ok (agreed_on tag msize version (cleared (desktop_for c) session desktop))) long
+version_is outside session rest tag msize version long =
+    refused_not 48 (nat_lt msize 256) (Ok (agreed_on tag msize version (cleared outside session rest))) long
 
 -- all fids of a session have gone, and the reads that waited
-pub cleared_of : (c : ℕ) (session : Session) (desktop after : Desktop) → after ≡ (cleared (desktop_for c) session desktop).1
-    → cleared (desktop_for c) session desktop ≡ left_of (record session { fids = []; waiting = []; connections = [] }) after
-cleared_of c session desktop after is =
-    let own = ap (λ (both : Session × Desktop). both.0) (cleared_is (desktop_for c) session desktop) in
+pub cleared_of : {S : Type 0} (outside : Outside S) (session : Session) (rest after : S) → after ≡ (cleared outside session rest).1
+    → cleared outside session rest ≡ left_of (record session { fids = []; waiting = []; connections = [] }) after
+cleared_of {S} outside session rest after is =
+    let own = ap (λ (both : Session × S). both.0) (cleared_is outside session rest) in
     λ j. (own j, sym is j)

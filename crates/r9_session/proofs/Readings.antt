@@ -4,7 +4,6 @@ use Rattle.model_text.specs.Outcome.{Outcome}
 use Rattle.model_text.specs.Map.{lookup, with}
 use Rattle.model_map.proofs.Maps.{with-same}
 use Rattle.model_world.specs.Session.{Fid, Session}
-use Rattle.model_world.specs.Desktop.{Desktop}
 use Rattle.model_world.specs.Reading.{Given}
 use Rattle.r9_memory.specs.declared.Memory.{Memory}
 use Rattle.r9_files.specs.declared.fault.Fault.{Fault}
@@ -29,7 +28,7 @@ read_of old fid (Err (fault.Refused n)) found after fids defined at is kept writ
 read_of old fid (Err fault.Memory) found after fids defined at is kept written = tt
 
 -- the same of a file that is no directory
-pub file_read_of : (old : Session) (before rest : Desktop) (fid : ℕ) (r : Result (Option (List ℕ)) Fault) (found after : Fid) (fids : List (ℕ × Fid)) (defined : Outcome (Option (Given Desktop)))
+pub file_read_of : {S : Type 0} (old : Session) (before rest : S) (fid : ℕ) (r : Result (Option (List ℕ)) Fault) (found after : Fid) (fids : List (ℕ × Fid)) (defined : Outcome (Option (Given S)))
     → lookup old.fids fid ≡ Some found → IsFileRead found before r after rest defined → fids ≡ with old.fids fid after → IsReadOf old before fid r (record old { fids = fids }) rest defined
 file_read_of old before rest fid (Ok (Some bytes)) found after fids defined at is written = (after, is, ap (with_fids old) written)
 file_read_of old before rest fid (Ok None) found after fids defined at is written = (is.0, same_fids old fid found after fids at is.1 written, is.2)
@@ -37,7 +36,7 @@ file_read_of old before rest fid (Err (fault.Refused n)) found after fids define
 file_read_of old before rest fid (Err fault.Memory) found after fids defined at is written = tt
 
 -- and of what it gives now
-pub given_of : (old : Session) (before rest : Desktop) (fid : ℕ) (r : Result (Option (List ℕ)) Memory) (found after : Fid) (fids : List (ℕ × Fid)) (defined : Option (Given Desktop))
+pub given_of : {S : Type 0} (old : Session) (before rest : S) (fid : ℕ) (r : Result (Option (List ℕ)) Memory) (found after : Fid) (fids : List (ℕ × Fid)) (defined : Option (Given S))
     → lookup old.fids fid ≡ Some found → IsGivenNow found before r after rest defined → fids ≡ with old.fids fid after → IsGivenOf old before fid r (record old { fids = fids }) rest defined
 given_of old before rest fid (Ok (Some bytes)) found after fids defined at is written = (after, is, ap (with_fids old) written)
 given_of old before rest fid (Ok None) found after fids defined at is written = (is.0, same_fids old fid found after fids at is.1 written, is.2)

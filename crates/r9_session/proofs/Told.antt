@@ -1,19 +1,12 @@
 -- A reply that is the refusal of want of memory, and the mark that is told with it.
-use Rattle.std.proofs.Common.{◌≡◌, ℕ, true, false, Option, None, Some, Result, Ok, Err, IfOk, IfSome, IsSome, ap, subst, ◌∙◌}
+use Rattle.std.proofs.Common.{◌≡◌, ℕ, true, false, List, Option, Some, Result, Ok, Err, IfOk, IfSome, IsSome, sym, ap, subst, ◌∙◌}
 use Rattle.std.specs.Prelude.{◌↔◌}
 use Rattle.std.specs.Option.{option_map}
-use Rattle.model_text.specs.Outcome.{Outcome}
 use Rattle.model_wire.specs.Message.{T, Tread, Twrite, R}
 use Rattle.model_wire.specs.Spelling.{FitsR}
 use Rattle.model_draw.specs.Act.{no_memory}
-use Rattle.model_world.specs.Session.{Session}
-use Rattle.model_world.specs.Desktop.{Desktop}
-use Rattle.model_world.specs.Whole.{desktop_for}
-use Rattle.model_world.specs.Fids.{Left}
-use Rattle.model_world.specs.Answer.{answer_to}
-use Rattle.model_world.specs.Reading.{read_answer}
 use Rattle.model_world.specs.Refusal.{IsRefused, Refuses, refusal}
-use Rattle.model_world.proofs.Wanting.{IsOther, Spares, SparesOf, answer_spares, not_wanting, only_wanting}
+use Rattle.model_world.proofs.Wanting.{not_wanting, only_wanting}
 use Rattle.r9_wire.specs.View.{r_of}
 use Rattle.r9_session.specs.Answers.{uses_file}
 use Rattle.r9_session.specs.declared.writing.Answered.{Answered}
@@ -30,18 +23,10 @@ pub write_tells : (tag number : ℕ) (reply : R) (refused short : Option ℕ) �
 write_tells tag number reply refused short is stopped told wants =
     told.1 (stopped ∙ ap (λ (n : ℕ). Some n) (only_wanting number (subst (λ (r : R). Refuses no_memory r) is wants)))
 
-spared : (m : T) (after : Left Desktop) → uses_file m ≡ false → SparesOf m after → Spares after
-spared (Twrite tag fid offset bytes) after other spares = absurd (let both : true ≡ false = other in cc both)
-spared m after other spares = spares
+-- a message that neither reads nor writes writes not
+pub no_write : (m : T) → uses_file m ≡ false → (tag fid offset : ℕ) (bytes : List ℕ) → m ≡ Twrite tag fid offset bytes → ⊥
+no_write m other tag fid offset bytes is = let both : false ≡ true = sym other ∙ ap uses_file is in cc both
 
--- and that to a read
-pub read_spares : (c : ℕ) (session : Session) (desktop : Desktop) (tag fid offset count : ℕ) (after : Left Desktop)
-    → read_answer (desktop_for c) session desktop tag fid offset count ≡ Ok after → IsRefused no_memory after.reply → ⊥
-read_spares c session desktop tag fid offset count after is =
-    subst (λ (o : Outcome (Left Desktop)). IsOther (SparesOf (Tread tag fid offset count)) o) is (answer_spares c session desktop None (Tread tag fid offset count))
-
--- the reply to what neither reads nor writes is another
-pub other_spares : (c : ℕ) (session : Session) (desktop : Desktop) (mark : Option ℕ) (m : T) (after : Left Desktop) → uses_file m ≡ false → answer_to (desktop_for c) session desktop mark m ≡ Ok after
-    → IsRefused no_memory after.reply → ⊥
-other_spares c session desktop mark m after other is =
-    spared m after other (subst (λ (o : Outcome (Left Desktop)). IsOther (SparesOf m) o) is (answer_spares c session desktop mark m))
+-- nor does that to a read tell one
+pub no_read : (read_tag read_fid read_offset count tag fid offset : ℕ) (bytes : List ℕ) → Tread read_tag read_fid read_offset count ≡ Twrite tag fid offset bytes → ⊥
+no_read read_tag read_fid read_offset count tag fid offset bytes is = cc is

@@ -10,8 +10,7 @@ use Rattle.model_tree.specs.Tree.{View, walk}
 use Rattle.model_world.specs.Walking.{walk_answer, walk_ended, walk_on, walked}
 use Rattle.model_world.specs.Session.{Fid, Session}
 use Rattle.model_world.specs.Fids.{is_bound, is_full}
-use Rattle.model_world.specs.Desktop.{Desktop}
-use Rattle.model_world.specs.Whole.{desktop_for, view_of}
+use Rattle.model_world.specs.Outside.{Outside}
 
 walk_on_few : (next : Outcome Node) (further : Node → List Node × Option ℕ) (n : ℕ) → ((node : Node) → length (further node).0 ≤ n) → length (walk_on next further).0 ≤ n + 1
 walk_on_few (Err refusal) further n few = omega arith
@@ -37,16 +36,16 @@ free_or_same true b free = refl
 free_or_same false b free = free refl
 
 -- a walk from a fid that is not open to one that is free, or the same
-pub walk_is : (c : ℕ) (session : Session) (desktop : Desktop) (tag fid newfid : ℕ) (names : List (List ℕ)) (from : Fid) → lookup session.fids fid ≡ Some from → is_some from.mode ≡ false
+pub walk_is : {S : Type 0} (outside : Outside S) (session : Session) (rest : S) (tag fid newfid : ℕ) (names : List (List ℕ)) (from : Fid) → lookup session.fids fid ≡ Some from → is_some from.mode ≡ false
     → ((newfid == fid) ≡ false → is_bound session newfid ≡ false) → ((newfid == fid) ≡ false → is_full session ≡ false)
-    → walk_answer (desktop_for c) session desktop tag fid newfid names ≡ walk_ended session tag fid newfid from.node (walked (view_of desktop.table session.connections) from.node names)
+    → walk_answer outside session rest tag fid newfid names ≡ walk_ended session tag fid newfid from.node (walked (outside.view rest session.connections) from.node names)
 unfolding walk_answer
-walk_is c session desktop tag fid newfid names from at closed free room =
+walk_is outside session rest tag fid newfid names from at closed free room =
     ap (λ (o : Option Fid). value_or_refuse o 32 >>= λ f.
     refuse_if (is_some f.mode) 36 >>= λ _.
     refuse_if (not (newfid == fid) && is_bound session newfid) 33 >>= λ _.
     refuse_if (not (newfid == fid) && is_full session) 44 >>= λ _.
-    walk_ended session tag fid newfid f.node (walked (view_of desktop.table session.connections) f.node names)) at
+    walk_ended session tag fid newfid f.node (walked (outside.view rest session.connections) f.node names)) at
     ∙ passed 36 _ _ closed
     ∙ passed 33 _ _ (free_or_same (newfid == fid) (is_bound session newfid) free)
     ∙ passed 44 _ _ (free_or_same (newfid == fid) (is_full session) room)

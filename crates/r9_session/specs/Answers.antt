@@ -5,7 +5,6 @@ use Rattle.model_text.specs.Outcome.{Outcome}
 use Rattle.model_wire.specs.Message.{T, Tread, Twrite, no_tag, tag_of_t}
 use Rattle.model_wire.specs.Spelling.{FitsR}
 use Rattle.model_world.specs.Session.{Session}
-use Rattle.model_world.specs.Desktop.{Desktop}
 use Rattle.model_world.specs.Answer.{Taking, Ignored, TooLong, Closes, Reads, is_version}
 use Rattle.model_world.specs.Waiting.{waits_for}
 use Rattle.model_world.specs.Fids.{Done, Left, is_bound, is_full}
@@ -13,7 +12,7 @@ use Rattle.r9_wire.specs.declared.message.Rmsg.{Rmsg}
 use Rattle.r9_wire.specs.View.{r_of}
 use Rattle.r9_files.specs.declared.fault.Fault.{Fault}
 use Rattle.r9_files.specs.declared.fault.Fault.TheVariants as fault
-use Rattle.r9_desktop.specs.Words.{mark_after}
+use Rattle.r9_around.specs.Words.{mark_after}
 use Rattle.r9_session.specs.declared.taking.Taking.{Taking as CodeTaking}
 use Rattle.r9_session.specs.declared.taking.Taking.TheVariants as taking
 use Rattle.r9_session.specs.declared.writing.Answered.{Answered}
@@ -25,21 +24,21 @@ IsAnswer old (Ok reply) new defined = (defined ≡ Ok (record { session = new; r
 IsAnswer old (Err (fault.Refused n)) new defined = (defined ≡ Err n) × (new ≡ old)
 IsAnswer old (Err fault.Memory) new defined = Unit {0}
 
--- the same of a message that reaches the draw device or the windows
-abbrev pub IsReach : (old : Session) (before : Desktop) (found : Result Rmsg Fault) (new : Session) (after : Desktop) → Outcome (Left Desktop) → Type 0
+-- the same of a message that reaches what is outside
+abbrev pub IsReach : {S : Type 0} → (old : Session) (before : S) (found : Result Rmsg Fault) (new : Session) (after : S) → Outcome (Left S) → Type 0
 IsReach old before (Ok reply) new after defined = (defined ≡ Ok (record { session = new; rest = after; reply = Some (r_of reply) })) × FitsR (r_of reply)
 IsReach old before (Err (fault.Refused n)) new after defined = (defined ≡ Err n) × (new ≡ old) × (after ≡ before)
 IsReach old before (Err fault.Memory) new after defined = Unit {0}
 
 -- the same of a read, which may have no reply yet
-abbrev pub IsReadEnd : (old : Session) (before : Desktop) (found : Result (Option Rmsg) Fault) (new : Session) (after : Desktop) → Outcome (Left Desktop) → Type 0
+abbrev pub IsReadEnd : {S : Type 0} → (old : Session) (before : S) (found : Result (Option Rmsg) Fault) (new : Session) (after : S) → Outcome (Left S) → Type 0
 IsReadEnd old before (Ok reply) new after defined = (defined ≡ Ok (record { session = new; rest = after; reply = option_map r_of reply })) × IfSome reply (λ reply. FitsR (r_of reply))
 IsReadEnd old before (Err (fault.Refused n)) new after defined = (defined ≡ Err n) × (new ≡ old) × (after ≡ before)
 IsReadEnd old before (Err fault.Memory) new after defined = Unit {0}
 
 -- the same of one that may be a data write: what is defined has the mark with which it stands in the history
-abbrev pub IsReply : (mark : Option ℕ) (old : Session) (before : Desktop) (found : Result Answered Fault) (new : Session) (after : Desktop)
-    → (Option ℕ → Outcome (Left Desktop)) → Type 0
+abbrev pub IsReply : {S : Type 0} → (mark : Option ℕ) (old : Session) (before : S) (found : Result Answered Fault) (new : Session) (after : S)
+    → (Option ℕ → Outcome (Left S)) → Type 0
 IsReply mark old before (Ok a) new after defined = (defined (mark_after mark a.short) ≡ Ok (record { session = new; rest = after; reply = option_map r_of a.reply })) × IfSome a.reply (λ reply. FitsR (r_of reply))
 IsReply mark old before (Err (fault.Refused n)) new after defined = (defined mark ≡ Err n) × (new ≡ old) × (after ≡ before)
 IsReply mark old before (Err fault.Memory) new after defined = Unit {0}

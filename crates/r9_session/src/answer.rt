@@ -11,20 +11,17 @@ ghost use Rattle.model_draw.specs.Act.{no_memory};
 ghost use Rattle.model_world.specs.Fids.{cleared};
 ghost use Rattle.model_world.specs.Refusal.{refusal, IsRefused};
 ghost use Rattle.model_world.specs.Cut.{IsCut, IsCutMessage, IsCutSpelled};
-ghost use Rattle.model_world.specs.Links.{IsLinked, KeepsOthers};
 ghost use Rattle.model_world.specs.Sleeping.{written_at, written_to};
 ghost use Rattle.model_world.specs.Waiting.{flushed};
-ghost use Rattle.model_world.specs.Whole.{desktop_for};
-ghost use Rattle.r9_desktop.specs.World.{desktop_of};
 ghost use Rattle.r9_wire.specs.View.{r_of, t_of};
 ghost use Rattle.r9_session.specs.Answers.{IsBegun, IsNewTag, IsReach, IsReply, uses_file};
 ghost use Rattle.r9_session.specs.Clients.{left_of};
-ghost use Rattle.r9_desktop.specs.Words.{mark_after};
+ghost use Rattle.r9_around.specs.Words.{mark_after};
 
 use crate::session::{MAX_MSIZE, Session};
 use crate::taking::{Taking, tag_of as tag_in};
 use crate::writing::Answered;
-use r9_desktop::Desktop;
+use r9_around::Outside;
 use r9_files::{
     BAD_MESSAGE, Fault, MSIZE_TOO_SMALL, NO_AUTHENTICATION, PERMISSION_DENIED, VERSION_FIRST,
     refusal,
@@ -127,22 +124,22 @@ fn refuse(alloc: Global, tag: u16, number: u8) -> Result<Answered, Memory>
 impl Session {
     /// Begins the session anew, with a version agreed or not. Its fids go, and all that goes with them.
     #[tactic(auto, unfolding(model_world::specs::Answer::version_answer), using(crate::proofs::Gone::version_is))]
-    fn version(
+    fn version<O: Outside>(
         &mut self,
         alloc: Global,
-        desktop: &mut Desktop,
+        outside: &mut O,
         number: u32,
         tag: u16,
         msize: u32,
         version: &[u8],
     ) -> Result<Rmsg, Fault>
-        requires { IsLinked number self.old.made self.old.connections (desktop_of desktop.old).device }
-        ensures { IsReach self.old (desktop_of desktop.old) result self.new (desktop_of desktop.new) (version_answer (desktop_for number) self.old (desktop_of desktop.old) tag msize version.now) }
+        requires { O.linked number self.old.made self.old.connections (O.state outside.old) }
+        ensures { IsReach self.old (O.state outside.old) result self.new (O.state outside.new) (version_answer (O.outside number) self.old (O.state outside.old) tag msize version.now) }
     {
         if msize < MIN_MSIZE {
             return Err(Fault::Refused(MSIZE_TOO_SMALL));
         }
-        self.clear(alloc, desktop, number)?;
+        self.clear(alloc, outside, number)?;
         let msize = msize.min(MAX_MSIZE);
         self.agreed = asks_for_9p(version);
         if self.agreed {
@@ -164,24 +161,24 @@ impl Session {
     }
 
     /// Answers a message that neither reads an open file nor writes it, in a session that has agreed on a version.
-    fn answer_other(
+    fn answer_other<O: Outside>(
         &mut self,
         alloc: Global,
-        desktop: &mut Desktop,
+        outside: &mut O,
         number: u32,
         m: &Tmsg,
     ) -> Result<Rmsg, Fault>
         requires fits { FitsT (t_of m.now) }
-        requires linked { IsLinked number self.old.made self.old.connections (desktop_of desktop.old).device }
+        requires linked { O.linked number self.old.made self.old.connections (O.state outside.old) }
         requires other { uses_file (t_of m.now) ≡ false }
-        ensures { (mark : Option ℕ) → IsReach self.old (desktop_of desktop.old) result self.new (desktop_of desktop.new) (answer_to (desktop_for number) self.old (desktop_of desktop.old) mark (t_of m.now)) }
+        ensures { (mark : Option ℕ) → IsReach self.old (O.state outside.old) result self.new (O.state outside.new) (answer_to (O.outside number) self.old (O.state outside.old) mark (t_of m.now)) }
     {
         match m {
             Tmsg::Version {
                 tag,
                 msize,
                 version,
-            } => self.version(alloc, desktop, number, *tag, *msize, version.as_slice()),
+            } => self.version(alloc, outside, number, *tag, *msize, version.as_slice()),
             Tmsg::Auth { .. } => Err(Fault::Refused(NO_AUTHENTICATION)),
             Tmsg::Attach {
                 tag,
@@ -189,27 +186,27 @@ impl Session {
                 afid,
                 aname,
                 ..
-            } => self.attach(alloc, desktop, number, *tag, *fid, *afid, aname.as_slice()),
+            } => self.attach(alloc, outside, number, *tag, *fid, *afid, aname.as_slice()),
             Tmsg::Flush { tag, oldtag } => Ok(self.flush(*tag, *oldtag)),
             Tmsg::Walk {
                 tag,
                 fid,
                 newfid,
                 names,
-            } => self.walk(alloc, desktop, *tag, *fid, *newfid, names),
-            Tmsg::Open { tag, fid, mode } => self.open(desktop, number, *tag, *fid, *mode),
+            } => self.walk(alloc, outside, *tag, *fid, *newfid, names),
+            Tmsg::Open { tag, fid, mode } => self.open(outside, number, *tag, *fid, *mode),
             Tmsg::Create { fid, .. }
             | Tmsg::Wstat { fid, .. }
             | Tmsg::Read { fid, .. }
             | Tmsg::Write { fid, .. } => self.deny(*fid),
             Tmsg::Clunk { tag, fid } => {
-                self.clunk(alloc, desktop, number, *fid, Rmsg::Clunk { tag: *tag })
+                self.clunk(alloc, outside, number, *fid, Rmsg::Clunk { tag: *tag })
             }
             Tmsg::Remove { tag, fid } => {
                 let reply = refusal(alloc, *tag, PERMISSION_DENIED)?;
-                self.clunk(alloc, desktop, number, *fid, reply)
+                self.clunk(alloc, outside, number, *fid, reply)
             }
-            Tmsg::Stat { tag, fid } => self.stat(alloc, desktop, *tag, *fid),
+            Tmsg::Stat { tag, fid } => self.stat(alloc, outside, *tag, *fid),
         }
     }
 
@@ -229,19 +226,19 @@ impl Session {
 
     /// Answers a message that was read.
     #[tactic(auto, unfolding(model_world::specs::Answer::answer_read))]
-    fn answer_read(
+    fn answer_read<O: Outside>(
         &mut self,
         alloc: Global,
-        desktop: &mut Desktop,
+        outside: &mut O,
         number: u32,
         m: &Tmsg,
         mark: Option<u32>,
     ) -> Result<Answered, Fault>
         requires fits { FitsT (t_of m.now) }
-        requires linked { IsLinked number self.old.made self.old.connections (desktop_of desktop.old).device }
+        requires linked { O.linked number self.old.made self.old.connections (O.state outside.old) }
         requires fresh { IsNewTag self.old (t_of m.now) }
-        ensures answer { IsReply mark self.old (desktop_of desktop.old) result self.new (desktop_of desktop.new) (λ k. answer_read (desktop_for number) self.old (desktop_of desktop.old) k (t_of m.now)) }
-        ensures cause { IfOk result (λ a. IfSome a.short (λ k. IsCut number self.old (desktop_of desktop.old) mark k (t_of m.now))) }
+        ensures answer { IsReply mark self.old (O.state outside.old) result self.new (O.state outside.new) (λ k. answer_read (O.outside number) self.old (O.state outside.old) k (t_of m.now)) }
+        ensures cause { IfOk result (λ a. IfSome a.short (λ k. IsCut (O.wants number) self.old (O.state outside.old) mark k (t_of m.now))) }
         ensures refused { IfOk result (λ a. IsSome a.short → IsRefused no_memory (option_map r_of a.reply)) }
         ensures told { IfOk result (λ a. IsRefused no_memory (option_map r_of a.reply) → IsSome a.short) }
     {
@@ -254,7 +251,7 @@ impl Session {
                 bytes,
             } => {
                 let bytes = bytes.as_slice();
-                self.write(alloc, desktop, number, *tag, *fid, *offset, bytes, mark)
+                self.write(alloc, outside, number, *tag, *fid, *offset, bytes, mark)
             }
             Tmsg::Read {
                 tag,
@@ -262,7 +259,7 @@ impl Session {
                 offset,
                 count,
             } => {
-                let reply = self.read(alloc, desktop, number, *tag, *fid, *offset, *count)?;
+                let reply = self.read(alloc, outside, number, *tag, *fid, *offset, *count)?;
                 Ok(Answered {
                     reply,
                     short: None,
@@ -270,7 +267,7 @@ impl Session {
                 })
             }
             _ => {
-                let reply = self.answer_other(alloc, desktop, number, m)?;
+                let reply = self.answer_other(alloc, outside, number, m)?;
                 Ok(Answered {
                     reply: Some(reply),
                     short: None,
@@ -294,27 +291,27 @@ impl Session {
     }
 
     /// Answers a message that was read, or refuses it.
-    fn answer_or_refuse(
+    fn answer_or_refuse<O: Outside>(
         &mut self,
         alloc: Global,
-        desktop: &mut Desktop,
+        outside: &mut O,
         number: u32,
         tag: u16,
         m: &Tmsg,
         mark: Option<u32>,
     ) -> Result<Answered, Memory>
         requires fits { FitsT (t_of m.now) }
-        requires linked { IsLinked number self.old.made self.old.connections (desktop_of desktop.old).device }
+        requires linked { O.linked number self.old.made self.old.connections (O.state outside.old) }
         requires fresh { IsNewTag self.old (t_of m.now) }
-        ensures answer { IfOk result (λ a. replied self.old (desktop_of desktop.old) tag (answer_read (desktop_for number) self.old (desktop_of desktop.old) (mark_after mark a.short) (t_of m.now)) ≡ record { session = self.new; rest = desktop_of desktop.new; reply = option_map r_of a.reply }) }
+        ensures answer { IfOk result (λ a. replied self.old (O.state outside.old) tag (answer_read (O.outside number) self.old (O.state outside.old) (mark_after mark a.short) (t_of m.now)) ≡ record { session = self.new; rest = O.state outside.new; reply = option_map r_of a.reply }) }
         ensures fits { IfOk result (λ a. IfSome a.reply (λ reply. FitsR (r_of reply))) }
-        ensures cause { IfOk result (λ a. IfSome a.short (λ k. IsCut number self.old (desktop_of desktop.old) mark k (t_of m.now))) }
+        ensures cause { IfOk result (λ a. IfSome a.short (λ k. IsCut (O.wants number) self.old (O.state outside.old) mark k (t_of m.now))) }
         ensures refused { IfOk result (λ a. IsSome a.short → IsRefused no_memory (option_map r_of a.reply)) }
         ensures told { IfOk result (λ a. IsRefused no_memory (option_map r_of a.reply) → IsSome a.short) }
-        ensures linked { OnOk result (IsLinked number self.new.made self.new.connections (desktop_of desktop.new).device) }
-        ensures others { OnOk result (KeepsOthers number (desktop_of desktop.old).device (desktop_of desktop.new).device) }
+        ensures linked { OnOk result (O.linked number self.new.made self.new.connections (O.state outside.new)) }
+        ensures others { OnOk result (O.others number (O.state outside.old) (O.state outside.new)) }
     {
-        match self.answer_read(alloc, desktop, number, m, mark) {
+        match self.answer_read(alloc, outside, number, m, mark) {
             Ok(answered) => Ok(answered),
             Err(Fault::Refused(refused)) => refuse(alloc, tag, refused),
             Err(Fault::Memory) => Err(Memory),
@@ -322,31 +319,31 @@ impl Session {
     }
 
     /// Reads a message, and answers it or refuses it.
-    fn answer_taken(
+    fn answer_taken<O: Outside>(
         &mut self,
         alloc: Global,
-        desktop: &mut Desktop,
+        outside: &mut O,
         number: u32,
         bytes: &[u8],
         mark: Option<u32>,
     ) -> Result<Answered, Memory>
         requires long { 7 ≤ length bytes.now }
-        requires linked { IsLinked number self.old.made self.old.connections (desktop_of desktop.old).device }
+        requires linked { O.linked number self.old.made self.old.connections (O.state outside.old) }
         requires taken { taking self.old bytes.now ≡ Reads }
-        ensures answer { IfOk result (λ a. replied self.old (desktop_of desktop.old) (tag_of bytes.now) (read_or_not (desktop_for number) self.old (desktop_of desktop.old) (mark_after mark a.short) (message_of bytes.now)) ≡ record { session = self.new; rest = desktop_of desktop.new; reply = option_map r_of a.reply }) }
+        ensures answer { IfOk result (λ a. replied self.old (O.state outside.old) (tag_of bytes.now) (read_or_not (O.outside number) self.old (O.state outside.old) (mark_after mark a.short) (message_of bytes.now)) ≡ record { session = self.new; rest = O.state outside.new; reply = option_map r_of a.reply }) }
         ensures fits { IfOk result (λ a. IfSome a.reply (λ reply. FitsR (r_of reply))) }
-        ensures cause { IfOk result (λ a. IfSome a.short (λ k. IsCutSpelled number self.old (desktop_of desktop.old) bytes.now mark k)) }
+        ensures cause { IfOk result (λ a. IfSome a.short (λ k. IsCutSpelled (O.wants number) self.old (O.state outside.old) bytes.now mark k)) }
         ensures refused { IfOk result (λ a. IsSome a.short → IsRefused no_memory (option_map r_of a.reply)) }
         ensures told { IfOk result (λ a. IsRefused no_memory (option_map r_of a.reply) → IsSome a.short) }
         ensures wrote { IfOk result (λ a. a.wrote ≡ written_to self.old (message_of bytes.now)) }
-        ensures linked { OnOk result (IsLinked number self.new.made self.new.connections (desktop_of desktop.new).device) }
-        ensures others { OnOk result (KeepsOthers number (desktop_of desktop.old).device (desktop_of desktop.new).device) }
+        ensures linked { OnOk result (O.linked number self.new.made self.new.connections (O.state outside.new)) }
+        ensures others { OnOk result (O.others number (O.state outside.old) (O.state outside.new)) }
     {
         let tag = tag_in(bytes);
         match read_t(alloc, bytes) {
             Ok(m) => {
                 let wrote = self.written_by(&m);
-                let answered = self.answer_or_refuse(alloc, desktop, number, tag, &m, mark)?;
+                let answered = self.answer_or_refuse(alloc, outside, number, tag, &m, mark)?;
                 Ok(Answered { wrote, ..answered })
             }
             Err(WireFault::Malformed(_)) => refuse(alloc, tag, BAD_MESSAGE),
@@ -355,20 +352,20 @@ impl Session {
     }
 
     /// Closes the session, which has nothing any more.
-    fn close(
+    fn close<O: Outside>(
         &mut self,
         alloc: Global,
-        desktop: &mut Desktop,
+        outside: &mut O,
         number: u32,
         tag: u16,
     ) -> Result<Answered, Memory>
-        requires { IsLinked number self.old.made self.old.connections (desktop_of desktop.old).device }
-        ensures closed { OnOk result (closed_by tag (cleared (desktop_for number) self.old (desktop_of desktop.old)) ≡ left_of self.new (desktop_of desktop.new)) }
+        requires { O.linked number self.old.made self.old.connections (O.state outside.old) }
+        ensures closed { OnOk result (closed_by tag (cleared (O.outside number) self.old (O.state outside.old)) ≡ left_of self.new (O.state outside.new)) }
         ensures silent { IfOk result (λ a. (a.reply ≡ None) × (a.short ≡ None) × (a.wrote ≡ 0)) }
-        ensures linked { OnOk result (IsLinked number self.new.made self.new.connections (desktop_of desktop.new).device) }
-        ensures others { OnOk result (KeepsOthers number (desktop_of desktop.old).device (desktop_of desktop.new).device) }
+        ensures linked { OnOk result (O.linked number self.new.made self.new.connections (O.state outside.new)) }
+        ensures others { OnOk result (O.others number (O.state outside.old) (O.state outside.new)) }
     {
-        self.clear(alloc, desktop, number)?;
+        self.clear(alloc, outside, number)?;
         self.closed = Some(tag);
         Ok(silence())
     }
@@ -376,32 +373,32 @@ impl Session {
     /// Answers the bytes of a message of the session that has the number that is given. There is no reply where a read waits from
     /// then on, where the message closes the session, and where the session is closed. A mark tells that memory ran out in a data
     /// write after so many draw messages; the answer tells the mark with which the message stands in the history where the reply is
-    /// the refusal of want of memory, and only there. After an `Err` nothing is said of the session and the desktop: they are not to
+    /// the refusal of want of memory, and only there. After an `Err` nothing is said of the session and the outside: they are not to
     /// be used again.
     #[tactic(auto, unfolding(model_world::specs::Answer::answer))]
-    pub fn answer(
+    pub fn answer<O: Outside>(
         &mut self,
         alloc: Global,
-        desktop: &mut Desktop,
+        outside: &mut O,
         number: u32,
         bytes: &[u8],
         mark: Option<u32>,
     ) -> Result<Answered, Memory>
         requires long { 7 ≤ length bytes.now }
-        requires linked { IsLinked number self.old.made self.old.connections (desktop_of desktop.old).device }
-        ensures answer { IfOk result (λ a. answer (desktop_for number) self.old (desktop_of desktop.old) bytes.now (mark_after mark a.short) ≡ record { session = self.new; rest = desktop_of desktop.new; reply = option_map r_of a.reply }) }
+        requires linked { O.linked number self.old.made self.old.connections (O.state outside.old) }
+        ensures answer { IfOk result (λ a. answer (O.outside number) self.old (O.state outside.old) bytes.now (mark_after mark a.short) ≡ record { session = self.new; rest = O.state outside.new; reply = option_map r_of a.reply }) }
         ensures fits { IfOk result (λ a. IfSome a.reply (λ reply. FitsR (r_of reply))) }
-        ensures short { IfOk result (λ a. IfSome a.short (λ k. IsCutMessage number self.old (desktop_of desktop.old) bytes.now mark k)) }
+        ensures short { IfOk result (λ a. IfSome a.short (λ k. IsCutMessage (O.outside number) (O.wants number) self.old (O.state outside.old) bytes.now mark k)) }
         ensures told { IfOk result (λ a. IsRefused no_memory (option_map r_of a.reply) → IsSome a.short) }
         ensures wrote { IfOk result (λ a. a.wrote ≡ written_at self.old bytes.now) }
-        ensures linked { OnOk result (IsLinked number self.new.made self.new.connections (desktop_of desktop.new).device) }
-        ensures others { OnOk result (KeepsOthers number (desktop_of desktop.old).device (desktop_of desktop.new).device) }
+        ensures linked { OnOk result (O.linked number self.new.made self.new.connections (O.state outside.new)) }
+        ensures others { OnOk result (O.others number (O.state outside.old) (O.state outside.new)) }
     {
         match self.taking(bytes) {
             Taking::Ignored => Ok(silence()),
             Taking::TooLong => refuse(alloc, tag_in(bytes), BAD_MESSAGE),
-            Taking::Closes => self.close(alloc, desktop, number, tag_in(bytes)),
-            Taking::Reads => self.answer_taken(alloc, desktop, number, bytes, mark),
+            Taking::Closes => self.close(alloc, outside, number, tag_in(bytes)),
+            Taking::Reads => self.answer_taken(alloc, outside, number, bytes, mark),
         }
     }
 }

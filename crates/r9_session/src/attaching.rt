@@ -4,14 +4,12 @@ ghost use Rattle.std.specs.Prelude.{◌≡◌, ℕ, false, OnOk, IsErrOf};
 ghost use Rattle.model_world.specs.Session.{fid_at};
 ghost use Rattle.model_world.specs.Fids.{and_fid, is_bound, is_full};
 ghost use Rattle.model_world.specs.Walking.{attach_answer};
-ghost use Rattle.model_world.specs.Whole.{desktop_for};
-ghost use Rattle.r9_desktop.specs.World.{desktop_of};
 ghost use Rattle.r9_tree.specs.View.{node_of, IsNode};
 ghost use Rattle.r9_session.specs.Answers.{IsFree, IsReach};
 
 use crate::session::Session;
 use crate::waking::place_fid;
-use r9_desktop::Desktop;
+use r9_around::Outside;
 use r9_fids::{FidFault, LIMIT};
 use r9_files::{FID_IN_USE, Fault, Fid, NO_AUTHENTICATION, TOO_MANY_FIDS};
 use r9_tree::{Node, qid, read_attach, root_of};
@@ -50,24 +48,24 @@ impl Session {
 
     /// Names the root of a tree by a fid: the device tree's, a window's, or that of a window which is made for it.
     #[tactic(auto, unfolding(model_world::specs::Walking::attach_answer))]
-    pub fn attach(
+    pub fn attach<O: Outside>(
         &mut self,
         alloc: Global,
-        desktop: &mut Desktop,
+        outside: &mut O,
         number: u32,
         tag: u16,
         fid: u32,
         afid: u32,
         aname: &[u8],
     ) -> Result<Rmsg, Fault>
-        ensures { IsReach self.old (desktop_of desktop.old) result self.new (desktop_of desktop.new) (attach_answer (desktop_for number) self.old (desktop_of desktop.old) tag fid afid aname.now) }
+        ensures { IsReach self.old (O.state outside.old) result self.new (O.state outside.new) (attach_answer (O.outside number) self.old (O.state outside.old) tag fid afid aname.now) }
     {
         if afid != NO_FID {
             return Err(Fault::Refused(NO_AUTHENTICATION));
         }
         self.check_free(fid)?;
         let name = read_attach(alloc, aname)?;
-        let root = root_of(desktop.attach(number, &name)?);
+        let root = root_of(outside.attach(number, &name)?);
         self.bind(fid, root)?;
         Ok(Rmsg::Attach {
             tag,

@@ -9,10 +9,7 @@ ghost use Rattle.model_world.specs.Answer.{clunk_answer};
 ghost use Rattle.model_text.specs.Map.{lookup};
 ghost use Rattle.model_world.specs.Session as model;
 ghost use Rattle.model_world.specs.Fids.{cleared, has_root, is_kept, keeps, left_by, put};
-ghost use Rattle.model_world.specs.Links.{IsLinked, KeepsOthers};
-ghost use Rattle.model_world.specs.Whole.{desktop_for};
 ghost use Rattle.model_wire.specs.Spelling.{FitsR};
-ghost use Rattle.r9_desktop.specs.World.{desktop_of};
 ghost use Rattle.r9_wire.specs.View.{r_of};
 ghost use Rattle.r9_session.specs.Answers.{IsReach};
 ghost use Rattle.r9_session.specs.Clients.{MayLeave, left_of, without_fid};
@@ -20,7 +17,7 @@ ghost use Rattle.r9_session.specs.Roots.{roots_of, without_fids};
 
 use crate::holding::let_go;
 use crate::session::Session;
-use r9_desktop::Desktop;
+use r9_around::Outside;
 use r9_files::{Fault, Fid, UNKNOWN_FID};
 use r9_memory::Memory;
 use r9_text::Numbers;
@@ -28,15 +25,15 @@ use r9_wire::Rmsg;
 use std::alloc::Global;
 
 /// Ends connections of a session, one after the other.
-fn leave_all(desktop: &mut Desktop, number: u32, connections: &[u32]) -> Result<(), Memory>
-    requires { MayLeave number connections.now (desktop_of desktop.old).device }
-    ensures { OnOk result ((desktop_of desktop.new) ≡ fold (desktop_for number).leave (desktop_of desktop.old) connections.now) }
+fn leave_all<O: Outside>(outside: &mut O, number: u32, connections: &[u32]) -> Result<(), Memory>
+    requires { MayLeave (O.outside number) (O.has number) connections.now (O.state outside.old) }
+    ensures { OnOk result (O.state outside.new ≡ fold (O.outside number).leave (O.state outside.old) connections.now) }
 {
     let [first, others @ ..] = connections else {
         return Ok(());
     };
-    desktop.leave(number, *first)?;
-    leave_all(desktop, number, others)
+    outside.leave(number, *first)?;
+    leave_all(outside, number, others)
 }
 
 /// Where a number stands in an ascending list, or belongs.
@@ -124,37 +121,36 @@ impl Session {
     }
 
     /// Ends a connection, if it is one of the session's.
-    #[tactic(auto, using(crate::proofs::Clients::some_may_leave))]
-    fn end(
+    fn end<O: Outside>(
         &mut self,
         alloc: Global,
-        desktop: &mut Desktop,
+        outside: &mut O,
         number: u32,
         connection: u32,
     ) -> Result<(), Memory>
-        requires { IsLinked number self.old.made self.old.connections (desktop_of desktop.old).device }
+        requires { O.linked number self.old.made self.old.connections (O.state outside.old) }
         ensures session { OnOk result (self.new ≡ record self.old { connections = filter (λ n. not (n == connection)) self.old.connections }) }
-        ensures desktop { OnOk result ((desktop_of desktop.new) ≡ fold (desktop_for number).leave (desktop_of desktop.old) (filter (λ n. n == connection) self.old.connections)) }
+        ensures outside { OnOk result (O.state outside.new ≡ fold (O.outside number).leave (O.state outside.old) (filter (λ n. n == connection) self.old.connections)) }
     {
         let others = self.others(alloc, connection)?;
         let ended = self.only(alloc, connection)?;
-        leave_all(desktop, number, ended.as_slice())?;
+        leave_all(outside, number, ended.as_slice())?;
         self.connections = others;
         Ok(())
     }
 
     /// Ends the connection that a fid alone keeps alive, if there is one. The other connections are kept alive by other fids.
-    fn settle(
+    fn settle<O: Outside>(
         &mut self,
         alloc: Global,
-        desktop: &mut Desktop,
+        outside: &mut O,
         number: u32,
         fid: u32,
     ) -> Result<(), Memory>
-        requires linked { IsLinked number self.old.made self.old.connections (desktop_of desktop.old).device }
+        requires linked { O.linked number self.old.made self.old.connections (O.state outside.old) }
         requires bound { IsSome (lookup self.old.fids fid) }
         ensures session { OnOk result (self.new ≡ record self.old { connections = filter (is_kept (without_fid self.old fid)) self.old.connections }) }
-        ensures desktop { OnOk result ((desktop_of desktop.new) ≡ fold (desktop_for number).leave (desktop_of desktop.old) (filter (λ n. not (is_kept (without_fid self.old fid) n)) self.old.connections)) }
+        ensures outside { OnOk result (O.state outside.new ≡ fold (O.outside number).leave (O.state outside.old) (filter (λ n. not (is_kept (without_fid self.old fid) n)) self.old.connections)) }
     {
         let Some(found) = self.fids.get(fid) else {
             return Ok(());
@@ -166,7 +162,7 @@ impl Session {
         if self.is_kept_beside(fid, connection) {
             return Ok(());
         }
-        self.end(alloc, desktop, number, connection)
+        self.end(alloc, outside, number, connection)
     }
 
     /// Whether some fid has a window as the root of its attach.
@@ -176,46 +172,53 @@ impl Session {
         self.fids.iter().any(|entry| entry.1.node().root == window)
     }
 
+    /// The window that the session uses no longer where a fid has gone whose attach named it, if there is one.
+    fn left_by(&self, alloc: Global, root: u32) -> Result<Numbers, Memory>
+        ensures { IfOk result (λ windows. (gone : model.Fid) → gone.node.root ≡ root → windows ≡ left_by self.now (gone ∷ [])) }
+    {
+        if root == 0 || self.has_root(root) {
+            return Ok(Numbers::new(alloc));
+        }
+        Numbers::from_slice(alloc, &[root])
+    }
+
     /// A fid whose attach named a window has gone: without another one the session uses that window no longer.
-    fn leave_root(
+    fn leave_root<O: Outside>(
         &self,
         alloc: Global,
-        desktop: &mut Desktop,
+        outside: &mut O,
         number: u32,
         root: u32,
     ) -> Result<(), Memory>
-        ensures { (gone : model.Fid) → gone.node.root ≡ root → OnOk result ((desktop_of desktop.new) ≡ (desktop_for number).left (desktop_of desktop.old) (left_by self.now (gone ∷ []))) }
+        ensures { (gone : model.Fid) → gone.node.root ≡ root → OnOk result (O.state outside.new ≡ (O.outside number).left (O.state outside.old) (left_by self.now (gone ∷ []))) }
     {
-        if root == 0 || self.has_root(root) {
-            return Ok(());
-        }
-        let windows = Numbers::from_slice(alloc, &[root])?;
-        desktop.left(number, &windows)
+        let windows = self.left_by(alloc, root)?;
+        outside.left(number, &windows)
     }
 
     /// Lets a fid go, ends the connection that it alone kept alive and what it had open for itself, leaves the window that it alone
     /// had as its root, and answers by the reply that is given.
     #[tactic(auto, unfolding(model_world::specs::Answer::clunk_answer, model_world::specs::Fids::settled, model_world::specs::Fids::fids_gone))]
-    pub(crate) fn clunk(
+    pub(crate) fn clunk<O: Outside>(
         &mut self,
         alloc: Global,
-        desktop: &mut Desktop,
+        outside: &mut O,
         number: u32,
         fid: u32,
         reply: Rmsg,
     ) -> Result<Rmsg, Fault>
-        requires linked { IsLinked number self.old.made self.old.connections (desktop_of desktop.old).device }
+        requires linked { O.linked number self.old.made self.old.connections (O.state outside.old) }
         requires fits { FitsR (r_of reply) }
-        ensures { IsReach self.old (desktop_of desktop.old) result self.new (desktop_of desktop.new) (clunk_answer (desktop_for number) self.old (desktop_of desktop.old) fid (r_of reply)) }
+        ensures { IsReach self.old (O.state outside.old) result self.new (O.state outside.new) (clunk_answer (O.outside number) self.old (O.state outside.old) fid (r_of reply)) }
     {
         if self.fids.get(fid).is_none() {
             return Err(Fault::Refused(UNKNOWN_FID));
         }
-        self.settle(alloc, desktop, number, fid)?;
+        self.settle(alloc, outside, number, fid)?;
         self.ascends();
         if let Some(gone) = self.fids.clunk(fid) {
-            let_go(desktop, &gone);
-            self.leave_root(alloc, desktop, number, gone.node().root)?;
+            let_go(outside, &gone);
+            self.leave_root(alloc, outside, number, gone.node().root)?;
         }
         Ok(reply)
     }
@@ -250,33 +253,37 @@ impl Session {
     }
 
     /// Ends all connections of the session, which has the number that is given, what its fids had open for themselves, and its use of
-    /// windows. Nothing is said of the desktop where memory ran out.
-    #[tactic(auto, using(crate::proofs::Clients::all_may_leave))]
-    pub fn leave(&self, alloc: Global, desktop: &mut Desktop, number: u32) -> Result<(), Memory>
-        requires { IsLinked number self.now.made self.now.connections (desktop_of desktop.old).device }
-        ensures desktop { OnOk result ((desktop_of desktop.new) ≡ (cleared (desktop_for number) self.now (desktop_of desktop.old)).1) }
-        ensures linked { OnOk result (IsLinked number self.now.made [] (desktop_of desktop.new).device) }
-        ensures others { OnOk result (KeepsOthers number (desktop_of desktop.old).device (desktop_of desktop.new).device) }
+    /// windows. Nothing is said of the outside where memory ran out.
+    pub fn leave<O: Outside>(
+        &self,
+        alloc: Global,
+        outside: &mut O,
+        number: u32,
+    ) -> Result<(), Memory>
+        requires { O.linked number self.now.made self.now.connections (O.state outside.old) }
+        ensures outside { OnOk result (O.state outside.new ≡ (cleared (O.outside number) self.now (O.state outside.old)).1) }
+        ensures linked { OnOk result (O.linked number self.now.made [] (O.state outside.new)) }
+        ensures others { OnOk result (O.others number (O.state outside.old) (O.state outside.new)) }
     {
         let windows = self.windows(alloc)?;
-        leave_all(desktop, number, self.connections.as_slice())?;
-        self.let_all_go(desktop);
-        desktop.left(number, &windows)
+        leave_all(outside, number, self.connections.as_slice())?;
+        self.let_all_go(outside);
+        outside.left(number, &windows)
     }
 
     /// All fids go, and with them all connections; the reads that wait go without a reply.
-    pub(crate) fn clear(
+    pub(crate) fn clear<O: Outside>(
         &mut self,
         alloc: Global,
-        desktop: &mut Desktop,
+        outside: &mut O,
         number: u32,
     ) -> Result<(), Memory>
-        requires { IsLinked number self.old.made self.old.connections (desktop_of desktop.old).device }
-        ensures cleared { OnOk result (cleared (desktop_for number) self.old (desktop_of desktop.old) ≡ left_of self.new (desktop_of desktop.new)) }
-        ensures linked { OnOk result (IsLinked number self.new.made self.new.connections (desktop_of desktop.new).device) }
-        ensures others { OnOk result (KeepsOthers number (desktop_of desktop.old).device (desktop_of desktop.new).device) }
+        requires { O.linked number self.old.made self.old.connections (O.state outside.old) }
+        ensures cleared { OnOk result (cleared (O.outside number) self.old (O.state outside.old) ≡ left_of self.new (O.state outside.new)) }
+        ensures linked { OnOk result (O.linked number self.new.made self.new.connections (O.state outside.new)) }
+        ensures others { OnOk result (O.others number (O.state outside.old) (O.state outside.new)) }
     {
-        self.leave(alloc, desktop, number)?;
+        self.leave(alloc, outside, number)?;
         self.fids.clear();
         self.waiting.clear();
         self.connections.clear();

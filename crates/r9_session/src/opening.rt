@@ -1,24 +1,21 @@
 //! Opening files (open(5)), and beginning connections to the draw device (draw(3)).
 
-ghost use Rattle.std.specs.Prelude.{◌≡◌, ◌≤◌, ◌<◌, ◌==◌, ◌&&◌, Some, IfOk, false};
+ghost use Rattle.std.specs.Prelude.{◌≡◌, ◌≤◌, ◌<◌, ◌==◌, ◌&&◌, ℕ, Some, IfOk, false};
 ghost use Rattle.std.specs.List.{list_any};
 ghost use Rattle.model_text.specs.Map.{lookup};
 ghost use Rattle.model_wire.specs.Spelling.{FitsR};
 ghost use Rattle.model_tree.specs.Node as model;
 ghost use Rattle.model_world.specs.Session.{Fid, fid_at};
 ghost use Rattle.model_world.specs.Fids.{with_fid, is_open_on};
-ghost use Rattle.model_world.specs.Links.{IsLinked};
 ghost use Rattle.model_world.specs.Sleeping.{has_place};
 ghost use Rattle.model_world.specs.Walking.{ctl_of, is_taken, most_made, open_answer, opened_new};
-ghost use Rattle.model_world.specs.Whole.{desktop_for};
-ghost use Rattle.r9_desktop.specs.World.{desktop_of};
 ghost use Rattle.r9_tree.specs.View.{node_of, IsNode};
 ghost use Rattle.r9_wire.specs.View.{r_of};
 ghost use Rattle.r9_session.specs.Answers.{IsClosed, IsReach};
 
 use crate::holding::{hold, is_held};
 use crate::session::Session;
-use r9_desktop::Desktop;
+use r9_around::Outside;
 use r9_files::{
     FID_IS_OPEN, FILE_IN_USE, Fault, PERMISSION_DENIED, TOO_MANY_FIDS, UNKNOWN_FID, is_kind,
 };
@@ -58,13 +55,13 @@ impl Session {
 
     /// Whether the session has all its connections, or the one ctl of a connection, or the `mouse` or `consctl` of a window is open
     /// already.
-    fn is_taken(&self, desktop: &Desktop, node: &Node) -> bool
+    fn is_taken<O: Outside>(&self, outside: &O, node: &Node) -> bool
         requires { IsNode node.now }
-        ensures { result ≡ is_taken (desktop_for 0) self.now (desktop_of desktop.now) (node_of node.now) }
+        ensures { (number : ℕ) → result ≡ is_taken (O.outside number) self.now (O.state outside.now) (node_of node.now) }
     {
         is_kind(node, Kind::New) && self.connections.len() >= MOST_AT_ONCE
             || is_kind(node, Kind::Ctl) && self.has_open_ctl(node.connection)
-            || is_held(desktop, node)
+            || is_held(outside, node)
     }
 
     /// Opens the file that a fid stands for.
@@ -89,25 +86,24 @@ impl Session {
     }
 
     /// Begins a connection, whose ctl is open from then on by the fid that stood for `new`.
-    #[tactic(auto, using(crate::proofs::Clients::free_client))]
-    fn open_new(
+    fn open_new<O: Outside>(
         &mut self,
-        desktop: &mut Desktop,
+        outside: &mut O,
         number: u32,
         tag: u16,
         fid: u32,
         node: &Node,
         mode: u8,
     ) -> Result<Rmsg, Memory>
-        requires linked { IsLinked number self.old.made self.old.connections (desktop_of desktop.old).device }
+        requires linked { O.linked number self.old.made self.old.connections (O.state outside.old) }
         requires room { self.old.made < most_made }
         requires closed { IsClosed self.old fid }
         ensures opened { IfOk result (λ reply. (found : Fid) → lookup self.old.fids fid ≡ Some found → node_of node.now ≡ found.node →
-            opened_new (desktop_for number) self.old (desktop_of desktop.old) tag fid mode found ≡ record { session = self.new; rest = desktop_of desktop.new; reply = Some (r_of reply) }) }
+            opened_new (O.outside number) self.old (O.state outside.old) tag fid mode found ≡ record { session = self.new; rest = O.state outside.new; reply = Some (r_of reply) }) }
         ensures fits { IfOk result (λ reply. FitsR (r_of reply)) }
     {
         let connection = self.made + 1;
-        desktop.connect(number, connection)?;
+        outside.connect(number, connection)?;
         let ctl = ctl_of(node, connection);
         self.open_as(fid, ctl, mode);
         self.connections.push(connection)?;
@@ -122,16 +118,16 @@ impl Session {
     /// Opens a file. What its permissions forbid does not open, nor what one fid at a time may have open and some fid has. An open of
     /// `new` begins a connection.
     #[tactic(auto, unfolding(model_world::specs::Walking::open_answer))]
-    pub fn open(
+    pub fn open<O: Outside>(
         &mut self,
-        desktop: &mut Desktop,
+        outside: &mut O,
         number: u32,
         tag: u16,
         fid: u32,
         mode: u8,
     ) -> Result<Rmsg, Fault>
-        requires { IsLinked number self.old.made self.old.connections (desktop_of desktop.old).device }
-        ensures { IsReach self.old (desktop_of desktop.old) result self.new (desktop_of desktop.new) (open_answer (desktop_for number) self.old (desktop_of desktop.old) tag fid mode) }
+        requires { O.linked number self.old.made self.old.connections (O.state outside.old) }
+        ensures { IsReach self.old (O.state outside.old) result self.new (O.state outside.new) (open_answer (O.outside number) self.old (O.state outside.old) tag fid mode) }
     {
         let Some(found) = self.fids.get(fid) else {
             return Err(Fault::Refused(UNKNOWN_FID));
@@ -140,21 +136,21 @@ impl Session {
             return Err(Fault::Refused(FID_IS_OPEN));
         }
         let node = found.node();
-        self.check_live(desktop, &node)?;
+        self.check_live(outside, &node)?;
         if !may(&node, mode) {
             return Err(Fault::Refused(PERMISSION_DENIED));
         }
-        if self.is_taken(desktop, &node) {
+        if self.is_taken(outside, &node) {
             return Err(Fault::Refused(FILE_IN_USE));
         }
         if is_kind(&node, Kind::New) {
             if self.made >= MOST_MADE {
                 return Err(Fault::Refused(TOO_MANY_FIDS));
             }
-            return Ok(self.open_new(desktop, number, tag, fid, &node, mode)?);
+            return Ok(self.open_new(outside, number, tag, fid, &node, mode)?);
         }
         self.set_mode(fid, mode);
-        hold(desktop, &node, true);
+        hold(outside, &node, true);
         Ok(Rmsg::Open {
             tag,
             qid: qid(&node),

@@ -6,12 +6,9 @@ ghost use Rattle.model_tree.specs.Tree.{check_live};
 ghost use Rattle.model_tree.specs.Listing.{stats};
 ghost use Rattle.model_text.specs.Map.{lookup};
 ghost use Rattle.model_world.specs.Session.{Fid};
-ghost use Rattle.model_world.specs.Links.{IsLinked};
 ghost use Rattle.model_world.specs.Reading.{directory_read, file_read, node_read, read_answer};
 ghost use Rattle.model_world.specs.Waiting.{waits_for};
-ghost use Rattle.model_world.specs.Whole.{desktop_for, view_of};
 ghost use Rattle.r9_access.specs.Reads.{HasClient};
-ghost use Rattle.r9_desktop.specs.World.{desktop_of};
 ghost use Rattle.r9_tree.specs.View.{node_of, IsNode, IsView};
 ghost use Rattle.r9_tree.specs.View as tree;
 ghost use Rattle.r9_session.specs.Answers.{IsReadEnd};
@@ -21,7 +18,7 @@ use crate::session::Session;
 use crate::wait::Wait;
 use crate::waking::place_read;
 use r9_access::read_file;
-use r9_desktop::Desktop;
+use r9_around::Outside;
 use r9_files::{
     FID_NOT_OPEN, Fault, PERMISSION_DENIED, TOO_MANY_BLOCKED_READS, UNKNOWN_FID, is_directory,
 };
@@ -63,58 +60,58 @@ impl Session {
     }
 
     /// The connection that a file belongs to, where it belongs to one, lives: nothing is done.
-    pub(crate) fn has_connection(&self, desktop: &Desktop, number: u32, node: &Node)
-        requires linked { IsLinked number self.now.made self.now.connections (desktop_of desktop.now).device }
+    pub(crate) fn has_connection<O: Outside>(&self, outside: &O, number: u32, node: &Node)
+        requires linked { O.linked number self.now.made self.now.connections (O.state outside.now) }
         requires node { IsNode node.now }
-        requires live { check_live (view_of (desktop_of desktop.now).table self.now.connections (node_of node.now)) (node_of node.now) ≡ Ok tt }
-        ensures { HasClient number (node_of node.now) (desktop_of desktop.now) }
+        requires live { check_live ((O.outside number).view (O.state outside.now) self.now.connections (node_of node.now)) (node_of node.now) ≡ Ok tt }
+        ensures { HasClient (O.has number) (node_of node.now) (O.state outside.now) }
     {}
 
     /// Reads an open file that is no directory. None exactly where the read waits.
-    fn read_open(
+    fn read_open<O: Outside>(
         &mut self,
         alloc: Global,
-        desktop: &mut Desktop,
+        outside: &mut O,
         number: u32,
         fid: u32,
         offset: u64,
         count: u32,
     ) -> Result<Option<Bytes>, Fault>
-        requires client { IfSome (lookup self.old.fids fid) (λ found. HasClient number found.node (desktop_of desktop.old)) }
-        ensures read { IfSome (lookup self.old.fids fid) (λ found. IsReadOf self.old (desktop_of desktop.old) fid result self.new (desktop_of desktop.new) (file_read (desktop_for number) (desktop_of desktop.old) found offset count found.node.kind)) }
+        requires client { IfSome (lookup self.old.fids fid) (λ found. HasClient (O.has number) found.node (O.state outside.old)) }
+        ensures read { IfSome (lookup self.old.fids fid) (λ found. IsReadOf self.old (O.state outside.old) fid result self.new (O.state outside.new) (file_read (O.outside number) (O.state outside.old) found offset count found.node.kind)) }
         ensures short { IfOk result (λ given. IfSome given (λ bytes. length bytes ≤ max count 128)) }
     {
         if let Some(found) = self.fids.get_mut(fid) {
-            return read_file(alloc, desktop, number, found, offset, count);
+            return read_file(alloc, outside, number, found, offset, count);
         }
         Err(Fault::Refused(UNKNOWN_FID))
     }
 
     /// Reads an open file. None exactly where the read waits.
-    fn read_node(
+    fn read_node<O: Outside>(
         &mut self,
         alloc: Global,
-        desktop: &mut Desktop,
+        outside: &mut O,
         number: u32,
         fid: u32,
         node: &Node,
         offset: u64,
         count: u32,
     ) -> Result<Option<Bytes>, Fault>
-        requires linked { IsLinked number self.old.made self.old.connections (desktop_of desktop.old).device }
+        requires linked { O.linked number self.old.made self.old.connections (O.state outside.old) }
         requires node { IsNode node.now }
         requires of { IfSome (lookup self.old.fids fid) (λ found. found.node ≡ node_of node.now) }
-        requires live { check_live (view_of (desktop_of desktop.old).table self.old.connections (node_of node.now)) (node_of node.now) ≡ Ok tt }
-        ensures read { IfSome (lookup self.old.fids fid) (λ found. IsReadOf self.old (desktop_of desktop.old) fid result self.new (desktop_of desktop.new) (node_read (desktop_for number) self.old.connections (desktop_of desktop.old) found offset count)) }
+        requires live { check_live ((O.outside number).view (O.state outside.old) self.old.connections (node_of node.now)) (node_of node.now) ≡ Ok tt }
+        ensures read { IfSome (lookup self.old.fids fid) (λ found. IsReadOf self.old (O.state outside.old) fid result self.new (O.state outside.new) (node_read (O.outside number) self.old.connections (O.state outside.old) found offset count)) }
         ensures short { IfOk result (λ given. IfSome given (λ bytes. length bytes ≤ max count 128)) }
     {
         if is_directory(node) {
-            let view = self.view(desktop, node)?;
+            let view = self.view(outside, node)?;
             let bytes = self.read_listing(alloc, fid, &view, offset, count)?;
             return Ok(Some(bytes));
         }
-        self.has_connection(desktop, number, node);
-        self.read_open(alloc, desktop, number, fid, offset, count)
+        self.has_connection(outside, number, node);
+        self.read_open(alloc, outside, number, fid, offset, count)
     }
 
     /// A read waits from now on, but for where 64 do.
@@ -136,19 +133,19 @@ impl Session {
 
     /// Reads an open file, at most what a message holds. None where the read waits from now on.
     #[tactic(auto, unfolding(model_world::specs::Reading::read_answer))]
-    pub fn read(
+    pub fn read<O: Outside>(
         &mut self,
         alloc: Global,
-        desktop: &mut Desktop,
+        outside: &mut O,
         number: u32,
         tag: u16,
         fid: u32,
         offset: u64,
         count: u32,
     ) -> Result<Option<Rmsg>, Fault>
-        requires linked { IsLinked number self.old.made self.old.connections (desktop_of desktop.old).device }
+        requires linked { O.linked number self.old.made self.old.connections (O.state outside.old) }
         requires fresh { waits_for self.old tag ≡ false }
-        ensures { IsReadEnd self.old (desktop_of desktop.old) result self.new (desktop_of desktop.new) (read_answer (desktop_for number) self.old (desktop_of desktop.old) tag fid offset count) }
+        ensures { IsReadEnd self.old (O.state outside.old) result self.new (O.state outside.new) (read_answer (O.outside number) self.old (O.state outside.old) tag fid offset count) }
     {
         let Some(found) = self.fids.get(fid) else {
             return Err(Fault::Refused(UNKNOWN_FID));
@@ -160,9 +157,9 @@ impl Session {
         if !reads(mode) {
             return Err(Fault::Refused(PERMISSION_DENIED));
         }
-        self.check_live(desktop, &node)?;
+        self.check_live(outside, &node)?;
         let count = count.min(self.msize.saturating_sub(READ_HEAD));
-        match self.read_node(alloc, desktop, number, fid, &node, offset, count)? {
+        match self.read_node(alloc, outside, number, fid, &node, offset, count)? {
             Some(bytes) => Ok(Some(Rmsg::Read { tag, bytes })),
             None => {
                 self.park(tag, Wait { fid, count }, &node)?;

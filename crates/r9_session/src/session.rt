@@ -6,12 +6,10 @@ ghost use Rattle.model_tree.specs.Tree.{check_live};
 ghost use Rattle.model_world.specs.Session.{fresh};
 ghost use Rattle.model_world.specs.Desktop.{first_desktop};
 ghost use Rattle.model_world.specs.Links.{IsLinked};
-ghost use Rattle.model_world.specs.Whole as whole;
-ghost use Rattle.r9_desktop.specs.World.{desktop_of};
 ghost use Rattle.r9_tree.specs.View.{node_of, view_of, IsNode, IsView};
 
 use crate::wait::Wait;
-use r9_desktop::Desktop;
+use r9_around::Outside;
 use r9_fids::FidTable;
 use r9_files::Fid;
 use r9_memory::Memory;
@@ -72,20 +70,20 @@ impl Session {
 
     /// What the walks and listings of a file depend on.
     #[tactic(auto, using(crate::proofs::Clients::all_from_within))]
-    pub(crate) fn view(&self, desktop: &Desktop, node: &Node) -> Result<TreeView, Memory>
+    pub(crate) fn view<O: Outside>(&self, outside: &O, node: &Node) -> Result<TreeView, Memory>
         requires { IsNode node.now }
-        ensures is { IfOk result (λ view. view_of view ≡ whole.view_of (desktop_of desktop.now).table self.now.connections (node_of node.now)) }
+        ensures is { IfOk result (λ view. (number : ℕ) → view_of view ≡ (O.outside number).view (O.state outside.now) self.now.connections (node_of node.now)) }
         ensures view { IfOk result IsView }
     {
-        desktop.view(&self.connections, node)
+        outside.view(&self.connections, node)
     }
     /// Whether a file may be used: refused by 42 where its window is gone, and by 34 where its connection is.
-    pub(crate) fn check_live(&self, desktop: &Desktop, node: &Node) -> Result<(), u8>
+    pub(crate) fn check_live<O: Outside>(&self, outside: &O, node: &Node) -> Result<(), u8>
         requires { IsNode node.now }
-        ensures lives { OnOk result (check_live (whole.view_of (desktop_of desktop.now).table self.now.connections (node_of node.now)) (node_of node.now) ≡ Ok tt) }
-        ensures refused { IfErr result (λ n. check_live (whole.view_of (desktop_of desktop.now).table self.now.connections (node_of node.now)) (node_of node.now) ≡ Err n) }
+        ensures lives { OnOk result ((number : ℕ) → check_live ((O.outside number).view (O.state outside.now) self.now.connections (node_of node.now)) (node_of node.now) ≡ Ok tt) }
+        ensures refused { IfErr result (λ n. (number : ℕ) → check_live ((O.outside number).view (O.state outside.now) self.now.connections (node_of node.now)) (node_of node.now) ≡ Err n) }
     {
-        desktop.check_live(&self.connections, node)
+        outside.check_live(&self.connections, node)
     }
 
     /// Whether a read waits.

@@ -7,14 +7,12 @@ ghost use Rattle.model_world.specs.Session.{fid_at};
 ghost use Rattle.model_world.specs.Fids.{with_fid, is_bound, is_full};
 ghost use Rattle.model_world.specs.Walking.{walk_answer, walk_ended, walked, last};
 ghost use Rattle.model_world.specs.Answer.{stat_answer, denied};
-ghost use Rattle.model_world.specs.Whole.{desktop_for, view_of};
-ghost use Rattle.r9_desktop.specs.World.{desktop_of};
 ghost use Rattle.r9_tree.specs.View.{node_of, IsNode};
 ghost use Rattle.r9_session.specs.Answers.{IsAnswer, IsClosed};
 
 use crate::session::Session;
 use crate::waking::place_fid;
-use r9_desktop::Desktop;
+use r9_around::Outside;
 use r9_files::{FID_IS_OPEN, Fault, Fid, PERMISSION_DENIED, UNKNOWN_FID};
 use r9_memory::Memory;
 use r9_text::Bytes;
@@ -31,18 +29,18 @@ struct Walked {
 
 impl Session {
     /// Walks names one after the other from a file, and adds the qids of the files on the way.
-    fn walk_names(
+    fn walk_names<O: Outside>(
         &self,
-        desktop: &Desktop,
+        outside: &O,
         from: Node,
         names: &[Bytes],
         qids: &mut Qids,
     ) -> Result<Walked, Memory>
         requires from { IsNode from }
-        ensures qids { OnOk result (qids.new ≡ qids.old ++ map qid (walked (view_of (desktop_of desktop.now).table self.now.connections) (node_of from) names.now).0) }
-        ensures node { IfOk result (λ w. node_of w.node ≡ last (node_of from) (walked (view_of (desktop_of desktop.now).table self.now.connections) (node_of from) names.now).0) }
+        ensures qids { OnOk result ((number : ℕ) → qids.new ≡ qids.old ++ map qid (walked ((O.outside number).view (O.state outside.now) self.now.connections) (node_of from) names.now).0) }
+        ensures node { IfOk result (λ w. (number : ℕ) → node_of w.node ≡ last (node_of from) (walked ((O.outside number).view (O.state outside.now) self.now.connections) (node_of from) names.now).0) }
         ensures is_node { IfOk result (λ w. IsNode w.node) }
-        ensures refusal { IfOk result (λ w. w.refusal ≡ (walked (view_of (desktop_of desktop.now).table self.now.connections) (node_of from) names.now).1) }
+        ensures refusal { IfOk result (λ w. (number : ℕ) → w.refusal ≡ (walked ((O.outside number).view (O.state outside.now) self.now.connections) (node_of from) names.now).1) }
     {
         let [name, others @ ..] = names else {
             return Ok(Walked {
@@ -50,7 +48,7 @@ impl Session {
                 refusal: None,
             });
         };
-        let view = self.view(desktop, &from)?;
+        let view = self.view(outside, &from)?;
         match walk(&from, name.as_slice(), &view) {
             Err(refusal) => Ok(Walked {
                 node: from,
@@ -58,7 +56,7 @@ impl Session {
             }),
             Ok(next) => {
                 qids.push(qid(&next))?;
-                self.walk_names(desktop, next, others, qids)
+                self.walk_names(outside, next, others, qids)
             }
         }
     }
@@ -102,17 +100,17 @@ impl Session {
 
     /// Names a file further down by another fid.
     #[tactic(auto, unfolding(model_world::specs::Walking::walk_answer))]
-    pub fn walk(
+    pub fn walk<O: Outside>(
         &mut self,
         alloc: Global,
-        desktop: &Desktop,
+        outside: &O,
         tag: u16,
         fid: u32,
         newfid: u32,
         names: &Names,
     ) -> Result<Rmsg, Fault>
         requires { length names.now ≤ 16 }
-        ensures { (number : ℕ) → IsAnswer self.old result self.new (walk_answer (desktop_for number) self.old (desktop_of desktop.now) tag fid newfid names.now) }
+        ensures { (number : ℕ) → IsAnswer self.old result self.new (walk_answer (O.outside number) self.old (O.state outside.now) tag fid newfid names.now) }
     {
         let Some(found) = self.fids.get(fid) else {
             return Err(Fault::Refused(UNKNOWN_FID));
@@ -125,20 +123,26 @@ impl Session {
             self.check_free(newfid)?;
         }
         let mut qids = Qids::new(alloc);
-        let walked = self.walk_names(desktop, from, names.as_slice(), &mut qids)?;
+        let walked = self.walk_names(outside, from, names.as_slice(), &mut qids)?;
         self.end_walk(tag, fid, newfid, walked, qids)
     }
 
     /// Tells what a file is.
     #[tactic(auto, unfolding(model_world::specs::Answer::stat_answer))]
-    pub fn stat(&self, alloc: Global, desktop: &Desktop, tag: u16, fid: u32) -> Result<Rmsg, Fault>
-        ensures { (number : ℕ) → IsAnswer self.now result self.now (stat_answer (desktop_for number) self.now (desktop_of desktop.now) tag fid) }
+    pub fn stat<O: Outside>(
+        &self,
+        alloc: Global,
+        outside: &O,
+        tag: u16,
+        fid: u32,
+    ) -> Result<Rmsg, Fault>
+        ensures { (number : ℕ) → IsAnswer self.now result self.now (stat_answer (O.outside number) self.now (O.state outside.now) tag fid) }
     {
         let Some(found) = self.fids.get(fid) else {
             return Err(Fault::Refused(UNKNOWN_FID));
         };
         let node = found.node();
-        let view = self.view(desktop, &node)?;
+        let view = self.view(outside, &node)?;
         check_live(&node, &view)?;
         let stat = stat(alloc, &node, &view)?;
         Ok(Rmsg::Stat { tag, stat })

@@ -5,16 +5,13 @@ ghost use Rattle.std.specs.Option.{option_map};
 ghost use Rattle.model_draw.specs.Act.{no_memory};
 ghost use Rattle.model_tree.specs.Node.{writes};
 ghost use Rattle.model_world.specs.Cut.{IsCutWrite};
-ghost use Rattle.model_world.specs.Links.{IsLinked};
 ghost use Rattle.model_world.specs.Refusal.{IsRefused};
-ghost use Rattle.model_world.specs.Whole.{desktop_for};
 ghost use Rattle.model_world.specs.Writing.{write_answer};
-ghost use Rattle.r9_desktop.specs.World.{desktop_of};
 ghost use Rattle.r9_wire.specs.View.{r_of};
 
 use crate::session::Session;
 use r9_access::write_file;
-use r9_desktop::Desktop;
+use r9_around::Outside;
 use r9_files::{FID_NOT_OPEN, Fault, PERMISSION_DENIED, UNKNOWN_FID, refusal};
 use r9_wire::Rmsg;
 use std::alloc::Global;
@@ -42,10 +39,10 @@ impl Session {
     /// Writes an open file. Where memory ran out in a data write, or its mark took effect, the messages before it stand and the
     /// reply refuses it.
     #[tactic(auto, unfolding(model_world::specs::Writing::write_answer))]
-    pub fn write(
+    pub fn write<O: Outside>(
         &self,
         alloc: Global,
-        desktop: &mut Desktop,
+        outside: &mut O,
         number: u32,
         tag: u16,
         fid: u32,
@@ -53,10 +50,10 @@ impl Session {
         bytes: &[u8],
         mark: Option<u32>,
     ) -> Result<Answered, Fault>
-        requires linked { IsLinked number self.now.made self.now.connections (desktop_of desktop.old).device }
+        requires linked { O.linked number self.now.made self.now.connections (O.state outside.old) }
         requires few { length bytes.now < 2 ^ 32 }
-        ensures answer { IsReply mark self.now (desktop_of desktop.old) result self.now (desktop_of desktop.new) (λ m. write_answer (desktop_for number) self.now (desktop_of desktop.old) tag fid offset bytes.now m) }
-        ensures cause { IfOk result (λ a. IfSome a.short (λ k. IsCutWrite number self.now (desktop_of desktop.old) fid bytes.now mark k)) }
+        ensures answer { IsReply mark self.now (O.state outside.old) result self.now (O.state outside.new) (λ m. write_answer (O.outside number) self.now (O.state outside.old) tag fid offset bytes.now m) }
+        ensures cause { IfOk result (λ a. IfSome a.short (λ k. IsCutWrite (O.wants number) self.now (O.state outside.old) fid bytes.now mark k)) }
         ensures refused { IfOk result (λ a. IsSome a.short → IsRefused no_memory (option_map r_of a.reply)) }
         ensures told { IfOk result (λ a. IsRefused no_memory (option_map r_of a.reply) → IsSome a.short) }
     {
@@ -70,9 +67,9 @@ impl Session {
         if !writes(mode) {
             return Err(Fault::Refused(PERMISSION_DENIED));
         }
-        self.check_live(desktop, &node)?;
-        self.has_connection(desktop, number, &node);
-        let written = write_file(alloc, desktop, number, &node, offset, bytes, mark)?;
+        self.check_live(outside, &node)?;
+        self.has_connection(outside, number, &node);
+        let written = write_file(alloc, outside, number, &node, offset, bytes, mark)?;
         let reply = match written.refusal {
             Some(number) => refusal(alloc, tag, number)?,
             None => Rmsg::Write {

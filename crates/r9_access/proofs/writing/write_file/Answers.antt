@@ -1,20 +1,17 @@
 use Rattle.std.proofs.Common.{subst, ◌≡◌, ◌⊎◌, Some, IfOk, IfSome}
 use Rattle.model_tree.specs.declared.Kind.{Kind}
 use Rattle.model_tree.specs.declared.Kind.TheVariants.{Data}
-use Rattle.model_draw.specs.Memory.{MayRunOut}
-use Rattle.model_world.specs.Whole.{client, desktop_for}
 use Rattle.model_world.specs.Writing.{file_written}
-use Rattle.r9_desktop.specs.World.{desktop_of}
 use Rattle.r9_tree.specs.View.{node_of}
 use Rattle.r9_access.specs.Writes.{IsWritten}
 use Rattle.r9_access.proofs.writing.write_file.Goals as goal
 
 pub returns-clause-written : goal.returns-clause-written
-returns-clause-written c =
-    subst (λ (k : Kind). IsWritten c.args.mark (desktop_of c.args.desktop.now) c.write_kind.result (desktop_of c.write_kind.new.desktop) (λ m. file_written (desktop_for c.args.session) (desktop_of c.args.desktop.now) (node_of c.args.node.now) c.args.offset c.args.bytes.now m k))
+returns-clause-written g c =
+    subst (λ (k : Kind). IsWritten c.args.mark (g.O.Outside.state c.args.outside.now) c.write_kind.result (g.O.Outside.state c.write_kind.new.outside) (λ m. file_written (g.O.Outside.outside c.args.session) (g.O.Outside.state c.args.outside.now) (node_of c.args.node.now) c.args.offset c.args.bytes.now m k))
     c.kind_of-kind.ensures c.write_kind.ensures.written
 
 pub returns-clause-cause : goal.returns-clause-cause
-returns-clause-cause c =
-    subst (λ (kind : Kind). IfOk c.write_kind.result (λ w. IfSome w.short (λ k. (kind ≡ Data) × ((c.args.mark ≡ Some k) ⊎ MayRunOut (client c.args.session c.args.node.now.connection) (desktop_of c.args.desktop.now).device c.args.bytes.now k))))
+returns-clause-cause g c =
+    subst (λ (kind : Kind). IfOk c.write_kind.result (λ w. IfSome w.short (λ k. (kind ≡ Data) × ((c.args.mark ≡ Some k) ⊎ g.O.Outside.wants c.args.session c.args.node.now.connection (g.O.Outside.state c.args.outside.now) c.args.bytes.now k))))
     c.kind_of-kind.ensures c.write_kind.ensures.cause

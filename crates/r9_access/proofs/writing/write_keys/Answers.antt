@@ -5,6 +5,6 @@ use Rattle.r9_access.proofs.Keys.{keys_utf8}
 use Rattle.r9_access.proofs.writing.write_keys.Goals as goal
 
 pub keys-requires : goal.keys-requires
-keys-requires c =
+keys-requires g c =
     let are : are_keys c.args.bytes.now ≡ true = search rules in
     subst IsUtf8 (sym c.in_ok-keys.ensures) (keys_utf8 c.args.bytes.now are)

@@ -14,5 +14,5 @@ leave-requires c =
 pub returns-in_ok-leave-in-Some : goal.returns-in_ok-leave-in-Some
 returns-in_ok-leave-in-Some c =
     let at : lookup c.args.sessions.now.entries c.args.session ≡ Some c.in-Some.found.now = search rules in
-    let P : Option Session → Type 0 = λ found. IsLeft c.args.session found (desktop_of c.args.desktop.now) true (desktop_of c.leave.new.desktop) in
-    subst P (sym at) c.in_ok-leave-in-Some.ensures.desktop
+    let P : Option Session → Type 0 = λ found. IsLeft c.args.session found (desktop_of c.args.desktop.now) true (desktop_of c.leave.new.outside) in
+    subst P (sym at) c.in_ok-leave-in-Some.ensures.outside

@@ -8,22 +8,22 @@ use Rattle.r9_session.proofs.Written.{written_by}
 use Rattle.r9_session.proofs.session.Session.answer.Goals as goal
 
 pub returns-in-TooLong-clause-told : goal.returns-in-TooLong-clause-told
-returns-in-TooLong-clause-told c = refused_other c.refuse.result _ 30 (λ e. omega (arith, e)) c.refuse.ensures.reply
+returns-in-TooLong-clause-told g c = refused_other c.refuse.result _ 30 (λ e. omega (arith, e)) c.refuse.ensures.reply
 
 pub returns-in-Ignored-clause-wrote : goal.returns-in-Ignored-clause-wrote
-returns-in-Ignored-clause-wrote c = c.silence.ensures.2 ∙ sym (written_by c.args.self.now c.args.bytes.now Ignored (sym c.in-Ignored.ensures))
+returns-in-Ignored-clause-wrote g c = c.silence.ensures.2 ∙ sym (written_by c.args.self.now c.args.bytes.now Ignored (sym c.in-Ignored.ensures))
 
 pub returns-in-TooLong-clause-wrote : goal.returns-in-TooLong-clause-wrote
-returns-in-TooLong-clause-wrote c =
+returns-in-TooLong-clause-wrote g c =
     IfOk-weaker c.refuse.result (λ a. a.wrote ≡ 0) (λ a. a.wrote ≡ written_at c.args.self.now c.args.bytes.now)
     (λ a is. is ∙ sym (written_by c.args.self.now c.args.bytes.now TooLong (sym c.in-TooLong.ensures))) c.refuse.ensures.wrote
 
 pub returns-in-Closes-clause-wrote : goal.returns-in-Closes-clause-wrote
-returns-in-Closes-clause-wrote c =
+returns-in-Closes-clause-wrote g c =
     IfOk-weaker c.close.result (λ a. (a.reply ≡ None) × (a.short ≡ None) × (a.wrote ≡ 0)) (λ a. a.wrote ≡ written_at c.args.self.now c.args.bytes.now)
     (λ a is. is.2 ∙ sym (written_by c.args.self.now c.args.bytes.now Closes (sym c.in-Closes.ensures))) c.close.ensures.silent
 
 pub returns-in-Reads-clause-wrote : goal.returns-in-Reads-clause-wrote
-returns-in-Reads-clause-wrote c =
+returns-in-Reads-clause-wrote g c =
     IfOk-weaker c.answer_taken.result (λ a. a.wrote ≡ written_to c.args.self.now (message_of c.args.bytes.now)) (λ a. a.wrote ≡ written_at c.args.self.now c.args.bytes.now)
     (λ a is. is ∙ sym (written_by c.args.self.now c.args.bytes.now Reads (sym c.in-Reads.ensures))) c.answer_taken.ensures.wrote

@@ -13,7 +13,7 @@ use Rattle.r9_session.proofs.Keeping.{kept_again}
 use Rattle.r9_session.proofs.session.Session.clunk.Goals as goal
 
 pub invariant_of-self : goal.invariant_of-self
-invariant_of-self c =
+invariant_of-self g c =
     let session = c.args.self.now in
     let gone = without_fid session c.args.fid in
     let is : c.settle.new.self ≡ record session { connections = filter (is_kept gone) session.connections } = c.in_ok-settle.ensures.session in

@@ -1,5 +1,4 @@
 use Rattle.std.proofs.Common.{◌≡◌, ℕ, ◌+◌, List, true, sym, ap, subst, ◌∙◌, arith}
-use Rattle.model_text.specs.Map.{lookup}
 use Rattle.std.specs.List.{list_any}
 use Rattle.model_map.proofs.Keys.{eqb-same}
 use Rattle.model_tree.specs.declared.Kind.TheVariants.{Ctl}
@@ -8,24 +7,25 @@ use Rattle.model_world.specs.Session.{Session, fid_at}
 use Rattle.model_world.specs.Fids.{is_kept, is_kind, keeps}
 use Rattle.model_world.specs.Links.{AreWithin}
 use Rattle.model_world.specs.Sleeping.{has_place}
-use Rattle.model_world.specs.Whole.{client}
 use Rattle.r9_tree.specs.View.{most_connections, node_of}
-use Rattle.r9_desktop.specs.World.{desktop_of}
 use Rattle.r9_session.specs.SessionView.{AreKept}
 use Rattle.r9_session.proofs.Clients.{free_client, within_push}
 use Rattle.r9_session.proofs.Bound.{kept_push, opened_kept}
 use Rattle.r9_session.proofs.session.Session.open_new.Goals as goal
 
 pub connect-requires-clause-fresh : goal.connect-requires-clause-fresh
-connect-requires-clause-fresh c =
-    ap (λ (s : Session). lookup (desktop_of c.args.desktop.now).device.clients (client c.args.number (s.made + 1))) c.self.view_is
-    ∙ free_client c.args.number c.args.self.now.made c.args.self.now.connections (desktop_of c.args.desktop.now).device c.requires.linked (omega (arith, c.requires.room))
+connect-requires-clause-fresh g c =
+    let session = c.args.self.now in
+    let rest = g.O.Outside.state c.args.outside.now in
+    ap (λ (s : Session). g.O.Outside.has c.args.number (s.made + 1) rest) c.self.view_is
+    ∙ g.met.O.Outside.linked_has c.args.number session.made session.connections rest (session.made + 1) c.requires.linked (omega (arith, c.requires.room))
+    ∙ free_client session.made session.connections (g.met.O.Outside.linked_counts c.args.number session.made session.connections rest c.requires.linked)
 
 pub open_as-requires-clause-nowhere : goal.open_as-requires-clause-nowhere
-open_as-requires-clause-nowhere c = ap (λ (node : Node). has_place (fid_at node)) c.ctl_of-ctl.ensures.ctl
+open_as-requires-clause-nowhere g c = ap (λ (node : Node). has_place (fid_at node)) c.ctl_of-ctl.ensures.ctl
 
 pub invariant_of-self-2 : goal.invariant_of-self-2
-invariant_of-self-2 c =
+invariant_of-self-2 g c =
     let connection = c.self.inside.made + 1 in
     let ctl = node_of c.ctl_of-ctl.result in
     let own : ctl.connection ≡ connection = ap (λ (node : Node). node.connection) c.ctl_of-ctl.ensures.ctl in
