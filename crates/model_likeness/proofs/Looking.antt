@@ -2,19 +2,20 @@
 use Rattle.std.proofs.Common.{◌≡◌, ◌<◌, ◌^◌, ℕ, Bool, true, false, eqb, List, [], ◌∷◌, Option, Some, None, Ok, refl, sym, ap, subst, ◌∙◌, arith}
 use Rattle.std.specs.Prelude.{◌==◌, is_some, option_map}
 use Rattle.std.specs.Option.{option_map_or}
-use Rattle.std.proofs.lemmas.Bool.{eqb-true, eqb-false}
+use Rattle.std.proofs.lemmas.Bool.{eqb-true, eqb-false, false_from_ne_true}
 use Rattle.model_text.specs.Map.{lookup, with}
 use Rattle.model_text.specs.Outcome.{◌>>=◌, refuse_if, value_or_refuse}
 use Rattle.model_map.proofs.Maps.{with-others}
 use Rattle.model_images.specs.declared.ImageId.{ImageId}
-use Rattle.model_images.specs.Book.{by_name, image, image_id, is_stale}
+use Rattle.model_images.specs.Book.{by_name, image, image_id, is_stale, screen_of}
 use Rattle.model_forest.specs.World.{World as Images}
-use Rattle.model_draw.specs.World.{Client, World, client_of, look, new_client, with_client, with_images}
+use Rattle.model_draw.specs.World.{Client, World, client_of, is_display, look, new_client, with_client, with_images}
 use Rattle.model_renamed.specs.Renamed.{AreRenamed}
 use Rattle.model_world.specs.Whole.{client}
 use Rattle.model_agreement.specs.Agreement.{SameOption, SameOutcome}
 use Rattle.model_agreement.proofs.Relations.{equal_alike}
-use Rattle.model_likeness.specs.Likeness.{AreLike, SameId}
+use Rattle.model_likeness.specs.Likeness.{AreLike, SameDisplay, SameId, SamePlace}
+use Rattle.model_likeness.proofs.Shapes.{Keeps, shape_then, shape_turned}
 
 -- a key that is there gets the value, and one that is not is not there still
 with_at : {A : Type 0} (es : List (ℕ × A)) (key : ℕ) (value : A) → lookup (with es key value) key ≡ option_map (λ _. value) (lookup es key)
@@ -29,7 +30,7 @@ with_at (e ∷ es) key value = by (eqb e.0 key) refl (with_at es key value)
 pub client_is : (c n m : ℕ) → client c n ≡ client c m → n ≡ m
 client_is c n m same = omega (arith, same)
 
-module _ (Same SameScreen : ℕ → ℕ → Type 0) (c : ℕ) (a b : World) (like : AreLike Same SameScreen c a b) (n : ℕ) (few : n < 2 ^ 26) where
+module _ (Same SameScreen : ℕ → ℕ → Type 0) (c : ℕ) (window : Option (ℕ × List ℕ)) (a b : World) (like : AreLike Same SameScreen c window a b) (n : ℕ) (few : n < 2 ^ 26) where
   pub client_same : client_of a (client c n) ≡ client_of b (client 1 n)
   client_same = ap (λ (o : Option Client). option_map_or (λ x. x) o new_client) (like.clients n few)
 
@@ -45,11 +46,11 @@ module _ (Same SameScreen : ℕ → ℕ → Type 0) (c : ℕ) (a b : World) (lik
   -- the session finds the same image under an id, or is refused by the same number
   pub look_same : (id : ℕ) → (id == 0) ≡ false → SameOutcome Same (look a (client c n) id) (look b (client 1 n) id)
   unfolding image
-  look_same id other = looked_by (image_id a.book (client c n) id) (image_id b.book (client 1 n) id) (like.ids n id few other)
+  look_same id other = looked_by (image_id a.book (client c n) id) (image_id b.book (client 1 n) id) (like.books.ids n id few other)
 
   -- whether an id was made by a name
   pub by_name_same : (id : ℕ) → (id == 0) ≡ false → by_name a.book (client c n) id ≡ by_name b.book (client 1 n) id
-  by_name_same id other = by (image_id a.book (client c n) id) (image_id b.book (client 1 n) id) (like.ids n id few other)
+  by_name_same id other = by (image_id a.book (client c n) id) (image_id b.book (client 1 n) id) (like.books.ids n id few other)
     where
       by : (o q : Option ImageId) → SameOption (SameId Same a.book b.book) o q → option_map_or (λ e. is_some e.tie) o false ≡ option_map_or (λ e. is_some e.tie) q false
       by (Some e) (Some f) one = one.tied
@@ -57,19 +58,49 @@ module _ (Same SameScreen : ℕ → ℕ → Type 0) (c : ℕ) (a b : World) (lik
       by (Some e) None one = absurd one
       by None (Some f) one = absurd one
 
+  -- ---- the display
+
+  pub left_other : (i j : ℕ) → Same i j → is_display a i ≡ false
+  left_other i j is =
+      ap (λ (o : Option ImageId). option_map_or (λ e. e.image == i) o false) like.display.named
+      ∙ false_from_ne_true (0 == i) (λ at. like.display.left i j is (sym (eqb-true 0 i at)))
+
+  pub right_other : (i j : ℕ) → Same i j → is_display b j ≡ false
+  right_other i j is = ap (λ (o : Option ImageId). option_map_or (λ e. e.image == j) o false) like.display.nameless
+
+  -- ---- windows and screens
+
+  windows_both : (o q : Option ℕ) → SameOption (SamePlace SameScreen a.book b.book) o q → is_some o ≡ is_some q
+  windows_both (Some s) (Some t) both = refl
+  windows_both None None both = refl
+  windows_both (Some s) None both = absurd both
+  windows_both None (Some t) both = absurd both
+
+  pub window_same : (i j : ℕ) → Same i j → is_some (screen_of a.book i) ≡ is_some (screen_of b.book j)
+  window_same i j is = windows_both (screen_of a.book i) (screen_of b.book j) (like.books.windows i j is)
+
   -- ---- changes beside the book
 
-  pub with_images_like : (x y : Images) → AreRenamed Same x y → AreLike Same SameScreen c (with_images a x) (with_images b y)
-  with_images_like x y renamed = record {
+  -- the display stays as it is
+  pub display_kept : (x y : Images) → Keeps a.images x 0 → Keeps b.images y 0 → SameDisplay Same (with_images a x) (with_images b y)
+  display_kept x y left right = record {
+    named = like.display.named;
+    nameless = like.display.nameless;
+    shape = shape_then _ _ _ left.shape (shape_then _ _ _ like.display.shape (shape_turned _ _ right.shape));
+    live_left = left.live like.display.live_left;
+    live_right = right.live like.display.live_right;
+    left = like.display.left;
+    right = like.display.right;
+  }
+
+  pub with_images_like : (x y : Images) → AreRenamed Same x y → Keeps a.images x 0 → Keeps b.images y 0
+      → AreLike Same SameScreen c window (with_images a x) (with_images b y)
+  with_images_like x y renamed left right = record {
+    counted = like.counted;
     images = renamed;
+    books = like.books;
+    display = display_kept x y left right;
     clients = like.clients;
-    ids = like.ids;
-    screen_ids = like.screen_ids;
-    screens = like.screens;
-    windows = like.windows;
-    hosts = like.hosts;
-    display_left = like.display_left;
-    display_right = like.display_right;
   }
 
   clients_with : (x : Client) (m : ℕ) → m < 2 ^ 26
@@ -84,15 +115,19 @@ module _ (Same SameScreen : ℕ → ℕ → Type 0) (c : ℕ) (a b : World) (lik
           with-others a.clients (client c n) (client c m) x (λ is. eqb-false m n at (client_is c m n is)) ∙ like.clients m small
           ∙ sym (with-others b.clients (client 1 n) (client 1 m) x (λ is. eqb-false m n at (client_is 1 m n is)))
 
-  pub with_client_like : (x y : Client) → x ≡ y → AreLike Same SameScreen c (with_client a (client c n) x) (with_client b (client 1 n) y)
-  with_client_like x y is = subst (λ (z : Client). AreLike Same SameScreen c (with_client a (client c n) x) (with_client b (client 1 n) z)) is (record {
+  pub with_client_like : (x y : Client) → x ≡ y → AreLike Same SameScreen c window (with_client a (client c n) x) (with_client b (client 1 n) y)
+  with_client_like x y is = subst (λ (z : Client). AreLike Same SameScreen c window (with_client a (client c n) x) (with_client b (client 1 n) z)) is (record {
+    counted = like.counted;
     images = like.images;
+    books = like.books;
+    display = record {
+      named = like.display.named;
+      nameless = like.display.nameless;
+      shape = like.display.shape;
+      live_left = like.display.live_left;
+      live_right = like.display.live_right;
+      left = like.display.left;
+      right = like.display.right;
+    };
     clients = clients_with x;
-    ids = like.ids;
-    screen_ids = like.screen_ids;
-    screens = like.screens;
-    windows = like.windows;
-    hosts = like.hosts;
-    display_left = like.display_left;
-    display_right = like.display_right;
   })

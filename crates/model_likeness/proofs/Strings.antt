@@ -29,7 +29,8 @@ use Rattle.model_world.specs.Whole.{client}
 use Rattle.model_agreement.specs.Agreement.{SameOption, SameOutcome}
 use Rattle.model_agreement.proofs.Relations.{bind_alike, check_alike, equal_alike}
 use Rattle.model_likeness.specs.Likeness.{AreLike, SameId}
-use Rattle.model_likeness.proofs.Looking.{by_name_same, client_is, client_same, look_same, with_client_like, with_images_like}
+use Rattle.model_likeness.proofs.Shapes.{keeps_draw, keeps_draws, keeps_origin}
+use Rattle.model_likeness.proofs.Looking.{by_name_same, client_is, client_same, look_same, window_same, with_client_like, with_images_like}
 use Rattle.model_likeness.proofs.Acts.{drawn_like}
 
 -- the same drawing, of images that are the same
@@ -73,12 +74,12 @@ module _ (Same : ℕ → ℕ → Type 0) where
     characters_same dst i src s font f op clip target source masked pieces,
   )
 
-module _ (Same SameScreen : ℕ → ℕ → Type 0) (c : ℕ) (a b : World) (like : AreLike Same SameScreen c a b) (n : ℕ) (few : n < 2 ^ 26) where
+module _ (Same SameScreen : ℕ → ℕ → Type 0) (c : ℕ) (window : Option (ℕ × List ℕ)) (a b : World) (like : AreLike Same SameScreen c window a b) (n : ℕ) (few : n < 2 ^ 26) where
   abbrev Like : World → World → Type 0
-  Like x y = AreLike Same SameScreen c x y
+  Like x y = AreLike Same SameScreen c window x y
 
   font_same : (id : ℕ) → font_of a (client c n) id ≡ font_of b (client 1 n) id
-  font_same id = ap (λ (x : Client). value_or_refuse (lookup x.fonts id) 14) (client_same Same SameScreen c a b like n few)
+  font_same id = ap (λ (x : Client). value_or_refuse (lookup x.fonts id) 14) (client_same Same SameScreen c window a b like n few)
 
   -- ---- `l`
 
@@ -86,9 +87,9 @@ module _ (Same SameScreen : ℕ → ℕ → Type 0) (c : ℕ) (a b : World) (lik
       → SameOutcome Like (load_cell (client c n) a cacheid srcid index r sp left width) (load_cell (client 1 n) b cacheid srcid index r sp left width)
   unfolding load_cell
   load_cell_like cacheid srcid index r sp left width first second =
-      bind_alike Same Like (look a (client c n) cacheid) (look b (client 1 n) cacheid) _ _ (look_same Same SameScreen c a b like n few cacheid first) (λ i j target.
+      bind_alike Same Like (look a (client c n) cacheid) (look b (client 1 n) cacheid) _ _ (look_same Same SameScreen c window a b like n few cacheid first) (λ i j target.
       equal_alike Like (font_of a (client c n) cacheid) (font_of b (client 1 n) cacheid) _ _ (font_same cacheid) (λ font.
-      bind_alike Same Like (look a (client c n) srcid) (look b (client 1 n) srcid) _ _ (look_same Same SameScreen c a b like n few srcid second) (λ s t source.
+      bind_alike Same Like (look a (client c n) srcid) (look b (client 1 n) srcid) _ _ (look_same Same SameScreen c window a b like n few srcid second) (λ s t source.
       check_alike Like (with_cell font index (record { r = r; left = left; width = width })) _ _ (λ loaded _.
       equal_alike Like (refuse_if (is_turned r || not (is_inside r (at_number a i).r)) 9) (refuse_if (is_turned r || not (is_inside r (at_number b j).r)) 9) _ _
       (ap (λ (q : Rect). refuse_if (is_turned r || not (is_inside r q)) 9) (like.images.faces i j target).r) (λ _.
@@ -96,9 +97,9 @@ module _ (Same SameScreen : ℕ → ℕ → Type 0) (c : ℕ) (a b : World) (lik
       let y = after_draw b.images (unmasked j r r t sp s_alone) in
       let drawn : AreRenamed Same x y = drawing_renamed Same a.images b.images like.images (unmasked i r r s sp s_alone) (unmasked j r r t sp s_alone)
       (record { dst = target; src = source; mask = tt; clip = refl; r = refl; sp = refl; mp = refl; op = refl }) in
-      let next = with_images_like Same SameScreen c a b like n few x y drawn in
-      with_client_like Same SameScreen c (with_images a x) (with_images b y) next n few _ _
-      (ap (λ (z : Client). record z { fonts = and z.fonts cacheid loaded }) (client_same Same SameScreen c (with_images a x) (with_images b y) next n few)))))))
+      let next = with_images_like Same SameScreen c window a b like n few x y drawn (keeps_draw a.images (unmasked i r r s sp s_alone) 0) (keeps_draw b.images (unmasked j r r t sp s_alone) 0) in
+      with_client_like Same SameScreen c window (with_images a x) (with_images b y) next n few _ _
+      (ap (λ (z : Client). record z { fonts = and z.fonts cacheid loaded }) (client_same Same SameScreen c window (with_images a x) (with_images b y) next n few)))))))
 
   -- ---- `s` and `x`
 
@@ -113,7 +114,7 @@ module _ (Same SameScreen : ℕ → ℕ → Type 0) (c : ℕ) (a b : World) (lik
   under_like : (bg : Option (ℕ × Point)) → IsNamed bg → SameOutcome SameUnder (look_background a (client c n) bg) (look_background b (client 1 n) bg)
   under_like None named = tt
   under_like (Some bg) named =
-      bind_alike Same SameUnder (look a (client c n) bg.0) (look b (client 1 n) bg.0) _ _ (look_same Same SameScreen c a b like n few bg.0 named) (λ i j is. (is, refl))
+      bind_alike Same SameUnder (look a (client c n) bg.0) (look b (client 1 n) bg.0) _ _ (look_same Same SameScreen c window a b like n few bg.0 named) (λ i j is. (is, refl))
 
   background_same : (i j op : ℕ) (clip r q : Rect) → Same i j → r ≡ q → (x y : Option (ℕ × Point)) → SameUnder x y
       → AllZip (SameDrawing Same) (background_drawing i clip r op x) (background_drawing j clip q op y)
@@ -133,10 +134,10 @@ module _ (Same SameScreen : ℕ → ℕ → Type 0) (c : ℕ) (a b : World) (lik
       → SameOutcome (AllZip (SameDrawing Same)) (string_drawings (client c n) a w bg) (string_drawings (client 1 n) b w bg)
   unfolding string_drawings
   strings_like w bg first second third named =
-      rw (client_same Same SameScreen c a b like n few)
-      (bind_alike Same (AllZip (SameDrawing Same)) (look a (client c n) w.dstid) (look b (client 1 n) w.dstid) _ _ (look_same Same SameScreen c a b like n few w.dstid first) (λ i j target.
-      bind_alike Same (AllZip (SameDrawing Same)) (look a (client c n) w.srcid) (look b (client 1 n) w.srcid) _ _ (look_same Same SameScreen c a b like n few w.srcid second) (λ s t source.
-      bind_alike Same (AllZip (SameDrawing Same)) (look a (client c n) w.fontid) (look b (client 1 n) w.fontid) _ _ (look_same Same SameScreen c a b like n few w.fontid third) (λ f g masked.
+      rw (client_same Same SameScreen c window a b like n few)
+      (bind_alike Same (AllZip (SameDrawing Same)) (look a (client c n) w.dstid) (look b (client 1 n) w.dstid) _ _ (look_same Same SameScreen c window a b like n few w.dstid first) (λ i j target.
+      bind_alike Same (AllZip (SameDrawing Same)) (look a (client c n) w.srcid) (look b (client 1 n) w.srcid) _ _ (look_same Same SameScreen c window a b like n few w.srcid second) (λ s t source.
+      bind_alike Same (AllZip (SameDrawing Same)) (look a (client c n) w.fontid) (look b (client 1 n) w.fontid) _ _ (look_same Same SameScreen c window a b like n few w.fontid third) (λ f g masked.
       check_alike (AllZip (SameDrawing Same)) (font_of b (client 1 n) w.fontid) _ _ (λ font _.
       bind_alike SameUnder (AllZip (SameDrawing Same)) (look_background a (client c n) bg) (look_background b (client 1 n) bg) _ _ (under_like bg named) (λ x y under.
       check_alike (AllZip (SameDrawing Same)) (layout font w.p w.sp w.indices) _ _ (λ laid _.
@@ -149,7 +150,8 @@ module _ (Same SameScreen : ℕ → ℕ → Type 0) (c : ℕ) (a b : World) (lik
   unfolding write_string
   write_string_like w bg first second third named =
       bind_alike (AllZip (SameDrawing Same)) Like (string_drawings (client c n) a w bg) (string_drawings (client 1 n) b w bg) _ _ (strings_like w bg first second third named) (λ ds es zip.
-      drawn_like Same SameScreen c a b like n few _ _ (all_renamed Same ds es a.images b.images zip like.images))
+      drawn_like Same SameScreen c window a b like n few _ _ (all_renamed Same ds es a.images b.images zip like.images)
+      (keeps_draws a.images ds 0) (keeps_draws b.images es 0))
 
   -- ---- `o`
 
@@ -157,14 +159,15 @@ module _ (Same SameScreen : ℕ → ℕ → Type 0) (c : ℕ) (a b : World) (lik
   unfolding move_window
   move_like id rmin scr other =
       bind_alike Same Like (look_window a (client c n) id) (look_window b (client 1 n) id) _ _
-      (bind_alike Same Same (look a (client c n) id) (look b (client 1 n) id) _ _ (look_same Same SameScreen c a b like n few id other) (λ i j is.
+      (bind_alike Same Same (look a (client c n) id) (look b (client 1 n) id) _ _ (look_same Same SameScreen c window a b like n few id other) (λ i j is.
       equal_alike Same (refuse_if (not (is_window a i) || by_name a.book (client c n) id) 20) (refuse_if (not (is_window b j) || by_name b.book (client 1 n) id) 20) _ _
-      (ap (λ (x : Bool). refuse_if (not x || by_name a.book (client c n) id) 20) (like.windows i j is)
-      ∙ ap (λ (x : Bool). refuse_if (not (is_window b j) || x) 20) (by_name_same Same SameScreen c a b like n few id other)) (λ _. is)))
+      (ap (λ (x : Bool). refuse_if (not x || by_name a.book (client c n) id) 20) (window_same Same SameScreen c window a b like n few i j is)
+      ∙ ap (λ (x : Bool). refuse_if (not (is_window b j) || x) 20) (by_name_same Same SameScreen c window a b like n few id other)) (λ _. is)))
       (λ i j is.
       equal_alike Like (refuse_if (not (stays_near (at_number a i).r rmin scr)) 9) (refuse_if (not (stays_near (at_number b j).r rmin scr)) 9) _ _
       (ap (λ (r : Rect). refuse_if (not (stays_near r rmin scr)) 9) (like.images.faces i j is).r) (λ _.
-      with_images_like Same SameScreen c a b like n few _ _ (renamed_origin Same a.images b.images like.images i j is rmin scr)))
+      with_images_like Same SameScreen c window a b like n few _ _ (renamed_origin Same a.images b.images like.images i j is rmin scr)
+      (keeps_origin a.images i rmin scr 0 (λ at. like.display.left i j is (sym at))) (keeps_origin b.images j rmin scr 0 (λ at. like.display.right i j is (sym at)))))
 
   -- ---- connections
 
@@ -179,7 +182,7 @@ module _ (Same SameScreen : ℕ → ℕ → Type 0) (c : ℕ) (a b : World) (lik
 
       by : (zero : Bool) → (id == 0) ≡ zero → is_known a (client c n) id ≡ is_known b (client 1 n) id
       by true is = rw is refl
-      by false is = ap (λ (x : Bool). (id == 0) || x) (found (image_id a.book (client c n) id) (image_id b.book (client 1 n) id) (like.ids n id few is))
+      by false is = ap (λ (x : Bool). (id == 0) || x) (found (image_id a.book (client c n) id) (image_id b.book (client 1 n) id) (like.books.ids n id few is))
 
   pub write_ctl_like : (bytes : List ℕ) → SameOutcome Like (write_ctl (client c n) a bytes) (write_ctl (client 1 n) b bytes)
   unfolding write_ctl
@@ -187,7 +190,7 @@ module _ (Same SameScreen : ℕ → ℕ → Type 0) (c : ℕ) (a b : World) (lik
       check_alike Like (refuse_if (not (length bytes == 4)) 27) _ _ (λ _ _.
       equal_alike Like (refuse_if (not (is_known a (client c n) (from_le_bytes w32 bytes))) 4) (refuse_if (not (is_known b (client 1 n) (from_le_bytes w32 bytes))) 4) _ _
       (ap (λ (x : Bool). refuse_if (not x) 4) (known_same (from_le_bytes w32 bytes))) (λ _.
-      with_client_like Same SameScreen c a b like n few _ _ (ap (λ (x : Client). record x { described = from_le_bytes w32 bytes }) (client_same Same SameScreen c a b like n few))))
+      with_client_like Same SameScreen c window a b like n few _ _ (ap (λ (x : Client). record x { described = from_le_bytes w32 bytes }) (client_same Same SameScreen c window a b like n few))))
 
   clients_and : (m : ℕ) → m < 2 ^ 26 → lookup (and a.clients (client c n) new_client) (client c m) ≡ lookup (and b.clients (client 1 n) new_client) (client 1 m)
   clients_and m small = by (eqb m n) refl
@@ -202,13 +205,17 @@ module _ (Same SameScreen : ℕ → ℕ → Type 0) (c : ℕ) (a b : World) (lik
 
   pub connect_like : Like (after_connect a (client c n)) (after_connect b (client 1 n))
   connect_like = record {
+    counted = like.counted;
     images = like.images;
+    books = like.books;
+    display = record {
+      named = like.display.named;
+      nameless = like.display.nameless;
+      shape = like.display.shape;
+      live_left = like.display.live_left;
+      live_right = like.display.live_right;
+      left = like.display.left;
+      right = like.display.right;
+    };
     clients = clients_and;
-    ids = like.ids;
-    screen_ids = like.screen_ids;
-    screens = like.screens;
-    windows = like.windows;
-    hosts = like.hosts;
-    display_left = like.display_left;
-    display_right = like.display_right;
   }

@@ -1,15 +1,25 @@
 -- Two draw devices that are the same to the connections of one session but for the numbers of images and screens (draw(3)). The session
--- is session c of one device and session 1 of the other.
-use Rattle.std.specs.Prelude.{◌≡◌, ◌<◌, ◌^◌, ◌==◌, ℕ, false, is_some}
+-- is session c of one device and session 1 of the other, where the display has no id.
+use Rattle.std.specs.Prelude.{◌≡◌, ◌≢◌, ◌<◌, ◌≤◌, ◌^◌, ◌==◌, ℕ, true, false, is_some, Bool, List, Option, Some, None}
+use Rattle.std.specs.Option.{option_map_or}
 use Rattle.model_text.specs.Map.{lookup}
 use Rattle.model_images.specs.declared.ImageId.{ImageId}
 use Rattle.model_images.specs.declared.ScreenId.{ScreenId}
-use Rattle.model_images.specs.declared.Screen.{Screen}
-use Rattle.model_images.specs.Book.{Book, has_screen, image_id, is_stale, screen_id, screen_numbered, screen_of}
-use Rattle.model_draw.specs.World.{World, is_display}
+use Rattle.model_images.specs.declared.Screen.{Screen as Filled}
+use Rattle.model_images.specs.declared.Tie.{Tie}
+use Rattle.model_images.specs.declared.Thing.TheVariants.{Image, Screen}
+use Rattle.model_images.specs.Book.{Book, has_screen, image_id, is_stale, screen_id, screen_numbered, screen_of, tie_of}
+use Rattle.model_images.specs.Release.{is_tied_by, is_used, refers_to}
+use Rattle.model_forest.specs.World.{Image as ImageState, IsLive}
+use Rattle.model_draw.specs.World.{World, at_number}
+use Rattle.model_draw.specs.Orders.{manager}
 use Rattle.model_renamed.specs.Renamed.{AreRenamed}
 use Rattle.model_world.specs.Whole.{client}
 use Rattle.model_agreement.specs.Agreement.{SameOption}
+
+-- `Same i j`: image i of one is image j of the other. `SameScreen s t` says so of screens.
+
+-- ---- ids, ties and screens
 
 -- ids of the same image; both were made by a name or neither, and so with a tie that has ended
 pub record SameId (Same : ℕ → ℕ → Type 0) (a b : Book) (e f : ImageId) : Type 0 where
@@ -23,26 +33,87 @@ pub record SameScreenId (SameScreen : ℕ → ℕ → Type 0) (e f : ScreenId) :
   pub left : e.public ≡ false
   pub right : f.public ≡ false
 
+-- ties of the same image, which the manager made by its id of a window
+pub record SameTie (Same : ℕ → ℕ → Type 0) (serial : ℕ) (s t : Tie) : Type 0 where
+  pub image : Same s.image t.image
+  pub left : is_tied_by manager serial s ≡ true
+  pub right : is_tied_by manager serial t ≡ true
+
 -- screens on the same image, with the same fill
-pub record SameScreens (Same : ℕ → ℕ → Type 0) (s t : Screen) : Type 0 where
+pub record SameScreens (Same : ℕ → ℕ → Type 0) (s t : Filled) : Type 0 where
   pub image : Same s.image t.image
   pub fill : Same s.fill t.fill
 
--- `Same i j`: image i of one is image j of the other. `SameScreen s t` says so of screens.
-pub record AreLike (Same SameScreen : ℕ → ℕ → Type 0) (c : ℕ) (a b : World) : Type 0 where
-  pub images : AreRenamed Same a.images b.images
-  -- what the session's connections have beside their ids, and their ids but that of the display
-  pub clients : (n : ℕ) → n < 2 ^ 26 → lookup a.clients (client c n) ≡ lookup b.clients (client 1 n)
+-- the screen is the root rio's
+abbrev pub is_root : Book → (screen : ℕ) → Bool
+is_root book s = option_map_or (λ e. e.screen == s) (screen_id book manager 0) false
+
+-- where a window stands: on a screen that is the same, or on both sides on the root rio's
+pub data SamePlace (SameScreen : ℕ → ℕ → Type 0) (a b : Book) (s t : ℕ) : Type 0 where
+  on_own : SameScreen s t → SamePlace SameScreen a b s t
+  on_root : is_root a s ≡ true → is_root b t ≡ true → SamePlace SameScreen a b s t
+
+-- What the manager has for the session's window of a serial: its id of the window's image, and the tie of the window's name.
+pub record SameHold (Same : ℕ → ℕ → Type 0) (a b : Book) (serial : ℕ) (name : List ℕ) : Type 0 where
+  pub id : SameOption (SameId Same a b) (image_id a manager serial) (image_id b manager serial)
+  pub tie : SameOption (SameTie Same serial) (tie_of a name) (tie_of b name)
+
+-- ---- books
+
+-- `window`: the serial and the name of the session's window, where it has one.
+pub record AreLikeBooks (Same SameScreen : ℕ → ℕ → Type 0) (c : ℕ) (window : Option (ℕ × List ℕ)) (a b : Book) : Type 0 where
+  -- the ids of the session's connections but that of the display
   pub ids :
       (n id : ℕ) → n < 2 ^ 26 → (id == 0) ≡ false
-      → SameOption (SameId Same a.book b.book) (image_id a.book (client c n) id) (image_id b.book (client 1 n) id)
+      → SameOption (SameId Same a b) (image_id a (client c n) id) (image_id b (client 1 n) id)
   pub screen_ids :
-      (n id : ℕ) → n < 2 ^ 26
-      → SameOption (SameScreenId SameScreen) (screen_id a.book (client c n) id) (screen_id b.book (client 1 n) id)
-  -- the screens that are the same, and what stands on screens and has one
-  pub screens : (s t : ℕ) → SameScreen s t → SameOption (SameScreens Same) (screen_numbered a.book s) (screen_numbered b.book t)
-  pub windows : (i j : ℕ) → Same i j → is_some (screen_of a.book i) ≡ is_some (screen_of b.book j)
-  pub hosts : (i j : ℕ) → Same i j → has_screen a.book i ≡ has_screen b.book j
-  -- the display is none of the images that are the same
-  pub display_left : (i j : ℕ) → Same i j → is_display a i ≡ false
-  pub display_right : (i j : ℕ) → Same i j → is_display b j ≡ false
+      (n id : ℕ) → n < 2 ^ 26 → SameOption (SameScreenId SameScreen) (screen_id a (client c n) id) (screen_id b (client 1 n) id)
+  pub hold : (serial : ℕ) (name : List ℕ) → window ≡ Some (serial, name) → SameHold Same a b serial name
+  -- a screen is the same as one of the other device at most
+  pub once : (s t u : ℕ) → SameScreen s t → SameScreen s u → t ≡ u
+  pub alone : (s t u : ℕ) → SameScreen s u → SameScreen t u → s ≡ t
+  -- the screens that are the same are there, and none is the root rio's
+  pub screens : (s t : ℕ) → SameScreen s t → SameOption (SameScreens Same) (screen_numbered a s) (screen_numbered b t)
+  pub there : (s t : ℕ) → SameScreen s t → is_some (screen_numbered a s) ≡ true
+  pub not_root : (s t : ℕ) → SameScreen s t → (is_root a s ≡ false) × (is_root b t ≡ false)
+  -- what stands on screens, and what has one
+  pub windows : (i j : ℕ) → Same i j → SameOption (SamePlace SameScreen a b) (screen_of a i) (screen_of b j)
+  pub hosts : (i j : ℕ) → Same i j → has_screen a i ≡ has_screen b j
+  -- each screen on an image that is the same, or with such a fill, is the same
+  pub closed_left : (i j s : ℕ) → Same i j → refers_to i (screen_numbered a s) ≡ true → (t : ℕ) × SameScreen s t
+  pub closed_right : (i j t : ℕ) → Same i j → refers_to j (screen_numbered b t) ≡ true → (s : ℕ) × SameScreen s t
+  -- what is the same is used by both or by neither
+  pub used : (i j : ℕ) → Same i j → is_used a (Image i) ≡ is_used b (Image j)
+  pub used_screens : (s t : ℕ) → SameScreen s t → is_used a (Screen s) ≡ is_used b (Screen t)
+
+-- ---- devices
+
+-- two images of which `ctl` tells the same
+pub record SameShape (x y : ImageState) : Type 0 where
+  pub r : x.r ≡ y.r
+  pub clipr : x.clipr ≡ y.clipr
+  pub repl : x.repl ≡ y.repl
+  pub chan : x.chan ≡ y.chan
+
+-- the id of the display, which is image 0
+abbrev pub display_id : ImageId
+display_id = record { client = manager; id = 0; image = 0; tie = None }
+
+-- The display is image 0 of both and none of the images that are the same. It has an id in one device only.
+pub record SameDisplay (Same : ℕ → ℕ → Type 0) (a b : World) : Type 0 where
+  pub named : image_id a.book manager 0 ≡ Some display_id
+  pub nameless : image_id b.book manager 0 ≡ None
+  pub shape : SameShape (at_number a 0) (at_number b 0)
+  pub live_left : IsLive a.images 0
+  pub live_right : IsLive b.images 0
+  pub left : (i j : ℕ) → Same i j → i ≢ 0
+  pub right : (i j : ℕ) → Same i j → j ≢ 0
+
+-- The two devices are the same to the session's connections. Sessions are counted from 1.
+pub record AreLike (Same SameScreen : ℕ → ℕ → Type 0) (c : ℕ) (window : Option (ℕ × List ℕ)) (a b : World) : Type 0 where
+  pub counted : 1 ≤ c
+  pub images : AreRenamed Same a.images b.images
+  pub books : AreLikeBooks Same SameScreen c window a.book b.book
+  pub display : SameDisplay Same a b
+  -- what the session's connections have beside their ids
+  pub clients : (n : ℕ) → n < 2 ^ 26 → lookup a.clients (client c n) ≡ lookup b.clients (client 1 n)
