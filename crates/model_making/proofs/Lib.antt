@@ -1,0 +1,5 @@
+pub mod Naming
+pub mod Fresh
+pub mod Making
+pub mod Allocating
+pub mod Restacking

@@ -1,0 +1,3 @@
+//! The messages that change ids, on two draw devices that are the same to the connections of one session. Lemmas that proofs of other
+//! crates cite; no code.
+#![tactic(auto)]
