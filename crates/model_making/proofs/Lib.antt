@@ -3,3 +3,5 @@ pub mod Fresh
 pub mod Making
 pub mod Allocating
 pub mod Restacking
+pub mod Screens
+pub mod Screening

@@ -46,7 +46,8 @@ screen_same Same SameScreen c window a b like s t u v is other = by (s == u) (t 
         let first : s ≡ u = like.alone s u t is (subst (λ (n : ℕ). SameScreen u n) (sym (eqb-true t v right)) other) in
         absurd (true≢false (sym (eq-eqb s u first) ∙ left))
 
-one_more : (p q u v r w : Bool) → p ≡ q → (u || r) ≡ (v || w) → ((p || u) || r) ≡ ((q || v) || w)
+-- a test that one more passes or not, beside what is the same
+pub one_more : (p q u v r w : Bool) → p ≡ q → (u || r) ≡ (v || w) → ((p || u) || r) ≡ ((q || v) || w)
 one_more true true u v r w test rest = refl
 one_more false false u v r w test rest = rest
 one_more true false u v r w test rest = absurd cc

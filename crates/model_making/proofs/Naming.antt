@@ -22,6 +22,7 @@ use Rattle.model_world.specs.Whole.{client}
 use Rattle.model_agreement.specs.Agreement.{SameOption, SameOutcome}
 use Rattle.model_likeness.specs.Likeness.{AreLike, AreLikeBooks, SameDisplay, SameHold, SameId, SamePlace, SameTie}
 use Rattle.model_likeness.proofs.Looking.{client_same, look_same, with_client_like}
+use Rattle.model_making.proofs.Making.{one_more}
 use Rattle.model_likeness.proofs.Ids.{apart_manager, each_option, free_left, free_right, key_is, put_same, taken_same}
 
 -- ---- books whose ties and screens stay
@@ -95,12 +96,6 @@ module _ (Same SameScreen : ℕ → ℕ → Type 0) (c : ℕ) (window : Option (
         ap (λ (u : Bool). u || list_any (refers_to i) a.book.screens) (any-put (λ e. e.image == i) (entry (client c n) id s) a.book.image_ids)
         ∙ one_more (s.image == i) (t.image == j) _ _ _ _ (number_same Same a.images b.images like.images s.image t.image i j both is) (like.books.used i j is)
         ∙ sym (ap (λ (u : Bool). u || list_any (refers_to j) b.book.screens) (any-put (λ e. e.image == j) (entry (client 1 n) id t) b.book.image_ids))
-      where
-        one_more : (p q u v r w : Bool) → p ≡ q → (u || r) ≡ (v || w) → ((p || u) || r) ≡ ((q || v) || w)
-        one_more true true u v r w test rest = refl
-        one_more false false u v r w test rest = rest
-        one_more true false u v r w test rest = absurd cc
-        one_more false true u v r w test rest = absurd cc
 
     named_books : AreLikeBooks Same SameScreen c window x y
     named_books = record {
