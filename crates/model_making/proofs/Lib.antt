@@ -5,3 +5,4 @@ pub mod Allocating
 pub mod Restacking
 pub mod Screens
 pub mod Screening
+pub mod Acting

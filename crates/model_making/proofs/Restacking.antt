@@ -24,12 +24,8 @@ use Rattle.model_agreement.proofs.Relations.{bind_alike, equal_alike}
 use Rattle.model_likeness.specs.Likeness.{AreLike, SamePlace, is_root}
 use Rattle.model_likeness.proofs.Shapes.{keeps_lower, keeps_raise}
 use Rattle.model_likeness.proofs.Looking.{by_name_same, look_same, window_same, with_images_like}
+use Rattle.model_making.specs.Likes.{AreOther}
 use Rattle.model_making.proofs.Making.{screen_same}
-
--- each id is that of an image beside the display
-abbrev pub AreOther : List ℕ → Type 0
-AreOther [] = Unit {0}
-AreOther (id ∷ ids) = ((id == 0) ≡ false) × AreOther ids
 
 -- the root rio has one screen
 root_once : (book : Book) (s t : ℕ) → is_root book s ≡ true → is_root book t ≡ true → s ≡ t
