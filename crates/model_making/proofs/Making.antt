@@ -1,5 +1,5 @@
 -- New images and windows of a session, on two devices that are like.
-use Rattle.std.proofs.Common.{◌≡◌, ◌≢◌, ◌<◌, ◌≤◌, ◌^◌, ◌&&◌, ◌||◌, ℕ, Bool, true, false, List, [], ◌∷◌, Option, Some, None, inl, inr, refl, sym, ap, subst, ◌∙◌, arith, eq-eqb}
+use Rattle.std.proofs.Common.{◌≡◌, ◌<◌, ◌≤◌, ◌^◌, ◌&&◌, ◌||◌, ℕ, Bool, true, false, List, [], ◌∷◌, Option, Some, None, inl, inr, refl, sym, ap, subst, ◌∙◌, arith, eq-eqb}
 use Rattle.std.specs.Prelude.{◌==◌}
 use Rattle.std.specs.List.{list_any}
 use Rattle.std.proofs.lemmas.Bool.{and_parts, eqb-true, false_from_ne_true, true≢false}
@@ -17,7 +17,6 @@ use Rattle.model_draw.specs.Orders.{manager}
 use Rattle.model_renamed.specs.Renamed.{And, AreRenamed}
 use Rattle.model_world.specs.Whole.{client}
 use Rattle.model_agreement.specs.Agreement.{SameOption}
-use Rattle.model_shown.proofs.Tests.{same}
 use Rattle.model_likeness.specs.Likeness.{AreLikeBooks, SameHold, SameId, SamePlace, SameScreens, SameTie}
 use Rattle.model_likeness.proofs.Ids.{apart_manager, each_option, free_left, free_right, key_is, put_same}
 use Rattle.model_making.proofs.Fresh.{IsFresh, fresh_host, fresh_refers, placed_new, placed_other}
