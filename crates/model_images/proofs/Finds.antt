@@ -60,7 +60,8 @@ every-image P e (x ∷ xs) h all = by (every-image P e xs h (All-tail P x xs all
     by more true = All-cons P e (x ∷ xs) h all
     by more false = All-cons P x (put_image_id e xs) (All-head P x xs all) more
 
-new-image : (p : ImageId → Bool) (e : ImageId) (xs : List ImageId) → find p xs ≡ None → p e ≡ true → find p (put_image_id e xs) ≡ Some e
+-- where none was found, the new one is
+pub new-image : (p : ImageId → Bool) (e : ImageId) (xs : List ImageId) → find p xs ≡ None → p e ≡ true → find p (put_image_id e xs) ≡ Some e
 new-image p e [] none h = rw h refl
 new-image p e (x ∷ xs) none h = by (new-image p e xs (rest p x xs none) h) (comes_before e.client e.id x.client x.id)
   where
@@ -91,7 +92,7 @@ put-image book e free all =
 
 -- ---- screen ids
 
-find-screen : (p : ScreenId → Bool) (e : ScreenId) (xs : List ScreenId) → p e ≡ false → find p (put_screen_id e xs) ≡ find p xs
+pub find-screen : (p : ScreenId → Bool) (e : ScreenId) (xs : List ScreenId) → p e ≡ false → find p (put_screen_id e xs) ≡ find p xs
 find-screen p e [] other = rw other refl
 find-screen p e (x ∷ xs) other = by (find-screen p e xs other) (comes_before e.client e.id x.client x.id)
   where
@@ -120,7 +121,7 @@ every-screen P e (x ∷ xs) h all = by (every-screen P e xs h (All-tail P x xs a
     by more true = All-cons P e (x ∷ xs) h all
     by more false = All-cons P x (put_screen_id e xs) (All-head P x xs all) more
 
-new-screen : (p : ScreenId → Bool) (e : ScreenId) (xs : List ScreenId) → find p xs ≡ None → p e ≡ true → find p (put_screen_id e xs) ≡ Some e
+pub new-screen : (p : ScreenId → Bool) (e : ScreenId) (xs : List ScreenId) → find p xs ≡ None → p e ≡ true → find p (put_screen_id e xs) ≡ Some e
 new-screen p e [] none h = rw h refl
 new-screen p e (x ∷ xs) none h = by (new-screen p e xs (rest p x xs none) h) (comes_before e.client e.id x.client x.id)
   where

@@ -1,19 +1,18 @@
 -- What a device keeps where ids, screens and names come.
 use Rattle.std.proofs.Common.{◌≡◌, ℕ, Bool, true, false, cond, List, [], ◌∷◌, length, take, Option, Some, None, Ok, ◌⊎◌, inl, inr, refl, sym, ap, subst, ◌∙◌}
-use Rattle.std.specs.Prelude.{◌-◌, ◌==◌, ◌&&◌, find, is_some, option_map, if◌then◌else◌}
+use Rattle.std.specs.Prelude.{◌-◌, ◌==◌, ◌&&◌, find, is_some, option_map}
 use Rattle.std.specs.Option.{option_or}
 use Rattle.std.specs.List.{list_any}
 use Rattle.std.proofs.lemmas.Bool.{eqb-true}
 use Rattle.std.proofs.lemmas.List.Folds.{find-append, list_any-append}
-use Rattle.model_images.specs.declared.ImageId.{ImageId}
 use Rattle.model_images.specs.declared.OnScreen.{OnScreen}
 use Rattle.model_images.specs.declared.ScreenId.{ScreenId}
 use Rattle.model_images.specs.declared.Thing.TheVariants.{Image, Screen}
-use Rattle.model_images.specs.Book.{Book, add_id, add_named, add_screen, comes_before, image_id, is_image_id_taken, is_screen_id_taken, new_screen, next_screen, owner, put_image_id, put_screen_id, screen_id, screen_numbered, screen_of, tie, tie_of, untie, with_screen, with_window}
+use Rattle.model_images.specs.Book.{Book, add_id, add_named, add_screen, image_id, is_image_id_taken, is_screen_id_taken, new_screen, next_screen, owner, put_image_id, put_screen_id, screen_id, screen_numbered, screen_of, tie, tie_of, untie, with_screen, with_window}
 use Rattle.model_images.specs.declared.Tie.{Tie}
 use Rattle.model_images.specs.Release.{is_used, refers_to}
 use Rattle.model_images.specs.Ties.{HasTies}
-use Rattle.model_images.proofs.Finds.{any-put_screen}
+use Rattle.model_images.proofs.Finds.{any-put_screen, find-screen, new-image, new-screen}
 use Rattle.model_images.proofs.Ties.{HasTies-add_id, HasTies-add_named, HasTies-add_screen, HasTies-new_screen, HasTies-tie, HasTies-untie, add_named-used, any-put, find-put, tie-rest, untie-rest}
 use Rattle.model_draw.specs.World.{World, at_number, with_book}
 use Rattle.model_draw.specs.Orders.{manager}
@@ -113,15 +112,6 @@ added_follows gone w added k id image screen o out there e apart =
     }))
     (added-orderly w added k id image screen o out there e)
 
-new-image : (p : ImageId → Bool) (e : ImageId) (xs : List ImageId) → find p xs ≡ None → p e ≡ true → find p (put_image_id e xs) ≡ Some e
-new-image p e [] none is = ap (λ (b : Bool). cond b (Some e) None) is
-new-image p e (x ∷ xs) none is = by (λ h. new-image p e xs h is) (comes_before e.client e.id x.client x.id) (p x) refl none
-  where
-    by : (find p xs ≡ None → find p (put_image_id e xs) ≡ Some e) → (before b : Bool) → p x ≡ b → cond b (Some x) (find p xs) ≡ None → find p (if before then e ∷ x ∷ xs else x ∷ put_image_id e xs) ≡ Some e
-    by rest true b at none = ap (λ (c : Bool). cond c (Some e) (find p (x ∷ xs))) is
-    by rest false true at none = absurd cc
-    by rest false false at none = ap (λ (c : Bool). cond c (Some x) (find p (put_image_id e xs))) at ∙ rest none
-
 -- the new id is found, and its image stands on the screen
 pub added_found : (book added : Book) (window image s : ℕ) → image_id book manager window ≡ None → add_id book manager window image (Some s) ≡ Ok added
     → (image_id added manager window ≡ Some (record { client = manager; id = window; image = image; tie = None })) × (is_some (screen_of added image) ≡ true)
@@ -188,23 +178,6 @@ named_follows w k id name next o other e =
     })
 
 -- ---- screens
-
-find-screen : (p : ScreenId → Bool) (e : ScreenId) (xs : List ScreenId) → p e ≡ false → find p (put_screen_id e xs) ≡ find p xs
-find-screen p e [] h = ap (λ (b : Bool). cond b (Some e) None) h
-find-screen p e (x ∷ xs) h = by (find-screen p e xs h) (comes_before e.client e.id x.client x.id)
-  where
-    by : find p (put_screen_id e xs) ≡ find p xs → (b : Bool) → find p (if b then e ∷ x ∷ xs else x ∷ put_screen_id e xs) ≡ find p (x ∷ xs)
-    by rest true = ap (λ (b : Bool). cond b (Some e) (find p (x ∷ xs))) h
-    by rest false = ap (λ (o : Option ScreenId). cond (p x) (Some x) o) rest
-
-find-new : (p : ScreenId → Bool) (e : ScreenId) (xs : List ScreenId) → find p xs ≡ None → p e ≡ true → find p (put_screen_id e xs) ≡ Some e
-find-new p e [] none is = ap (λ (b : Bool). cond b (Some e) None) is
-find-new p e (x ∷ xs) none is = by (λ h. find-new p e xs h is) (comes_before e.client e.id x.client x.id) (p x) refl none
-  where
-    by : (find p xs ≡ None → find p (put_screen_id e xs) ≡ Some e) → (before b : Bool) → p x ≡ b → cond b (Some x) (find p xs) ≡ None → find p (if before then e ∷ x ∷ xs else x ∷ put_screen_id e xs) ≡ Some e
-    by rest true b at none = ap (λ (c : Bool). cond c (Some e) (find p (x ∷ xs))) is
-    by rest false true at none = absurd cc
-    by rest false false at none = ap (λ (c : Bool). cond c (Some x) (find p (put_screen_id e xs))) at ∙ rest none
 
 screen-put : (s : ℕ) (e : ScreenId) (xs : List ScreenId) → list_any (λ x. x.screen == s) (put_screen_id e xs) ≡ true → ((e.screen == s) ≡ true) ⊎ (list_any (λ x. x.screen == s) xs ≡ true)
 screen-put s e xs h = either_true (e.screen == s) _ (sym (any-put_screen (λ x. x.screen == s) e xs) ∙ h)
@@ -307,6 +280,6 @@ pub screened_found : (book made : Book) (host image fill : ℕ) → AreFree book
     → (screen_id made manager host ≡ Some (record { client = manager; id = host; screen = next_screen book; public = false })) × (screen_numbered made (next_screen book) ≡ Some (record { image = image; fill = fill }))
 screened_found book made host image fill spare free e =
     let is = screened-is book made manager host false image fill e in (
-      ap (λ (b : Book). screen_id b manager host) (sym is.1) ∙ find-new (λ e. (e.client == manager) && (e.id == host)) (record { client = manager; id = host; screen = next_screen book; public = false }) book.screen_ids free (same host),
+      ap (λ (b : Book). screen_id b manager host) (sym is.1) ∙ new-screen (λ e. (e.client == manager) && (e.id == host)) (record { client = manager; id = host; screen = next_screen book; public = false }) book.screen_ids free (same host),
       ap (λ (b : Book). screen_numbered b (next_screen book)) (sym is.1) ∙ (has-new book.screens (next_screen book) (record { image = image; fill = fill }) (next-free book spare).0).at,
     )

@@ -1,10 +1,11 @@
 -- An id more in the books of two devices that are like.
-use Rattle.std.proofs.Common.{◌≡◌, ◌<◌, ◌≤◌, ◌^◌, ◌&&◌, ◌||◌, ℕ, Bool, true, false, cond, List, [], ◌∷◌, Option, Some, None, refl, sym, ap, ◌∙◌, arith}
-use Rattle.std.specs.Prelude.{◌==◌, find, is_some, not, if◌then◌else◌}
+use Rattle.std.proofs.Common.{◌≡◌, ◌<◌, ◌≤◌, ◌^◌, ◌&&◌, ◌||◌, ℕ, Bool, true, false, List, Option, Some, None, refl, sym, ap, ◌∙◌, arith}
+use Rattle.std.specs.Prelude.{◌==◌, find, is_some, not}
 use Rattle.std.proofs.lemmas.Bool.{false_from_ne_true, or_parts}
 use Rattle.std.proofs.lemmas.Bool.Decides.{nat_tests}
 use Rattle.model_images.specs.declared.ImageId.{ImageId}
-use Rattle.model_images.specs.Book.{Book, comes_before, image_id, is_image_id_taken, owner, put_image_id}
+use Rattle.model_images.specs.Book.{Book, image_id, is_image_id_taken, owner, put_image_id}
+use Rattle.model_images.proofs.Finds.{new-image}
 use Rattle.model_images.proofs.Ties.{find-put}
 use Rattle.model_draw.specs.Orders.{manager}
 use Rattle.model_world.specs.Whole.{client}
@@ -31,16 +32,6 @@ none_there (Some x) h = absurd cc
 
 -- ---- an id that is put where none such was
 
--- it is found by what finds it
-new_found : (p : ImageId → Bool) (e : ImageId) (xs : List ImageId) → find p xs ≡ None → p e ≡ true → find p (put_image_id e xs) ≡ Some e
-new_found p e [] none is = ap (λ (b : Bool). cond b (Some e) None) is
-new_found p e (x ∷ xs) none is = by (λ h. new_found p e xs h is) (comes_before e.client e.id x.client x.id) (p x) refl none
-  where
-    by : (find p xs ≡ None → find p (put_image_id e xs) ≡ Some e) → (before b : Bool) → p x ≡ b → cond b (Some x) (find p xs) ≡ None → find p (if before then e ∷ x ∷ xs else x ∷ put_image_id e xs) ≡ Some e
-    by rest true b at none = ap (λ (c : Bool). cond c (Some e) (find p (x ∷ xs))) is
-    by rest false true at none = absurd cc
-    by rest false false at none = ap (λ (c : Bool). cond c (Some x) (find p (put_image_id e xs))) at ∙ rest none
-
 pub put_same : (P : ImageId → ImageId → Type 0) (p q : ImageId → Bool) (e f : ImageId) (xs ys : List ImageId) → p e ≡ q f → P e f
     → (p e ≡ true → (find p xs ≡ None) × (find q ys ≡ None)) → SameOption P (find p xs) (find q ys)
     → SameOption P (find p (put_image_id e xs)) (find q (put_image_id f ys))
@@ -49,7 +40,7 @@ put_same P p q e f xs ys test one free both = by (p e) refl
     by : (b : Bool) → p e ≡ b → SameOption P (find p (put_image_id e xs)) (find q (put_image_id f ys))
     by true at =
         let none = free at in
-        rw (new_found p e xs none.0 at, new_found q f ys none.1 (sym test ∙ at)) one
+        rw (new-image p e xs none.0 at, new-image q f ys none.1 (sym test ∙ at)) one
     by false at = rw (find-put p e xs at, find-put q f ys (sym test ∙ at)) both
 
 -- ---- keys of a session's connections

@@ -11,7 +11,7 @@ use Rattle.model_images.specs.declared.ScreenId.{ScreenId}
 use Rattle.model_images.specs.declared.Thing.TheVariants.{Image, Screen}
 use Rattle.model_images.specs.Book.{Book, has_screen, is_on, is_screen_id_taken, next_screen, screen_id, screen_numbered}
 use Rattle.model_images.specs.Release.{is_used, refers_to}
-use Rattle.model_images.proofs.Finds.{any-put_screen}
+use Rattle.model_images.proofs.Finds.{any-put_screen, find-screen}
 use Rattle.model_draw.specs.World.{World, at_number, look, with_book}
 use Rattle.model_draw.specs.Making.{deepest_screen, make_screen}
 use Rattle.model_draw.specs.Orders.{manager}
@@ -27,7 +27,7 @@ use Rattle.model_likeness.specs.Likeness.{AreLike, AreLikeBooks, SameId, SamePla
 use Rattle.model_likeness.proofs.Looking.{look_same}
 use Rattle.model_likeness.proofs.Ids.{clients_apart, each_option, no_manager, none_there, same_some}
 use Rattle.model_making.proofs.Making.{one_more}
-use Rattle.model_making.proofs.Screens.{IsNext, any_new, next_empty, screen_ok, screen_other, screen_put, screened}
+use Rattle.model_making.proofs.Screens.{IsNext, any_new, next_empty, screen_ok, screen_put, screened}
 
 module _ (Same SameScreen : ℕ → ℕ → Type 0) (c : ℕ) (window : Option (ℕ × List ℕ)) (a b : World) (like : AreLike Same SameScreen c window a b) (n : ℕ) (few : n < 2 ^ 26) (orderly_a : IsOrderly a) (orderly_b : IsOrderly b) where
   abbrev p : ℕ
@@ -96,7 +96,7 @@ module _ (Same SameScreen : ℕ → ℕ → Type 0) (c : ℕ) (window : Option (
     root_kept : (book : Book) (k s image fill t : ℕ) → (k == manager) ≡ false → is_root (screened book k id image fill) t ≡ is_root book t
     root_kept book k s image fill t other =
         ap (λ (o : Option ScreenId). option_map_or (λ e. e.screen == t) o false)
-        (screen_other (λ e. (e.client == manager) && (e.id == 0)) (entry k (next_screen book)) book.screen_ids (ap (λ (b : Bool). b && (id == 0)) other))
+        (find-screen (λ e. (e.client == manager) && (e.id == 0)) (entry k (next_screen book)) book.screen_ids (ap (λ (b : Bool). b && (id == 0)) other))
 
     root_left : (t : ℕ) → is_root x t ≡ is_root a.book t
     root_left t = root_kept a.book (client c n) p i f t (no_manager c n like.counted)

@@ -1,14 +1,15 @@
 -- A book with one more screen.
-use Rattle.std.proofs.Common.{◌≡◌, ◌||◌, ℕ, Bool, true, false, cond, List, [], ◌∷◌, length, take, Option, Some, None, Ok, inl, inr, refl, sym, ap, subst, ◌∙◌}
-use Rattle.std.specs.Prelude.{◌==◌, ◌-◌, find, is_some, if◌then◌else◌}
+use Rattle.std.proofs.Common.{◌≡◌, ◌||◌, ℕ, Bool, true, false, List, length, take, Option, Some, None, Ok, inl, inr, refl, sym, ap, subst, ◌∙◌}
+use Rattle.std.specs.Prelude.{◌==◌, ◌-◌, find, is_some}
 use Rattle.std.specs.List.{list_any}
 use Rattle.std.specs.Option.{option_map_or}
 use Rattle.std.proofs.lemmas.Bool.{eqb-true, false_from_ne_true}
 use Rattle.model_images.specs.declared.ScreenId.{ScreenId}
 use Rattle.model_images.specs.declared.Screen.{Screen as Filled}
 use Rattle.model_images.specs.declared.Thing.TheVariants.{Screen}
-use Rattle.model_images.specs.Book.{Book, comes_before, is_screen_id_taken, new_screen, next_screen, put_screen_id, screen_id, screen_numbered, with_screen}
+use Rattle.model_images.specs.Book.{Book, is_screen_id_taken, new_screen, next_screen, put_screen_id, screen_id, screen_numbered, with_screen}
 use Rattle.model_images.specs.Release.{is_used}
+use Rattle.model_images.proofs.Finds.{find-screen, new-screen}
 use Rattle.model_images.proofs.Freed.{any-at}
 use Rattle.model_draw.specs.World.{World}
 use Rattle.model_draw.specs.Orders.{manager}
@@ -21,23 +22,6 @@ use Rattle.model_likeness.specs.Likeness.{is_root}
 
 -- ---- a screen id that is put where none such was
 
-pub screen_other : (p : ScreenId → Bool) (e : ScreenId) (xs : List ScreenId) → p e ≡ false → find p (put_screen_id e xs) ≡ find p xs
-screen_other p e [] h = ap (λ (b : Bool). cond b (Some e) None) h
-screen_other p e (x ∷ xs) h = by (screen_other p e xs h) (comes_before e.client e.id x.client x.id)
-  where
-    by : find p (put_screen_id e xs) ≡ find p xs → (b : Bool) → find p (if b then e ∷ x ∷ xs else x ∷ put_screen_id e xs) ≡ find p (x ∷ xs)
-    by rest true = ap (λ (b : Bool). cond b (Some e) (find p (x ∷ xs))) h
-    by rest false = ap (λ (o : Option ScreenId). cond (p x) (Some x) o) rest
-
-screen_new : (p : ScreenId → Bool) (e : ScreenId) (xs : List ScreenId) → find p xs ≡ None → p e ≡ true → find p (put_screen_id e xs) ≡ Some e
-screen_new p e [] none is = ap (λ (b : Bool). cond b (Some e) None) is
-screen_new p e (x ∷ xs) none is = by (λ h. screen_new p e xs h is) (comes_before e.client e.id x.client x.id) (p x) refl none
-  where
-    by : (find p xs ≡ None → find p (put_screen_id e xs) ≡ Some e) → (before b : Bool) → p x ≡ b → cond b (Some x) (find p xs) ≡ None → find p (if before then e ∷ x ∷ xs else x ∷ put_screen_id e xs) ≡ Some e
-    by rest true b at none = ap (λ (c : Bool). cond c (Some e) (find p (x ∷ xs))) is
-    by rest false true at none = absurd cc
-    by rest false false at none = ap (λ (c : Bool). cond c (Some x) (find p (put_screen_id e xs))) at ∙ rest none
-
 pub screen_put : (P : ScreenId → ScreenId → Type 0) (p q : ScreenId → Bool) (e f : ScreenId) (xs ys : List ScreenId) → p e ≡ q f → P e f
     → (p e ≡ true → (find p xs ≡ None) × (find q ys ≡ None)) → SameOption P (find p xs) (find q ys)
     → SameOption P (find p (put_screen_id e xs)) (find q (put_screen_id f ys))
@@ -46,8 +30,8 @@ screen_put P p q e f xs ys test one free both = by (p e) refl
     by : (b : Bool) → p e ≡ b → SameOption P (find p (put_screen_id e xs)) (find q (put_screen_id f ys))
     by true at =
         let none = free at in
-        rw (screen_new p e xs none.0 at, screen_new q f ys none.1 (sym test ∙ at)) one
-    by false at = rw (screen_other p e xs at, screen_other q f ys (sym test ∙ at)) both
+        rw (new-screen p e xs none.0 at, new-screen q f ys none.1 (sym test ∙ at)) one
+    by false at = rw (find-screen p e xs at, find-screen q f ys (sym test ∙ at)) both
 
 -- ---- a book with one more screen
 

@@ -16,7 +16,7 @@ use Rattle.r9_event.specs.declared.event.Entry.{Entry}
 use Rattle.r9_lock.specs.Histories.{IsPrefix}
 use Rattle.model_text.specs.Number.{AreBytes}
 use Rattle.model_text.proofs.Fields.{AreBytes-take}
-use Rattle.model_frame.specs.Frame.{first, size_of}
+use Rattle.model_frame.specs.Frame.{first}
 use Rattle.model_frame.specs.Frame as cut
 use Rattle.model_frame.proofs.Laws.{frame_lawful, frame_parts}
 use Rattle.model_event.specs.Journal.{events_of}

@@ -118,12 +118,14 @@ some_of n {b} is not_so =
     (λ (h : n ≢ 0). omega arith)
     (cases_eq n 0)
 
-pub number_along : (r : Rect) (at : Point) (i : ℕ) → holds r at ≡ true → number_of r (along at i) ≡ number_of r at + i
-number_along r at i h =
+-- the columns of a row, counted from the left edge
+pub column_along : (r : Rect) (at : Point) (i : ℕ) → holds r at ≡ true → distance r.min.x (along at i).x ≡ distance r.min.x at.x + i
+column_along r at i h =
     let cell = cell_of r at h in
-    let column : distance r.min.x (at.x +ℤ pos i) ≡ distance r.min.x at.x + i =
-    strip_distance r.min (record { x = at.x +ℤ pos i; y = at.y }) (distance r.min.x at.x + i) (omega (arith, ints, cell.left)) in
-    ap (λ n. distance r.min.y at.y * width r + n) column ∙ omega arith
+    strip_distance r.min (along at i) (distance r.min.x at.x + i) (omega (arith, ints, cell.left))
+
+pub number_along : (r : Rect) (at : Point) (i : ℕ) → holds r at ≡ true → number_of r (along at i) ≡ number_of r at + i
+number_along r at i h = ap (λ n. distance r.min.y at.y * width r + n) (column_along r at i h) ∙ omega arith
 
 -- a strip lies within a rectangle
 abbrev pub Lies : Rect → Point → ℕ → Type 0
@@ -134,6 +136,14 @@ along_holds at n i h = strip_here at (along at i) i n refl refl h
 
 pub start_in : (r : Rect) (at : Point) (n : ℕ) → 0 < n → Lies r at n → holds r at ≡ true
 start_in r at n some lies = lies at (strip_here at at 0 n (omega (arith, ints)) refl some)
+
+-- and does not pass its right edge
+pub run_narrow : (r : Rect) (at : Point) (n : ℕ) → 0 < n → Lies r at n → distance r.min.x at.x + n ≤ width r
+run_narrow r at n some lies =
+    let first = cell_of r at (start_in r at n some lies) in
+    let last = cell_of r (along at (n - 1)) (lies (along at (n - 1)) (along_holds at n (n - 1) (omega arith))) in
+    let column = column_along r at (n - 1) (start_in r at n some lies) in
+    omega (arith, column, last.column)
 
 pub run_below : (r : Rect) (at : Point) (n : ℕ) → 0 < n → Lies r at n → number_of r at + n ≤ height r * width r
 run_below r at n some lies =

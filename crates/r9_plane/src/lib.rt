@@ -7,4 +7,4 @@ mod rows;
 mod runs;
 
 pub use plane::Plane;
-pub use rows::row_bytes;
+pub use rows::{read_rows, row_bytes};
