@@ -1,15 +1,14 @@
 -- Two draw devices that are the same to the connections of one session but for the numbers of images and screens (draw(3)). The session
 -- is session c of one device and session 1 of the other, where the display has no id.
-use Rattle.std.specs.Prelude.{◌≡◌, ◌≢◌, ◌<◌, ◌≤◌, ◌^◌, ◌==◌, ℕ, true, false, is_some, Bool, List, Option, Some, None}
+use Rattle.std.specs.Prelude.{◌≡◌, ◌≢◌, ◌<◌, ◌≤◌, ◌^◌, ◌==◌, ℕ, true, false, is_some, All, find, Bool, List, Option, Some, None}
 use Rattle.std.specs.Option.{option_map_or}
 use Rattle.model_text.specs.Map.{lookup}
 use Rattle.model_images.specs.declared.ImageId.{ImageId}
 use Rattle.model_images.specs.declared.ScreenId.{ScreenId}
 use Rattle.model_images.specs.declared.Screen.{Screen as Filled}
 use Rattle.model_images.specs.declared.Tie.{Tie}
-use Rattle.model_images.specs.declared.Thing.TheVariants.{Image, Screen}
 use Rattle.model_images.specs.Book.{Book, has_screen, image_id, is_stale, screen_id, screen_numbered, screen_of, tie_of}
-use Rattle.model_images.specs.Release.{is_tied_by, is_used, refers_to}
+use Rattle.model_images.specs.Release.{is_tied_by, refers_to}
 use Rattle.model_forest.specs.World.{Image as ImageState, IsLive}
 use Rattle.model_draw.specs.World.{World, at_number}
 use Rattle.model_draw.specs.Orders.{manager}
@@ -58,6 +57,30 @@ pub record SameHold (Same : ℕ → ℕ → Type 0) (a b : Book) (serial : ℕ) 
   pub id : SameOption (SameId Same a b) (image_id a manager serial) (image_id b manager serial)
   pub tie : SameOption (SameTie Same serial) (tie_of a name) (tie_of b name)
 
+-- ---- what is the session's
+
+-- the connection is one of the session's
+pub record IsOfSession (c k : ℕ) : Type 0 where
+  pub number : ℕ
+  pub few : number < 2 ^ 26
+  pub is : k ≡ client c number
+
+-- the image id is the session's and not that of the display, or it is the manager's id of the session's window
+pub data IsOwned (c : ℕ) (window : Option (ℕ × List ℕ)) (e : ImageId) : Type 0 where
+  by_session : IsOfSession c e.client → (e.id == 0) ≡ false → IsOwned c window e
+  by_manager : (name : List ℕ) → e.client ≡ manager → window ≡ Some (e.id, name) → IsOwned c window e
+
+-- a tie that the manager made by its id of the session's window is that of the window's name
+abbrev pub IsNamed : Option (ℕ × List ℕ) → Tie → Type 0
+IsNamed window t = (name : List ℕ) → t.client ≡ manager → window ≡ Some (t.id, name) → t.name ≡ name
+
+-- Each tie has a number of its own. The number of an id's tie was given out, and that tie is one of the id's image.
+pub record AreNumbered (book : Book) : Type 0 where
+  pub given : All (λ t. t.number < book.next_tie) book.ties
+  pub once : All (λ t. find (λ u. u.number == t.number) book.ties ≡ Some t) book.ties
+  pub known : All (λ e. (n : ℕ) → e.tie ≡ Some n → n < book.next_tie) book.image_ids
+  pub shown : All (λ e. All (λ t. e.tie ≡ Some t.number → t.image ≡ e.image) book.ties) book.image_ids
+
 -- ---- books
 
 -- `window`: the serial and the name of the session's window, where it has one.
@@ -82,9 +105,21 @@ pub record AreLikeBooks (Same SameScreen : ℕ → ℕ → Type 0) (c : ℕ) (wi
   -- each screen on an image that is the same, or with such a fill, is the same
   pub closed_left : (i j s : ℕ) → Same i j → refers_to i (screen_numbered a s) ≡ true → (t : ℕ) × SameScreen s t
   pub closed_right : (i j t : ℕ) → Same i j → refers_to j (screen_numbered b t) ≡ true → (s : ℕ) × SameScreen s t
-  -- what is the same is used by both or by neither
-  pub used : (i j : ℕ) → Same i j → is_used a (Image i) ≡ is_used b (Image j)
-  pub used_screens : (s t : ℕ) → SameScreen s t → is_used a (Screen s) ≡ is_used b (Screen t)
+  -- what refers to what is the same is the session's, or its window's
+  pub owned_left : All (λ e. (j : ℕ) → Same e.image j → IsOwned c window e) a.image_ids
+  pub owned_right : All (λ f. (i : ℕ) → Same i f.image → IsOwned 1 window f) b.image_ids
+  pub made_left : All (λ e. (t : ℕ) → SameScreen e.screen t → IsOfSession c e.client) a.screen_ids
+  pub made_right : All (λ f. (s : ℕ) → SameScreen s f.screen → IsOfSession 1 f.client) b.screen_ids
+  -- what stands on a screen that is the same is the same
+  pub stand_left : All (λ w. (t : ℕ) → SameScreen w.screen t → (j : ℕ) × Same w.image j) a.windows
+  pub stand_right : All (λ w. (s : ℕ) → SameScreen s w.screen → (i : ℕ) × Same i w.image) b.windows
+  -- the session ties no names, and its window has one name
+  pub untied_left : All (λ t. IsOfSession c t.client → ⊥) a.ties
+  pub untied_right : All (λ t. IsOfSession 1 t.client → ⊥) b.ties
+  pub names_left : All (IsNamed window) a.ties
+  pub names_right : All (IsNamed window) b.ties
+  pub numbers_left : AreNumbered a
+  pub numbers_right : AreNumbered b
 
 -- ---- devices
 

@@ -1,3 +1,4 @@
+pub mod Entries
 pub mod Naming
 pub mod Fresh
 pub mod Making

@@ -1,24 +1,24 @@
 -- New images and windows of a session, on two devices that are like.
-use Rattle.std.proofs.Common.{◌≡◌, ◌<◌, ◌≤◌, ◌^◌, ◌&&◌, ◌||◌, ℕ, Bool, true, false, List, [], ◌∷◌, Option, Some, None, inl, inr, refl, sym, ap, subst, ◌∙◌, arith, eq-eqb}
-use Rattle.std.specs.Prelude.{◌==◌}
+use Rattle.std.proofs.Common.{◌≡◌, ◌<◌, ◌≤◌, ◌^◌, ◌&&◌, ℕ, Bool, true, false, List, Option, Some, None, inl, inr, refl, sym, ap, subst, ◌∙◌, arith, eq-eqb}
+use Rattle.std.specs.Prelude.{◌==◌, All, get_or}
 use Rattle.std.specs.List.{list_any}
-use Rattle.std.proofs.lemmas.Bool.{and_parts, eqb-true, false_from_ne_true, true≢false}
-use Rattle.std.proofs.lemmas.List.Folds.{list_any-append}
+use Rattle.std.proofs.lemmas.Bool.{and_parts, eqb-true, false_from_ne_true, or_parts, true≢false}
+use Rattle.std.proofs.lemmas.List.Elements.{All-push}
 use Rattle.model_forest.specs.World.{World as Images}
 use Rattle.model_forest.proofs.Changes.{live-apart}
 use Rattle.model_images.specs.declared.ImageId.{ImageId}
 use Rattle.model_images.specs.declared.Tie.{Tie}
 use Rattle.model_images.specs.declared.Screen.{Screen as Filled}
-use Rattle.model_images.specs.declared.Thing.TheVariants.{Image, Screen}
 use Rattle.model_images.specs.Book.{Book, has_screen, image_id, is_image_id_taken, owner, put_image_id, screen_numbered, screen_of, with_window}
-use Rattle.model_images.specs.Release.{is_used, refers_to}
-use Rattle.model_images.proofs.Ties.{any-put, find-put}
+use Rattle.model_images.specs.Release.{refers_to}
+use Rattle.model_images.proofs.Ties.{find-put}
 use Rattle.model_draw.specs.Orders.{manager}
 use Rattle.model_renamed.specs.Renamed.{And, AreRenamed}
 use Rattle.model_world.specs.Whole.{client}
 use Rattle.model_agreement.specs.Agreement.{SameOption}
-use Rattle.model_likeness.specs.Likeness.{AreLikeBooks, SameHold, SameId, SamePlace, SameScreens, SameTie}
-use Rattle.model_likeness.proofs.Ids.{apart_manager, each_option, free_left, free_right, key_is, put_same}
+use Rattle.model_likeness.specs.Likeness.{AreLikeBooks, IsOwned, SameHold, SameId, SamePlace, SameScreens, SameTie}
+use Rattle.model_likeness.proofs.Ids.{apart_manager, each_option, free_left, free_other, free_right, key_is, put_same}
+use Rattle.model_making.proofs.Entries.{all_put, none_of_all, numbered_plain, other_number}
 use Rattle.model_making.proofs.Fresh.{IsFresh, fresh_host, fresh_refers, placed_new, placed_other}
 
 -- a book in which a connection's new id shows a new image, on a screen where it has one
@@ -45,29 +45,6 @@ screen_same Same SameScreen c window a b like s t u v is other = by (s == u) (t 
         let first : s ≡ u = like.alone s u t is (subst (λ (n : ℕ). SameScreen u n) (sym (eqb-true t v right)) other) in
         absurd (true≢false (sym (eq-eqb s u first) ∙ left))
 
--- a test that one more passes or not, beside what is the same
-pub one_more : (p q u v r w : Bool) → p ≡ q → (u || r) ≡ (v || w) → ((p || u) || r) ≡ ((q || v) || w)
-one_more true true u v r w test rest = refl
-one_more false false u v r w test rest = rest
-one_more true false u v r w test rest = absurd cc
-one_more false true u v r w test rest = absurd cc
-
-last_more : (p q u v r w : Bool) → p ≡ q → (u || r) ≡ (v || w) → (u || (r || (p || false))) ≡ (v || (w || (q || false)))
-last_more true true u v r w test rest = end u r ∙ sym (end v w)
-  where
-    end : (x y : Bool) → (x || (y || true)) ≡ true
-    end true y = refl
-    end false true = refl
-    end false false = refl
-last_more false false u v r w test rest = end u r ∙ rest ∙ sym (end v w)
-  where
-    end : (x y : Bool) → (x || (y || false)) ≡ (x || y)
-    end true y = refl
-    end false true = refl
-    end false false = refl
-last_more true false u v r w test rest = absurd cc
-last_more false true u v r w test rest = absurd cc
-
 -- ---- the books
 
 module _ (Same SameScreen : ℕ → ℕ → Type 0) (c : ℕ) (window : Option (ℕ × List ℕ)) (a b : Book) (like : AreLikeBooks Same SameScreen c window a b) (counted : 1 ≤ c) (n : ℕ) (few : n < 2 ^ 26)
@@ -88,10 +65,6 @@ module _ (Same SameScreen : ℕ → ℕ → Type 0) (c : ℕ) (window : Option (
 
   apart_right : (i j : ℕ) → Same i j → (q == j) ≡ false
   apart_right i j is = false_from_ne_true (q == j) (λ at. live-apart images_b q j right.free (same.right i j is) (sym (eqb-true q j at)))
-
-  new_number : (i j : ℕ) → More i j → (p == i) ≡ (q == j)
-  new_number i j (inl is) = apart_left i j is ∙ sym (apart_right i j is)
-  new_number i j (inr is) = rw (is.0, is.1) (eq-eqb p p refl ∙ sym (eq-eqb q q refl))
 
   more_id : (e f : ImageId) → SameId Same a b e f → SameId More x y e f
   more_id e f one = record { image = inl one.image; tied = one.tied; stale = one.stale }
@@ -142,25 +115,43 @@ module _ (Same SameScreen : ℕ → ℕ → Type 0) (c : ℕ) (window : Option (
       rw (is.0, is.1) (rw (placed_new p s a.windows left.nowhere, placed_new q t b.windows right.nowhere)
       (each_option SameScreen (SamePlace SameScreen x y) (λ u v own. SamePlace.on_own own) s t on))
 
-  used_more : (i j : ℕ) → More i j → is_used x (Image i) ≡ is_used y (Image j)
-  used_more i j is =
-      ap (λ (u : Bool). u || list_any (refers_to i) a.screens) (any-put (λ e. e.image == i) (entry (client c n) id p) a.image_ids)
-      ∙ one_more (p == i) (q == j) _ _ _ _ (new_number i j is) (old i j is)
-      ∙ sym (ap (λ (u : Bool). u || list_any (refers_to j) b.screens) (any-put (λ e. e.image == j) (entry (client 1 n) id q) b.image_ids))
-    where
-      old : (i j : ℕ) → More i j → is_used a (Image i) ≡ is_used b (Image j)
-      old i j (inl is) = like.used i j is
-      old i j (inr is) = rw (is.0, is.1) (left.unused ∙ sym right.unused)
+  -- ---- what refers to what is the same
 
-  used_on : (o r : Option ℕ) → SameOption SameScreen o r → (u v : ℕ) → SameScreen u v
-      → is_used (entered a (client c n) id p o) (Screen u) ≡ is_used (entered b (client 1 n) id q r) (Screen v)
-  used_on None None both u v is = like.used_screens u v is
-  used_on (Some o) (Some r) both u v is =
-      ap (λ (w : Bool). list_any (λ e. e.screen == u) a.screen_ids || w) (list_any-append (λ w. w.screen == u) a.windows (record { image = p; screen = o } ∷ []))
-      ∙ last_more (o == u) (r == v) _ _ _ _ (screen_same Same SameScreen c window a b like o r u v both is) (like.used_screens u v is)
-      ∙ sym (ap (λ (w : Bool). list_any (λ e. e.screen == v) b.screen_ids || w) (list_any-append (λ w. w.screen == v) b.windows (record { image = q; screen = r } ∷ [])))
-  used_on (Some o) None both u v is = absurd both
-  used_on None (Some r) both u v is = absurd both
+  fresh_ids : (images : Images) (book : Book) (m : ℕ) → IsFresh images book m → All (λ e. (e.image == m) ≡ false) book.image_ids
+  fresh_ids images book m fresh =
+      none_of_all (λ e. e.image == m) book.image_ids (or_parts (list_any (λ e. e.image == m) book.image_ids) (list_any (refers_to m) book.screens) fresh.unused).0
+
+  owned_more_left : All (λ e. (j : ℕ) → More e.image j → IsOwned c window e) x.image_ids
+  owned_more_left =
+      all_put (λ e. (j : ℕ) → More e.image j → IsOwned c window e) (entry (client c n) id p) a.image_ids
+      (λ j is. IsOwned.by_session (record { number = n; few = few; is = refl }) (free_other Same SameScreen c window a b like counted n few id free))
+      (λ k d lt. old (get_or a.image_ids k d) (like.owned_left k d lt) (fresh_ids images_a a p left k d lt))
+    where
+      old : (e : ImageId) → ((j : ℕ) → Same e.image j → IsOwned c window e) → (e.image == p) ≡ false → (j : ℕ) → More e.image j → IsOwned c window e
+      old e own apart j (inl is) = own j is
+      old e own apart j (inr is) = other_number e.image p apart is.0
+
+  owned_more_right : All (λ f. (i : ℕ) → More i f.image → IsOwned 1 window f) y.image_ids
+  owned_more_right =
+      all_put (λ f. (i : ℕ) → More i f.image → IsOwned 1 window f) (entry (client 1 n) id q) b.image_ids
+      (λ i is. IsOwned.by_session (record { number = n; few = few; is = refl }) (free_other Same SameScreen c window a b like counted n few id free))
+      (λ k d lt. old (get_or b.image_ids k d) (like.owned_right k d lt) (fresh_ids images_b b q right k d lt))
+    where
+      old : (f : ImageId) → ((i : ℕ) → Same i f.image → IsOwned 1 window f) → (f.image == q) ≡ false → (i : ℕ) → More i f.image → IsOwned 1 window f
+      old f own apart i (inl is) = own i is
+      old f own apart i (inr is) = other_number f.image q apart is.1
+
+  stand_more_left : (o r : Option ℕ) → SameOption SameScreen o r → All (λ w. (v : ℕ) → SameScreen w.screen v → (j : ℕ) × More w.image j) (with_window p o a.windows)
+  stand_more_left None r both = λ k d lt v is. let old = like.stand_left k d lt v is in (old.0, inl old.1)
+  stand_more_left (Some u) r both =
+      All-push (λ w. (v : ℕ) → SameScreen w.screen v → (j : ℕ) × More w.image j) a.windows (record { image = p; screen = u })
+      (λ k d lt v is. let old = like.stand_left k d lt v is in (old.0, inl old.1)) (λ v is. (q, inr (refl, refl)))
+
+  stand_more_right : (o r : Option ℕ) → SameOption SameScreen o r → All (λ w. (u : ℕ) → SameScreen u w.screen → (i : ℕ) × More i w.image) (with_window q r b.windows)
+  stand_more_right o None both = λ k d lt u is. let old = like.stand_right k d lt u is in (old.0, inl old.1)
+  stand_more_right o (Some v) both =
+      All-push (λ w. (u : ℕ) → SameScreen u w.screen → (i : ℕ) × More i w.image) b.windows (record { image = q; screen = v })
+      (λ k d lt u is. let old = like.stand_right k d lt u is in (old.0, inl old.1)) (λ u is. (p, inr (refl, refl)))
 
   hosts_more : (i j : ℕ) → More i j → has_screen a i ≡ has_screen b j
   hosts_more i j (inl is) = like.hosts i j is
@@ -188,6 +179,16 @@ module _ (Same SameScreen : ℕ → ℕ → Type 0) (c : ℕ) (window : Option (
     hosts = hosts_more;
     closed_left = closed_more_left;
     closed_right = closed_more_right;
-    used = used_more;
-    used_screens = used_on s t on;
+    owned_left = owned_more_left;
+    owned_right = owned_more_right;
+    made_left = like.made_left;
+    made_right = like.made_right;
+    stand_left = stand_more_left s t on;
+    stand_right = stand_more_right s t on;
+    untied_left = like.untied_left;
+    untied_right = like.untied_right;
+    names_left = like.names_left;
+    names_right = like.names_right;
+    numbers_left = numbered_plain a x (entry (client c n) id p) refl refl refl refl like.numbers_left;
+    numbers_right = numbered_plain b y (entry (client 1 n) id q) refl refl refl refl like.numbers_right;
   }

@@ -1,5 +1,5 @@
 -- Ids of the image with the name of the session's window, and what `ctl` tells, on two devices that are like.
-use Rattle.std.proofs.Common.{◌≡◌, ◌<◌, ◌^◌, ◌&&◌, ◌||◌, ℕ, Bool, true, false, List, Option, Some, None, Ok, Err, refl, sym, ap, ◌∙◌, arith}
+use Rattle.std.proofs.Common.{◌≡◌, ◌<◌, ◌^◌, ◌&&◌, ℕ, Bool, true, false, List, Option, Some, None, Ok, Err, refl, sym, ap, ◌∙◌, arith}
 use Rattle.std.specs.Prelude.{◌==◌, not}
 use Rattle.std.specs.List.{list_any}
 use Rattle.std.specs.Str.{bytes_eq}
@@ -8,22 +8,19 @@ use Rattle.std.proofs.lemmas.Bool.Decides.{nat_tests}
 use Rattle.model_text.specs.Outcome.{Outcome, ◌>>=◌, value_or_refuse}
 use Rattle.model_images.specs.declared.ImageId.{ImageId}
 use Rattle.model_images.specs.declared.Tie.{Tie}
-use Rattle.model_images.specs.declared.Thing.TheVariants.{Image}
 use Rattle.model_images.specs.Book.{Book, add_named, image_id, image, is_image_id_taken, owner, put_image_id, tie_of}
-use Rattle.model_images.specs.Release.{is_used, refers_to}
-use Rattle.model_images.proofs.Ties.{any-put, find-put}
+use Rattle.model_images.proofs.Ties.{find-put}
 use Rattle.model_shown.proofs.Tests.{find-any}
 use Rattle.model_draw.specs.World.{Client, World, at_number, client_of, look, with_book}
 use Rattle.model_draw.specs.Naming.{use_name, with_described}
 use Rattle.model_draw.specs.Files.{description, read_ctl}
 use Rattle.model_draw.specs.Orders.{manager}
-use Rattle.model_renamed.proofs.Lists.{number_same}
 use Rattle.model_world.specs.Whole.{client}
 use Rattle.model_agreement.specs.Agreement.{SameOption, SameOutcome}
-use Rattle.model_likeness.specs.Likeness.{AreLike, AreLikeBooks, SameDisplay, SameHold, SameId, SamePlace, SameTie}
+use Rattle.model_likeness.specs.Likeness.{AreLike, AreLikeBooks, IsOwned, SameDisplay, SameHold, SameId, SamePlace, SameTie}
 use Rattle.model_likeness.proofs.Looking.{client_same, look_same, with_client_like}
-use Rattle.model_making.proofs.Making.{one_more}
-use Rattle.model_likeness.proofs.Ids.{apart_manager, each_option, free_left, free_right, key_is, put_same, taken_same}
+use Rattle.model_making.proofs.Entries.{all_put, numbered_named}
+use Rattle.model_likeness.proofs.Ids.{apart_manager, each_option, free_left, free_other, free_right, key_is, put_same, taken_same}
 
 -- ---- books whose ties and screens stay
 
@@ -91,11 +88,8 @@ module _ (Same SameScreen : ℕ → ℕ → Type 0) (c : ℕ) (window : Option (
           tie = old.tie;
         }
 
-    used_named : (i j : ℕ) → Same i j → is_used x (Image i) ≡ is_used y (Image j)
-    used_named i j is =
-        ap (λ (u : Bool). u || list_any (refers_to i) a.book.screens) (any-put (λ e. e.image == i) (entry (client c n) id s) a.book.image_ids)
-        ∙ one_more (s.image == i) (t.image == j) _ _ _ _ (number_same Same a.images b.images like.images s.image t.image i j both is) (like.books.used i j is)
-        ∙ sym (ap (λ (u : Bool). u || list_any (refers_to j) b.book.screens) (any-put (λ e. e.image == j) (entry (client 1 n) id t) b.book.image_ids))
+    own : (d k : ℕ) → k ≡ client d n → (u : Tie) → IsOwned d window (entry k id u)
+    own d k is u = IsOwned.by_session (record { number = n; few = few; is = is }) (free_other Same SameScreen c window a.book b.book like.books like.counted n few id free)
 
     named_books : AreLikeBooks Same SameScreen c window x y
     named_books = record {
@@ -111,8 +105,18 @@ module _ (Same SameScreen : ℕ → ℕ → Type 0) (c : ℕ) (window : Option (
       hosts = like.books.hosts;
       closed_left = like.books.closed_left;
       closed_right = like.books.closed_right;
-      used = used_named;
-      used_screens = like.books.used_screens;
+      owned_left = all_put (λ e. (j : ℕ) → Same e.image j → IsOwned c window e) (entry (client c n) id s) a.book.image_ids (λ j is. own c (client c n) refl s) like.books.owned_left;
+      owned_right = all_put (λ f. (i : ℕ) → Same i f.image → IsOwned 1 window f) (entry (client 1 n) id t) b.book.image_ids (λ i is. own 1 (client 1 n) refl t) like.books.owned_right;
+      made_left = like.books.made_left;
+      made_right = like.books.made_right;
+      stand_left = like.books.stand_left;
+      stand_right = like.books.stand_right;
+      untied_left = like.books.untied_left;
+      untied_right = like.books.untied_right;
+      names_left = like.books.names_left;
+      names_right = like.books.names_right;
+      numbers_left = numbered_named a.book x (entry (client c n) id s) s (λ e. bytes_eq e.name name) found refl refl refl refl refl like.books.numbers_left;
+      numbers_right = numbered_named b.book y (entry (client 1 n) id t) t (λ e. bytes_eq e.name name) there refl refl refl refl refl like.books.numbers_right;
     }
 
     named_display : SameDisplay Same (with_book a x) (with_book b y)

@@ -1,17 +1,17 @@
 -- `A`: images that a session makes screens, on two devices that are like.
 use Rattle.std.proofs.Common.{◌≡◌, ◌<◌, ◌^◌, ◌&&◌, ◌||◌, ℕ, Bool, true, false, List, Option, None, inl, inr, refl, sym, ap, ◌∙◌, arith, eq-eqb}
-use Rattle.std.specs.Prelude.{◌==◌, is_some, nat_lt}
+use Rattle.std.specs.Prelude.{◌==◌, is_some, nat_lt, All, get_or}
 use Rattle.std.specs.List.{list_any}
 use Rattle.std.specs.Option.{option_map_or}
-use Rattle.std.proofs.lemmas.Bool.{and_parts, eqb-true, false_from_ne_true}
+use Rattle.std.proofs.lemmas.Bool.{and_parts, eqb-true, false_from_ne_true, or_parts}
 use Rattle.std.proofs.lemmas.Bool.Decides.{nat_tests}
 use Rattle.model_text.specs.Outcome.{refuse_if}
 use Rattle.model_images.specs.declared.ImageId.{ImageId}
+use Rattle.model_images.specs.declared.OnScreen.{OnScreen}
 use Rattle.model_images.specs.declared.ScreenId.{ScreenId}
-use Rattle.model_images.specs.declared.Thing.TheVariants.{Image, Screen}
 use Rattle.model_images.specs.Book.{Book, has_screen, is_on, is_screen_id_taken, next_screen, screen_id, screen_numbered}
-use Rattle.model_images.specs.Release.{is_used, refers_to}
-use Rattle.model_images.proofs.Finds.{any-put_screen, find-screen}
+use Rattle.model_images.specs.Release.{refers_to}
+use Rattle.model_images.proofs.Finds.{find-screen}
 use Rattle.model_draw.specs.World.{World, at_number, look, with_book}
 use Rattle.model_draw.specs.Making.{deepest_screen, make_screen}
 use Rattle.model_draw.specs.Orders.{manager}
@@ -23,10 +23,10 @@ use Rattle.model_agreement.proofs.Relations.{bind_alike, check_alike, equal_alik
 use Rattle.model_shown.specs.Showing.{IsOrderly}
 use Rattle.model_shown.proofs.Tests.{first_false, not_both}
 use Rattle.model_shown.proofs.Spare.{HasNew, has-new, next-free}
-use Rattle.model_likeness.specs.Likeness.{AreLike, AreLikeBooks, SameId, SamePlace, SameScreenId, SameScreens, is_root}
+use Rattle.model_likeness.specs.Likeness.{AreLike, AreLikeBooks, AreNumbered, IsOfSession, SameId, SamePlace, SameScreenId, SameScreens, is_root}
 use Rattle.model_likeness.proofs.Looking.{look_same}
 use Rattle.model_likeness.proofs.Ids.{clients_apart, each_option, no_manager, none_there, same_some}
-use Rattle.model_making.proofs.Making.{one_more}
+use Rattle.model_making.proofs.Entries.{all_put_screen, none_of_all, other_number}
 use Rattle.model_making.proofs.Screens.{IsNext, any_new, next_empty, screen_ok, screen_put, screened}
 
 module _ (Same SameScreen : ℕ → ℕ → Type 0) (c : ℕ) (window : Option (ℕ × List ℕ)) (a b : World) (like : AreLike Same SameScreen c window a b) (n : ℕ) (few : n < 2 ^ 26) (orderly_a : IsOrderly a) (orderly_b : IsOrderly b) where
@@ -57,10 +57,6 @@ module _ (Same SameScreen : ℕ → ℕ → Type 0) (c : ℕ) (window : Option (
   apart_right s t is =
       false_from_ne_true (q == t) (λ at.
       not_both (is_some (screen_numbered b.book t)) (there_right s t is) (ap (λ (k : ℕ). is_some (screen_numbered b.book k)) (sym (eqb-true q t at)) ∙ ap is_some right.empty))
-
-  new_number : (s t : ℕ) → More s t → (p == s) ≡ (q == t)
-  new_number s t (inl is) = apart_left s t is ∙ sym (apart_right s t is)
-  new_number s t (inr is) = rw (is.0, is.1) (eq-eqb p p refl ∙ sym (eq-eqb q q refl))
 
   turned : (x y : ℕ) → (x == y) ≡ (y == x)
   turned x y = grind (arith, nat_tests)
@@ -151,9 +147,6 @@ module _ (Same SameScreen : ℕ → ℕ → Type 0) (c : ℕ) (window : Option (
     one_image : (k l : ℕ) → Same k l → (i == k) ≡ (j == l)
     one_image k l is = number_same Same a.images b.images like.images i j k l ground is
 
-    one_fill : (k l : ℕ) → Same k l → (f == k) ≡ (g == l)
-    one_fill k l is = number_same Same a.images b.images like.images f g k l fill is
-
     both_or : (p q u v : Bool) → p ≡ q → u ≡ v → (p || u) ≡ (q || v)
     both_or p q u v test rest = rw (test, rest) refl
 
@@ -179,34 +172,53 @@ module _ (Same SameScreen : ℕ → ℕ → Type 0) (c : ℕ) (window : Option (
             let old = like.books.closed_right k l t is (ap (refers_to l) (sym (new_right.others t (turned t q ∙ at))) ∙ refers) in
             (old.0, inl old.1)
 
-    -- what refers to an image through screens, with one more
-    last_or : (u v p q r w : Bool) → p ≡ q → (u || r) ≡ (v || w) → (u || (p || r)) ≡ (v || (q || w))
-    last_or true true p q r w test rest = refl
-    last_or false false p q r w test rest = both_or p q r w test rest
-    last_or true false true true r w test rest = refl
-    last_or true false false false r w test rest = rest
-    last_or false true true true r w test rest = refl
-    last_or false true false false r w test rest = rest
-    last_or true false true false r w test rest = absurd cc
-    last_or true false false true r w test rest = absurd cc
-    last_or false true true false r w test rest = absurd cc
-    last_or false true false true r w test rest = absurd cc
+    -- ---- what refers to what is the same
 
-    used_more : (k l : ℕ) → Same k l → is_used x (Image k) ≡ is_used y (Image l)
-    used_more k l is =
-        ap (λ (z : Bool). list_any (λ e. e.image == k) a.book.image_ids || z) (any_new _ _ _ _ new_left (refers_to k) refl)
-        ∙ last_or _ _ _ _ _ _ (both_or _ _ _ _ (one_image k l is) (one_fill k l is)) (like.books.used k l is)
-        ∙ sym (ap (λ (z : Bool). list_any (λ e. e.image == l) b.book.image_ids || z) (any_new _ _ _ _ new_right (refers_to l) refl))
+    no_ids : (book : Book) (m : ℕ) → IsNext book m → All (λ e. (e.screen == m) ≡ false) book.screen_ids
+    no_ids book m next = none_of_all (λ e. e.screen == m) book.screen_ids (or_parts (list_any (λ e. e.screen == m) book.screen_ids) (list_any (λ w. w.screen == m) book.windows) next.unused).0
 
-    used_screens_more : (s t : ℕ) → More s t → is_used x (Screen s) ≡ is_used y (Screen t)
-    used_screens_more s t is =
-        ap (λ (z : Bool). z || list_any (λ w. w.screen == s) a.book.windows) (any-put_screen (λ e. e.screen == s) (entry (client c n) p) a.book.screen_ids)
-        ∙ one_more (p == s) (q == t) _ _ _ _ (new_number s t is) (old s t is)
-        ∙ sym (ap (λ (z : Bool). z || list_any (λ w. w.screen == t) b.book.windows) (any-put_screen (λ e. e.screen == t) (entry (client 1 n) q) b.book.screen_ids))
+    no_windows : (book : Book) (m : ℕ) → IsNext book m → All (λ w. (w.screen == m) ≡ false) book.windows
+    no_windows book m next = none_of_all (λ w. w.screen == m) book.windows (or_parts (list_any (λ e. e.screen == m) book.screen_ids) (list_any (λ w. w.screen == m) book.windows) next.unused).1
+
+    made_more_left : All (λ e. (t : ℕ) → More e.screen t → IsOfSession c e.client) x.screen_ids
+    made_more_left =
+        all_put_screen (λ e. (t : ℕ) → More e.screen t → IsOfSession c e.client) (entry (client c n) p) a.book.screen_ids (λ t is. record { number = n; few = few; is = refl })
+        (λ k d lt. old (get_or a.book.screen_ids k d) (like.books.made_left k d lt) (no_ids a.book p left k d lt))
       where
-        old : (s t : ℕ) → More s t → is_used a.book (Screen s) ≡ is_used b.book (Screen t)
-        old s t (inl is) = like.books.used_screens s t is
-        old s t (inr is) = rw (is.0, is.1) (left.unused ∙ sym right.unused)
+        old : (e : ScreenId) → ((t : ℕ) → SameScreen e.screen t → IsOfSession c e.client) → (e.screen == p) ≡ false → (t : ℕ) → More e.screen t → IsOfSession c e.client
+        old e own apart t (inl is) = own t is
+        old e own apart t (inr is) = other_number e.screen p apart is.0
+
+    made_more_right : All (λ e. (s : ℕ) → More s e.screen → IsOfSession 1 e.client) y.screen_ids
+    made_more_right =
+        all_put_screen (λ e. (s : ℕ) → More s e.screen → IsOfSession 1 e.client) (entry (client 1 n) q) b.book.screen_ids (λ s is. record { number = n; few = few; is = refl })
+        (λ k d lt. old (get_or b.book.screen_ids k d) (like.books.made_right k d lt) (no_ids b.book q right k d lt))
+      where
+        old : (e : ScreenId) → ((s : ℕ) → SameScreen s e.screen → IsOfSession 1 e.client) → (e.screen == q) ≡ false → (s : ℕ) → More s e.screen → IsOfSession 1 e.client
+        old e own apart s (inl is) = own s is
+        old e own apart s (inr is) = other_number e.screen q apart is.1
+
+    stand_more_left : All (λ w. (t : ℕ) → More w.screen t → (j : ℕ) × Same w.image j) x.windows
+    stand_more_left k d lt = old (get_or a.book.windows k d) (like.books.stand_left k d lt) (no_windows a.book p left k d lt)
+      where
+        old : (w : OnScreen) → ((t : ℕ) → SameScreen w.screen t → (j : ℕ) × Same w.image j) → (w.screen == p) ≡ false → (t : ℕ) → More w.screen t → (j : ℕ) × Same w.image j
+        old w on apart t (inl is) = on t is
+        old w on apart t (inr is) = other_number w.screen p apart is.0
+
+    stand_more_right : All (λ w. (s : ℕ) → More s w.screen → (i : ℕ) × Same i w.image) y.windows
+    stand_more_right k d lt = old (get_or b.book.windows k d) (like.books.stand_right k d lt) (no_windows b.book q right k d lt)
+      where
+        old : (w : OnScreen) → ((s : ℕ) → SameScreen s w.screen → (i : ℕ) × Same i w.image) → (w.screen == q) ≡ false → (s : ℕ) → More s w.screen → (i : ℕ) × Same i w.image
+        old w on apart s (inl is) = on s is
+        old w on apart s (inr is) = other_number w.screen q apart is.1
+
+    numbered_screened : (book next : Book) → next.image_ids ≡ book.image_ids → next.ties ≡ book.ties → next.next_tie ≡ book.next_tie → AreNumbered book → AreNumbered next
+    numbered_screened book next ids ties count old = record {
+      given = rw (ties, count) old.given;
+      once = rw ties old.once;
+      known = rw (ids, count) old.known;
+      shown = rw (ids, ties) old.shown;
+    }
 
     screened_books : AreLikeBooks Same More c window x y
     screened_books = record {
@@ -224,8 +236,18 @@ module _ (Same SameScreen : ℕ → ℕ → Type 0) (c : ℕ) (window : Option (
       hosts = hosts_more;
       closed_left = closed_more_left;
       closed_right = closed_more_right;
-      used = used_more;
-      used_screens = used_screens_more;
+      owned_left = like.books.owned_left;
+      owned_right = like.books.owned_right;
+      made_left = made_more_left;
+      made_right = made_more_right;
+      stand_left = stand_more_left;
+      stand_right = stand_more_right;
+      untied_left = like.books.untied_left;
+      untied_right = like.books.untied_right;
+      names_left = like.books.names_left;
+      names_right = like.books.names_right;
+      numbers_left = numbered_screened a.book x refl refl refl like.books.numbers_left;
+      numbers_right = numbered_screened b.book y refl refl refl like.books.numbers_right;
     }
 
     screened_like : AreLike Same More c window (with_book a x) (with_book b y)

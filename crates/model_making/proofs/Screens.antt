@@ -46,7 +46,7 @@ pub screen_ok : (book : Book) (k id image fill : ℕ) → is_screen_id_taken boo
 unfolding new_screen
 screen_ok book k id image fill free = rw free refl
 
-both_ways : (x y : Bool) → (x ≡ true → y ≡ true) → (y ≡ true → x ≡ true) → x ≡ y
+pub both_ways : (x y : Bool) → (x ≡ true → y ≡ true) → (y ≡ true → x ≡ true) → x ≡ y
 both_ways true y h k = sym (h refl)
 both_ways false true h k = k refl
 both_ways false false h k = refl
