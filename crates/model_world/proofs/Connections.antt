@@ -206,7 +206,7 @@ left_kept : (go_on : World → List ℕ → Written) (world : World) (done : ℕ
 left_kept go_on world done (Ok next) further kept = further next.0 next.1 ∙ kept
 left_kept go_on world done (Err refusal) further kept = refl
 
-within_kept : (steps k : ℕ) (world : World) (mark : Option ℕ) (done : ℕ) (bytes : List ℕ) → numbers_of (written_within steps k world mark done bytes).world ≡ numbers_of world
+pub within_kept : (steps k : ℕ) (world : World) (mark : Option ℕ) (done : ℕ) (bytes : List ℕ) → numbers_of (written_within steps k world mark done bytes).world ≡ numbers_of world
 within_kept zero k world mark done bytes = refl
 within_kept (suc steps) k world mark done [] = refl
 within_kept (suc steps) k world mark done (byte ∷ bytes) =

@@ -1,6 +1,6 @@
 -- What sessions do with the windows leaves the draw device its connections, and is not refused for want of memory.
-use Rattle.std.proofs.Common.{◌≡◌, ◌∙◌, ℕ, Bool, true, false, not, List, [], ◌∷◌, length, Option, Ok, Err, refl, ap, arith}
-use Rattle.std.specs.Prelude.{◌==◌, nat_lt, is_some}
+use Rattle.std.proofs.Common.{◌≡◌, ◌∙◌, ℕ, true, false, not, List, [], ◌∷◌, length, Option, Ok, Err, refl, ap, arith}
+use Rattle.std.specs.Prelude.{◌==◌, nat_lt}
 use Rattle.std.specs.Int.{w32, from_le_bytes}
 use Rattle.std.specs.List.{fold}
 use Rattle.std.specs.Map.{keys_of}
@@ -10,8 +10,6 @@ use Rattle.model_wctl.specs.Command.{Wctl}
 use Rattle.model_wctl.specs.Command as wctl
 use Rattle.model_wctl.specs.Reading.{command_of}
 use Rattle.model_mouse.specs.declared.Mouse.{Mouse as Pointer}
-use Rattle.model_tree.specs.declared.Kind.TheVariants as kind
-use Rattle.model_tree.specs.Node.{Node}
 use Rattle.model_tree.specs.Attach.{Attach, Whole, Existing, Fresh, Unknown}
 use Rattle.model_images.specs.Book.{Book, image, image_id, is_stale}
 use Rattle.model_rio.specs.Table.{Table, found, is_host}
@@ -21,16 +19,15 @@ use Rattle.model_rio.specs.Step.{Step}
 use Rattle.model_draw.specs.World as draw
 use Rattle.model_draw.specs.Act.{no_memory}
 use Rattle.model_draw.specs.Files.{is_known, read_ctl, read_data, write_ctl}
-use Rattle.model_world.specs.Session.{Fid}
-use Rattle.model_world.specs.Fids.{is_kind, let_go, with_held}
 use Rattle.model_world.specs.Desktop.{Desktop, is_user, stepped, stepped_if, stepped_or, users_of, without_user}
-use Rattle.model_world.specs.Whole.{attached, commanded, ctl_written, data_read, desktop_for, device_commanded, device_commanded_by, host_of, left_one, made_by, moused, serial_of, typed, window_made, with_device, written_data}
+use Rattle.model_world.specs.Whole.{attached, client, commanded, ctl_written, data_read, desktop_for, device_commanded, device_commanded_by, host_of, left_one, made_by, moused, serial_of, typed, window_made, with_device, written_data}
 use Rattle.model_world.proofs.Others.{IsOther, IsTold, behind_known, behind_step, refused_by, value_by}
 use Rattle.model_world.proofs.Orders.{IsFair, rio_fair}
+use Rattle.model_world.proofs.Kept.{KeepsConnections}
 use Rattle.model_world.proofs.Connections.{Keeps, KeepsRead, numbers_of, carried_out_kept, read_data_kept, write_ctl_kept, written_kept}
 
 -- the device has the same connections
-abbrev pub IsSame : Desktop → Desktop → Type 0
+abbrev IsSame : Desktop → Desktop → Type 0
 IsSame before after = numbers_of after.device ≡ numbers_of before.device
 
 -- ---- steps of the windows
@@ -62,7 +59,7 @@ made_by_same desktop host _ = λ e. omega (arith, e)
 command_same : (desktop : Desktop) (window : ℕ) (what : Wctl) → IsOther (IsSame desktop) (stepped_or desktop (rio desktop.table (act.Command window what)))
 command_same desktop window what = stepped_or_same desktop (rio desktop.table (act.Command window what)) (rio_fair desktop.table (act.Command window what))
 
-pub commanded_same : (desktop : Desktop) (window : ℕ) (text : List ℕ) → IsOther (IsSame desktop) (commanded desktop window text)
+commanded_same : (desktop : Desktop) (window : ℕ) (text : List ℕ) → IsOther (IsSame desktop) (commanded desktop window text)
 unfolding commanded
 commanded_same desktop window text =
     behind_step _ (value_or_refuse (command_of false text) 47) _ (value_by _ 47 (λ e. omega (arith, e))) (λ command. command_same desktop window command.what)
@@ -79,14 +76,14 @@ device_by_same desktop path (wctl.New options hide) =
     stepped_or_same desktop (rio desktop.table (act.New host options hide)) (rio_fair desktop.table (act.New host options hide)))
 device_by_same desktop path what = window_same desktop path what
 
-pub device_commanded_same : (desktop : Desktop) (text : List ℕ) → IsOther (IsSame desktop) (device_commanded desktop text)
+device_commanded_same : (desktop : Desktop) (text : List ℕ) → IsOther (IsSame desktop) (device_commanded desktop text)
 unfolding device_commanded
 device_commanded_same desktop text =
     behind_step _ (value_or_refuse (command_of true text) 47) _ (value_by _ 47 (λ e. omega (arith, e))) (λ command. device_by_same desktop command.id command.what)
 
 -- ---- attaching, and leaving
 
-abbrev pub IsMadeSame : Desktop → Desktop × ℕ → Type 0
+abbrev IsMadeSame : Desktop → Desktop × ℕ → Type 0
 IsMadeSame desktop made = IsSame desktop made.0
 
 window_made_same : (desktop : Desktop) (path text : List ℕ) → IsOther (IsMadeSame desktop) (window_made desktop path text)
@@ -96,7 +93,7 @@ window_made_same desktop path text =
     behind_step _ (value_or_refuse (command_of false text) 47) _ (value_by _ 47 (λ e. omega (arith, e))) (λ command.
     behind_known _ (IsSame desktop) (made_by desktop host command.what) _ (made_by_same desktop host command.what) (λ next same. same)))
 
-pub attached_same : (session : ℕ) (desktop : Desktop) (name : Attach) → IsOther (IsMadeSame desktop) (attached session desktop name)
+attached_same : (session : ℕ) (desktop : Desktop) (name : Attach) → IsOther (IsMadeSame desktop) (attached session desktop name)
 unfolding attached
 attached_same session desktop Whole = refl
 attached_same session desktop Unknown = λ e. omega (arith, e)
@@ -111,37 +108,23 @@ left_one_same session desktop window =
     cond_both (not (is_user desktop.users window session)) desktop _ (IsSame desktop) (λ _. refl) (λ _.
     cond_both (length (users_of left.users window) == 0) gone left (IsSame desktop) (λ _. stepped_if_same left (rio left.table (act.Gone window)) (rio_fair left.table (act.Gone window))) (λ _. refl))
 
-pub left_same : (session : ℕ) (windows : List ℕ) (desktop : Desktop) → IsSame desktop (fold (left_one session) desktop windows)
+left_same : (session : ℕ) (windows : List ℕ) (desktop : Desktop) → IsSame desktop (fold (left_one session) desktop windows)
 left_same session [] desktop = refl
 left_same session (window ∷ windows) desktop = left_same session windows (left_one session desktop window) ∙ left_one_same session desktop window
 
 -- ---- input
 
-pub moused_same : (desktop : Desktop) (e : Pointer) → IsSame desktop (moused desktop e)
+moused_same : (desktop : Desktop) (e : Pointer) → IsSame desktop (moused desktop e)
 unfolding moused
 moused_same desktop e = stepped_if_same desktop (rio desktop.table (act.Mouse e)) (rio_fair desktop.table (act.Mouse e))
 
-pub typed_same : (desktop : Desktop) (keys : List ℕ) → IsSame desktop (typed desktop keys)
+typed_same : (desktop : Desktop) (keys : List ℕ) → IsSame desktop (typed desktop keys)
 unfolding typed
 typed_same desktop keys = stepped_if_same desktop (rio desktop.table (act.Keys keys)) (rio_fair desktop.table (act.Keys keys))
 
--- ---- the files that one fid at a time has open
-
-pub held_same : (c : ℕ) (held : Bool) (desktop : Desktop) (node : Node) → IsSame desktop (with_held (desktop_for c) held desktop node)
-held_same c held desktop node =
-    cond_both (is_kind kind.Mouse node.kind) _ _ (IsSame desktop) (λ _. refl) (λ _.
-    cond_both (is_kind kind.Consctl node.kind) _ _ (IsSame desktop) (λ _. refl) (λ _. refl))
-
-let_go_same : (c : ℕ) (desktop : Desktop) (fid : Fid) → IsSame desktop (let_go (desktop_for c) desktop fid)
-let_go_same c desktop fid = cond_both (is_some fid.mode) _ _ (IsSame desktop) (λ _. held_same c false desktop fid.node) (λ _. refl)
-
-pub all_let_go_same : (c : ℕ) (gone : List Fid) (desktop : Desktop) → IsSame desktop (fold (let_go (desktop_for c)) desktop gone)
-all_let_go_same c [] desktop = refl
-all_let_go_same c (fid ∷ gone) desktop = all_let_go_same c gone (let_go (desktop_for c) desktop fid) ∙ let_go_same c desktop fid
-
 -- ---- the draw device
 
-pub written_data_same : (k : ℕ) (desktop : Desktop) (bytes : List ℕ) (mark : Option ℕ) → IsSame desktop (written_data k desktop bytes mark).0
+written_data_same : (k : ℕ) (desktop : Desktop) (bytes : List ℕ) (mark : Option ℕ) → IsSame desktop (written_data k desktop bytes mark).0
 unfolding written_data
 written_data_same k desktop bytes mark = written_kept k desktop.device bytes mark
 
@@ -155,22 +138,22 @@ pub read_ctl_told : (k : ℕ) (device : draw.World) (number : ℕ) → IsTold (r
 unfolding read_ctl
 read_ctl_told k device number = behind_step _ (image device.book k (draw.client_of device k).described) _ (image_told device.book k (draw.client_of device k).described) (λ _. tt)
 
-data_told : (k : ℕ) (device : draw.World) (most : ℕ) → IsTold (read_data k device most)
+pub data_told : (k : ℕ) (device : draw.World) (most : ℕ) → IsTold (read_data k device most)
 unfolding read_data
 data_told k device most =
     behind_step _ (refuse_if (length (draw.client_of device k).pending == 0) 26) _ (refused_by _ 26 (λ e. omega (arith, e))) (λ _.
     behind_step _ (refuse_if (nat_lt most (length (draw.client_of device k).pending)) 25) _ (refused_by _ 25 (λ e. omega (arith, e))) (λ _. tt))
 
-choice_told : (k : ℕ) (device : draw.World) (bytes : List ℕ) → IsTold (write_ctl k device bytes)
+pub choice_told : (k : ℕ) (device : draw.World) (bytes : List ℕ) → IsTold (write_ctl k device bytes)
 unfolding write_ctl
 choice_told k device bytes =
     behind_step _ (refuse_if (not (length bytes == 4)) 27) _ (refused_by _ 27 (λ e. omega (arith, e))) (λ _.
     behind_step _ (refuse_if (not (is_known device k (from_le_bytes w32 bytes))) 4) _ (refused_by _ 4 (λ e. omega (arith, e))) (λ _. tt))
 
-abbrev pub IsReadSame : Desktop → List ℕ × Desktop → Type 0
+abbrev IsReadSame : Desktop → List ℕ × Desktop → Type 0
 IsReadSame desktop got = IsSame desktop got.1
 
-pub data_read_same : (k : ℕ) (desktop : Desktop) (most : ℕ) → IsOther (IsReadSame desktop) (data_read k desktop most)
+data_read_same : (k : ℕ) (desktop : Desktop) (most : ℕ) → IsOther (IsReadSame desktop) (data_read k desktop most)
 unfolding data_read
 data_read_same k desktop most = by (read_data k desktop.device most) (read_data_kept k desktop.device most) (data_told k desktop.device most)
   where
@@ -178,10 +161,33 @@ data_read_same k desktop most = by (read_data k desktop.device most) (read_data_
     by (Ok got) kept other = kept
     by (Err n) kept other = other
 
-pub ctl_written_same : (k : ℕ) (desktop : Desktop) (bytes : List ℕ) → IsOther (IsSame desktop) (ctl_written k desktop bytes)
+ctl_written_same : (k : ℕ) (desktop : Desktop) (bytes : List ℕ) → IsOther (IsSame desktop) (ctl_written k desktop bytes)
 unfolding ctl_written
 ctl_written_same k desktop bytes = by (write_ctl k desktop.device bytes) (write_ctl_kept k desktop.device bytes) (choice_told k desktop.device bytes)
   where
     by : (o : Outcome draw.World) → Keeps desktop.device o → IsTold o → IsOther (IsSame desktop) (o >>= λ device. Ok (with_device desktop device))
     by (Ok device) kept other = kept
     by (Err n) kept other = other
+
+-- ---- all calls
+
+abbrev pub device_of : Desktop → draw.World
+device_of desktop = desktop.device
+
+pub keeps_connections : (c : ℕ) → KeepsConnections c (desktop_for c) device_of
+keeps_connections c = record {
+  attached = attached_same c;
+  left = λ desktop windows. left_same c windows desktop;
+  hear = λ desktop window h. refl;
+  command = commanded_same;
+  device_command = device_commanded_same;
+  mouse = moused_same;
+  keys = typed_same;
+  with_snarf = λ desktop host bytes. refl;
+  connect = λ desktop n. refl;
+  leave = λ desktop n. refl;
+  write_data = λ desktop n bytes mark. written_data_same (client c n) desktop bytes mark;
+  read_data = λ desktop n most. data_read_same (client c n) desktop most;
+  read_ctl = λ desktop n. read_ctl_told (client c n) desktop.device n;
+  write_ctl = λ desktop n bytes. ctl_written_same (client c n) desktop bytes;
+}

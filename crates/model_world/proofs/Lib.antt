@@ -4,6 +4,7 @@ pub mod Others
 pub mod Orders
 pub mod Connections
 pub mod Links
+pub mod Kept
 pub mod Desktops
 pub mod Files
 pub mod Answers

@@ -17,8 +17,7 @@ use Rattle.model_draw.specs.World as draw
 use Rattle.model_world.specs.Session.{Session}
 use Rattle.model_world.specs.Outside.{Outside}
 use Rattle.model_world.specs.Fids.{cleared, fids_gone, left_by, let_go, settled}
-use Rattle.model_world.specs.Desktop.{Desktop}
-use Rattle.model_world.specs.Whole.{client, desktop_for}
+use Rattle.model_world.specs.Whole.{client}
 use Rattle.model_world.specs.Links.{AreWithin, IsLinked, KeepsOthers, is_connected, is_among}
 use Rattle.model_world.proofs.Connections.{numbers_of, freed_kept}
 
@@ -56,11 +55,6 @@ left_ordered device k ordered =
 -- one of a session's connections ends
 abbrev pub leaves : (c : ℕ) → draw.World → (n : ℕ) → draw.World
 leaves c device n = draw.after_leave device (client c n)
-
--- and the same of all that sessions share
-pub device_left : (c : ℕ) (gone : List ℕ) (desktop : Desktop) → (fold (desktop_for c).leave desktop gone).device ≡ fold (leaves c) desktop.device gone
-device_left c [] desktop = refl
-device_left c (n ∷ ns) desktop = device_left c ns (record desktop { device = leaves c desktop.device n })
 
 pub all_ordered : (c : ℕ) (gone : List ℕ) (device : draw.World) → Ascend (numbers_of device) → Ascend (numbers_of (fold (leaves c) device gone))
 all_ordered c [] device ordered = ordered

@@ -21,6 +21,7 @@ use Rattle.model_world.specs.Answer.{answer}
 use Rattle.model_world.specs.Replay.{step, served, ended, first_answered, marked, settled_within, waiting_in, with_left}
 use Rattle.model_world.specs.Links.{AreCounted, AreKnown, AreLinked, IsLinked, IsNext, KeepsOthers, begun_after, has_connection, is_connected}
 use Rattle.model_world.proofs.Connections.{numbers_of}
+use Rattle.model_world.proofs.Desktops.{device_of, keeps_connections}
 use Rattle.model_world.proofs.Answers.{Holds, HoldsSome, answer_holds, cleared_left, one_holds}
 use Rattle.model_world.proofs.Settling.{IfNext, all_in, first_leaves, settled_keeps}
 use Rattle.model_world.proofs.Others.{some_is}
@@ -85,7 +86,7 @@ begun_linked world c linked none = changed_linked world c world.desktop.device (
   kept = λ k other. refl;
 })
 
-pub replied_linked : (world : World) (c : ℕ) (session : Session) (l : Left Desktop) → AreLinked world.desktop.device world.sessions → lookup world.sessions c ≡ Some session → Holds c world.desktop l
+pub replied_linked : (world : World) (c : ℕ) (session : Session) (l : Left Desktop) → AreLinked world.desktop.device world.sessions → lookup world.sessions c ≡ Some session → Holds c (desktop_for c) device_of (keeps_connections c) world.desktop l
     → AreLinked l.rest.device (with world.sessions c l.session)
 replied_linked world c session l linked at holds = changed_linked world c l.rest.device (with world.sessions c l.session) (Some l.session) linked (record {
   here = with-here world.sessions c session l.session at;
@@ -100,7 +101,7 @@ replied_linked world c session l linked at holds = changed_linked world c l.rest
 -- an answer to a read that waited keeps the connections
 pub late_linked : (world : World) → AreLinked world.desktop.device world.sessions → IfNext (λ next. AreLinked next.desktop.device next.sessions) (first_answered world world.sessions)
 late_linked world linked = first_leaves (λ next. AreLinked next.desktop.device next.sessions) world world.sessions (all_in world.sessions linked.ascending) (λ c session after at is.
-    replied_linked world c session after linked at (let P : Option (Left Desktop) → Type 0 = λ o. HoldsSome c world.desktop o in subst P is (one_holds c session world.desktop (linked_of world.desktop.device world.sessions c session linked at))))
+    replied_linked world c session after linked at (let P : Option (Left Desktop) → Type 0 = λ o. HoldsSome c (desktop_for c) device_of (keeps_connections c) world.desktop o in subst P is (one_holds c (desktop_for c) device_of (keeps_connections c) session world.desktop (linked_of world.desktop.device world.sessions c session linked at))))
 
 pub settled_linked : (most : ℕ) (world : World) → AreLinked world.desktop.device world.sessions → AreLinked (settled_within most world).0.desktop.device (settled_within most world).0.sessions
 settled_linked most world linked = settled_keeps (λ w. AreLinked w.desktop.device w.sessions) late_linked most world linked
@@ -111,13 +112,13 @@ served_linked world c bytes mark None linked at = linked
 served_linked world c bytes mark (Some session) linked at =
     let left = answer (desktop_for c) session world.desktop bytes mark in
     let after = with_left world c left in
-    settled_linked (waiting_in after) after (replied_linked world c session left linked at (answer_holds c session world.desktop bytes mark (linked_of world.desktop.device world.sessions c session linked at)))
+    settled_linked (waiting_in after) after (replied_linked world c session left linked at (answer_holds c (desktop_for c) device_of (keeps_connections c) session world.desktop bytes mark (linked_of world.desktop.device world.sessions c session linked at)))
 
 -- a session ends with all that goes with its fids
 pub gone_linked : (world : World) (c : ℕ) (session : Session) → AreLinked world.desktop.device world.sessions → lookup world.sessions c ≡ Some session
     → AreLinked (cleared (desktop_for c) session world.desktop).1.device (without world.sessions c)
 gone_linked world c session linked at =
-    let gone = cleared_left c session world.desktop (linked_of world.desktop.device world.sessions c session linked at) in
+    let gone = cleared_left c (desktop_for c) device_of (keeps_connections c) session world.desktop (linked_of world.desktop.device world.sessions c session linked at) in
     changed_linked world c (cleared (desktop_for c) session world.desktop).1.device (without world.sessions c) None linked (record {
       here = without-here world.sessions c linked.ascending;
       others = λ d apart. without-others world.sessions c d apart;

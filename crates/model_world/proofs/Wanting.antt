@@ -11,10 +11,10 @@ use Rattle.model_tree.specs.declared.Kind.TheVariants.{New}
 use Rattle.model_tree.specs.Attach.{attach_of}
 use Rattle.model_tree.specs.Node.{Node, is_directory, may, reads, writes}
 use Rattle.model_tree.specs.Tree.{View, check_live, is_ended, is_gone, walk}
+use Rattle.model_draw.specs.World as draw
 use Rattle.model_draw.specs.Act.{no_memory}
 use Rattle.model_world.specs.Session.{Session}
-use Rattle.model_world.specs.Desktop.{Desktop}
-use Rattle.model_world.specs.Whole.{attached, desktop_for}
+use Rattle.model_world.specs.Outside.{Outside}
 use Rattle.model_world.specs.Refusal.{IsRefused, Refuses, draw_texts, file_texts, refusal, refusal_text, text_in}
 use Rattle.model_world.specs.Fids.{Done, Left, beside, fid_of, is_bound, is_full, is_kind}
 use Rattle.model_world.specs.Walking.{attach_answer, is_taken, most_made, open_answer, walk_answer, walk_ended, walk_on, walked}
@@ -23,7 +23,7 @@ use Rattle.model_world.specs.Writing.{file_written, write_answer}
 use Rattle.model_world.specs.Answer.{answer_read, answer_to, asks_for_9p, clunk_answer, denied, is_version, read_or_not, stat_answer, version_answer}
 pub use Rattle.model_world.proofs.Others.{IsOther}
 use Rattle.model_world.proofs.Others.{IsTold, behind_known, behind_step, by_case, refused_by, value_by}
-use Rattle.model_world.proofs.Desktops.{IsMadeSame, attached_same}
+use Rattle.model_world.proofs.Kept.{IsMadeSame, KeepsConnections}
 use Rattle.model_world.proofs.Files.{IsAfterSame, IsGivenSame, file_written_same, node_read_same}
 
 -- ---- its text is that of no other number
@@ -124,113 +124,114 @@ ended_spares session tag fid newfid node nodes None other = λ none. none
 ended_spares session tag fid newfid node [] (Some n) other = other
 ended_spares session tag fid newfid node (next ∷ nodes) (Some n) other = λ none. none
 
-version_spares : (c : ℕ) (session : Session) (desktop : Desktop) (tag msize : ℕ) (version : List ℕ) → IsOther Spares (version_answer (desktop_for c) session desktop tag msize version)
-unfolding version_answer
-version_spares c session desktop tag msize version =
-    behind_step _ (refuse_if (nat_lt msize 256) 48) _ (refused_by _ 48 (λ e. omega (arith, e))) (λ _. either_spares (asks_for_9p version) _ _ (λ none. none) (λ none. none))
-
-attach_spares : (c : ℕ) (session : Session) (desktop : Desktop) (tag fid afid : ℕ) (aname : List ℕ) → IsOther Spares (attach_answer (desktop_for c) session desktop tag fid afid aname)
-unfolding attach_answer
-attach_spares c session desktop tag fid afid aname =
-    behind_step _ (refuse_if (not (afid == no_fid)) 40) _ (refused_by _ 40 (λ e. omega (arith, e))) (λ _.
-    behind_step _ (refuse_if (is_bound session fid) 33) _ (refused_by _ 33 (λ e. omega (arith, e))) (λ _.
-    behind_step _ (refuse_if (is_full session) 44) _ (refused_by _ 44 (λ e. omega (arith, e))) (λ _.
-    behind_known _ (IsMadeSame desktop) (attached c desktop (attach_of aname)) _ (attached_same c desktop (attach_of aname)) (λ _ _. λ none. none))))
-
-walk_spares : (c : ℕ) (session : Session) (desktop : Desktop) (tag fid newfid : ℕ) (names : List (List ℕ)) → IsOther SparesDone (walk_answer (desktop_for c) session desktop tag fid newfid names)
-unfolding walk_answer
-walk_spares c session desktop tag fid newfid names =
-    let view = (desktop_for c).view desktop session.connections in
-    behind_step _ (fid_of session fid) _ (fid_told session fid) (λ from.
-    behind_step _ (refuse_if (is_some from.mode) 36) _ (refused_by _ 36 (λ e. omega (arith, e))) (λ _.
-    behind_step _ (refuse_if (not (newfid == fid) && is_bound session newfid) 33) _ (refused_by _ 33 (λ e. omega (arith, e))) (λ _.
-    behind_step _ (refuse_if (not (newfid == fid) && is_full session) 44) _ (refused_by _ 44 (λ e. omega (arith, e))) (λ _.
-    ended_spares session tag fid newfid from.node (walked view from.node names).0 (walked view from.node names).1 (walked_told view from.node names)))))
-
-open_spares : (c : ℕ) (session : Session) (desktop : Desktop) (tag number mode : ℕ) → IsOther Spares (open_answer (desktop_for c) session desktop tag number mode)
-unfolding open_answer
-open_spares c session desktop tag number mode =
-    behind_step _ (fid_of session number) _ (fid_told session number) (λ fid.
-    behind_step _ (refuse_if (is_some fid.mode) 36) _ (refused_by _ 36 (λ e. omega (arith, e))) (λ _.
-    behind_step _ (check_live ((desktop_for c).view desktop session.connections fid.node) fid.node) _ (live_told ((desktop_for c).view desktop session.connections fid.node) fid.node) (λ _.
-    behind_step _ (refuse_if (not (may fid.node mode)) 38) _ (refused_by _ 38 (λ e. omega (arith, e))) (λ _.
-    behind_step _ (refuse_if (is_taken (desktop_for c) session desktop fid.node) 43) _ (refused_by _ 43 (λ e. omega (arith, e))) (λ _.
-    behind_step _ (refuse_if (is_kind New fid.node.kind && nat_le most_made session.made) 44) _ (refused_by _ 44 (λ e. omega (arith, e))) (λ _.
-    either_spares (is_kind New fid.node.kind) _ _ (λ none. none) (λ none. none)))))))
-
-stat_spares : (c : ℕ) (session : Session) (desktop : Desktop) (tag number : ℕ) → IsOther SparesDone (stat_answer (desktop_for c) session desktop tag number)
-unfolding stat_answer
-stat_spares c session desktop tag number =
-    behind_step _ (fid_of session number) _ (fid_told session number) (λ fid.
-    behind_step _ (check_live ((desktop_for c).view desktop session.connections fid.node) fid.node) _ (live_told ((desktop_for c).view desktop session.connections fid.node) fid.node) (λ _. λ none. none))
-
-denied_spares : (session : Session) (number : ℕ) → IsOther SparesDone (denied session number)
-denied_spares session number = behind_step _ (fid_of session number) _ (fid_told session number) (λ _. λ e. omega (arith, e))
-
-clunk_spares : (c : ℕ) (session : Session) (desktop : Desktop) (number : ℕ) (reply : R) → (Refuses no_memory reply → ⊥) → IsOther Spares (clunk_answer (desktop_for c) session desktop number reply)
-unfolding clunk_answer
-clunk_spares c session desktop number reply other = behind_step _ (fid_of session number) _ (fid_told session number) (λ _. other)
-
--- ---- reads and writes
-
-end_spares : (session : Session) (desktop : Desktop) (tag number count : ℕ) (got : Option (Given Desktop)) → IsOther Spares (read_ended session desktop tag number count got)
-end_spares session desktop tag number count (Some got) = λ none. none
-end_spares session desktop tag number count None =
-    behind_step _ (refuse_if (nat_le most_waiting (length session.waiting)) 45) _ (refused_by _ 45 (λ e. omega (arith, e))) (λ _. λ none. none)
-
-read_spares : (c : ℕ) (session : Session) (desktop : Desktop) (tag number offset count : ℕ) → IsOther Spares (read_answer (desktop_for c) session desktop tag number offset count)
-unfolding read_answer
-read_spares c session desktop tag number offset count =
-    behind_step _ (fid_of session number) _ (fid_told session number) (λ fid.
-    behind_step _ (refuse_if (is_none fid.mode) 37) _ (refused_by _ 37 (λ e. omega (arith, e))) (λ _.
-    behind_step _ (refuse_if (not (is_open_for reads fid)) 38) _ (refused_by _ 38 (λ e. omega (arith, e))) (λ _.
-    behind_step _ (check_live ((desktop_for c).view desktop session.connections fid.node) fid.node) _ (live_told ((desktop_for c).view desktop session.connections fid.node) fid.node) (λ _.
-    behind_known _ (IsGivenSame desktop) (node_read (desktop_for c) session.connections desktop fid offset (count_within session count)) _
-    (node_read_same c session.connections desktop fid offset (count_within session count)) (λ got _. end_spares session desktop tag number (count_within session count) got)))))
-
-write_told : (c : ℕ) (session : Session) (desktop : Desktop) (tag number offset : ℕ) (bytes : List ℕ) (mark : Option ℕ) → IsTold (write_answer (desktop_for c) session desktop tag number offset bytes mark)
-unfolding write_answer
-write_told c session desktop tag number offset bytes mark =
-    behind_step _ (fid_of session number) _ (fid_told session number) (λ fid.
-    behind_step _ (refuse_if (is_none fid.mode) 37) _ (refused_by _ 37 (λ e. omega (arith, e))) (λ _.
-    behind_step _ (refuse_if (not (is_open_for writes fid)) 38) _ (refused_by _ 38 (λ e. omega (arith, e))) (λ _.
-    behind_step _ (check_live ((desktop_for c).view desktop session.connections fid.node) fid.node) _ (live_told ((desktop_for c).view desktop session.connections fid.node) fid.node) (λ _.
-    behind_known _ (IsAfterSame desktop) (file_written (desktop_for c) desktop fid.node offset bytes mark fid.node.kind) _
-    (file_written_same c desktop fid.node offset bytes mark fid.node.kind) (λ _ _. tt)))))
-
--- ---- each message
-
 -- the reply to what is no write is another
 abbrev pub SparesOf : {S : Type 0} → T → Left S → Type 0
 SparesOf (Twrite tag fid offset bytes) after = Unit {0}
 SparesOf m after = Spares after
 
-pub answer_spares : (c : ℕ) (session : Session) (desktop : Desktop) (mark : Option ℕ) (m : T) → IsOther (SparesOf m) (answer_to (desktop_for c) session desktop mark m)
-answer_spares c session desktop mark (Tversion tag msize version) = version_spares c session desktop tag msize version
-answer_spares c session desktop mark (Tauth tag afid uname aname) = λ e. omega (arith, e)
-answer_spares c session desktop mark (Tattach tag fid afid uname aname) = attach_spares c session desktop tag fid afid aname
-answer_spares c session desktop mark (Tflush tag oldtag) = λ none. none
-answer_spares c session desktop mark (Twalk tag fid newfid names) = beside_spares desktop _ (walk_spares c session desktop tag fid newfid names)
-answer_spares c session desktop mark (Topen tag fid mode) = open_spares c session desktop tag fid mode
-answer_spares c session desktop mark (Tcreate tag fid name perm mode) = beside_spares desktop _ (denied_spares session fid)
-answer_spares c session desktop mark (Tread tag fid offset count) = read_spares c session desktop tag fid offset count
-answer_spares c session desktop mark (Twrite tag fid offset bytes) = write_told c session desktop tag fid offset bytes mark
-answer_spares c session desktop mark (Tclunk tag fid) = clunk_spares c session desktop fid (Rclunk tag) (λ none. none)
-answer_spares c session desktop mark (Tremove tag fid) = clunk_spares c session desktop fid (refusal tag 38) (not_wanting tag 38 (λ e. omega (arith, e)))
-answer_spares c session desktop mark (Tstat tag fid) = beside_spares desktop _ (stat_spares c session desktop tag fid)
-answer_spares c session desktop mark (Twstat tag fid stat) = beside_spares desktop _ (denied_spares session fid)
+module _ {S : Type 0} (c : ℕ) (outside : Outside S) (device : S → draw.World) (keeps : KeepsConnections c outside device) where
+  version_spares : (session : Session) (rest : S) (tag msize : ℕ) (version : List ℕ) → IsOther Spares (version_answer outside session rest tag msize version)
+  unfolding version_answer
+  version_spares session rest tag msize version =
+      behind_step _ (refuse_if (nat_lt msize 256) 48) _ (refused_by _ 48 (λ e. omega (arith, e))) (λ _. either_spares (asks_for_9p version) _ _ (λ none. none) (λ none. none))
 
-read_told : (c : ℕ) (session : Session) (desktop : Desktop) (mark : Option ℕ) (m : T) → IsOther (SparesOf m) (answer_read (desktop_for c) session desktop mark m)
-unfolding answer_read
-read_told c session desktop mark m =
-    behind_step _ (refuse_if (not (is_version m) && (tag_of_t m == no_tag)) 30) _ (refused_by _ 30 (λ e. omega (arith, e))) (λ _.
-    behind_step _ (refuse_if (not (is_version m) && not session.agreed) 31) _ (refused_by _ 31 (λ e. omega (arith, e))) (λ _. answer_spares c session desktop mark m))
+  attach_spares : (session : Session) (rest : S) (tag fid afid : ℕ) (aname : List ℕ) → IsOther Spares (attach_answer outside session rest tag fid afid aname)
+  unfolding attach_answer
+  attach_spares session rest tag fid afid aname =
+      behind_step _ (refuse_if (not (afid == no_fid)) 40) _ (refused_by _ 40 (λ e. omega (arith, e))) (λ _.
+      behind_step _ (refuse_if (is_bound session fid) 33) _ (refused_by _ 33 (λ e. omega (arith, e))) (λ _.
+      behind_step _ (refuse_if (is_full session) 44) _ (refused_by _ 44 (λ e. omega (arith, e))) (λ _.
+      behind_known _ (IsMadeSame c outside device rest) (outside.attached rest (attach_of aname)) _ (keeps.attached rest (attach_of aname)) (λ _ _. λ none. none))))
 
-other_of : (m : T) (o : Outcome (Left Desktop)) (n : ℕ) → IsOther (SparesOf m) o → o ≡ Err n → n ≡ no_memory → ⊥
-other_of m (Ok x) n other is = absurd cc
-other_of m (Err k) n other is = let at : k ≡ n = cc in λ same. other (omega (arith, at, same))
+  walk_spares : (session : Session) (rest : S) (tag fid newfid : ℕ) (names : List (List ℕ)) → IsOther SparesDone (walk_answer outside session rest tag fid newfid names)
+  unfolding walk_answer
+  walk_spares session rest tag fid newfid names =
+      let view = outside.view rest session.connections in
+      behind_step _ (fid_of session fid) _ (fid_told session fid) (λ from.
+      behind_step _ (refuse_if (is_some from.mode) 36) _ (refused_by _ 36 (λ e. omega (arith, e))) (λ _.
+      behind_step _ (refuse_if (not (newfid == fid) && is_bound session newfid) 33) _ (refused_by _ 33 (λ e. omega (arith, e))) (λ _.
+      behind_step _ (refuse_if (not (newfid == fid) && is_full session) 44) _ (refused_by _ 44 (λ e. omega (arith, e))) (λ _.
+      ended_spares session tag fid newfid from.node (walked view from.node names).0 (walked view from.node names).1 (walked_told view from.node names)))))
 
--- no message is refused for want of memory, but by the reply to a write
-pub refused_otherwise : (c : ℕ) (session : Session) (desktop : Desktop) (mark : Option ℕ) (o : Option T) (n : ℕ) → read_or_not (desktop_for c) session desktop mark o ≡ Err n → n ≡ no_memory → ⊥
-refused_otherwise c session desktop mark None n is = let at : 30 ≡ n = cc in λ same. omega (arith, at, same)
-refused_otherwise c session desktop mark (Some m) n is = other_of m (answer_read (desktop_for c) session desktop mark m) n (read_told c session desktop mark m) is
+  open_spares : (session : Session) (rest : S) (tag number mode : ℕ) → IsOther Spares (open_answer outside session rest tag number mode)
+  unfolding open_answer
+  open_spares session rest tag number mode =
+      behind_step _ (fid_of session number) _ (fid_told session number) (λ fid.
+      behind_step _ (refuse_if (is_some fid.mode) 36) _ (refused_by _ 36 (λ e. omega (arith, e))) (λ _.
+      behind_step _ (check_live (outside.view rest session.connections fid.node) fid.node) _ (live_told (outside.view rest session.connections fid.node) fid.node) (λ _.
+      behind_step _ (refuse_if (not (may fid.node mode)) 38) _ (refused_by _ 38 (λ e. omega (arith, e))) (λ _.
+      behind_step _ (refuse_if (is_taken outside session rest fid.node) 43) _ (refused_by _ 43 (λ e. omega (arith, e))) (λ _.
+      behind_step _ (refuse_if (is_kind New fid.node.kind && nat_le most_made session.made) 44) _ (refused_by _ 44 (λ e. omega (arith, e))) (λ _.
+      either_spares (is_kind New fid.node.kind) _ _ (λ none. none) (λ none. none)))))))
+
+  stat_spares : (session : Session) (rest : S) (tag number : ℕ) → IsOther SparesDone (stat_answer outside session rest tag number)
+  unfolding stat_answer
+  stat_spares session rest tag number =
+      behind_step _ (fid_of session number) _ (fid_told session number) (λ fid.
+      behind_step _ (check_live (outside.view rest session.connections fid.node) fid.node) _ (live_told (outside.view rest session.connections fid.node) fid.node) (λ _. λ none. none))
+
+  denied_spares : (session : Session) (number : ℕ) → IsOther SparesDone (denied session number)
+  denied_spares session number = behind_step _ (fid_of session number) _ (fid_told session number) (λ _. λ e. omega (arith, e))
+
+  clunk_spares : (session : Session) (rest : S) (number : ℕ) (reply : R) → (Refuses no_memory reply → ⊥) → IsOther Spares (clunk_answer outside session rest number reply)
+  unfolding clunk_answer
+  clunk_spares session rest number reply other = behind_step _ (fid_of session number) _ (fid_told session number) (λ _. other)
+
+  -- ---- reads and writes
+
+  end_spares : (session : Session) (rest : S) (tag number count : ℕ) (got : Option (Given S)) → IsOther Spares (read_ended session rest tag number count got)
+  end_spares session rest tag number count (Some got) = λ none. none
+  end_spares session rest tag number count None =
+      behind_step _ (refuse_if (nat_le most_waiting (length session.waiting)) 45) _ (refused_by _ 45 (λ e. omega (arith, e))) (λ _. λ none. none)
+
+  read_spares : (session : Session) (rest : S) (tag number offset count : ℕ) → IsOther Spares (read_answer outside session rest tag number offset count)
+  unfolding read_answer
+  read_spares session rest tag number offset count =
+      behind_step _ (fid_of session number) _ (fid_told session number) (λ fid.
+      behind_step _ (refuse_if (is_none fid.mode) 37) _ (refused_by _ 37 (λ e. omega (arith, e))) (λ _.
+      behind_step _ (refuse_if (not (is_open_for reads fid)) 38) _ (refused_by _ 38 (λ e. omega (arith, e))) (λ _.
+      behind_step _ (check_live (outside.view rest session.connections fid.node) fid.node) _ (live_told (outside.view rest session.connections fid.node) fid.node) (λ _.
+      behind_known _ (IsGivenSame c outside device keeps rest) (node_read outside session.connections rest fid offset (count_within session count)) _
+      (node_read_same c outside device keeps session.connections rest fid offset (count_within session count)) (λ got _. end_spares session rest tag number (count_within session count) got)))))
+
+  write_told : (session : Session) (rest : S) (tag number offset : ℕ) (bytes : List ℕ) (mark : Option ℕ) → IsTold (write_answer outside session rest tag number offset bytes mark)
+  unfolding write_answer
+  write_told session rest tag number offset bytes mark =
+      behind_step _ (fid_of session number) _ (fid_told session number) (λ fid.
+      behind_step _ (refuse_if (is_none fid.mode) 37) _ (refused_by _ 37 (λ e. omega (arith, e))) (λ _.
+      behind_step _ (refuse_if (not (is_open_for writes fid)) 38) _ (refused_by _ 38 (λ e. omega (arith, e))) (λ _.
+      behind_step _ (check_live (outside.view rest session.connections fid.node) fid.node) _ (live_told (outside.view rest session.connections fid.node) fid.node) (λ _.
+      behind_known _ (IsAfterSame c outside device keeps rest) (file_written outside rest fid.node offset bytes mark fid.node.kind) _
+      (file_written_same c outside device keeps rest fid.node offset bytes mark fid.node.kind) (λ _ _. tt)))))
+
+  -- ---- each message
+
+  pub answer_spares : (session : Session) (rest : S) (mark : Option ℕ) (m : T) → IsOther (SparesOf m) (answer_to outside session rest mark m)
+  answer_spares session rest mark (Tversion tag msize version) = version_spares session rest tag msize version
+  answer_spares session rest mark (Tauth tag afid uname aname) = λ e. omega (arith, e)
+  answer_spares session rest mark (Tattach tag fid afid uname aname) = attach_spares session rest tag fid afid aname
+  answer_spares session rest mark (Tflush tag oldtag) = λ none. none
+  answer_spares session rest mark (Twalk tag fid newfid names) = beside_spares rest _ (walk_spares session rest tag fid newfid names)
+  answer_spares session rest mark (Topen tag fid mode) = open_spares session rest tag fid mode
+  answer_spares session rest mark (Tcreate tag fid name perm mode) = beside_spares rest _ (denied_spares session fid)
+  answer_spares session rest mark (Tread tag fid offset count) = read_spares session rest tag fid offset count
+  answer_spares session rest mark (Twrite tag fid offset bytes) = write_told session rest tag fid offset bytes mark
+  answer_spares session rest mark (Tclunk tag fid) = clunk_spares session rest fid (Rclunk tag) (λ none. none)
+  answer_spares session rest mark (Tremove tag fid) = clunk_spares session rest fid (refusal tag 38) (not_wanting tag 38 (λ e. omega (arith, e)))
+  answer_spares session rest mark (Tstat tag fid) = beside_spares rest _ (stat_spares session rest tag fid)
+  answer_spares session rest mark (Twstat tag fid stat) = beside_spares rest _ (denied_spares session fid)
+
+  read_told : (session : Session) (rest : S) (mark : Option ℕ) (m : T) → IsOther (SparesOf m) (answer_read outside session rest mark m)
+  unfolding answer_read
+  read_told session rest mark m =
+      behind_step _ (refuse_if (not (is_version m) && (tag_of_t m == no_tag)) 30) _ (refused_by _ 30 (λ e. omega (arith, e))) (λ _.
+      behind_step _ (refuse_if (not (is_version m) && not session.agreed) 31) _ (refused_by _ 31 (λ e. omega (arith, e))) (λ _. answer_spares session rest mark m))
+
+  other_of : (m : T) (o : Outcome (Left S)) (n : ℕ) → IsOther (SparesOf m) o → o ≡ Err n → n ≡ no_memory → ⊥
+  other_of m (Ok x) n other is = absurd cc
+  other_of m (Err k) n other is = let at : k ≡ n = cc in λ same. other (omega (arith, at, same))
+
+  -- no message is refused for want of memory, but by the reply to a write
+  pub refused_otherwise : (session : Session) (rest : S) (mark : Option ℕ) (o : Option T) (n : ℕ) → read_or_not outside session rest mark o ≡ Err n → n ≡ no_memory → ⊥
+  refused_otherwise session rest mark None n is = let at : 30 ≡ n = cc in λ same. omega (arith, at, same)
+  refused_otherwise session rest mark (Some m) n is = other_of m (answer_read outside session rest mark m) n (read_told session rest mark m) is

@@ -1,9 +1,8 @@
 //! What walks and listings of the tree depend on (intro(5)).
 
 ghost use Rattle.std.specs.Prelude.{◌≡◌, ◌≤◌, ◌==◌, ◌&&◌, not, is_some, map, All, Ok, Err, IfErr, IfOk, OnOk};
-ghost use Rattle.std.specs.List.{list_any};
 ghost use Rattle.model_rio.specs.Table.{window_of};
-ghost use Rattle.model_tree.specs.Tree.{check_live, is_of_connection};
+ghost use Rattle.model_tree.specs.Tree.{check_live};
 ghost use Rattle.model_world.specs.Whole as whole;
 ghost use Rattle.r9_desktop.specs.Words.{is_of_rio};
 ghost use Rattle.r9_tree.specs.View.{node_of, view_of, most_connections, IsNode, IsView};
@@ -13,7 +12,7 @@ use crate::desktop::Desktop;
 use r9_files::is_kind;
 use r9_memory::Memory;
 use r9_text::Numbers;
-use r9_tree::{Kind, Node, TreeView, kind_of};
+use r9_tree::{Kind, Node, TreeView, is_ended};
 use r9_window::Window;
 use std::alloc::Global;
 
@@ -51,32 +50,6 @@ fn is_of_rio(node: &Node) -> bool
     ensures { result ≡ is_of_rio (node_of node.now).kind }
 {
     is_kind(node, Kind::Wsys) || is_kind(node, Kind::Screen) || is_kind(node, Kind::Snarf)
-}
-
-/// Whether files of a kind belong to a connection.
-#[tactic(auto, unfolding(model_tree::specs::Node::row))]
-fn is_of_connection(kind: Kind) -> bool
-    ensures { result ≡ is_of_connection kind }
-{
-    matches!(
-        kind,
-        Kind::Connection | Kind::Ctl | Kind::Data | Kind::Refresh
-    )
-}
-
-/// Whether a connection is among these.
-fn lives(connections: &Numbers, connection: u32) -> bool
-    ensures { result ≡ list_any (λ n. n == connection) connections.now }
-{
-    connections.as_slice().iter().any(|n| *n == connection)
-}
-
-/// Whether the connection that a file belongs to is gone, where its session has these.
-fn is_ended(connections: &Numbers, node: &Node) -> bool
-    requires { IsNode node.now }
-    ensures { result ≡ (is_of_connection (node_of node.now).kind && not (list_any (λ n. n == node.now.connection) connections.now)) }
-{
-    is_of_connection(kind_of(node.kind)) && !lives(connections, node.connection)
 }
 
 impl Desktop {
@@ -130,7 +103,7 @@ impl Desktop {
         if self.is_gone(node) {
             return Err(WINDOW_DELETED);
         }
-        if is_ended(connections, node) {
+        if is_ended(node, connections) {
             return Err(NO_SUCH_FILE);
         }
         Ok(())

@@ -2,5 +2,6 @@ pub mod Refusals
 pub mod Messages
 pub mod Living
 pub mod Writing
+pub mod First
 pub mod Fields
 pub mod Pictures

@@ -56,10 +56,10 @@ ok_marked k w bytes e = by (spelled (first_message bytes)) e
     by (Ok m) e = end_ok (act k w m.0 m.1) (λ next. (next, behind k w m.0 m.1)) e
     by (Err r) e = absurd cc
 
-message-unmarked : (k : ℕ) (w : World) (mark : Option ℕ) (done : ℕ) (bytes : List ℕ) → is_marked mark done ≡ false → one_message k w mark done bytes ≡ one_message k w None 0 bytes
+pub message-unmarked : (k : ℕ) (w : World) (mark : Option ℕ) (done : ℕ) (bytes : List ℕ) → is_marked mark done ≡ false → one_message k w mark done bytes ≡ one_message k w None 0 bytes
 message-unmarked k w mark done bytes e = marked-is k w mark done bytes ∙ ap (λ b. marked_by b k w bytes) e ∙ sym (unmarked-is k w bytes)
 
-message-refused : (k : ℕ) (w : World) (mark : Option ℕ) (done : ℕ) (bytes : List ℕ) (n : ℕ) → one_message k w None 0 bytes ≡ Err n → one_message k w mark done bytes ≡ Err n
+pub message-refused : (k : ℕ) (w : World) (mark : Option ℕ) (done : ℕ) (bytes : List ℕ) (n : ℕ) → one_message k w None 0 bytes ≡ Err n → one_message k w mark done bytes ≡ Err n
 message-refused k w mark done bytes n e = marked-is k w mark done bytes ∙ err_any k w bytes (is_marked mark done) n (sym (unmarked-is k w bytes) ∙ e)
 
 message-marked : (k : ℕ) (w : World) (mark : Option ℕ) (done : ℕ) (bytes : List ℕ) → is_marked mark done ≡ true → is_ok (one_message k w None 0 bytes) ≡ true → one_message k w mark done bytes ≡ Err no_memory
@@ -68,23 +68,23 @@ message-marked k w mark done bytes m e =
 
 -- ---- steps of a write
 
-goes_on : (fuel k : ℕ) (w : World) (mark : Option ℕ) (done : ℕ) (bytes : List ℕ) (next : World × List ℕ) → 0 < length bytes → one_message k w mark done bytes ≡ Ok next
+pub goes_on : (fuel k : ℕ) (w : World) (mark : Option ℕ) (done : ℕ) (bytes : List ℕ) (next : World × List ℕ) → 0 < length bytes → one_message k w mark done bytes ≡ Ok next
     → written_within (suc fuel) k w mark done bytes ≡ written_within fuel k next.0 mark (done + 1) next.1
 goes_on fuel k w mark done [] next some e = absurd (omega (arith, some))
 goes_on fuel k w mark done (byte ∷ bytes) next some e =
     ap (λ (o : Outcome (World × List ℕ)). let r : Written = elim o [ Ok x ↦ written_within fuel k x.0 mark (done + 1) x.1 | Err r ↦ record { world = w; done = done; refusal = Some r } ] in r) e
 
-stops : (fuel k : ℕ) (w : World) (mark : Option ℕ) (done : ℕ) (bytes : List ℕ) (n : ℕ) → 0 < length bytes → one_message k w mark done bytes ≡ Err n
+pub stops : (fuel k : ℕ) (w : World) (mark : Option ℕ) (done : ℕ) (bytes : List ℕ) (n : ℕ) → 0 < length bytes → one_message k w mark done bytes ≡ Err n
     → written_within (suc fuel) k w mark done bytes ≡ record { world = w; done = done; refusal = Some n }
 stops fuel k w mark done [] n some e = absurd (omega (arith, some))
 stops fuel k w mark done (byte ∷ bytes) n some e =
     ap (λ (o : Outcome (World × List ℕ)). let r : Written = elim o [ Ok x ↦ written_within fuel k x.0 mark (done + 1) x.1 | Err r ↦ record { world = w; done = done; refusal = Some r } ] in r) e
 
-ends : (fuel k : ℕ) (w : World) (mark : Option ℕ) (done : ℕ) → written_within fuel k w mark done [] ≡ record { world = w; done = done; refusal = None }
+pub ends : (fuel k : ℕ) (w : World) (mark : Option ℕ) (done : ℕ) → written_within fuel k w mark done [] ≡ record { world = w; done = done; refusal = None }
 ends zero k w mark done = refl
 ends (suc fuel) k w mark done = refl
 
-reached-more : (n k : ℕ) (w at : World) (bytes rest : List ℕ) (next : World × List ℕ) → reached n k w bytes ≡ Some (at, rest) → one_message k at None 0 rest ≡ Ok next → reached (suc n) k w bytes ≡ Some next
+pub reached-more : (n k : ℕ) (w at : World) (bytes rest : List ℕ) (next : World × List ℕ) → reached n k w bytes ≡ Some (at, rest) → one_message k at None 0 rest ≡ Ok next → reached (suc n) k w bytes ≡ Some next
 reached-more zero k w at bytes rest next r e =
     let same_at : w ≡ at = ap (λ (o : Option (World × List ℕ)). option_map_or (λ p. p.0) o w) r in
     let same_rest : bytes ≡ rest = ap (λ (o : Option (World × List ℕ)). option_map_or (λ p. p.1) o bytes) r in
@@ -180,7 +180,7 @@ mark_is : (mark : Option ℕ) (done : ℕ) → is_marked mark done ≡ true → 
 mark_is None done e = absurd cc
 mark_is (Some n) done e = ap Some (eqb-true n done e)
 
-runs-out : (k : ℕ) (before now : World) (bytes rest : List ℕ) (done : ℕ) → reached done k before bytes ≡ Some (now, rest) → MayRunOut k now rest 0 → MayRunOut k before bytes done
+pub runs-out : (k : ℕ) (before now : World) (bytes rest : List ℕ) (done : ℕ) → reached done k before bytes ≡ Some (now, rest) → MayRunOut k now rest 0 → MayRunOut k before bytes done
 runs-out k before now bytes rest done r m = record {
   at = m.at;
   rest = m.rest;

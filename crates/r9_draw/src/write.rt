@@ -1,8 +1,8 @@
 //! One write of messages.
 
-ghost use Rattle.std.specs.Prelude.{◌≡◌, ◌≢◌, ◌<◌, ◌^◌, ◌⊎◌, ℕ, length, true, false, Some, IfOk, OnErr, IsSome};
+ghost use Rattle.std.specs.Prelude.{◌≡◌, ◌≢◌, ◌<◌, ◌^◌, ◌⊎◌, ℕ, length, true, false, None, Some, IfOk, OnErr, IsSome};
 ghost use Rattle.model_text.specs.Map.{lookup};
-ghost use Rattle.model_draw.specs.Act.{is_marked, written, no_memory};
+ghost use Rattle.model_draw.specs.Act.{is_marked, no_memory, written, written_within};
 ghost use Rattle.model_draw.specs.Memory.{MayRunOut};
 ghost use Rattle.r9_draw.specs.World.{world_of};
 
@@ -75,5 +75,43 @@ impl Draw {
             refusal: None,
             short: false,
         })
+    }
+
+    /// Does the messages that stand first in the bytes, so many at most, one after the other, until one is refused. What stands
+    /// behind them is not looked at. Where memory runs out in a message that is not refused, it stops before it.
+    pub fn write_first(&mut self, client: u64, bytes: &[u8], most: u32) -> Wrote
+        requires live { IsSome (lookup (world_of self.old).clients client) }
+        ensures plain { result.short ≡ false → written_within most client (world_of self.old) None 0 bytes.now ≡ record { world = world_of self.new; done = result.done; refusal = result.refusal } }
+        ensures short { result.short ≡ true → written_within result.done client (world_of self.old) None 0 bytes.now ≡ record { world = world_of self.new; done = result.done; refusal = None } }
+        ensures refused { result.refusal ≢ Some no_memory }
+        ensures cause { result.short ≡ true → MayRunOut client (world_of self.old) bytes.now result.done }
+    {
+        let mut rest = bytes;
+        let mut done = 0;
+        'messages: while done < most && !rest.is_empty() {
+            match one_message(&mut self.device, client, rest, false) {
+                Step::Done(len) => rest = behind(rest, len),
+                Step::Refused(refusal) => {
+                    return Wrote {
+                        done,
+                        refusal: Some(refusal),
+                        short: false,
+                    };
+                }
+                Step::Short => {
+                    return Wrote {
+                        done,
+                        refusal: None,
+                        short: true,
+                    };
+                }
+            }
+            done += 1;
+        }
+        Wrote {
+            done,
+            refusal: None,
+            short: false,
+        }
     }
 }

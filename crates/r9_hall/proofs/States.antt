@@ -22,6 +22,7 @@ use Rattle.model_world.specs.Waiting.{one_answered}
 use Rattle.model_world.specs.Whole.{desktop_for}
 use Rattle.model_world.specs.Replay.{Turn, ended, marked, settled_after, turned}
 use Rattle.model_world.specs.World.{World}
+use Rattle.model_world.proofs.Desktops.{device_of, keeps_connections}
 use Rattle.model_world.proofs.Answers.{answer_holds}
 use Rattle.model_world.proofs.Steps.{gone_linked, linked_of, replied_linked}
 use Rattle.model_world.proofs.Waking.{all_wait, end_spares, fewer_wake, message_spares}
@@ -62,7 +63,7 @@ served_linked c before desktop (Some session) bytes mark (Some own) after left l
     let answered : Left Desktop = answer (desktop_for c) session desktop bytes (mark_after mark own.short) in
     let P : List (ℕ × Session) × Desktop → Type 0 = λ w. AreLinked w.1.device w.0 in
     subst P (λ i. (sym (gives.1 ∙ ap (λ (s : Session). with before c s) gave.session_is) i, sym gave.left_is i))
-    (replied_linked world c session answered linked at (answer_holds c session desktop bytes (mark_after mark own.short) (linked_of desktop.device before c session linked at)))
+    (replied_linked world c session answered linked at (answer_holds c (desktop_for c) device_of (keeps_connections c) session desktop bytes (mark_after mark own.short) (linked_of desktop.device before c session linked at)))
 
 pub left_linked : (c : ℕ) (before after : List (ℕ × Session)) (desktop left : Desktop) (found : Option Session) (lived : Bool) → AreLinked desktop.device before → lookup before c ≡ found → lived ≡ true
     → IsLeft c found desktop lived left → after ≡ without before c → AreLinked left.device after

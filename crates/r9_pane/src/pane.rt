@@ -233,6 +233,13 @@ impl Pane {
         self.label.as_slice()
     }
 
+    /// Its rectangle, in pixels of the display.
+    pub fn rect(&self) -> Rect
+        ensures { result ≡ self.now.known.r }
+    {
+        self.r
+    }
+
     /// The name of its image, which `winname` gives.
     pub fn name(&self) -> &[u8]
         ensures { result.now ≡ self.now.known.name }

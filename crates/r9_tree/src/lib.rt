@@ -18,7 +18,7 @@ pub use model_tree::Kind;
 pub use node::{Node, TreeView};
 pub use rows::{kind_of, may, qid};
 pub use stats::{listing, stat};
-pub use walking::{check_live, root_of, walk};
+pub use walking::{check_live, is_ended, root_of, walk};
 
 /// A listing is cut at whole stats: each begins with two bytes that give the length of what follows.
 pub fn listings_tell_their_pieces()

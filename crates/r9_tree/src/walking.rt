@@ -1,18 +1,19 @@
 //! Walks from one file to another (walk(5)).
 
-ghost use Rattle.std.specs.Prelude.{◌≡◌, ◌==◌, ◌≤◌, IfSome, IfOk, IfErr};
+ghost use Rattle.std.specs.Prelude.{◌≡◌, ◌==◌, ◌≤◌, ◌&&◌, not, IfSome, IfOk, IfErr};
 ghost use Rattle.std.specs.List.{find, list_any, zip};
 ghost use Rattle.std.specs.Option.{option_map};
 ghost use Rattle.std.specs.Map.{lookup};
 ghost use Rattle.std.specs.Fmt.{decimal};
 ghost use Rattle.std.specs.Str.{bytes_eq};
 ghost use Rattle.model_tree.specs.Node.{row, kind_numbered};
-ghost use Rattle.model_tree.specs.Tree.{kinds_in, numbered_in, placed, connection_at, window_at, files, above, root_of, is_gone, is_of_connection, is_ended, check_live, walk};
+ghost use Rattle.model_tree.specs.Tree.{kinds_in, numbered_in, placed, connection_at, window_at, files, above, root_of, is_gone, is_of_connection, check_live, walk};
 ghost use Rattle.r9_tree.specs.View.{node_of, view_of, IsNode, IsView, most_connections};
 
 use crate::rows::{is_directory, kind_of, name_of, number_of};
 use crate::{Node, TreeView};
 use model_tree::Kind;
+use r9_text::Numbers;
 
 /// The root of the tree that an attach gave: that of a window, by its serial, or of the device tree for 0.
 #[tactic(auto, using(crate::proofs::KindNumbers::kind_numbered_number))]
@@ -38,10 +39,11 @@ fn is_gone(node: &Node, view: &TreeView) -> bool
     node.serial != 0 && !view.live
 }
 
-fn lives(connection: u32, view: &TreeView) -> bool
-    ensures { result ≡ list_any (λ n. n == connection) view.now.connections }
+/// Whether a connection is among these.
+fn lives(connection: u32, connections: &Numbers) -> bool
+    ensures { result ≡ list_any (λ n. n == connection) connections.now }
 {
-    view.connections.as_slice().iter().any(|n| *n == connection)
+    connections.as_slice().iter().any(|n| *n == connection)
 }
 
 fn is_of_connection(kind: u8) -> bool
@@ -50,10 +52,11 @@ fn is_of_connection(kind: u8) -> bool
     4 <= kind && kind <= 7
 }
 
-fn is_ended(node: &Node, view: &TreeView) -> bool
-    ensures { result ≡ is_ended (view_of view.now) (node_of node.now) }
+/// Whether the connection that a file belongs to is gone, where its session has these.
+pub fn is_ended(node: &Node, connections: &Numbers) -> bool
+    ensures { result ≡ (is_of_connection (node_of node.now).kind && not (list_any (λ n. n == node.now.connection) connections.now)) }
 {
-    is_of_connection(node.kind) && !lives(node.connection, view)
+    is_of_connection(node.kind) && !lives(node.connection, connections)
 }
 
 /// Whether a file may be used: refused by 42 where its window is gone, and by 34 where its connection is.
@@ -64,7 +67,7 @@ pub fn check_live(node: &Node, view: &TreeView) -> Result<(), u8>
     if is_gone(node, view) {
         return Err(42);
     }
-    if is_ended(node, view) {
+    if is_ended(node, &view.connections) {
         return Err(34);
     }
     Ok(())

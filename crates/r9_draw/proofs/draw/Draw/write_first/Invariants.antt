@@ -1,0 +1,10 @@
+use Rattle.std.proofs.Common.{◌≤◌, length}
+use Rattle.r9_draw.specs.World.{world_of}
+use Rattle.r9_draw.proofs.First.{AreDone}
+use Rattle.r9_draw.proofs.draw.Draw.write_first.Given as goal
+
+abbrev pub invariant-messages : goal.invariant-messages
+invariant-messages l = AreDone l.client (world_of l.initial.self) l.initial.rest (world_of l.self) l.rest l.done × (l.done ≤ l.most)
+
+abbrev pub decreases-messages : goal.decreases-messages
+decreases-messages l = length l.rest
