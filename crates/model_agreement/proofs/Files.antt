@@ -7,15 +7,16 @@ use Rattle.model_console.specs.Console as console
 use Rattle.model_window.specs.Heard.{ConsoleRead, Labelled, MouseRead, Raw, Written, wctl_answer, wctl_text}
 use Rattle.model_tree.specs.declared.Kind.{Kind}
 use Rattle.model_tree.specs.declared.Kind.TheVariants as kind
-use Rattle.model_tree.specs.Node.{Node, is_directory}
+use Rattle.model_tree.specs.Node.{Node, is_directory, row}
+use Rattle.model_tree.specs.Tree.{check_live}
 use Rattle.model_tree.specs.Listing.{stats}
 use Rattle.model_world.specs.Session.{Fid}
 use Rattle.model_world.specs.Outside.{Outside}
 use Rattle.model_world.specs.Reading.{Given, ctl_read, directory_read, file_read, given_in, given_now, mouse_len, node_read, told_now, wctl_len}
 use Rattle.model_world.specs.Writing.{file_written, line_of, raw_asked, with_raw_asked}
-use Rattle.model_agreement.specs.Agreement.{Alike, Ask, IsPlain, MayWrite, SameOption, SameOutcome, is_own}
+use Rattle.model_agreement.specs.Agreement.{Alike, Ask, IsPlain, MayWrite, SameOption, SameOutcome, TellsOf, is_own}
 use Rattle.model_agreement.proofs.Relations.{bind_alike, check_alike, equal_alike, if_alike, map_alike}
-use Rattle.model_agreement.proofs.Trees.{stats_same}
+use Rattle.model_agreement.proofs.Trees.{lives_where_fine, stats_same}
 
 -- the same fid and bytes, and states that are so related
 pub record SameGiven {S T : Type 0} (Same : S → T → Type 0) (a : Given S) (b : Given T) : Type 0 where
@@ -49,33 +50,40 @@ module _ {S T : Type 0} (outer : Outside S) (inner : Outside T) (Same Later : S 
   unfolding ctl_read
   ctl_same s t node offset count same has = rw (alike.read_ctl s t same node.connection has) refl
 
-  file_alike : (s : S) (t : T) (fid : Fid) (offset count : ℕ) (of : Kind) → Same s t → IsTrue (is_own of) → IsPlain HasWindow HasConnection fid.node
-      → SameOutcome Gives (file_read outer s fid offset count of) (file_read inner t fid offset count of)
-  file_alike s t fid offset count kind.Ctl same own plain =
+  -- a window of a kind of files that tell of one lives, where a node of them was not refused
+  abbrev Lives : S → List ℕ → Node → Kind → Type 0
+  Lives s connections node of = TellsOf (row of).owner node.serial × ((u : Unit {0}) × (check_live (outer.view s connections node) node ≡ Ok u))
+
+  file_alike : (connections : List ℕ) (s : S) (t : T) (fid : Fid) (offset count : ℕ) (of : Kind) → Same s t → IsTrue (is_own of) → IsPlain HasWindow HasConnection fid.node
+      → Lives s connections fid.node of → SameOutcome Gives (file_read outer s fid offset count of) (file_read inner t fid offset count of)
+  unfolding row
+  file_alike connections s t fid offset count kind.Ctl same own plain lives =
       equal_alike Gives _ _ (told_now fid s) (told_now fid t) (ctl_same s t fid.node offset count same plain.connection) (λ bytes. record { fid = refl; bytes = refl; rest = same })
-  file_alike s t fid offset count kind.Data same own plain =
+  file_alike connections s t fid offset count kind.Data same own plain lives =
       bind_alike (λ a b. (a.0 ≡ b.0) × Same a.1 b.1) Gives (outer.read_data s fid.node.connection count) (inner.read_data t fid.node.connection count) _ _
       (alike.read_data s t same fid.node.connection count plain.connection) (λ a b p. record { fid = refl; bytes = p.0; rest = p.1 })
-  file_alike s t fid offset count kind.Screen same own plain = absurd cc
-  file_alike s t fid offset count kind.Snarf same own plain = absurd cc
-  file_alike s t fid offset count kind.Label same own plain = rw (alike.pane s t same fid.node.serial plain.window) (record { fid = refl; bytes = refl; rest = same })
-  file_alike s t fid offset count kind.Text same own plain = rw (alike.pane s t same fid.node.serial plain.window) (record { fid = refl; bytes = refl; rest = same })
-  file_alike s t fid offset count kind.Winid same own plain = rw (alike.pane s t same fid.node.serial plain.window) (record { fid = refl; bytes = refl; rest = same })
-  file_alike s t fid offset count kind.Winname same own plain = rw (alike.pane s t same fid.node.serial plain.window) (record { fid = refl; bytes = refl; rest = same })
-  file_alike s t fid offset count kind.Picture same own plain = rw (alike.picture s t same fid.node.serial plain.window) (record { fid = refl; bytes = refl; rest = same })
-  file_alike s t fid offset count kind.Mouse same own plain = given_in_alike s t fid mouse_len count kind.Mouse same plain.window
-  file_alike s t fid offset count kind.Wctl same own plain = given_in_alike s t fid wctl_len count kind.Wctl same plain.window
-  file_alike s t fid offset count kind.Cons same own plain = given_alike s t fid count kind.Cons same plain.window
-  file_alike s t fid offset count _ same own plain = tt
+  file_alike connections s t fid offset count kind.Screen same own plain lives = absurd cc
+  file_alike connections s t fid offset count kind.Snarf same own plain lives = absurd cc
+  file_alike connections s t fid offset count kind.Label same own plain lives = rw (alike.pane s t same fid.node.serial plain.window) (record { fid = refl; bytes = refl; rest = same })
+  file_alike connections s t fid offset count kind.Text same own plain lives = rw (alike.pane s t same fid.node.serial plain.window) (record { fid = refl; bytes = refl; rest = same })
+  file_alike connections s t fid offset count kind.Winid same own plain lives = rw (alike.pane s t same fid.node.serial plain.window) (record { fid = refl; bytes = refl; rest = same })
+  file_alike connections s t fid offset count kind.Winname same own plain lives = rw (alike.pane s t same fid.node.serial plain.window) (record { fid = refl; bytes = refl; rest = same })
+  file_alike connections s t fid offset count kind.Picture same own plain lives =
+      rw (alike.picture s t same connections fid.node plain.window (lives_where_fine (outer.view s connections fid.node) fid.node lives.1.0 lives.0 lives.1.1)) (record { fid = refl; bytes = refl; rest = same })
+  file_alike connections s t fid offset count kind.Mouse same own plain lives = given_in_alike s t fid mouse_len count kind.Mouse same plain.window
+  file_alike connections s t fid offset count kind.Wctl same own plain lives = given_in_alike s t fid wctl_len count kind.Wctl same plain.window
+  file_alike connections s t fid offset count kind.Cons same own plain lives = given_alike s t fid count kind.Cons same plain.window
+  file_alike connections s t fid offset count _ same own plain lives = tt
 
   pub node_alike : (connections : List ℕ) (s : S) (t : T) (fid : Fid) (offset count : ℕ) → Same s t → IsTrue (is_own fid.node.kind) → IsPlain HasWindow HasConnection fid.node
+      → (u : Unit {0}) → check_live (outer.view s connections fid.node) fid.node ≡ Ok u
       → SameOutcome Gives (node_read outer connections s fid offset count) (node_read inner connections t fid offset count)
-  node_alike connections s t fid offset count same own plain =
+  node_alike connections s t fid offset count same own plain u fine =
       if_alike Gives (is_directory fid.node) _ _ _ _
       (rw (stats_same _ _ fid.node (alike.view s t same connections fid.node plain) plain.kind)
       (check_alike Gives (directory_read (stats (inner.view t connections fid.node) fid.node) fid offset count) _ _ (λ got _.
       record { fid = refl; bytes = refl; rest = same })))
-      (file_alike s t fid offset count fid.node.kind same own plain)
+      (file_alike connections s t fid offset count fid.node.kind same own plain (plain.place, (u, fine)))
 
   -- ---- writes
 
@@ -87,26 +95,27 @@ module _ {S T : Type 0} (outer : Outside S) (inner : Outside T) (Same Later : S 
   raw_alike s t window None same has = same
   raw_alike s t window (Some raw) same has = alike.hear s t same window (Raw raw) has
 
-  pub written_alike : (s : S) (t : T) (node : Node) (offset : ℕ) (bytes : List ℕ) (mark told : Option ℕ) (of : Kind) → Same s t → IsTrue (is_own of)
-      → IsPlain HasWindow HasConnection node → MayWrite outer HasWindow HasConnection May s node bytes mark told of
+  pub written_alike : (connections : List ℕ) (s : S) (t : T) (node : Node) (offset : ℕ) (bytes : List ℕ) (mark told : Option ℕ) (of : Kind) → Same s t → IsTrue (is_own of)
+      → IsPlain HasWindow HasConnection node → Lives s connections node of → MayWrite outer HasWindow HasConnection May s node bytes mark told of
       → SameOutcome Leaves (file_written outer s node offset bytes mark of) (file_written inner t node offset bytes told of)
-  written_alike s t node offset bytes mark told kind.Ctl same own plain may =
+  unfolding row
+  written_alike connections s t node offset bytes mark told kind.Ctl same own plain lives may =
       bind_alike Same Leaves (outer.write_ctl s node.connection bytes) (inner.write_ctl t node.connection bytes) _ _
       (alike.write_ctl s t same node.connection bytes plain.connection may) (λ a b p. (alike.unchanged a b p, refl))
-  written_alike s t node offset bytes mark told kind.Data same own plain may =
+  written_alike connections s t node offset bytes mark told kind.Data same own plain lives may =
       let w = alike.write_data s t same node.connection bytes mark told plain.connection may in (alike.unchanged _ _ w.0, w.1)
-  written_alike s t node offset bytes mark told kind.Cons same own plain may = (alike.unchanged _ _ (alike.hear s t same node.serial (Written bytes) plain.window), refl)
-  written_alike s t node offset bytes mark told kind.Consctl same own plain may =
+  written_alike connections s t node offset bytes mark told kind.Cons same own plain lives may = (alike.unchanged _ _ (alike.hear s t same node.serial (Written bytes) plain.window), refl)
+  written_alike connections s t node offset bytes mark told kind.Consctl same own plain lives may =
       bind_alike Same Leaves _ _ _ _
       (check_alike Same (raw_asked (line_of bytes)) (λ asked. Ok (with_raw_asked outer s node.serial asked)) (λ asked. Ok (with_raw_asked inner t node.serial asked)) (λ asked _. raw_alike s t node.serial asked same plain.window))
       (λ a b p. (alike.unchanged a b p, refl))
-  written_alike s t node offset bytes mark told kind.Mouse same own plain may = (alike.unchanged s t same, refl)
-  written_alike s t node offset bytes mark told kind.Label same own plain may = (alike.unchanged _ _ (alike.hear s t same node.serial (Labelled bytes) plain.window), refl)
-  written_alike s t node offset bytes mark told kind.Wctl same own plain may =
+  written_alike connections s t node offset bytes mark told kind.Mouse same own plain lives may = (alike.unchanged s t same, refl)
+  written_alike connections s t node offset bytes mark told kind.Label same own plain lives may = (alike.unchanged _ _ (alike.hear s t same node.serial (Labelled bytes) plain.window), refl)
+  written_alike connections s t node offset bytes mark told kind.Wctl same own plain lives may =
       bind_alike Later Leaves (outer.command s node.serial bytes) (inner.command t node.serial bytes) _ _
-      (alike.command s t same node.serial bytes plain.window may) (λ a b p. (p, refl))
-  written_alike s t node offset bytes mark told kind.Mousein same own plain may = absurd cc
-  written_alike s t node offset bytes mark told kind.Kbdin same own plain may = absurd cc
-  written_alike s t node offset bytes mark told kind.Snarf same own plain may = absurd cc
-  written_alike s t node offset bytes mark told kind.DeviceWctl same own plain may = absurd cc
-  written_alike s t node offset bytes mark told _ same own plain may = refl
+      (alike.command s t same connections node plain.window (lives_where_fine (outer.view s connections node) node lives.1.0 lives.0 lives.1.1) bytes may) (λ a b p. (p, refl))
+  written_alike connections s t node offset bytes mark told kind.Mousein same own plain lives may = absurd cc
+  written_alike connections s t node offset bytes mark told kind.Kbdin same own plain lives may = absurd cc
+  written_alike connections s t node offset bytes mark told kind.Snarf same own plain lives may = absurd cc
+  written_alike connections s t node offset bytes mark told kind.DeviceWctl same own plain lives may = absurd cc
+  written_alike connections s t node offset bytes mark told _ same own plain lives may = refl

@@ -1,5 +1,5 @@
 -- How relations of what may be refused, or not be there, go through steps.
-use Rattle.std.proofs.Common.{◌≡◌, Bool, true, false, List, [], ◌∷◌, Option, Some, None, Ok, Err, refl}
+use Rattle.std.proofs.Common.{◌≡◌, Bool, true, false, List, [], ◌∷◌, Option, Some, None, Ok, Err, refl, subst}
 use Rattle.std.specs.Prelude.{All, if◌then◌else◌}
 use Rattle.std.specs.List.{fold}
 use Rattle.std.specs.Option.{option_map}
@@ -24,6 +24,11 @@ check_alike Q (Err n) f g further = refl
 pub equal_alike : {A C E : Type 0} (Q : C → E → Type 0) (x y : Outcome A) (f : A → Outcome C) (g : A → Outcome E)
     → x ≡ y → ((a : A) → SameOutcome Q (f a) (g a)) → SameOutcome Q (x >>= f) (y >>= g)
 equal_alike Q x y f g e further = rw e (check_alike Q y f g (λ a _. further a))
+
+-- the same where it is known that the step was not refused
+pub known_alike : {A C E : Type 0} (Q : C → E → Type 0) (x y : Outcome A) (f : A → Outcome C) (g : A → Outcome E)
+    → x ≡ y → ((a : A) → x ≡ Ok a → SameOutcome Q (f a) (g a)) → SameOutcome Q (x >>= f) (y >>= g)
+known_alike Q x y f g e further = subst (λ z. SameOutcome Q (x >>= f) (z >>= g)) e (check_alike Q x f g further)
 
 pub weaken : {A B : Type 0} (P Q : A → B → Type 0) (x : Outcome A) (y : Outcome B) → ((a : A) (b : B) → P a b → Q a b)
     → SameOutcome P x y → SameOutcome Q x y

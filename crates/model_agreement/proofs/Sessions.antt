@@ -25,7 +25,7 @@ use Rattle.model_world.specs.Writing.{file_written, write_answer, write_reply}
 use Rattle.model_world.specs.Waiting.{answered_or, awaited, first_of, given_or_refused, late_reply, one_answered, wait_answer}
 use Rattle.model_world.specs.Answer.{Taking, Ignored, TooLong, Closes, Reads, agreed_on, answer, answer_read, answer_to, asks_for_9p, clunk_answer, denied, is_version, read_or_not, replied, stat_answer, taken, taking, version_answer}
 use Rattle.model_agreement.specs.Agreement.{Alike, ArePrivate, Ask, Attaches, IsOwnFid, IsPlain, IsPrivate, IsPrivateIf, KeepsToItself, MayWrite, SameLeft, SameOption, SameOutcome}
-use Rattle.model_agreement.proofs.Relations.{bind_alike, check_alike, equal_alike, fold_alike, if_so, weaken}
+use Rattle.model_agreement.proofs.Relations.{bind_alike, check_alike, equal_alike, fold_alike, if_so, known_alike, weaken}
 use Rattle.model_agreement.proofs.Trees.{check_live_same, stat_same, walked_same}
 use Rattle.model_agreement.proofs.Files.{SameGiven, given_alike, node_alike, written_alike}
 
@@ -201,9 +201,9 @@ module _ {S T : Type 0} (outer : Outside S) (inner : Outside T) (Same Later : S 
       let own = own_of session keeps number fid is in
       check_alike (SameLeft Same) (refuse_if (is_none fid.mode) 37) _ _ (λ _ fine.
       check_alike (SameLeft Same) (refuse_if (not (is_open_for reads fid)) 38) _ _ (λ _ _.
-      equal_alike (SameLeft Same) _ _ _ _ (live_same session s t fid same own) (λ _.
+      known_alike (SameLeft Same) _ _ _ _ (live_same session s t fid same own) (λ u live.
       bind_alike (SameOption (SameGiven Same)) (SameLeft Same) (node_read outer session.connections s fid offset (count_within session count)) (node_read inner session.connections t fid offset (count_within session count)) _ _
-      (node_alike outer inner Same Later HasWindow HasConnection May alike session.connections s t fid offset (count_within session count) same (own.own (is_opened fid.mode fine)) own.plain) (λ a b p.
+      (node_alike outer inner Same Later HasWindow HasConnection May alike session.connections s t fid offset (count_within session count) same (own.own (is_opened fid.mode fine)) own.plain u live) (λ a b p.
       read_done session s t tag number (count_within session count) a b same p)))))
 
   write_alike : (session : Session) (s : S) (t : T) (tag number offset : ℕ) (bytes : List ℕ) (mark told : Option ℕ) → Same s t → Keeps session
@@ -215,9 +215,10 @@ module _ {S T : Type 0} (outer : Outside S) (inner : Outside T) (Same Later : S 
       let own = own_of session keeps number fid is in
       check_alike (SameLeft Later) (refuse_if (is_none fid.mode) 37) _ _ (λ _ fine.
       check_alike (SameLeft Later) (refuse_if (not (is_open_for writes fid)) 38) _ _ (λ _ _.
-      equal_alike (SameLeft Later) _ _ _ _ (live_same session s t fid same own) (λ _.
+      known_alike (SameLeft Later) _ _ _ _ (live_same session s t fid same own) (λ u live.
       bind_alike (λ a b. Later a.0 b.0 × (a.1 ≡ b.1)) (SameLeft Later) (file_written outer s fid.node offset bytes mark fid.node.kind) (file_written inner t fid.node offset bytes told fid.node.kind) _ _
-      (written_alike outer inner Same Later HasWindow HasConnection May alike s t fid.node offset bytes mark told fid.node.kind same (own.own (is_opened fid.mode fine)) own.plain (asks fid is)) (λ a b p.
+      (written_alike outer inner Same Later HasWindow HasConnection May alike session.connections s t fid.node offset bytes mark told fid.node.kind same (own.own (is_opened fid.mode fine)) own.plain
+      (own.plain.place, (u, live)) (asks fid is)) (λ a b p.
       record { session = refl; reply = ap (λ n. Some (write_reply tag (length bytes) n)) p.1; rest = p.0 })))))
 
   -- ---- a whole message

@@ -1,13 +1,13 @@
 -- What is seen of a plain node does not depend on the windows of a rio.
-use Rattle.std.proofs.Common.{◌≡◌, ℕ, Bool, List, [], ◌∷◌, Option, Ok, Err, refl, ap, ◌∙◌}
-use Rattle.std.specs.Prelude.{All, IsTrue, map}
+use Rattle.std.proofs.Common.{◌≡◌, ℕ, Bool, true, false, List, [], ◌∷◌, Option, Ok, Err, refl, ap, ◌∙◌}
+use Rattle.std.specs.Prelude.{All, IsTrue, map, not, ◌==◌, ◌&&◌}
 use Rattle.std.proofs.lemmas.List.Elements.{All-head, All-tail}
-use Rattle.model_text.specs.Outcome.{Outcome}
+use Rattle.model_text.specs.Outcome.{Outcome, ◌>>=◌, refuse_if}
 use Rattle.model_wire.specs.Spelling.{stat_bytes}
 use Rattle.model_tree.specs.declared.Kind.{Kind}
 use Rattle.model_tree.specs.declared.Kind.TheVariants as kind
 use Rattle.model_tree.specs.Node.{Node}
-use Rattle.model_tree.specs.Tree.{View, above, check_live, files, name_of, stat, stat_named, walk}
+use Rattle.model_tree.specs.Tree.{View, above, check_live, files, is_ended, name_of, stat, stat_named, walk}
 use Rattle.model_tree.specs.Listing.{stats}
 use Rattle.model_world.specs.Walking.{after_node, walk_on, walked}
 use Rattle.model_agreement.specs.Agreement.{SameView, is_plain, IsPlain}
@@ -15,6 +15,16 @@ use Rattle.model_agreement.specs.Agreement.{SameView, is_plain, IsPlain}
 pub check_live_same : (v w : View) (node : Node) → SameView v w → check_live v node ≡ check_live w node
 unfolding check_live
 check_live_same v w node same = rw (same.live, same.connections) refl
+
+-- a window that a node tells of lives where the node was not refused
+pub lives_where_fine : (v : View) (node : Node) (u : Unit {0}) → (node.serial == 0) ≡ false → check_live v node ≡ Ok u → v.live ≡ true
+unfolding check_live
+lives_where_fine v node u some fine = by (node.serial == 0) v.live some fine
+  where
+    by : (none live : Bool) → none ≡ false → (refuse_if (not none && not live) 42 >>= λ _. refuse_if (is_ended v node) 34) ≡ Ok u → live ≡ true
+    by none true some fine = refl
+    by false false some fine = absurd cc
+    by true false some fine = absurd cc
 
 abbrev seen : List ℕ → ℕ → List (ℕ × ℕ) → Bool → View
 seen c h ws l = record { connections = c; host = h; windows = ws; live = l }

@@ -1,12 +1,12 @@
 -- When two outsides answer a session alike.
-use Rattle.std.specs.Prelude.{◌≡◌, ◌≤◌, ℕ, Bool, true, false, All, IsTrue, is_some, List, Option, Some, None, Ok, Err}
+use Rattle.std.specs.Prelude.{◌≡◌, ◌≤◌, ◌==◌, ℕ, Bool, true, false, All, IsTrue, is_some, List, Option, Some, None, Ok, Err}
 use Rattle.model_text.specs.Outcome.{Outcome}
 use Rattle.model_wire.specs.Message.{T, Tattach, Twalk, Twrite}
 use Rattle.model_wire.specs.Reading.{message_of}
 use Rattle.model_window.specs.Heard.{Heard}
 use Rattle.model_tree.specs.declared.Kind.{Kind}
 use Rattle.model_tree.specs.declared.Kind.TheVariants as kind
-use Rattle.model_tree.specs.Node.{Node}
+use Rattle.model_tree.specs.Node.{Node, Owner, OfSession, OfConnection, OfRio, OfWindow, row}
 use Rattle.model_tree.specs.Tree.{View}
 use Rattle.model_tree.specs.Attach.{Attach, attach_of}
 use Rattle.model_world.specs.Session.{Session, Fid}
@@ -54,6 +54,13 @@ is_own kind.Kbdin = false
 is_own kind.DeviceWctl = false
 is_own _ = true
 
+-- a window's files tell of a window, and other files of none
+abbrev pub TellsOf : Owner → (serial : ℕ) → Type 0
+TellsOf OfWindow serial = (serial == 0) ≡ false
+TellsOf OfSession serial = serial ≡ 0
+TellsOf OfConnection serial = serial ≡ 0
+TellsOf OfRio serial = serial ≡ 0
+
 -- what a session may ask of its outside
 pub data Ask : Type 0 where
   -- the tree of a name
@@ -71,6 +78,7 @@ module _ (HasWindow HasConnection : ℕ → Type 0) where
   pub record IsPlain (node : Node) : Type 0 where
     pub kind : IsTrue (is_plain node.kind)
     pub window : HasWindow node.serial
+    pub place : TellsOf (row node.kind).owner node.serial
     pub connection : HasConnection node.connection
 
   -- it is plain, and where it is open it is the session's own
@@ -129,7 +137,10 @@ pub record Alike {S T : Type 0} (outer : Outside S) (inner : Outside T) (Same La
   pub pane : (s : S) (t : T) → Same s t → (window : ℕ) → HasWindow window → outer.pane s window ≡ inner.pane t window
   pub hear :
       (s : S) (t : T) → Same s t → (window : ℕ) (h : Heard) → HasWindow window → Same (outer.hear s window h) (inner.hear t window h)
-  pub picture : (s : S) (t : T) → Same s t → (window : ℕ) → HasWindow window → outer.picture s window ≡ inner.picture t window
+  -- of a window that lives
+  pub picture :
+      (s : S) (t : T) → Same s t → (connections : List ℕ) (node : Node) → HasWindow node.serial → (outer.view s connections node).live ≡ true
+      → outer.picture s node.serial ≡ inner.picture t node.serial
   pub connect : (s : S) (t : T) → Same s t → (n : ℕ) → HasConnection n → Same (outer.connect s n) (inner.connect t n)
   pub leave : (s : S) (t : T) → Same s t → (n : ℕ) → HasConnection n → Same (outer.leave s n) (inner.leave t n)
   pub write_data :
@@ -147,6 +158,7 @@ pub record Alike {S T : Type 0} (outer : Outside S) (inner : Outside T) (Same La
   pub attached :
       (s : S) (t : T) → Same s t → (asked : Attach) → May s (Attaches asked)
       → SameOutcome (λ a b. Later a.0 b.0 × (a.1 ≡ b.1)) (outer.attached s asked) (inner.attached t asked)
+  -- to a window that lives
   pub command :
-      (s : S) (t : T) → Same s t → (window : ℕ) (text : List ℕ) → HasWindow window → May s (Commands text)
-      → SameOutcome Later (outer.command s window text) (inner.command t window text)
+      (s : S) (t : T) → Same s t → (connections : List ℕ) (node : Node) → HasWindow node.serial → (outer.view s connections node).live ≡ true
+      → (text : List ℕ) → May s (Commands text) → SameOutcome Later (outer.command s node.serial text) (inner.command t node.serial text)
