@@ -1,0 +1,336 @@
+-- A window of the root rio in each act of the window manager.
+use Rattle.std.proofs.Common.{◌≡◌, ◌≢◌, ◌∙◌, ℕ, zero, suc, ◌==◌, ◌+◌, Bool, true, false, cond, not, List, [], ◌∷◌, ◌++◌, find, filter, fold, reverse, length, nat_le, Option, Some, None, is_some, Ok, Err, refl, sym, ap, subst, arith, eqb-true, eq-eqb, ne_eqb}
+use Rattle.std.specs.Option.{option_map}
+use Rattle.std.proofs.lemmas.Bool.{cond_both, eqb-false}
+use Rattle.std.proofs.lemmas.List.Sorted.{All-permutation, IsPermutation-reverse}
+use Rattle.r9_geom.specs.declared.Rect.{Rect}
+use Rattle.r9_geom.specs.declared.Point.{Point}
+use Rattle.r9_geom.specs.Geometry.{shifted}
+use Rattle.r9_window.specs.Ways.{way}
+use Rattle.r9_event.specs.declared.rio.Note.TheVariants as note
+use Rattle.r9_event.specs.declared.rio.Order.TheVariants as order
+use Rattle.model_text.specs.Outcome.{Outcome}
+use Rattle.model_mouse.specs.declared.Mouse.{Mouse}
+use Rattle.model_wctl.specs.declared.Choice.{Choice}
+use Rattle.model_wctl.specs.Command.{Wctl}
+use Rattle.model_wctl.specs.Command as wctl
+use Rattle.model_wctl.specs.Rectangle.{applied, is_near}
+use Rattle.model_rio.specs.Table.{Window, Rio, Table, Hold, Free, Held, Nobody, deepest, hold_of, is_host, made_in, no_windows, path_of, rectangle_of, rio_of, topmost, window_of, windows_in}
+use Rattle.model_rio.specs.Act.{Act}
+use Rattle.model_rio.specs.Act as act
+use Rattle.model_rio.specs.Step.{Step, begun, noted, ordered, with_current}
+use Rattle.model_rio.specs.Moving.{carried, deleted, each, followed, moved, replaced}
+use Rattle.model_rio.specs.Routing.{focus, given, keyed, keys_of, moused, point_of, pressed, reacted, receiver}
+use Rattle.model_rio.specs.Rio.{command_to, commanded, first_rectangle, hidden, hosted, is_full, made_current, moved_by, new_in, new_window, rio, shown, to_bottom, to_top}
+use Rattle.model_rio.specs.Sound.{IsSound, IsSoundWindow}
+use Rattle.model_shown.proofs.Tests.{find-passes, refuse_ok, same_Ok, then_ok, value_ok}
+use Rattle.model_fitting.proofs.Lists.{Each, all_of, each_append, each_filter, each_found, each_of, fold_each}
+use Rattle.model_told.specs.Telling.{rect_in}
+use Rattle.model_told.proofs.Standing.{IsAmong, IsBare, IsOther, Stands, among_other, begun_stands, beside_stands, current_stands, hold_stands, no_host, small_stands}
+use Rattle.model_told.proofs.Windows.{bottom_stands, dropped_stands, hidden_stands, made_current_stands, made_stands, own_dropped, own_made, own_replaced, replaced_stands, shown_stands, top_stands}
+
+-- where a window is led to
+pub record Leads (window : ℕ) (start : Option Rect) (step : Step) : Type 0 where
+  pub now : Option Rect
+  pub stands : Stands window start now step
+
+module _ (window : ℕ) (start now : Option Rect) where
+  abbrev At : Step → Type 0
+  At step = Stands window start now step
+
+  abbrev Led : Step → Type 0
+  Led step = Leads window start step
+
+  led : (step : Step) → At step → Led step
+  led step is = record { now = now; stands = is }
+
+  found_among : (p : Window → Bool) (step : Step) (v : Window) → At step → find p step.table.windows ≡ Some v → IsAmong window now v
+  found_among p step v is found = each_found (IsAmong window now) p step.table.windows v is.each found
+
+  -- ---- the mouse and the keys
+
+  pressed_stands : (host : ℕ) (top : Option Window) (step : Step) → At step → ((v : Window) → top ≡ Some v → IsAmong window now v) → At (pressed host top step)
+  pressed_stands host None step is among = hold_stands window start now host Nobody step is
+  pressed_stands host (Some v) step is among =
+      let up : Step = to_top v step in
+      hold_stands window start now host (Held v.serial) (with_current host (Some v.serial) up)
+      (current_stands window start now host (Some v.serial) up (top_stands window start now v step is (among v refl)))
+
+  reacted_stands : (e : Mouse) (host : ℕ) (step : Step) → At step → At (reacted e host step)
+  unfolding reacted
+  reacted_stands e host step is = by_hold (hold_of step.table host) (e.buttons == 0) refl refl
+    where
+      by_hold : (hold : Hold) (released : Bool) → hold_of step.table host ≡ hold → (e.buttons == 0) ≡ released → At (reacted e host step)
+      by_hold Free true at up = rw (at, up) is
+      by_hold Free false at up = rw (at, up) (pressed_stands host (topmost step.table host (point_of e)) step is (λ v found. found_among _ step v is found))
+      by_hold (Held serial) true at up = rw (at, up) (hold_stands window start now host Free step is)
+      by_hold Nobody true at up = rw (at, up) (hold_stands window start now host Free step is)
+      by_hold (Held serial) false at up = rw (at, up) is
+      by_hold Nobody false at up = rw (at, up) is
+
+  given_stands : (pass : ℕ → Step → Step) → ((host : ℕ) (step : Step) → At step → At (pass host step)) → (e : Mouse) (to : Option ℕ) (step : Step) → At step → At (given pass e to step)
+  given_stands pass passes e None step is = is
+  given_stands pass passes e (Some serial) step is = by_test (is_host step.table serial) refl
+    where
+      by_test : (b : Bool) → is_host step.table serial ≡ b → At (given pass e (Some serial) step)
+      by_test true at = rw at (passes serial step is)
+      by_test false at = rw at (small_stands window start now serial (note.Mouse e.x e.y e.buttons e.msec) step (λ _. tt) is)
+
+  moused_stands : (levels : ℕ) (e : Mouse) (host : ℕ) (step : Step) → At step → At (moused levels e host step)
+  unfolding moused
+  moused_stands zero e host step is = is
+  moused_stands (suc levels) e host step is =
+      given_stands (moused levels e) (moused_stands levels e) e (receiver step.table e host (hold_of step.table host)) (reacted e host step) (reacted_stands e host step is)
+
+  keyed_stands : (to : Option ℕ) (keys : List (List ℕ)) (step : Step) → At step → At (keyed to keys step)
+  keyed_stands None keys step is = is
+  keyed_stands (Some serial) [] step is = is
+  keyed_stands (Some serial) (key ∷ keys) step is = keyed_stands (Some serial) keys (noted serial (note.Key key) step) (small_stands window start now serial (note.Key key) step (λ _. tt) is)
+
+  -- ---- other windows that move
+
+  abbrev Moves : (Window → Rect → Step → Outcome Step) → Type 0
+  Moves move = (v : Window) (r : Rect) (step out : Step) → IsOther window v → At step → move v r step ≡ Ok out → At out
+
+  carried_stands : (move : Window → Rect → Step → Outcome Step) → Moves move → (by : Point) (v : Window) (step out : Step) → IsOther window v → At step → carried move by v step ≡ Ok out → At out
+  carried_stands move moves by v step out other is e = by_test (is_near (shifted v.r by)) e
+    where
+      by_test : (b : Bool) → cond b (move v (shifted v.r by) step) (Err 47) ≡ Ok out → At out
+      by_test true e = moves v (shifted v.r by) step out other is e
+      by_test false e = absurd (let f : ◌≡◌ {A = Outcome Step} (Err 47) (Ok out) = e in cc)
+
+  each_stands : (move : Window → Rect → Step → Outcome Step) → Moves move → (by : Point) (vs : List Window) (step out : Step) → Each (IsOther window) vs → At step → each (carried move by) vs step ≡ Ok out → At out
+  each_stands move moves by [] step out others is e = subst At (same_Ok step out e) is
+  each_stands move moves by (v ∷ vs) step out others is e =
+      let first = then_ok (carried move by v step) (each (carried move by) vs) out e in
+      each_stands move moves by vs first.0 out others.1 (carried_stands move moves by v step first.0 others.0 is first.1) first.2
+
+  -- the windows in another window are others
+  inner_others : (host : ℕ) (step : Step) → host ≢ 0 → At step → Each (IsOther window) (windows_in step.table host)
+  inner_others host step other is = each_filter (IsAmong window now) (IsOther window) (λ v. v.host == host) inner step.table.windows is.each
+    where
+      inner : (v : Window) → (v.host == host) ≡ true → IsAmong window now v → IsOther window v
+      inner v at among = among_other window now v among (λ same. other (sym (eqb-true v.host host at) ∙ (among.place same).0))
+
+  followed_stands : (move : Window → Rect → Step → Outcome Step) → Moves move → (host : ℕ) (fill : Bool) (by : Point) (step out : Step) → host ≢ 0 → host ≢ window → At step → followed move host fill by step ≡ Ok out → At out
+  followed_stands move moves host fill by step out counted other is e = by_test (is_host step.table host) refl
+    where
+      inside : List Window
+      inside = windows_in step.table host
+
+      by_test : (b : Bool) → is_host step.table host ≡ b → At out
+      by_test true at =
+          let all : each (carried move by) (reverse inside) (ordered (order.Host host fill) step) ≡ Ok out = rw at at e in
+          each_stands move moves by (reverse inside) (ordered (order.Host host fill) step) out
+          (each_of (IsOther window) (reverse inside) (All-permutation (IsOther window) inside (reverse inside) (IsPermutation-reverse inside) (all_of (IsOther window) inside (inner_others host step counted is))))
+          (beside_stands window start now (order.Host host fill) step (ne_eqb window host (λ same. other (sym same))) is) all
+      by_test false at =
+          let same : ◌≡◌ {A = Outcome Step} (Ok step) (Ok out) = rw at at e in
+          subst At (same_Ok step out same) is
+
+  moved_stands : (levels : ℕ) (keep : Bool) → Moves (moved levels keep)
+  unfolding moved
+  moved_stands zero keep v r step out other is e = subst At (same_Ok step out e) is
+  moved_stands (suc levels) keep v r step out other is e =
+      followed_stands (moved levels true) (moved_stands levels true) v.serial (not keep) (way v.r r) (replaced keep v r step) out other.counted other.other (replaced_stands window start now keep v r step other is) e
+
+  -- the one in question moves alone
+  own_moved : (levels : ℕ) (keep : Bool) (v : Window) (r : Rect) (step out : Step) → At step → IsAmong window now v → v.serial ≡ window → moved (suc levels) keep v r step ≡ Ok out → Stands window start (Some r) out
+  unfolding moved
+  own_moved levels keep v r step out is among same e =
+      let next : Stands window start (Some r) (replaced keep v r step) = own_replaced window start now keep v r step is among same in
+      let bare : is_host (replaced keep v r step).table v.serial ≡ false = ap (is_host (replaced keep v r step).table) same ∙ no_host (replaced keep v r step).table window next.bare in
+      let done : ◌≡◌ {A = Outcome Step} (Ok (replaced keep v r step)) (Ok out) = rw bare at e in
+      subst (Stands window start (Some r)) (same_Ok (replaced keep v r step) out done) next
+
+  -- ---- windows that go
+
+  all_go : (delete : Window → Step → Step) → ((v : Window) (step : Step) → IsOther window v → At step → At (delete v step)) → (vs : List Window) (step : Step) → Each (IsOther window) vs → At step
+      → At (fold (λ step v. delete v step) step vs)
+  all_go delete deletes [] step others is = is
+  all_go delete deletes (v ∷ vs) step others is = all_go delete deletes vs (delete v step) others.1 (deletes v step others.0 is)
+
+  deleted_stands : (levels : ℕ) (v : Window) (step : Step) → IsOther window v → At step → At (deleted levels v step)
+  unfolding deleted
+  deleted_stands zero v step other is = is
+  deleted_stands (suc levels) v step other is =
+      let inner : Each (IsOther window) (made_in step.table v.serial) = fold_each (IsOther window) (windows_in step.table v.serial) [] tt (inner_others v.serial step other.counted is) in
+      dropped_stands window start now v (fold (λ step u. deleted levels u step) step (made_in step.table v.serial)) other (all_go (deleted levels) (deleted_stands levels) (made_in step.table v.serial) step inner is)
+
+  no_inner : (vs : List Window) → Each (IsAmong window now) vs → filter (λ v. v.host == window) vs ≡ []
+  no_inner [] each = refl
+  no_inner (v ∷ vs) each = ap (λ (b : Bool). cond b (v ∷ filter (λ u. u.host == window) vs) (filter (λ u. u.host == window) vs)) (ne_eqb v.host window each.0.apart) ∙ no_inner vs each.1
+
+  own_deleted : (levels : ℕ) (v : Window) (step : Step) → At step → IsAmong window now v → v.serial ≡ window → Stands window start None (deleted (suc levels) v step)
+  unfolding deleted
+  own_deleted levels v step is among same =
+      let none : windows_in step.table v.serial ≡ [] = ap (windows_in step.table) same ∙ no_inner step.table.windows is.each in
+      rw none (own_dropped window start now v step is among same)
+
+  -- ---- commands
+
+  -- the window is not the next one that is made
+  abbrev pub IsNotNext : Table → Type 0
+  IsNotNext table = table.serials + 1 ≢ window
+
+  new_stands : (host : ℕ) (options : List Choice) (hide : Bool) (step out : Step) → IsNotNext step.table → is_host step.table host ≡ true → At step → new_in host options hide step ≡ Ok out → At out
+  unfolding new_in
+  new_stands host options hide step out other there is e =
+      let home = value_ok (rio_of step.table host) 42 _ out e in
+      let place = value_ok (applied false options (first_rectangle (rectangle_of step.table host))) 47 _ out home.2 in
+      let room = refuse_ok (is_full step.table) 49 _ out place.2 in
+      let v = new_window step.table host home.0.next hide place.0 in
+      subst At (same_Ok _ out room.1) (made_stands window start now v step (record {
+        other = other;
+        counted = λ none. absurd (omega (arith, none));
+        apart = λ same. absurd (let two : true ≡ false = sym there ∙ ap (is_host step.table) same ∙ no_host step.table window is.bare in cc);
+      }) is)
+
+  home_there : (o : Option Rio) (rio : Rio) → o ≡ Some rio → is_some o ≡ true
+  home_there o rio e = ap is_some e
+
+  moved_by_led : (keep : Bool) (options : List Choice) (v : Window) (step out : Step) → IsAmong window now v → At step → moved_by keep options v step ≡ Ok out → Led out
+  unfolding moved_by
+  moved_by_led keep options v step out among is e =
+      let place = value_ok (applied keep options v.r) 47 _ out e in by (v.serial == window) refl place.0 place.2
+    where
+      by : (b : Bool) → (v.serial == window) ≡ b → (r : Rect) → moved deepest keep v r step ≡ Ok out → Led out
+      by true same r e = record { now = Some r; stands = own_moved 8 keep v r step out is among (eqb-true v.serial window same) e }
+      by false same r e = led out (moved_stands deepest keep v r step out (among_other window now v among (eqb-false v.serial window same)) is e)
+
+  deleted_led : (v : Window) (step : Step) → IsAmong window now v → At step → Led (deleted deepest v step)
+  deleted_led v step among is = by (v.serial == window) refl
+    where
+      by : (b : Bool) → (v.serial == window) ≡ b → Led (deleted deepest v step)
+      by true same = record { now = None; stands = own_deleted 8 v step is among (eqb-true v.serial window same) }
+      by false same = led (deleted deepest v step) (deleted_stands deepest v step (among_other window now v among (eqb-false v.serial window same)) is)
+
+  hosted_stands : (v : Window) (step out : Step) → At step → is_host out.table window ≡ false → hosted v step ≡ Ok out → At out
+  unfolding hosted
+  hosted_stands v step out is bare e =
+      let free = refuse_ok (is_host step.table v.serial) 47 _ out e in
+      let shallow = refuse_ok (nat_le 8 (length (path_of step.table v.host))) 50 _ out free.1 in
+      let done = same_Ok _ out shallow.1 in
+      subst At done (record {
+        tells = (beside_stands window start now (order.Host v.serial true) step (ne_eqb window v.serial (λ same. other same done)) is).tells;
+        lives = is.lives;
+        each = is.each;
+        bare = each_append (λ rio. (rio.host == window) ≡ false) (step.table.root ∷ step.table.rios) (no_windows v.serial ∷ []) is.bare (ne_eqb v.serial window (λ same. other (sym same) done), tt);
+      })
+    where
+      there : (rios : List Rio) → is_some (find (λ rio. rio.host == window) (rios ++ no_windows window ∷ [])) ≡ true
+      there [] = ap (λ (b : Bool). is_some (cond b (Some (no_windows window)) None)) (eq-eqb window window refl)
+      there (rio ∷ rios) = cond_both (rio.host == window) (Some rio) (find (λ r. r.host == window) (rios ++ no_windows window ∷ [])) (λ o. is_some o ≡ true) (λ _. refl) (λ _. there rios)
+
+      next : Step
+      next = ordered (order.Host v.serial true) (record step { table = record step.table { rios = step.table.rios ++ no_windows v.serial ∷ [] } })
+
+      other : window ≡ v.serial → next ≡ out → ⊥
+      other same done =
+          let two : true ≡ false =
+          sym (there (step.table.root ∷ step.table.rios)) ∙ ap (λ (n : ℕ). is_some (find (λ (rio : Rio). rio.host == window) (step.table.root ∷ step.table.rios ++ no_windows n ∷ []))) same
+          ∙ ap (λ (s : Step). is_host s.table window) done ∙ bare in cc
+
+  -- a command that makes a window makes another
+  abbrev pub Makes : Table → Wctl → Type 0
+  Makes table (wctl.New options hide) = IsNotNext table
+  Makes table _ = Unit {0}
+
+  done_led : (next out : Step) → Led next → ◌≡◌ {A = Outcome Step} (Ok next) (Ok out) → Led out
+  done_led next out is e = subst Led (same_Ok next out e) is
+
+  commanded_led : (what : Wctl) (v : Window) (step out : Step) → Makes step.table what → is_host step.table v.host ≡ true → is_host out.table window ≡ false → IsAmong window now v → At step → commanded what v step ≡ Ok out → Led out
+  commanded_led (wctl.New options hide) v step out makes home bare among is e = led out (new_stands v.host options hide step out makes home is e)
+  commanded_led (wctl.Resize options) v step out makes home bare among is e = moved_by_led false options v step out among is e
+  commanded_led (wctl.Move options) v step out makes home bare among is e = moved_by_led true options v step out among is e
+  commanded_led wctl.Top v step out makes home bare among is e = done_led (to_top v step) out (led (to_top v step) (top_stands window start now v step is among)) e
+  commanded_led wctl.Bottom v step out makes home bare among is e = done_led (to_bottom v step) out (led (to_bottom v step) (bottom_stands window start now v step is among)) e
+  commanded_led wctl.Hide v step out makes home bare among is e = done_led (hidden v step) out (led (hidden v step) (hidden_stands window start now v step is among)) e
+  commanded_led wctl.Unhide v step out makes home bare among is e = done_led (shown v step) out (led (shown v step) (shown_stands window start now v step is among)) e
+  commanded_led wctl.Current v step out makes home bare among is e = done_led (made_current v step) out (led (made_current v step) (made_current_stands window start now v step is among)) e
+  commanded_led wctl.Delete v step out makes home bare among is e = done_led (deleted deepest v step) out (deleted_led v step among is) e
+  commanded_led (wctl.Scroll scrolls) v step out makes home bare among is e = done_led step out (led step is) e
+  commanded_led wctl.Set v step out makes home bare among is e = done_led step out (led step is) e
+  commanded_led wctl.Host v step out makes home bare among is e = led out (hosted_stands v step out is bare e)
+
+  command_to_led : (serial : ℕ) (what : Wctl) (step out : Step) → Makes step.table what → IsSound step.table → is_host out.table window ≡ false → At step → command_to serial what step ≡ Ok out → Led out
+  unfolding command_to
+  command_to_led serial what step out makes ok bare is e =
+      let found = value_ok (window_of step.table serial) 42 _ out e in
+      let sound = each_found (IsSoundWindow step.table) (λ (v : Window). v.serial == serial) step.table.windows found.0 (each_of (IsSoundWindow step.table) step.table.windows ok.windows) found.1 in
+      commanded_led what found.0 step out makes sound.housed bare (found_among (λ (v : Window). v.serial == serial) step found.0 is found.1) is found.2
+
+-- ---- each act
+
+-- an act that makes a window makes another
+abbrev pub MakesOther : (window : ℕ) → Table → Act → Type 0
+MakesOther window table (act.New host options hide) = table.serials + 1 ≢ window
+MakesOther window table (act.Command at (wctl.New options hide)) = table.serials + 1 ≢ window
+MakesOther window table _ = Unit {0}
+
+-- Each act leads a window of the root rio from where it was by orders and notes that go together, where no rio starts in it.
+pub act_leads : (window : ℕ) (table : Table) (a : Act) (out : Step) → IsSound table → IsBare table window → MakesOther window table a → is_host out.table window ≡ false → rio table a ≡ Ok out
+    → Leads window (rect_in table window) out
+unfolding new_in
+act_leads window table a out ok is makes bare = by a makes
+  where
+    start : Option Rect
+    start = rect_in table window
+
+    first : Stands window start start (begun table)
+    first = begun_stands table window ok is
+
+    by : (a : Act) → MakesOther window table a → rio table a ≡ Ok out → Leads window start out
+    by (act.New host options hide) makes e =
+        let home = value_ok (rio_of table host) 42 _ out e in
+        record { now = start; stands = new_stands window start start host options hide (begun table) out makes (ap is_some home.1) first e }
+    by (act.Command at (wctl.New options hide)) makes e = command_to_led window start start at (wctl.New options hide) (begun table) out makes ok bare first e
+    by (act.Command at what) makes e = command_to_led window start start at what (begun table) out tt ok bare first e
+    by (act.Mouse pointer) makes e = done_led window start start (moused deepest pointer 0 (begun table)) out (record { now = start; stands = moused_stands window start start deepest pointer 0 (begun table) first }) e
+    by (act.Keys bytes) makes e =
+        done_led window start start (keyed (focus deepest table 0) (keys_of bytes) (begun table)) out (record { now = start; stands = keyed_stands window start start (focus deepest table 0) (keys_of bytes) (begun table) first }) e
+    by (act.Gone at) makes e = command_to_led window start start at wctl.Delete (begun table) out tt ok bare first e
+
+-- ---- a new window of the root rio
+
+no_new : (table : Table) → IsSound table → window_of table (table.serials + 1) ≡ None
+no_new table ok = by (window_of table (table.serials + 1)) refl
+  where
+    by : (o : Option Window) → window_of table (table.serials + 1) ≡ o → o ≡ None
+    by None is = refl
+    by (Some v) is =
+        let sound = each_found (IsSoundWindow table) (λ (u : Window). u.serial == table.serials + 1) table.windows v (each_of (IsSoundWindow table) table.windows ok.windows) is in
+        let given = sound.given in
+        let same : v.serial ≡ table.serials + 1 = eqb-true v.serial (table.serials + 1) (find-passes (λ (u : Window). u.serial == table.serials + 1) table.windows v is) in
+        absurd (omega (arith, given, same))
+
+-- The next window that is made in the root rio comes with the order and the note that tell of it.
+pub next_leads : (table : Table) (options : List Choice) (hide : Bool) (out : Step) → IsSound table → is_host table (table.serials + 1) ≡ false → rio table (act.New 0 options hide) ≡ Ok out
+    → Leads (table.serials + 1) None out
+unfolding new_in
+next_leads table options hide out ok bare e =
+    let next = table.serials + 1 in
+    let none = no_new table ok in
+    let at : rect_in table next ≡ None = ap (option_map (λ (w : Window). w.r)) none in
+    let first = begun_stands table next ok (record { root = λ v found. absurd (let two : ◌≡◌ {A = Option Window} None (Some v) = sym none ∙ found in cc); bare = bare }) in
+    let start : Stands next None None (begun table) = subst (λ (o : Option Rect). Stands next o o (begun table)) at first in
+    let home = value_ok (rio_of table 0) 42 _ out e in
+    let place = value_ok (applied false options (first_rectangle (rectangle_of table 0))) 47 _ out home.2 in
+    let room = refuse_ok (is_full table) 49 _ out place.2 in
+    let v = new_window table 0 home.0.next hide place.0 in
+    subst (Leads next None) (same_Ok _ out room.1)
+    (record { now = Some v.r; stands = own_made next None None v (begun table) start refl refl (λ zero. absurd (omega (arith, zero))) (λ zero. absurd (omega (arith, zero))) refl })
+
+-- where a window is led to it is in the table
+pub led_to : (window : ℕ) (start : Option Rect) (step : Step) (is : Leads window start step) → rect_in step.table window ≡ is.now
+led_to window start step is = by (window_of step.table window) refl is.now is.stands
+  where
+    by : (o : Option Window) → window_of step.table window ≡ o → (now : Option Rect) → Stands window start now step → option_map (λ w. w.r) o ≡ now
+    by None at None stands = refl
+    by None at (Some r) stands = absurd (let two : false ≡ true = ap is_some (sym at) ∙ stands.lives in cc)
+    by (Some v) at now stands =
+        ((each_found (IsAmong window now) (λ (u : Window). u.serial == window) step.table.windows v stands.each at).place (eqb-true v.serial window (find-passes (λ (u : Window). u.serial == window) step.table.windows v at))).1
+
+pub led_root : (window : ℕ) (start : Option Rect) (step : Step) → Leads window start step → (v : Window) → window_of step.table window ≡ Some v → v.host ≡ 0
+led_root window start step is v at =
+    ((each_found (IsAmong window is.now) (λ (u : Window). u.serial == window) step.table.windows v is.stands.each at).place (eqb-true v.serial window (find-passes (λ (u : Window). u.serial == window) step.table.windows v at))).0
