@@ -34,9 +34,9 @@ module _ {S T : Type 0} (outer : Outside S) (inner : Outside T) (Same Later : S 
   pub given_alike : (s : S) (t : T) (fid : Fid) (count : ℕ) (of : Kind) → Same s t → HasWindow fid.node.serial
       → Gives (given_now outer s fid count of) (given_now inner t fid count of)
   given_alike s t fid count kind.Mouse same has = rw (alike.pane s t same fid.node.serial has)
-      (map_alike (SameGiven Same) _ _ (answer_text (inner.pane t fid.node.serial).mouse) (λ bytes. record { fid = refl; bytes = refl; rest = alike.hear s t same fid.node.serial MouseRead has }))
+      (map_alike (SameGiven Same) _ _ (answer_text (inner.pane t fid.node.serial).mouse) (λ bytes. record { fid = refl; bytes = refl; rest = alike.hear s t same fid.node.serial MouseRead tt has }))
   given_alike s t fid count kind.Cons same has = rw (alike.pane s t same fid.node.serial has)
-      (map_alike (SameGiven Same) _ _ (console.read count (inner.pane t fid.node.serial).console) (λ bytes. record { fid = refl; bytes = refl; rest = alike.hear s t same fid.node.serial (ConsoleRead count) has }))
+      (map_alike (SameGiven Same) _ _ (console.read count (inner.pane t fid.node.serial).console) (λ bytes. record { fid = refl; bytes = refl; rest = alike.hear s t same fid.node.serial (ConsoleRead count) tt has }))
   given_alike s t fid count kind.Wctl same has = rw (alike.pane s t same fid.node.serial has)
       (map_alike (SameGiven Same) _ _ (wctl_answer fid.told (wctl_text (inner.pane t fid.node.serial).known)) (λ text. record { fid = refl; bytes = refl; rest = same }))
   given_alike s t fid count _ same has = tt
@@ -93,7 +93,7 @@ module _ {S T : Type 0} (outer : Outside S) (inner : Outside T) (Same Later : S 
 
   raw_alike : (s : S) (t : T) (window : ℕ) (asked : Option Bool) → Same s t → HasWindow window → Same (with_raw_asked outer s window asked) (with_raw_asked inner t window asked)
   raw_alike s t window None same has = same
-  raw_alike s t window (Some raw) same has = alike.hear s t same window (Raw raw) has
+  raw_alike s t window (Some raw) same has = alike.hear s t same window (Raw raw) tt has
 
   pub written_alike : (connections : List ℕ) (s : S) (t : T) (node : Node) (offset : ℕ) (bytes : List ℕ) (mark told : Option ℕ) (of : Kind) → Same s t → IsTrue (is_own of)
       → IsPlain HasWindow HasConnection node → Lives s connections node of → MayWrite outer HasWindow HasConnection May s node bytes mark told of
@@ -104,13 +104,13 @@ module _ {S T : Type 0} (outer : Outside S) (inner : Outside T) (Same Later : S 
       (alike.write_ctl s t same node.connection bytes plain.connection may) (λ a b p. (alike.unchanged a b p, refl))
   written_alike connections s t node offset bytes mark told kind.Data same own plain lives may =
       let w = alike.write_data s t same node.connection bytes mark told plain.connection may in (alike.unchanged _ _ w.0, w.1)
-  written_alike connections s t node offset bytes mark told kind.Cons same own plain lives may = (alike.unchanged _ _ (alike.hear s t same node.serial (Written bytes) plain.window), refl)
+  written_alike connections s t node offset bytes mark told kind.Cons same own plain lives may = (alike.unchanged _ _ (alike.hear s t same node.serial (Written bytes) tt plain.window), refl)
   written_alike connections s t node offset bytes mark told kind.Consctl same own plain lives may =
       bind_alike Same Leaves _ _ _ _
       (check_alike Same (raw_asked (line_of bytes)) (λ asked. Ok (with_raw_asked outer s node.serial asked)) (λ asked. Ok (with_raw_asked inner t node.serial asked)) (λ asked _. raw_alike s t node.serial asked same plain.window))
       (λ a b p. (alike.unchanged a b p, refl))
   written_alike connections s t node offset bytes mark told kind.Mouse same own plain lives may = (alike.unchanged s t same, refl)
-  written_alike connections s t node offset bytes mark told kind.Label same own plain lives may = (alike.unchanged _ _ (alike.hear s t same node.serial (Labelled bytes) plain.window), refl)
+  written_alike connections s t node offset bytes mark told kind.Label same own plain lives may = (alike.unchanged _ _ (alike.hear s t same node.serial (Labelled bytes) tt plain.window), refl)
   written_alike connections s t node offset bytes mark told kind.Wctl same own plain lives may =
       bind_alike Later Leaves (outer.command s node.serial bytes) (inner.command t node.serial bytes) _ _
       (alike.command s t same connections node plain.window (lives_where_fine (outer.view s connections node) node lives.1.0 lives.0 lives.1.1) bytes may) (λ a b p. (p, refl))

@@ -53,8 +53,8 @@ module _ {S T : Type 0} (outer : Outside S) (inner : Outside T) (Same Later : S 
 
   held_alike : (held : Bool) (s : S) (t : T) (node : Node) → HasWindow node.serial → Same s t → Same (with_held outer held s node) (with_held inner held t node)
   held_alike held s t node has same =
-      if_so Same (is_kind Mouse node.kind) _ _ _ _ (alike.hear s t same node.serial (MouseHeld held) has)
-      (if_so Same (is_kind Consctl node.kind) _ _ _ _ (alike.hear s t same node.serial (ConsctlHeld held) has) same)
+      if_so Same (is_kind Mouse node.kind) _ _ _ _ (alike.hear s t same node.serial (MouseHeld held) tt has)
+      (if_so Same (is_kind Consctl node.kind) _ _ _ _ (alike.hear s t same node.serial (ConsctlHeld held) tt has) same)
 
   let_go_alike : (s : S) (t : T) (fid : Fid) → Own fid → Same s t → Same (let_go outer s fid) (let_go inner t fid)
   let_go_alike s t fid own same = if_so Same (is_some fid.mode) _ _ _ _ (held_alike false s t fid.node own.plain.window same) same

@@ -3,7 +3,7 @@ use Rattle.std.specs.Prelude.{◌≡◌, ◌≤◌, ◌==◌, ℕ, Bool, true, f
 use Rattle.model_text.specs.Outcome.{Outcome}
 use Rattle.model_wire.specs.Message.{T, Tattach, Twalk, Twrite}
 use Rattle.model_wire.specs.Reading.{message_of}
-use Rattle.model_window.specs.Heard.{Heard}
+use Rattle.model_window.specs.Heard.{Heard, Noted, Raw, Written, Labelled, MouseRead, ConsoleRead, MouseHeld, ConsctlHeld}
 use Rattle.model_tree.specs.declared.Kind.{Kind}
 use Rattle.model_tree.specs.declared.Kind.TheVariants as kind
 use Rattle.model_tree.specs.Node.{Node, Owner, OfSession, OfConnection, OfRio, OfWindow, row}
@@ -60,6 +60,17 @@ TellsOf OfWindow serial = (serial == 0) ≡ false
 TellsOf OfSession serial = serial ≡ 0
 TellsOf OfConnection serial = serial ≡ 0
 TellsOf OfRio serial = serial ≡ 0
+
+-- what a session does at its window, and not what the window manager tells it
+abbrev pub IsDone : Heard → Type 0
+IsDone (Noted note) = ⊥
+IsDone (Raw raw) = Unit {0}
+IsDone (Written bytes) = Unit {0}
+IsDone (Labelled bytes) = Unit {0}
+IsDone MouseRead = Unit {0}
+IsDone (ConsoleRead count) = Unit {0}
+IsDone (MouseHeld held) = Unit {0}
+IsDone (ConsctlHeld held) = Unit {0}
 
 -- what a session may ask of its outside
 pub data Ask : Type 0 where
@@ -136,7 +147,7 @@ pub record Alike {S T : Type 0} (outer : Outside S) (inner : Outside T) (Same La
       → SameView (outer.view s connections node) (inner.view t connections node)
   pub pane : (s : S) (t : T) → Same s t → (window : ℕ) → HasWindow window → outer.pane s window ≡ inner.pane t window
   pub hear :
-      (s : S) (t : T) → Same s t → (window : ℕ) (h : Heard) → HasWindow window → Same (outer.hear s window h) (inner.hear t window h)
+      (s : S) (t : T) → Same s t → (window : ℕ) (h : Heard) → IsDone h → HasWindow window → Same (outer.hear s window h) (inner.hear t window h)
   -- of a window that lives
   pub picture :
       (s : S) (t : T) → Same s t → (connections : List ℕ) (node : Node) → HasWindow node.serial → (outer.view s connections node).live ≡ true

@@ -236,10 +236,15 @@ module _ (window : ℕ) (start now : Option Rect) where
   Makes table (wctl.New options hide) = IsNotNext table
   Makes table _ = Unit {0}
 
+  -- what must be so where a command starts a rio
+  abbrev pub IfHost : Wctl → Type 0 → Type 0
+  IfHost wctl.Host P = P
+  IfHost _ P = Unit {0}
+
   done_led : (next out : Step) → Led next → ◌≡◌ {A = Outcome Step} (Ok next) (Ok out) → Led out
   done_led next out is e = subst Led (same_Ok next out e) is
 
-  commanded_led : (what : Wctl) (v : Window) (step out : Step) → Makes step.table what → is_host step.table v.host ≡ true → is_host out.table window ≡ false → IsAmong window now v → At step → commanded what v step ≡ Ok out → Led out
+  commanded_led : (what : Wctl) (v : Window) (step out : Step) → Makes step.table what → is_host step.table v.host ≡ true → IfHost what (is_host out.table window ≡ false) → IsAmong window now v → At step → commanded what v step ≡ Ok out → Led out
   commanded_led (wctl.New options hide) v step out makes home bare among is e = led out (new_stands v.host options hide step out makes home is e)
   commanded_led (wctl.Resize options) v step out makes home bare among is e = moved_by_led false options v step out among is e
   commanded_led (wctl.Move options) v step out makes home bare among is e = moved_by_led true options v step out among is e
@@ -253,7 +258,7 @@ module _ (window : ℕ) (start now : Option Rect) where
   commanded_led wctl.Set v step out makes home bare among is e = done_led step out (led step is) e
   commanded_led wctl.Host v step out makes home bare among is e = led out (hosted_stands v step out is bare e)
 
-  command_to_led : (serial : ℕ) (what : Wctl) (step out : Step) → Makes step.table what → IsSound step.table → is_host out.table window ≡ false → At step → command_to serial what step ≡ Ok out → Led out
+  command_to_led : (serial : ℕ) (what : Wctl) (step out : Step) → Makes step.table what → IsSound step.table → IfHost what (is_host out.table window ≡ false) → At step → command_to serial what step ≡ Ok out → Led out
   unfolding command_to
   command_to_led serial what step out makes ok bare is e =
       let found = value_ok (window_of step.table serial) 42 _ out e in
@@ -268,11 +273,16 @@ MakesOther window table (act.New host options hide) = table.serials + 1 ≢ wind
 MakesOther window table (act.Command at (wctl.New options hide)) = table.serials + 1 ≢ window
 MakesOther window table _ = Unit {0}
 
+-- what must be so where an act starts a rio
+abbrev pub IfHosts : Act → Type 0 → Type 0
+IfHosts (act.Command at wctl.Host) P = P
+IfHosts _ P = Unit {0}
+
 -- Each act leads a window of the root rio from where it was by orders and notes that go together, where no rio starts in it.
-pub act_leads : (window : ℕ) (table : Table) (a : Act) (out : Step) → IsSound table → IsBare table window → MakesOther window table a → is_host out.table window ≡ false → rio table a ≡ Ok out
+pub act_leads : (window : ℕ) (table : Table) (a : Act) (out : Step) → IsSound table → IsBare table window → MakesOther window table a → IfHosts a (is_host out.table window ≡ false) → rio table a ≡ Ok out
     → Leads window (rect_in table window) out
 unfolding new_in
-act_leads window table a out ok is makes bare = by a makes
+act_leads window table a out ok is makes bare = by a makes bare
   where
     start : Option Rect
     start = rect_in table window
@@ -280,16 +290,26 @@ act_leads window table a out ok is makes bare = by a makes
     first : Stands window start start (begun table)
     first = begun_stands table window ok is
 
-    by : (a : Act) → MakesOther window table a → rio table a ≡ Ok out → Leads window start out
-    by (act.New host options hide) makes e =
+    by : (a : Act) → MakesOther window table a → IfHosts a (is_host out.table window ≡ false) → rio table a ≡ Ok out → Leads window start out
+    by (act.New host options hide) makes bare e =
         let home = value_ok (rio_of table host) 42 _ out e in
         record { now = start; stands = new_stands window start start host options hide (begun table) out makes (ap is_some home.1) first e }
-    by (act.Command at (wctl.New options hide)) makes e = command_to_led window start start at (wctl.New options hide) (begun table) out makes ok bare first e
-    by (act.Command at what) makes e = command_to_led window start start at what (begun table) out tt ok bare first e
-    by (act.Mouse pointer) makes e = done_led window start start (moused deepest pointer 0 (begun table)) out (record { now = start; stands = moused_stands window start start deepest pointer 0 (begun table) first }) e
-    by (act.Keys bytes) makes e =
+    by (act.Command at (wctl.New options hide)) makes bare e = command_to_led window start start at (wctl.New options hide) (begun table) out makes ok bare first e
+    by (act.Command at (wctl.Resize options)) makes bare e = command_to_led window start start at (wctl.Resize options) (begun table) out tt ok bare first e
+    by (act.Command at (wctl.Move options)) makes bare e = command_to_led window start start at (wctl.Move options) (begun table) out tt ok bare first e
+    by (act.Command at wctl.Top) makes bare e = command_to_led window start start at wctl.Top (begun table) out tt ok bare first e
+    by (act.Command at wctl.Bottom) makes bare e = command_to_led window start start at wctl.Bottom (begun table) out tt ok bare first e
+    by (act.Command at wctl.Hide) makes bare e = command_to_led window start start at wctl.Hide (begun table) out tt ok bare first e
+    by (act.Command at wctl.Unhide) makes bare e = command_to_led window start start at wctl.Unhide (begun table) out tt ok bare first e
+    by (act.Command at wctl.Current) makes bare e = command_to_led window start start at wctl.Current (begun table) out tt ok bare first e
+    by (act.Command at wctl.Delete) makes bare e = command_to_led window start start at wctl.Delete (begun table) out tt ok bare first e
+    by (act.Command at (wctl.Scroll scrolls)) makes bare e = command_to_led window start start at (wctl.Scroll scrolls) (begun table) out tt ok bare first e
+    by (act.Command at wctl.Set) makes bare e = command_to_led window start start at wctl.Set (begun table) out tt ok bare first e
+    by (act.Command at wctl.Host) makes bare e = command_to_led window start start at wctl.Host (begun table) out tt ok bare first e
+    by (act.Mouse pointer) makes bare e = done_led window start start (moused deepest pointer 0 (begun table)) out (record { now = start; stands = moused_stands window start start deepest pointer 0 (begun table) first }) e
+    by (act.Keys bytes) makes bare e =
         done_led window start start (keyed (focus deepest table 0) (keys_of bytes) (begun table)) out (record { now = start; stands = keyed_stands window start start (focus deepest table 0) (keys_of bytes) (begun table) first }) e
-    by (act.Gone at) makes e = command_to_led window start start at wctl.Delete (begun table) out tt ok bare first e
+    by (act.Gone at) makes bare e = command_to_led window start start at wctl.Delete (begun table) out tt ok bare first e
 
 -- ---- a new window of the root rio
 
