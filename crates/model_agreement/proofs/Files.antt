@@ -31,20 +31,21 @@ module _ {S T : Type 0} (outer : Outside S) (inner : Outside T) (Same Later : S 
   abbrev pub Gives : Option (Given S) → Option (Given T) → Type 0
   Gives a b = SameOption (SameGiven Same) a b
 
-  pub given_alike : (s : S) (t : T) (fid : Fid) (count : ℕ) (of : Kind) → Same s t → HasWindow fid.node.serial
+  pub given_alike : (s : S) (t : T) (fid : Fid) (count : ℕ) (of : Kind) → Same s t → HasWindow fid.node.serial → TellsOf (row of).owner fid.node.serial
       → Gives (given_now outer s fid count of) (given_now inner t fid count of)
-  given_alike s t fid count kind.Mouse same has = rw (alike.pane s t same fid.node.serial has)
+  unfolding row
+  given_alike s t fid count kind.Mouse same has some = rw (alike.pane s t same fid.node.serial has some)
       (map_alike (SameGiven Same) _ _ (answer_text (inner.pane t fid.node.serial).mouse) (λ bytes. record { fid = refl; bytes = refl; rest = alike.hear s t same fid.node.serial MouseRead tt has }))
-  given_alike s t fid count kind.Cons same has = rw (alike.pane s t same fid.node.serial has)
+  given_alike s t fid count kind.Cons same has some = rw (alike.pane s t same fid.node.serial has some)
       (map_alike (SameGiven Same) _ _ (console.read count (inner.pane t fid.node.serial).console) (λ bytes. record { fid = refl; bytes = refl; rest = alike.hear s t same fid.node.serial (ConsoleRead count) tt has }))
-  given_alike s t fid count kind.Wctl same has = rw (alike.pane s t same fid.node.serial has)
+  given_alike s t fid count kind.Wctl same has some = rw (alike.pane s t same fid.node.serial has some)
       (map_alike (SameGiven Same) _ _ (wctl_answer fid.told (wctl_text (inner.pane t fid.node.serial).known)) (λ text. record { fid = refl; bytes = refl; rest = same }))
-  given_alike s t fid count _ same has = tt
+  given_alike s t fid count _ same has some = tt
 
-  given_in_alike : (s : S) (t : T) (fid : Fid) (least count : ℕ) (of : Kind) → Same s t → HasWindow fid.node.serial
+  given_in_alike : (s : S) (t : T) (fid : Fid) (least count : ℕ) (of : Kind) → Same s t → HasWindow fid.node.serial → TellsOf (row of).owner fid.node.serial
       → SameOutcome Gives (given_in outer s fid least count of) (given_in inner t fid least count of)
-  given_in_alike s t fid least count of same has =
-      check_alike Gives (refuse_if (nat_lt count least) 46) _ _ (λ _ _. given_alike s t fid count of same has)
+  given_in_alike s t fid least count of same has some =
+      check_alike Gives (refuse_if (nat_lt count least) 46) _ _ (λ _ _. given_alike s t fid count of same has some)
 
   ctl_same : (s : S) (t : T) (node : Node) (offset count : ℕ) → Same s t → HasConnection node.connection → ctl_read outer s node offset count ≡ ctl_read inner t node offset count
   unfolding ctl_read
@@ -64,15 +65,15 @@ module _ {S T : Type 0} (outer : Outside S) (inner : Outside T) (Same Later : S 
       (alike.read_data s t same fid.node.connection count plain.connection) (λ a b p. record { fid = refl; bytes = p.0; rest = p.1 })
   file_alike connections s t fid offset count kind.Screen same own plain lives = absurd cc
   file_alike connections s t fid offset count kind.Snarf same own plain lives = absurd cc
-  file_alike connections s t fid offset count kind.Label same own plain lives = rw (alike.pane s t same fid.node.serial plain.window) (record { fid = refl; bytes = refl; rest = same })
-  file_alike connections s t fid offset count kind.Text same own plain lives = rw (alike.pane s t same fid.node.serial plain.window) (record { fid = refl; bytes = refl; rest = same })
-  file_alike connections s t fid offset count kind.Winid same own plain lives = rw (alike.pane s t same fid.node.serial plain.window) (record { fid = refl; bytes = refl; rest = same })
-  file_alike connections s t fid offset count kind.Winname same own plain lives = rw (alike.pane s t same fid.node.serial plain.window) (record { fid = refl; bytes = refl; rest = same })
+  file_alike connections s t fid offset count kind.Label same own plain lives = rw (alike.pane s t same fid.node.serial plain.window lives.0) (record { fid = refl; bytes = refl; rest = same })
+  file_alike connections s t fid offset count kind.Text same own plain lives = rw (alike.pane s t same fid.node.serial plain.window lives.0) (record { fid = refl; bytes = refl; rest = same })
+  file_alike connections s t fid offset count kind.Winid same own plain lives = rw (alike.pane s t same fid.node.serial plain.window lives.0) (record { fid = refl; bytes = refl; rest = same })
+  file_alike connections s t fid offset count kind.Winname same own plain lives = rw (alike.pane s t same fid.node.serial plain.window lives.0) (record { fid = refl; bytes = refl; rest = same })
   file_alike connections s t fid offset count kind.Picture same own plain lives =
       rw (alike.picture s t same connections fid.node plain.window (lives_where_fine (outer.view s connections fid.node) fid.node lives.1.0 lives.0 lives.1.1)) (record { fid = refl; bytes = refl; rest = same })
-  file_alike connections s t fid offset count kind.Mouse same own plain lives = given_in_alike s t fid mouse_len count kind.Mouse same plain.window
-  file_alike connections s t fid offset count kind.Wctl same own plain lives = given_in_alike s t fid wctl_len count kind.Wctl same plain.window
-  file_alike connections s t fid offset count kind.Cons same own plain lives = given_alike s t fid count kind.Cons same plain.window
+  file_alike connections s t fid offset count kind.Mouse same own plain lives = given_in_alike s t fid mouse_len count kind.Mouse same plain.window lives.0
+  file_alike connections s t fid offset count kind.Wctl same own plain lives = given_in_alike s t fid wctl_len count kind.Wctl same plain.window lives.0
+  file_alike connections s t fid offset count kind.Cons same own plain lives = given_alike s t fid count kind.Cons same plain.window lives.0
   file_alike connections s t fid offset count _ same own plain lives = tt
 
   pub node_alike : (connections : List ℕ) (s : S) (t : T) (fid : Fid) (offset count : ℕ) → Same s t → IsTrue (is_own fid.node.kind) → IsPlain HasWindow HasConnection fid.node

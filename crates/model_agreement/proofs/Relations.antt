@@ -1,10 +1,10 @@
 -- How relations of what may be refused, or not be there, go through steps.
-use Rattle.std.proofs.Common.{◌≡◌, Bool, true, false, List, [], ◌∷◌, Option, Some, None, Ok, Err, refl, subst}
+use Rattle.std.proofs.Common.{◌≡◌, ℕ, Bool, true, false, List, [], ◌∷◌, Option, Some, None, Ok, Err, refl, subst}
 use Rattle.std.specs.Prelude.{All, if◌then◌else◌}
 use Rattle.std.specs.List.{fold}
 use Rattle.std.specs.Option.{option_map}
 use Rattle.std.proofs.lemmas.List.Elements.{All-head, All-tail}
-use Rattle.model_text.specs.Outcome.{Outcome, ◌>>=◌}
+use Rattle.model_text.specs.Outcome.{Outcome, ◌>>=◌, refuse_if}
 use Rattle.model_agreement.specs.Agreement.{SameOption, SameOutcome}
 
 -- steps agree where each does
@@ -24,6 +24,11 @@ check_alike Q (Err n) f g further = refl
 pub equal_alike : {A C E : Type 0} (Q : C → E → Type 0) (x y : Outcome A) (f : A → Outcome C) (g : A → Outcome E)
     → x ≡ y → ((a : A) → SameOutcome Q (f a) (g a)) → SameOutcome Q (x >>= f) (y >>= g)
 equal_alike Q x y f g e further = rw e (check_alike Q y f g (λ a _. further a))
+
+-- a test that did not refuse
+pub not_refused : (b : Bool) (n : ℕ) (u : Unit {0}) → refuse_if b n ≡ Ok u → b ≡ false
+not_refused true n u fine = absurd cc
+not_refused false n u fine = refl
 
 -- the same where it is known that the step was not refused
 pub known_alike : {A C E : Type 0} (Q : C → E → Type 0) (x y : Outcome A) (f : A → Outcome C) (g : A → Outcome E)

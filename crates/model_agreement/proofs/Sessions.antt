@@ -11,10 +11,12 @@ use Rattle.model_wire.specs.Message.{R, Rattach, Rclunk, Rflush, Ropen, Rread, R
 use Rattle.model_wire.specs.Message as wire
 use Rattle.model_wire.specs.Reading.{message_of, tag_of}
 use Rattle.model_tree.specs.declared.Kind.TheVariants.{Consctl, Mouse, New}
-use Rattle.model_tree.specs.Node.{Node, may, qid, reads, writes}
+use Rattle.model_tree.specs.declared.Kind.{Kind}
+use Rattle.model_tree.specs.Node.{Node, may, qid, reads, row, writes}
 use Rattle.model_tree.specs.Attach.{attach_of}
 use Rattle.model_tree.specs.Tree.{check_live, root_of, stat}
 use Rattle.model_window.specs.Heard.{ConsctlHeld, MouseHeld}
+use Rattle.model_window.specs.Pane.{Pane}
 use Rattle.model_world.specs.Session.{Fid, Session, Wait, fid_at, max_msize}
 use Rattle.model_world.specs.Outside.{Outside}
 use Rattle.model_world.specs.Refusal.{refusal}
@@ -24,8 +26,8 @@ use Rattle.model_world.specs.Reading.{Given, count_within, is_open_for, most_wai
 use Rattle.model_world.specs.Writing.{file_written, write_answer, write_reply}
 use Rattle.model_world.specs.Waiting.{answered_or, awaited, first_of, given_or_refused, late_reply, one_answered, wait_answer}
 use Rattle.model_world.specs.Answer.{Taking, Ignored, TooLong, Closes, Reads, agreed_on, answer, answer_read, answer_to, asks_for_9p, clunk_answer, denied, is_version, read_or_not, replied, stat_answer, taken, taking, version_answer}
-use Rattle.model_agreement.specs.Agreement.{Alike, ArePrivate, Ask, Attaches, IsOwnFid, IsPlain, IsPrivate, IsPrivateIf, KeepsToItself, MayWrite, SameLeft, SameOption, SameOutcome}
-use Rattle.model_agreement.proofs.Relations.{bind_alike, check_alike, equal_alike, fold_alike, if_so, known_alike, weaken}
+use Rattle.model_agreement.specs.Agreement.{Alike, ArePrivate, Ask, Attaches, IsOwnFid, IsPlain, IsPrivate, IsPrivateIf, KeepsToItself, MayWrite, SameLeft, SameOption, SameOutcome, TellsOf}
+use Rattle.model_agreement.proofs.Relations.{bind_alike, check_alike, equal_alike, fold_alike, if_so, known_alike, not_refused, weaken}
 use Rattle.model_agreement.proofs.Trees.{check_live_same, stat_same, walked_same}
 use Rattle.model_agreement.proofs.Files.{SameGiven, given_alike, node_alike, written_alike}
 
@@ -100,15 +102,20 @@ module _ {S T : Type 0} (outer : Outside S) (inner : Outside T) (Same Later : S 
       check_alike (SameLeft Later) (refuse_if (nat_lt msize 256) 48) _ _ (λ _ _.
       agreed_alike tag msize version (asks_for_9p version) _ _ gone.0 gone.1 refl)
 
-  attach_alike : (session : Session) (s : S) (t : T) (tag fid afid : ℕ) (aname : List ℕ) → Same s t → May s (Attaches (attach_of aname))
+  is_so : (b : Bool) → not b ≡ false → b ≡ true
+  is_so true off = refl
+  is_so false off = absurd cc
+
+  attach_alike : (session : Session) (s : S) (t : T) (tag fid afid : ℕ) (aname : List ℕ) → Same s t
+      → ((afid == no_fid) ≡ true → is_bound session fid ≡ false → is_full session ≡ false → May s (Attaches (attach_of aname)))
       → SameOutcome (SameLeft Later) (attach_answer outer session s tag fid afid aname) (attach_answer inner session t tag fid afid aname)
   unfolding attach_answer
   attach_alike session s t tag fid afid aname same asks =
-      check_alike (SameLeft Later) (refuse_if (not (afid == no_fid)) 40) _ _ (λ _ _.
-      check_alike (SameLeft Later) (refuse_if (is_bound session fid) 33) _ _ (λ _ _.
-      check_alike (SameLeft Later) (refuse_if (is_full session) 44) _ _ (λ _ _.
+      check_alike (SameLeft Later) (refuse_if (not (afid == no_fid)) 40) _ _ (λ u none.
+      check_alike (SameLeft Later) (refuse_if (is_bound session fid) 33) _ _ (λ v free.
+      check_alike (SameLeft Later) (refuse_if (is_full session) 44) _ _ (λ w room.
       bind_alike (λ a b. Later a.0 b.0 × (a.1 ≡ b.1)) (SameLeft Later) (outer.attached s (attach_of aname)) (inner.attached t (attach_of aname)) _ _
-      (alike.attached s t same (attach_of aname) asks) (λ a b p. record {
+      (alike.attached s t same (attach_of aname) (asks (is_so (afid == no_fid) (not_refused (not (afid == no_fid)) 40 u none)) (not_refused (is_bound session fid) 33 v free) (not_refused (is_full session) 44 w room))) (λ a b p. record {
         session = ap (λ (root : ℕ). and_fid session fid (fid_at (root_of root))) p.1;
         reply = ap (λ (root : ℕ). Some (Rattach tag (qid (root_of root)))) p.1;
         rest = p.0;
@@ -125,17 +132,19 @@ module _ {S T : Type 0} (outer : Outside S) (inner : Outside T) (Same Later : S 
   bind_same (Err n) f g each = refl
 
   walk_same : (session : Session) (s : S) (t : T) (tag fid newfid : ℕ) (names : List (List ℕ)) → Same s t → Keeps session
-      → ((from : Fid) → fid_of session fid ≡ Ok from → All (IsPlain HasWindow HasConnection) (walked (outer.view s session.connections) from.node names).0)
+      → ((from : Fid) → fid_of session fid ≡ Ok from → is_some from.mode ≡ false → (not (newfid == fid) && is_bound session newfid) ≡ false → (not (newfid == fid) && is_full session) ≡ false
+      → All (IsPlain HasWindow HasConnection) (walked (outer.view s session.connections) from.node names).0)
       → walk_answer outer session s tag fid newfid names ≡ walk_answer inner session t tag fid newfid names
   unfolding walk_answer
   walk_same session s t tag fid newfid names same keeps plain =
       bind_same (fid_of session fid) _ _ (λ from is.
-      bind_same (refuse_if (is_some from.mode) 36) _ _ (λ _ _.
-      bind_same (refuse_if (not (newfid == fid) && is_bound session newfid) 33) _ _ (λ _ _.
-      bind_same (refuse_if (not (newfid == fid) && is_full session) 44) _ _ (λ _ _.
+      bind_same (refuse_if (is_some from.mode) 36) _ _ (λ u closed.
+      bind_same (refuse_if (not (newfid == fid) && is_bound session newfid) 33) _ _ (λ v free.
+      bind_same (refuse_if (not (newfid == fid) && is_full session) 44) _ _ (λ w room.
       ap (walk_ended session tag fid newfid from.node)
       (walked_same HasWindow HasConnection (outer.view s session.connections) (inner.view t session.connections) (alike.view s t same session.connections) names from.node
-      (own_of session keeps fid from is).plain (plain from is))))))
+      (own_of session keeps fid from is).plain
+      (plain from is (not_refused (is_some from.mode) 36 u closed) (not_refused (not (newfid == fid) && is_bound session newfid) 33 v free) (not_refused (not (newfid == fid) && is_full session) 44 w room)))))))
 
   stat_is : (session : Session) (s : S) (t : T) (tag number : ℕ) → Same s t → Keeps session → stat_answer outer session s tag number ≡ stat_answer inner session t tag number
   unfolding stat_answer
@@ -146,8 +155,33 @@ module _ {S T : Type 0} (outer : Outside S) (inner : Outside T) (Same Later : S 
 
   -- ---- opens
 
-  taken_same : (session : Session) (s : S) (t : T) (node : Node) → Same s t → HasWindow node.serial → is_taken outer session s node ≡ is_taken inner session t node
-  taken_same session s t node same has = rw (alike.pane s t same node.serial has) refl
+  -- what is asked of the pane of a file of a kind
+  held_same : (of node : Kind) (x y : Bool) → (is_kind of node ≡ true → x ≡ y) → (is_kind of node && x) ≡ (is_kind of node && y)
+  held_same of node x y same = by (is_kind of node) refl
+    where
+      by : (b : Bool) → is_kind of node ≡ b → (b && x) ≡ (b && y)
+      by true is = same is
+      by false is = refl
+
+  -- a `mouse` or a `consctl` is one of a window
+  mouse_place : (of : Kind) (serial : ℕ) → is_kind Mouse of ≡ true → TellsOf (row of).owner serial → (serial == 0) ≡ false
+  unfolding row
+  mouse_place Mouse serial is place = place
+  mouse_place _ serial is place = absurd (cc is)
+
+  consctl_place : (of : Kind) (serial : ℕ) → is_kind Consctl of ≡ true → TellsOf (row of).owner serial → (serial == 0) ≡ false
+  unfolding row
+  consctl_place Consctl serial is place = place
+  consctl_place _ serial is place = absurd (cc is)
+
+  taken_same : (session : Session) (s : S) (t : T) (node : Node) → Same s t → IsPlain HasWindow HasConnection node → is_taken outer session s node ≡ is_taken inner session t node
+  taken_same session s t node same plain =
+      rw (
+        held_same Mouse node.kind (outer.pane s node.serial).mouse_held (inner.pane t node.serial).mouse_held
+            (λ is. ap (λ (p : Pane). p.mouse_held) (alike.pane s t same node.serial plain.window (mouse_place node.kind node.serial is plain.place))),
+        held_same Consctl node.kind (outer.pane s node.serial).consctl_held (inner.pane t node.serial).consctl_held
+            (λ is. ap (λ (p : Pane). p.consctl_held) (alike.pane s t same node.serial plain.window (consctl_place node.kind node.serial is plain.place))),
+      ) refl
 
   below_most : (new : Bool) (made : ℕ) → refuse_if (new && nat_le most_made made) 44 ≡ Ok tt → new ≡ true → made + 1 ≤ most_made
   below_most true made fine is = by (nat_le most_made made) refl fine
@@ -174,7 +208,7 @@ module _ {S T : Type 0} (outer : Outside S) (inner : Outside T) (Same Later : S 
       check_alike (SameLeft Same) (refuse_if (is_some fid.mode) 36) _ _ (λ _ _.
       equal_alike (SameLeft Same) _ _ _ _ (live_same session s t fid same own) (λ _.
       check_alike (SameLeft Same) (refuse_if (not (may fid.node mode)) 38) _ _ (λ _ _.
-      equal_alike (SameLeft Same) _ _ _ _ (ap (λ b. refuse_if b 43) (taken_same session s t fid.node same own.plain.window)) (λ _.
+      equal_alike (SameLeft Same) _ _ _ _ (ap (λ b. refuse_if b 43) (taken_same session s t fid.node same own.plain)) (λ _.
       check_alike (SameLeft Same) (refuse_if (is_kind New fid.node.kind && nat_le most_made session.made) 44) _ _ (λ _ fine.
       opened_alike session s t tag number mode fid (is_kind New fid.node.kind) refl same own (λ new. below_most (is_kind New fid.node.kind) session.made fine new)))))))
 
@@ -207,18 +241,19 @@ module _ {S T : Type 0} (outer : Outside S) (inner : Outside T) (Same Later : S 
       read_done session s t tag number (count_within session count) a b same p)))))
 
   write_alike : (session : Session) (s : S) (t : T) (tag number offset : ℕ) (bytes : List ℕ) (mark told : Option ℕ) → Same s t → Keeps session
-      → ((f : Fid) → fid_of session number ≡ Ok f → MayWrite outer HasWindow HasConnection May s f.node bytes mark told f.node.kind)
+      → ((f : Fid) → fid_of session number ≡ Ok f → is_none f.mode ≡ false → is_open_for writes f ≡ true
+      → check_live (outer.view s session.connections f.node) f.node ≡ Ok tt → MayWrite outer HasWindow HasConnection May s f.node bytes mark told f.node.kind)
       → SameOutcome (SameLeft Later) (write_answer outer session s tag number offset bytes mark) (write_answer inner session t tag number offset bytes told)
   unfolding write_answer
   write_alike session s t tag number offset bytes mark told same keeps asks =
       check_alike (SameLeft Later) (fid_of session number) _ _ (λ fid is.
       let own = own_of session keeps number fid is in
-      check_alike (SameLeft Later) (refuse_if (is_none fid.mode) 37) _ _ (λ _ fine.
-      check_alike (SameLeft Later) (refuse_if (not (is_open_for writes fid)) 38) _ _ (λ _ _.
+      check_alike (SameLeft Later) (refuse_if (is_none fid.mode) 37) _ _ (λ v fine.
+      check_alike (SameLeft Later) (refuse_if (not (is_open_for writes fid)) 38) _ _ (λ w opened.
       known_alike (SameLeft Later) _ _ _ _ (live_same session s t fid same own) (λ u live.
       bind_alike (λ a b. Later a.0 b.0 × (a.1 ≡ b.1)) (SameLeft Later) (file_written outer s fid.node offset bytes mark fid.node.kind) (file_written inner t fid.node offset bytes told fid.node.kind) _ _
       (written_alike outer inner Same Later HasWindow HasConnection May alike session.connections s t fid.node offset bytes mark told fid.node.kind same (own.own (is_opened fid.mode fine)) own.plain
-      (own.plain.place, (u, live)) (asks fid is)) (λ a b p.
+      (own.plain.place, (u, live)) (asks fid is (not_refused (is_none fid.mode) 37 v fine) (is_so (is_open_for writes fid) (not_refused (not (is_open_for writes fid)) 38 w opened)) live)) (λ a b p.
       record { session = refl; reply = ap (λ n. Some (write_reply tag (length bytes) n)) p.1; rest = p.0 })))))
 
   -- ---- a whole message
@@ -256,9 +291,10 @@ module _ {S T : Type 0} (outer : Outside S) (inner : Outside T) (Same Later : S 
   unfolding answer_read
   or_not_alike session s t mark told None same keeps private = refl
   or_not_alike session s t mark told (Some m) same keeps private =
-      check_alike (SameLeft Later) (refuse_if (not (is_version m) && (tag_of_t m == no_tag)) 30) _ _ (λ _ _.
-      check_alike (SameLeft Later) (refuse_if (not (is_version m) && not session.agreed) 31) _ _ (λ _ _.
-      to_alike session s t mark told m same keeps private))
+      check_alike (SameLeft Later) (refuse_if (not (is_version m) && (tag_of_t m == no_tag)) 30) _ _ (λ u tagged.
+      check_alike (SameLeft Later) (refuse_if (not (is_version m) && not session.agreed) 31) _ _ (λ v agreed.
+      to_alike session s t mark told m same keeps
+      (private (not_refused (not (is_version m) && (tag_of_t m == no_tag)) 30 u tagged) (not_refused (not (is_version m) && not session.agreed) 31 v agreed))))
 
   replied_alike : (session : Session) (s : S) (t : T) (tag : ℕ) (x : Outcome (Left S)) (y : Outcome (Left T)) → Same s t → SameOutcome (SameLeft Later) x y
       → SameLeft Later (replied session s tag x) (replied session t tag y)
@@ -268,7 +304,7 @@ module _ {S T : Type 0} (outer : Outside S) (inner : Outside T) (Same Later : S 
   replied_alike session s t tag (Err n) (Ok b) same p = absurd p
 
   taken_alike : (session : Session) (s : S) (t : T) (bytes : List ℕ) (mark told : Option ℕ) (how : Taking) → Same s t → Keeps session
-      → ArePrivate outer HasWindow HasConnection May session s mark told bytes
+      → (how ≡ Reads → IsPrivateIf outer HasWindow HasConnection May session s mark told (message_of bytes))
       → SameLeft Later (taken outer session s bytes mark how) (taken inner session t bytes told how)
   taken_alike session s t bytes mark told Ignored same keeps private = record { session = refl; reply = refl; rest = alike.unchanged s t same }
   taken_alike session s t bytes mark told TooLong same keeps private = record { session = refl; reply = refl; rest = alike.unchanged s t same }
@@ -276,7 +312,7 @@ module _ {S T : Type 0} (outer : Outside S) (inner : Outside T) (Same Later : S 
       let gone = cleared_alike session s t same keeps in
       record { session = ap (λ (session : Session). record session { closed = Some (tag_of bytes) }) gone.0; reply = refl; rest = gone.1 }
   taken_alike session s t bytes mark told Reads same keeps private =
-      replied_alike session s t (tag_of bytes) _ _ same (or_not_alike session s t mark told (message_of bytes) same keeps private)
+      replied_alike session s t (tag_of bytes) _ _ same (or_not_alike session s t mark told (message_of bytes) same keeps (private refl))
 
   -- each message is answered alike
   pub answer_alike : (session : Session) (s : S) (t : T) (bytes : List ℕ) (mark told : Option ℕ) → Same s t → Keeps session
@@ -312,7 +348,7 @@ module _ {S T : Type 0} (outer : Outside S) (inner : Outside T) (Same Later : S 
 
   refused_alike : (s : S) (t : T) (count : ℕ) (fid : Outcome Fid) → Same s t → ((f : Fid) → fid ≡ Ok f → Own f) → Ready (given_or_refused outer s count fid) (given_or_refused inner t count fid)
   refused_alike s t count (Err n) same own = refl
-  refused_alike s t count (Ok fid) same own = ok_ready _ _ (given_alike outer inner Same Later HasWindow HasConnection May alike s t fid count fid.node.kind same (own fid refl).plain.window)
+  refused_alike s t count (Ok fid) same own = ok_ready _ _ (given_alike outer inner Same Later HasWindow HasConnection May alike s t fid count fid.node.kind same (own fid refl).plain.window (own fid refl).plain.place)
 
   wait_alike : (session : Session) (s : S) (t : T) (wait : Wait) → Same s t → Keeps session → Ready (wait_answer outer session s wait) (wait_answer inner session t wait)
   unfolding wait_answer

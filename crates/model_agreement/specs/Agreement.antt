@@ -1,18 +1,20 @@
 -- When two outsides answer a session alike.
-use Rattle.std.specs.Prelude.{◌≡◌, ◌≤◌, ◌==◌, ℕ, Bool, true, false, All, IsTrue, is_some, List, Option, Some, None, Ok, Err}
+use Rattle.std.specs.Prelude.{◌≡◌, ◌≤◌, ◌==◌, ◌&&◌, ℕ, Bool, true, false, not, All, IsTrue, is_none, is_some, List, Option, Some, None, Ok, Err}
 use Rattle.model_text.specs.Outcome.{Outcome}
-use Rattle.model_wire.specs.Message.{T, Tattach, Twalk, Twrite}
+use Rattle.model_wire.specs.Message.{T, Tattach, Twalk, Twrite, no_fid, no_tag, tag_of_t}
 use Rattle.model_wire.specs.Reading.{message_of}
 use Rattle.model_window.specs.Heard.{Heard, Noted, Raw, Written, Labelled, MouseRead, ConsoleRead, MouseHeld, ConsctlHeld}
 use Rattle.model_tree.specs.declared.Kind.{Kind}
 use Rattle.model_tree.specs.declared.Kind.TheVariants as kind
-use Rattle.model_tree.specs.Node.{Node, Owner, OfSession, OfConnection, OfRio, OfWindow, row}
-use Rattle.model_tree.specs.Tree.{View}
+use Rattle.model_tree.specs.Node.{Node, Owner, OfSession, OfConnection, OfRio, OfWindow, row, writes}
+use Rattle.model_tree.specs.Tree.{View, check_live}
 use Rattle.model_tree.specs.Attach.{Attach, attach_of}
 use Rattle.model_world.specs.Session.{Session, Fid}
 use Rattle.model_world.specs.Outside.{Outside}
-use Rattle.model_world.specs.Fids.{Left, fid_of}
+use Rattle.model_world.specs.Fids.{Left, fid_of, is_bound, is_full}
 use Rattle.model_world.specs.Walking.{most_made, walked}
+use Rattle.model_world.specs.Reading.{is_open_for}
+use Rattle.model_world.specs.Answer.{Reads, is_version, taking}
 
 -- both are refused by the same number, or neither is and the values are so related
 abbrev pub SameOutcome : {A B : Type 0} → (A → B → Type 0) → Outcome A → Outcome B → Type 0
@@ -110,23 +112,27 @@ module _ {S : Type 0} (outside : Outside S) (HasWindow HasConnection : ℕ → T
   MayWrite s node bytes mark told kind.Wctl = May s (Commands bytes)
   MayWrite s node bytes mark told _ = Unit {0}
 
-  -- a message keeps to what its session has for itself
+  -- A message keeps to what its session has for itself, as far as it is not refused before that matters.
   abbrev pub IsPrivate : Session → S → (mark told : Option ℕ) → T → Type 0
-  IsPrivate session s mark told (Tattach tag fid afid uname aname) = May s (Attaches (attach_of aname))
+  IsPrivate session s mark told (Tattach tag fid afid uname aname) =
+      (afid == no_fid) ≡ true → is_bound session fid ≡ false → is_full session ≡ false → May s (Attaches (attach_of aname))
   IsPrivate session s mark told (Twalk tag fid newfid names) =
-      (from : Fid) → fid_of session fid ≡ Ok from
+      (from : Fid) → fid_of session fid ≡ Ok from → is_some from.mode ≡ false → (not (newfid == fid) && is_bound session newfid) ≡ false
+      → (not (newfid == fid) && is_full session) ≡ false
       → All (IsPlain HasWindow HasConnection) (walked (outside.view s session.connections) from.node names).0
   IsPrivate session s mark told (Twrite tag fid offset bytes) =
-      (f : Fid) → fid_of session fid ≡ Ok f → MayWrite s f.node bytes mark told f.node.kind
+      (f : Fid) → fid_of session fid ≡ Ok f → is_none f.mode ≡ false → is_open_for writes f ≡ true
+      → check_live (outside.view s session.connections f.node) f.node ≡ Ok tt → MayWrite s f.node bytes mark told f.node.kind
   IsPrivate session s mark told _ = Unit {0}
 
   abbrev pub IsPrivateIf : Session → S → (mark told : Option ℕ) → Option T → Type 0
   IsPrivateIf session s mark told None = Unit {0}
-  IsPrivateIf session s mark told (Some m) = IsPrivate session s mark told m
+  IsPrivateIf session s mark told (Some m) =
+      (not (is_version m) && (tag_of_t m == no_tag)) ≡ false → (not (is_version m) && not session.agreed) ≡ false → IsPrivate session s mark told m
 
-  -- so does what bytes spell
+  -- so does what bytes spell, where they are read
   abbrev pub ArePrivate : Session → S → (mark told : Option ℕ) → List ℕ → Type 0
-  ArePrivate session s mark told bytes = IsPrivateIf session s mark told (message_of bytes)
+  ArePrivate session s mark told bytes = taking session bytes ≡ Reads → IsPrivateIf session s mark told (message_of bytes)
 
 -- ---- alike
 
@@ -145,7 +151,7 @@ pub record Alike {S T : Type 0} (outer : Outside S) (inner : Outside T) (Same La
   pub view :
       (s : S) (t : T) → Same s t → (connections : List ℕ) (node : Node) → IsPlain HasWindow HasConnection node
       → SameView (outer.view s connections node) (inner.view t connections node)
-  pub pane : (s : S) (t : T) → Same s t → (window : ℕ) → HasWindow window → outer.pane s window ≡ inner.pane t window
+  pub pane : (s : S) (t : T) → Same s t → (window : ℕ) → HasWindow window → (window == 0) ≡ false → outer.pane s window ≡ inner.pane t window
   pub hear :
       (s : S) (t : T) → Same s t → (window : ℕ) (h : Heard) → IsDone h → HasWindow window → Same (outer.hear s window h) (inner.hear t window h)
   -- of a window that lives
