@@ -1,0 +1,148 @@
+-- What draw devices keep for a session to be isolated: the laws of a relation between the server's device and that of a world of its
+-- own, under which both are the same to the session (draw(3)).
+use Rattle.std.specs.Prelude.{◌≡◌, ◌<◌, ◌≤◌, ◌^◌, ◌==◌, ℕ, Bool, true, false, All, IfSome, List, [], ◌∷◌, Option, Some, None, Ok, if◌then◌else◌}
+use Rattle.std.specs.List.{list_any}
+use Rattle.std.specs.Option.{option_map}
+use Rattle.r9_geom.specs.declared.Rect.{Rect}
+use Rattle.r9_event.specs.declared.rio.Order.{Order}
+use Rattle.r9_event.specs.declared.rio.Order.TheVariants as order
+use Rattle.model_dmsg.specs.Message.{Message, UpA, UpN, LowN, UpS}
+use Rattle.model_images.specs.Book.{Book, tie_of}
+use Rattle.model_images.specs.Release.{is_tied_by}
+use Rattle.model_draw.specs.World.{Opening, World, after_connect, after_leave, started}
+use Rattle.model_draw.specs.Making.{flag}
+use Rattle.model_draw.specs.Act.{no_memory, written}
+use Rattle.model_draw.specs.Files.{read_ctl, read_data, write_ctl}
+use Rattle.model_draw.specs.Orders.{carried_out, fits, manager, ordered, picture_of, with_root_rio}
+use Rattle.model_rio.specs.Table.{Table, opened}
+use Rattle.model_rio.specs.Act.{Act}
+use Rattle.model_rio.specs.Step.{Step}
+use Rattle.model_rio.specs.Rio.{rio}
+use Rattle.model_rio.specs.Sound.{IsSound}
+use Rattle.model_shown.specs.Showing.{IsOrderly}
+use Rattle.model_fitting.specs.Fitting.{AllFit}
+use Rattle.model_orders.specs.Leading.{Uses}
+use Rattle.model_world.specs.Whole.{client}
+use Rattle.model_agreement.specs.Agreement.{SameOutcome}
+use Rattle.model_alone.specs.Uses.{images_named, looked_at}
+use Rattle.model_alone.specs.Lone.{lone_desktop, started_alone, written_alone}
+use Rattle.model_told.specs.Telling.{IsBeside}
+
+-- `window`: the serial and the name of the session's window, where it has one.
+
+-- ---- messages
+
+-- a message shares nothing, and looks up no name but that of the session's window
+abbrev pub SharesNothing : (window : Option (ℕ × List ℕ)) → Message → Type 0
+SharesNothing window (UpA id imageid fillid public) = flag public ≡ false
+SharesNothing window (UpN id tied name) = ⊥
+SharesNothing window (LowN id name) = (serial : ℕ) × (window ≡ Some (serial, name))
+SharesNothing window (UpS id chan) = ⊥
+SharesNothing window _ = Unit {0}
+
+-- and it does not name the display
+pub record KeepsWithin (window : Option (ℕ × List ℕ)) (m : Message) : Type 0 where
+  pub images : list_any (λ id. id == 0) (images_named m) ≡ false
+  pub names : SharesNothing window m
+
+-- a message of another session looks up no name of the session's window
+abbrev pub LeavesName : (window : Option (ℕ × List ℕ)) → Message → Type 0
+LeavesName window (LowN id name) = (serial : ℕ) → window ≡ Some (serial, name) → ⊥
+LeavesName window _ = Unit {0}
+
+-- the mark with which a session is told of its write: where it took effect
+abbrev pub told_mark : (mark refusal : Option ℕ) → Option ℕ
+told_mark mark None = None
+told_mark mark (Some n) = if n == no_memory then mark else None
+
+-- ---- names
+
+-- no image but the window's has the name
+abbrev pub IsFree : Book → (serial : ℕ) → (name : List ℕ) → Type 0
+IsFree book serial name = IfSome (tie_of book name) (λ t. is_tied_by manager serial t ≡ true)
+
+-- an order about a window gives it a name that is free
+abbrev pub NamesFree : (window : ℕ) → Book → Order → Type 0
+NamesFree window book (order.Make at host r name hide depth) = at ≡ window → IsFree book window name
+NamesFree window book (order.Replace at host r name keep hidden) = at ≡ window → IsFree book window name
+NamesFree window book _ = Unit {0}
+
+-- and so do orders, one after the other
+abbrev pub AllFree : (window : ℕ) → World → List Order → Type 0
+AllFree window device [] = Unit {0}
+AllFree window device (o ∷ orders) = NamesFree window device.book o × AllFree window (ordered device o) orders
+
+-- the serial of the session's window
+abbrev pub serial_in : Option (ℕ × List ℕ) → Option ℕ
+serial_in window = option_map (λ w. w.0) window
+
+-- ---- laws
+
+-- The session is session c of the server and session 1 of its own world. Sessions are counted from 1, and connections by numbers
+-- below 2^26.
+pub record IsDeviceLike (c : ℕ) (Like : Option (ℕ × List ℕ) → World → World → Type 0) : Type 0 where
+  pub start : (opening : Opening) → Like None (with_root_rio (started opening)) (started_alone opening)
+  -- the session's own connections
+  pub connect :
+      (window : Option (ℕ × List ℕ)) (a b : World) → Like window a b → (n : ℕ) → n < 2 ^ 26
+      → Like window (after_connect a (client c n)) (after_connect b (client 1 n))
+  pub leave :
+      (window : Option (ℕ × List ℕ)) (a b : World) → Like window a b → (n : ℕ) → n < 2 ^ 26
+      → Like window (after_leave a (client c n)) (after_leave b (client 1 n))
+  pub write :
+      (window : Option (ℕ × List ℕ)) (a b : World) → Like window a b → (n : ℕ) (bytes : List ℕ) (mark : Option ℕ) → n < 2 ^ 26
+      → All (KeepsWithin window) (looked_at (client c n) a bytes mark)
+      → Like window (written (client c n) a bytes mark).world (written_alone (client 1 n) b bytes (told_mark mark (written (client c n) a bytes mark).refusal)).0
+      × ((written (client c n) a bytes mark).refusal ≡ (written_alone (client 1 n) b bytes (told_mark mark (written (client c n) a bytes mark).refusal)).1)
+  pub read :
+      (window : Option (ℕ × List ℕ)) (a b : World) → Like window a b → (n most : ℕ) → n < 2 ^ 26
+      → SameOutcome (λ x y. (x.0 ≡ y.0) × Like window x.1 y.1) (read_data (client c n) a most) (read_data (client 1 n) b most)
+  pub tell :
+      (window : Option (ℕ × List ℕ)) (a b : World) → Like window a b → (n : ℕ) → n < 2 ^ 26
+      → read_ctl (client c n) a n ≡ lone_desktop.read_ctl (record { device = b; window = None; made = None }) n
+  pub choose :
+      (window : Option (ℕ × List ℕ)) (a b : World) → Like window a b → (n : ℕ) (bytes : List ℕ) → n < 2 ^ 26
+      → SameOutcome (Like window) (write_ctl (client c n) a bytes) (write_ctl (client 1 n) b bytes)
+  -- its window, which stands on the root rio's screen
+  pub picture : (serial : ℕ) (name : List ℕ) (a b : World) → Like (Some (serial, name)) a b → picture_of a serial ≡ picture_of b serial
+  pub made :
+      (a b : World) → Like None a b → (serial depth : ℕ) (name : List ℕ) (r : Rect) (hide : Bool)
+      → (serial == 0) ≡ false → fits a (order.Make serial 0 r name hide depth) ≡ true → IsFree a.book serial name
+      → Like (Some (serial, name)) (ordered a (order.Make serial 0 r name hide depth)) (ordered b (order.Make serial 0 r name false depth))
+  pub replaced :
+      (serial : ℕ) (old : List ℕ) (a b : World) → Like (Some (serial, old)) a b → (name : List ℕ) (r : Rect) (keep hidden : Bool)
+      → fits a (order.Replace serial 0 r name keep hidden) ≡ true → IsFree a.book serial name
+      → Like (Some (serial, name)) (ordered a (order.Replace serial 0 r name keep hidden)) (ordered b (order.Replace serial 0 r name keep false))
+  pub dropped :
+      (serial : ℕ) (name : List ℕ) (a b : World) → Like (Some (serial, name)) a b → fits a (order.Drop serial) ≡ true
+      → Like None (ordered a (order.Drop serial)) (ordered b (order.Drop serial))
+  -- what others do: orders that are not about the window's image, and the connections of other sessions
+  pub beside :
+      (window : Option (ℕ × List ℕ)) (a b : World) → Like window a b → (o : Order) → fits a o ≡ true → IsBeside (serial_in window) o
+      → Like window (ordered a o) b
+  pub others_connect :
+      (window : Option (ℕ × List ℕ)) (a b : World) → Like window a b → (d n : ℕ) → 1 ≤ d → (d ≡ c → ⊥) → n < 2 ^ 26
+      → Like window (after_connect a (client d n)) b
+  pub others_leave :
+      (window : Option (ℕ × List ℕ)) (a b : World) → Like window a b → (d n : ℕ) → 1 ≤ d → (d ≡ c → ⊥) → n < 2 ^ 26
+      → Like window (after_leave a (client d n)) b
+  pub others_write :
+      (window : Option (ℕ × List ℕ)) (a b : World) → Like window a b → (d n : ℕ) (bytes : List ℕ) (mark : Option ℕ) → 1 ≤ d → (d ≡ c → ⊥) → n < 2 ^ 26
+      → All (LeavesName window) (looked_at (client d n) a bytes mark)
+      → Like window (written (client d n) a bytes mark).world b
+  pub others_read :
+      (window : Option (ℕ × List ℕ)) (a b : World) → Like window a b → (d n most : ℕ) → 1 ≤ d → (d ≡ c → ⊥) → n < 2 ^ 26
+      → (got : List ℕ × World) → read_data (client d n) a most ≡ Ok got → Like window got.1 b
+  pub others_choose :
+      (window : Option (ℕ × List ℕ)) (a b : World) → Like window a b → (d n : ℕ) (bytes : List ℕ) → 1 ≤ d → (d ≡ c → ⊥) → n < 2 ^ 26
+      → (next : World) → write_ctl (client d n) a bytes ≡ Ok next → Like window next b
+
+-- What keeps the names of windows free: something that holds of the server's device and its windows, from which follows that each
+-- order gives a window a name that no other image has.
+pub record AreNamesFree (Named : World → Table → Type 0) : Type 0 where
+  pub start : (opening : Opening) → Named (with_root_rio (started opening)) (opened opening.r)
+  pub acts :
+      (device : World) (table : Table) (a : Act) (step : Step) → IsSound table → IsOrderly device → AllFit device step.orders
+      → Named device table → rio table a ≡ Ok step
+      → ((window : ℕ) → AllFree window device step.orders) × Named (carried_out device step.orders) step.table
+  pub uses : (device next : World) (table : Table) → IsOrderly device → Named device table → Uses device next → Named next table
