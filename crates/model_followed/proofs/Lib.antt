@@ -1,2 +1,5 @@
 pub mod Noted
 pub mod Stepping
+pub mod Commands
+pub mod Outsides
+pub mod Answers

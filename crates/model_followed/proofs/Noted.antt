@@ -67,7 +67,7 @@ told_order panes at note.Deleted order = ascend-without panes at order
 told_order panes at n order = ascend-with panes at _ order
 
 -- the note, if it is one of the session's window
-abbrev own_note : (own : Option ℕ) → ℕ × Note → Option Note
+abbrev pub own_note : (own : Option ℕ) → ℕ × Note → Option Note
 own_note own told = if is_own own told.0 then Some told.1 else None
 
 pub all_order : (notes : List (ℕ × Note)) (panes : List (ℕ × Pane)) → Ascend (keys_of panes) → Ascend (keys_of (fold panes_told panes notes))

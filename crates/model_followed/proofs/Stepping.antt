@@ -64,7 +64,7 @@ beside_nothing (order.Drop at) ends = refl
 beside_nothing (order.Host at fill) ends = refl
 beside_nothing (order.Leave client) ends = absurd ends
 
-module _ (c : ℕ) (Like : Option (ℕ × List ℕ) → draw.World → draw.World → Type 0) (Named : draw.World → Table → Type 0) (laws : IsDeviceLike c Like) (names : AreNamesFree Named) where
+module _ (c : ℕ) (Like : Option (ℕ × List ℕ) → draw.World → draw.World → Type 0) (Named : draw.World → Table → List (ℕ × Pane) → Type 0) (laws : IsDeviceLike c Like) (names : AreNamesFree Named) where
   abbrev Same : Option ℕ → Desktop → LoneDesktop → Type 0
   Same own s t = SameDesktops Like Named own s t
 
@@ -79,7 +79,7 @@ module _ (c : ℕ) (Like : Option (ℕ × List ℕ) → draw.World → draw.Worl
   record IsKept (s : Desktop) : Type 0 where
     drawn : IsDrawn s
     order : Ascend (keys_of s.panes)
-    named : Named s.device s.table
+    named : Named s.device s.table s.panes
 
   all_fit : (s : Desktop) (a : Act) (step : Step) → IsDrawn s → IsSpelled a → rio s.table a ≡ Ok step → AllFit s.device step.orders
   all_fit s a step drawn spelled e = (act_fits s.device s.table a step drawn.sound drawn.orderly drawn.shows spelled e).all
@@ -89,7 +89,7 @@ module _ (c : ℕ) (Like : Option (ℕ × List ℕ) → draw.World → draw.Worl
   kept_after s a step is spelled e = record {
     drawn = (step_drawn s s a step (led_itself s is.drawn) spelled e).drawn;
     order = all_order step.notes s.panes is.order;
-    named = (names.acts s.device s.table a step is.drawn.sound is.drawn.orderly (all_fit s a step is.drawn spelled e) is.named e).1;
+    named = (names.acts s.device s.table s.panes a step is.drawn.sound is.drawn.orderly (all_fit s a step is.drawn spelled e) is.order is.named e).1;
   }
 
   -- The window that the session has after a step, where its pane comes from this one before it.
@@ -121,7 +121,7 @@ module _ (c : ℕ) (Like : Option (ℕ × List ℕ) → draw.World → draw.Worl
       held =
           let fit = all_fit s a step kept.drawn spelled e in
           tells_held c Like laws window counted start s.device pane t before is.now step.orders step.notes is.stands.tells fit
-          ((names.acts s.device s.table a step kept.drawn.sound kept.drawn.orderly fit kept.named e).0 window)
+          ((names.acts s.device s.table s.panes a step kept.drawn.sound kept.drawn.orderly fit kept.order kept.named e).0 window)
 
   kept_of : (own : Option ℕ) (s : Desktop) (t : LoneDesktop) → Same own s t → IsKept s
   kept_of own s t same = record { drawn = same.drawn; order = same.order; named = same.names }

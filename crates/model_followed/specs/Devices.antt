@@ -1,12 +1,17 @@
 -- What draw devices keep for a session to be isolated: the laws of a relation between the server's device and that of a world of its
 -- own, under which both are the same to the session (draw(3)).
 use Rattle.std.specs.Prelude.{◌≡◌, ◌<◌, ◌≤◌, ◌^◌, ◌==◌, ℕ, Bool, true, false, All, IfSome, List, [], ◌∷◌, Option, Some, None, Ok, if◌then◌else◌}
-use Rattle.std.specs.List.{list_any}
+use Rattle.std.specs.List.{fold, list_any}
+use Rattle.std.specs.Map.{keys_of}
 use Rattle.std.specs.Option.{option_map}
 use Rattle.r9_geom.specs.declared.Rect.{Rect}
 use Rattle.r9_event.specs.declared.rio.Order.{Order}
 use Rattle.r9_event.specs.declared.rio.Order.TheVariants as order
 use Rattle.model_dmsg.specs.Message.{Message, UpA, UpN, LowN, UpS}
+use Rattle.model_text.specs.Map.{lookup}
+use Rattle.model_map.specs.Ascending.{Ascend}
+use Rattle.model_window.specs.Heard.{Heard}
+use Rattle.model_window.specs.Pane.{Pane}
 use Rattle.model_images.specs.Book.{Book, tie_of}
 use Rattle.model_images.specs.Release.{is_tied_by}
 use Rattle.model_draw.specs.World.{Opening, World, after_connect, after_leave, started}
@@ -22,8 +27,9 @@ use Rattle.model_rio.specs.Sound.{IsSound}
 use Rattle.model_shown.specs.Showing.{IsOrderly}
 use Rattle.model_fitting.specs.Fitting.{AllFit}
 use Rattle.model_orders.specs.Leading.{Uses}
+use Rattle.model_world.specs.Desktop.{pane_told, panes_told}
 use Rattle.model_world.specs.Whole.{client}
-use Rattle.model_agreement.specs.Agreement.{SameOutcome}
+use Rattle.model_agreement.specs.Agreement.{IsDone, SameOutcome}
 use Rattle.model_alone.specs.Uses.{images_named, looked_at}
 use Rattle.model_alone.specs.Lone.{lone_desktop, started_alone, written_alone}
 use Rattle.model_told.specs.Telling.{IsBeside}
@@ -137,12 +143,21 @@ pub record IsDeviceLike (c : ℕ) (Like : Option (ℕ × List ℕ) → World →
       (window : Option (ℕ × List ℕ)) (a b : World) → Like window a b → (d n : ℕ) (bytes : List ℕ) → 1 ≤ d → (d ≡ c → ⊥) → n < 2 ^ 26
       → (next : World) → write_ctl (client d n) a bytes ≡ Ok next → Like window next b
 
--- What keeps the names of windows free: something that holds of the server's device and its windows, from which follows that each
--- order gives a window a name that no other image has.
-pub record AreNamesFree (Named : World → Table → Type 0) : Type 0 where
-  pub start : (opening : Opening) → Named (with_root_rio (started opening)) (opened opening.r)
+-- What keeps the names of windows free and apart: something that holds of the server's device, its windows and what their files have,
+-- from which follows that each order gives a window a name that no other image has, and that no two windows have one name.
+pub record AreNamesFree (Named : World → Table → List (ℕ × Pane) → Type 0) : Type 0 where
+  pub start : (opening : Opening) → Named (with_root_rio (started opening)) (opened opening.r) []
   pub acts :
-      (device : World) (table : Table) (a : Act) (step : Step) → IsSound table → IsOrderly device → AllFit device step.orders
-      → Named device table → rio table a ≡ Ok step
-      → ((window : ℕ) → AllFree window device step.orders) × Named (carried_out device step.orders) step.table
-  pub uses : (device next : World) (table : Table) → IsOrderly device → Named device table → Uses device next → Named next table
+      (device : World) (table : Table) (panes : List (ℕ × Pane)) (a : Act) (step : Step) → IsSound table → IsOrderly device
+      → AllFit device step.orders → Ascend (keys_of panes) → Named device table panes → rio table a ≡ Ok step
+      → ((window : ℕ) → AllFree window device step.orders)
+      × Named (carried_out device step.orders) step.table (fold panes_told panes step.notes)
+  pub uses :
+      (device next : World) (table : Table) (panes : List (ℕ × Pane)) → IsOrderly device → Named device table panes → Uses device next
+      → Named next table panes
+  pub heard :
+      (device : World) (table : Table) (panes : List (ℕ × Pane)) (window : ℕ) (h : Heard) → IsDone h → Named device table panes
+      → Named device table (pane_told panes window h)
+  pub apart :
+      (device : World) (table : Table) (panes : List (ℕ × Pane)) (m n : ℕ) (p q : Pane) → Named device table panes
+      → lookup panes m ≡ Some p → lookup panes n ≡ Some q → p.known.name ≡ q.known.name → m ≡ n

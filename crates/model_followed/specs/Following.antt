@@ -56,11 +56,11 @@ SameWindows s t (Some serial) = SameWindow s t serial
 -- ---- all outside of the session
 
 -- `Named` keeps the names of windows free.
-module _ (Like : Option (ℕ × List ℕ) → draw.World → draw.World → Type 0) (Named : draw.World → Table → Type 0) where
+module _ (Like : Option (ℕ × List ℕ) → draw.World → draw.World → Type 0) (Named : draw.World → Table → List (ℕ × Pane) → Type 0) where
   pub record SameDesktops (own : Option ℕ) (s : Desktop) (t : LoneDesktop) : Type 0 where
     pub drawn : IsDrawn s
     pub order : Ascend (keys_of s.panes)
-    pub names : Named s.device s.table
+    pub names : Named s.device s.table s.panes
     pub window : SameWindows s t own
     pub device : Like (named_in s own) s.device t.device
 
