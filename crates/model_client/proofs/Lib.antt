@@ -1,0 +1,5 @@
+pub mod Saying
+pub mod Walking
+pub mod Answering
+pub mod Messages
+pub mod Writes

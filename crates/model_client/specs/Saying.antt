@@ -1,0 +1,39 @@
+-- A client: the one session of a server, which has agreed on a version and has no read that waits, and what it says (intro(5)).
+use Rattle.std.specs.Prelude.{◌≡◌, ◌≤◌, ◌==◌, true, false, [], ◌∷◌, length, None}
+use Rattle.r9_event.specs.declared.event.Event.{Event}
+use Rattle.r9_event.specs.declared.event.Event.TheVariants.{Msg}
+use Rattle.model_wire.specs.Message.{T, R, no_tag, tag_of_t}
+use Rattle.model_wire.specs.Spelling.{SpellsT, spelling_of_t, spelling_of_r}
+use Rattle.model_world.specs.Session.{Session}
+use Rattle.model_world.specs.Desktop.{Desktop}
+use Rattle.model_world.specs.World.{World}
+use Rattle.model_world.specs.Replay.{Turn}
+
+-- the client is session 1
+abbrev pub says : T → Event
+says m = Msg 1 (spelling_of_t m) None
+
+pub record IsClient (world : World) (session : Session) : Type 0 where
+  pub alone : world.sessions ≡ (1, session) ∷ []
+  pub agreed : session.agreed ≡ true
+  pub lives : session.closed ≡ None
+  pub idle : session.waiting ≡ []
+
+-- the message has a spelling, which is no longer than was agreed, and a tag
+pub record MaySay (session : Session) (m : T) : Type 0 where
+  pub spelled : SpellsT (spelling_of_t m) m
+  pub tagged : (tag_of_t m == no_tag) ≡ false
+  pub short : length (spelling_of_t m) ≤ session.msize
+
+-- the world after a message that left this of the client and of the desktop
+abbrev pub world_left : World → Session × Desktop → World
+world_left world after = record world { desktop = record after.1 { notes = [] }; sessions = (1, after.0) ∷ [] }
+
+-- the turn of a message that left this, and had this reply
+abbrev pub answered : World → Session × Desktop → R → Turn
+answered world after reply = record {
+  world = world_left world after;
+  replies = record { session = 1; bytes = spelling_of_r reply } ∷ [];
+  notes = after.1.notes;
+  closed = None;
+}
