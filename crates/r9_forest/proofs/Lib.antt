@@ -9,6 +9,7 @@ pub mod Meeting
 pub mod Near
 pub mod Numbers
 pub mod Putting
+pub mod Raws
 pub mod Relisted
 pub mod Repeats
 pub mod Rows

@@ -168,3 +168,16 @@ put_sound lists pixels new spare i area f sound live inside small is = record {
   cells = subst (HasCells (shape lists)) (sym is.has) sound.cells;
   numbers = sound.numbers;
 }
+
+-- of a part that is all, with pixels that are the same there
+pub written_same : (shape : World) (i : ℕ) (a b : Point → Bool) (f g : Point → ℕ) (old new : KeptPixels) → ((p : Point) → b p ≡ a p) → ((p : Point) → b p ≡ true → f p ≡ g p) → IsWritten shape i a f old new → IsWritten shape i b g old new
+written_same shape i a b f g old new area same is =
+    let all = written_all shape i a b f old new area is in
+    record {
+      put = record {
+        put = λ p inside in_area bare. all.put.put p inside in_area bare ∙ same p in_area;
+        others = all.put.others;
+      };
+      has = all.has;
+      forms = all.forms;
+    }
