@@ -5,4 +5,3 @@ mod Placing
 mod Viewed
 mod Display
 mod Panes
-mod Short

@@ -1,8 +1,7 @@
 -- What is read at a window, whether there is such a window or not.
-use Rattle.std.proofs.Common.{◌≡◌, ◌≤◌, ℕ, Bool, true, false, cond, eqb, List, [], ◌∷◌, length, take, Option, Some, None, Result, Ok, Err, sym, ap, ◌∙◌, arith}
+use Rattle.std.proofs.Common.{◌≡◌, ℕ, Bool, cond, eqb, List, [], Option, Some, None, Result, Ok, Err, sym, ap, ◌∙◌}
 use Rattle.std.specs.Prelude.{IfOk, IfSome, IfNone, OnErr}
 use Rattle.std.specs.Option.{unwrap_or}
-use Rattle.std.proofs.lemmas.List.{length-take}
 use Rattle.model_text.specs.Map.{lookup, with}
 use Rattle.model_map.proofs.Maps.{with-same}
 use Rattle.model_mouse.specs.Queue.{answer, answer_text}
@@ -62,18 +61,3 @@ pub no_console : (count : ℕ) (panes : List (ℕ × Pane)) (window : ℕ) (b : 
     → o ≡ console.read count (pane_of panes window).console
 no_console count panes window b o none is given =
     no_lines count b o is given ∙ ap (λ (p : Option Pane). console.read count (unwrap_or p new_pane).console) (sym none)
-
--- ---- how much is given
-
-few_given : (count : ℕ) (lines : List (List ℕ)) (bytes : List ℕ) → Some bytes ≡ console.given count lines → length bytes ≤ count
-few_given count [] bytes is = absurd (cc is)
-few_given count (line ∷ lines) bytes is = let text : bytes ≡ take count line = cc is in omega (arith, ap length text, length-take count line)
-
-few_by : (count : ℕ) (lines : List (List ℕ)) (b : Bool) (bytes : List ℕ) → Some bytes ≡ cond b (Some []) (console.given count lines) → length bytes ≤ count
-few_by count lines true bytes is = let text : bytes ≡ [] = cc is in omega (arith, ap length text)
-few_by count lines false bytes is = few_given count lines bytes is
-
-pub few_read : (count : ℕ) (c : console.Console) (given : Option (List ℕ)) → given ≡ console.read count c → IfSome given (λ bytes. length bytes ≤ count)
-unfolding console.read
-few_read count c None is = tt
-few_read count c (Some bytes) is = few_by count c.ended (eqb count 0) bytes is

@@ -73,6 +73,7 @@ pub(crate) fn read_console(
     count: u32,
 ) -> Result<Option<Bytes>, Memory>
     ensures gives { IfOk result (λ given. given ≡ console.read count (pane_of panes.old.entries window).console) }
+    ensures short { IfOk result (λ given. IfSome given (λ bytes. length bytes ≤ count)) }
     ensures takes { IfOk result (λ given. IfSome given (λ _. panes.new.entries ≡ pane_told panes.old.entries window (ConsoleRead count))) }
     ensures leaves { IfOk result (λ given. IfNone given (panes.new.entries ≡ panes.old.entries)) }
     ensures err { OnErr result (panes.new.entries ≡ panes.old.entries) }

@@ -1,6 +1,6 @@
 //! The files `data` and `ctl` of a connection.
 
-ghost use Rattle.std.specs.Prelude.{◌≡◌, ◌==◌, ◌^◌, true, false, length, MatchOption, Ok, Err, IfOk, IfErr, OnOk, OnErr, IsSome};
+ghost use Rattle.std.specs.Prelude.{◌≡◌, ◌==◌, ◌≤◌, ◌^◌, true, false, length, MatchOption, Ok, Err, IfOk, IfErr, OnOk, OnErr, IsSome};
 ghost use Rattle.std.specs.Int.{w32, from_le_bytes};
 ghost use Rattle.r9_geom.specs.Geometry.{IsRectNearBy};
 ghost use Rattle.model_text.specs.Map.{lookup};
@@ -52,6 +52,7 @@ impl Draw {
     pub fn read_data(&mut self, client: u64, most: u32) -> Result<Bytes, DrawFault>
         requires { IsSome (lookup (world_of self.old).clients client) }
         ensures read { IfOk result (λ bytes. read_data client (world_of self.old) most ≡ Ok (bytes, world_of self.new)) }
+        ensures short { IfOk result (λ bytes. length bytes ≤ most) }
         ensures refused { IfErr result (λ f. IfRefused f (λ n. read_data client (world_of self.old) most ≡ Err n)) }
         ensures kept { OnErr result (world_of self.new ≡ world_of self.old) }
     {

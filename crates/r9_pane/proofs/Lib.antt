@@ -1,2 +1,3 @@
 mod Padded
 mod Waits
+mod Few

@@ -217,6 +217,7 @@ impl Pane {
     #[tactic(auto, unfolding(model_window::specs::Pane::pane_heard), using(crate::proofs::Waits::none_ended, crate::proofs::Waits::unread))]
     pub fn read_console(&mut self, count: u32) -> Result<Option<Bytes>, Memory>
         ensures gives { IfOk result (λ given. given ≡ console.read count self.old.console) }
+        ensures short { IfOk result (λ given. IfSome given (λ bytes. length bytes ≤ count)) }
         ensures takes { IfOk result (λ given. IfSome given (λ _. self.new ≡ pane_heard self.old (ConsoleRead count))) }
         ensures leaves { IfOk result (λ given. IfNone given (self.new ≡ self.old)) }
         ensures err { OnErr result (self.new ≡ self.old) }
