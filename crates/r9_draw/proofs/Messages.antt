@@ -1,11 +1,11 @@
 -- What becomes of one message, by what stands first in the bytes and what it does.
-use Rattle.std.proofs.Common.{◌≡◌, ℕ, Bool, true, false, ◌+◌, ◌<◌, ◌≤◌, List, [], length, drop, Option, Some, None, Ok, Err, inl, inr, refl, sym, ap, ◌∙◌, arith}
+use Rattle.std.proofs.Common.{◌≡◌, ℕ, Bool, true, false, ◌+◌, ◌-◌, ◌<◌, ◌≤◌, List, [], ◌∷◌, ◌++◌, length, take, drop, Option, Some, None, Ok, Err, inl, inr, refl, sym, ap, ◌∙◌, arith}
 use Rattle.std.specs.Prelude.{is_ok, IsSome}
 use Rattle.std.specs.Option.{option_map_or}
-use Rattle.std.proofs.lemmas.List.{drop-drop, length-drop}
+use Rattle.std.proofs.lemmas.List.{append-nil, drop-drop, length-drop, take-append-le, take_all}
 use Rattle.model_text.specs.Map.{lookup}
 use Rattle.model_text.specs.Outcome.{Outcome}
-use Rattle.model_dmsg.specs.Message.{Message, spelled_len, LowB, UpN, LowN, LowS, LowT, LowX}
+use Rattle.model_dmsg.specs.Message.{Message, spelled_len, LowB, UpN, LowN, LowS, LowT, LowX, LowY}
 use Rattle.model_dmsg.specs.Reading.{First, IsMessage, IsShort, IsUnknown, IsUnsupported, first_message}
 use Rattle.r9_dmsg.specs.declared.listed.Listed.{Listed}
 use Rattle.r9_dmsg.specs.declared.listed.Listed.TheVariants.{Name, Restack, UseName, Write}
@@ -16,7 +16,10 @@ use Rattle.model_draw.specs.World.{World}
 use Rattle.model_draw.specs.Act.{act, behind, one_message, spelled}
 use Rattle.model_draw.specs.Memory.{takes_no_memory}
 use Rattle.r9_draw.proofs.Refusals.{act_not, not-of}
-use Rattle.r9_draw.specs.Steps.{IsDone, IsRefused, IsShortOf}
+use Rattle.model_looked.specs.Rows.{rows_first, rows_of}
+use Rattle.r9_draw.specs.declared.message.Step.{Step}
+use Rattle.r9_draw.specs.declared.message.Step.TheVariants.{Done}
+use Rattle.r9_draw.specs.Steps.{HasRows, IsDone, IsRefused, IsShortOf, rows_by}
 
 message-err : (k : ℕ) (w : World) (bytes rest : List ℕ) (m : Message) (n : ℕ) → first_message bytes ≡ IsMessage m rest → act k w m rest ≡ Err n → one_message k w None 0 bytes ≡ Err n
 unfolding one_message
@@ -147,3 +150,39 @@ listed-some (Write a) = by a.background
 pub ok-is : {A : Type 0} (o : Outcome A) (d : A) → is_ok o ≡ true → o ≡ Ok (result_unwrap_or o d)
 ok-is (Ok x) d h = refl
 ok-is (Err n) d h = absurd cc
+
+-- ---- the rows of a `y`
+
+first-rows : (k : ℕ) (w : World) (bytes rest : List ℕ) (m : Message) → first_message bytes ≡ IsMessage m rest → rows_first k w bytes ≡ rows_of k w m rest
+first-rows k w bytes rest m e = ap (λ (f : First). let l : List ℕ = elim (spelled f) [ Ok m ↦ rows_of k w m.0 m.1 | Err refusal ↦ [] ] in l) e
+
+rows-of : (k : ℕ) (w : World) (m : Message) (rest : List ℕ) (len : ℕ) → behind k w m rest ≡ drop len rest → len ≤ length rest → rows_of k w m rest ≡ rows_by m len
+rows-of k w (LowY id r) rest len e within =
+    let size = ap length e ∙ length-drop len rest in
+    let same : length rest - length (behind k w (LowY id r) rest) ≡ len = omega (arith, size, within) in
+    ap (λ n. n ∷ []) same
+rows-of k w _ rest len e within = refl
+
+pub rows-first-are : (k : ℕ) (w : World) (bytes rest : List ℕ) (m : Message) (len : ℕ) → first_message bytes ≡ IsMessage m rest → behind k w m rest ≡ drop len rest → len ≤ length rest
+    → rows_first k w bytes ≡ rows_by m len
+rows-first-are k w bytes rest m len e rows within = first-rows k w bytes rest m e ∙ rows-of k w m rest len rows within
+
+listed-none : (k : ℕ) (w : World) (m : Message) (rest : List ℕ) → has_list m ≡ true → rows_of k w m rest ≡ []
+listed-none k w (UpN id tied name) rest h = refl
+listed-none k w (LowN id name) rest h = refl
+listed-none k w (LowS writing) rest h = refl
+listed-none k w (LowT top ids) rest h = refl
+listed-none k w (LowX writing bgid bgp) rest h = refl
+listed-none k w _ rest h = absurd cc
+
+-- a message with a list has none
+pub listed-rows : (k : ℕ) (w : World) (bytes rest : List ℕ) (l : Listed) → first_message bytes ≡ IsMessage (listed_message l) rest → rows_first k w bytes ≡ []
+listed-rows k w bytes rest l e = first-rows k w bytes rest (listed_message l) e ∙ listed-none k w (listed_message l) rest (list-of l)
+
+pub same-rows : (k : ℕ) (w : World) (bytes rows : List ℕ) (s : Step) → rows_first k w bytes ≡ [] → HasRows k w bytes s rows rows
+same-rows k w bytes rows (Done len) none = sym (append-nil rows) ∙ ap (λ l. rows ++ l) (sym none)
+same-rows k w bytes rows _ none = refl
+
+-- what was added goes
+pub rows-truncated : (rows added all : List ℕ) (n : ℕ) → all ≡ rows ++ added → n ≡ length rows → take n all ≡ rows
+rows-truncated rows added all n e is = rw (e, is, take-append-le (length rows) rows added (omega arith), take_all (length rows) rows (omega arith)) refl

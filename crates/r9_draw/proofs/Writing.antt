@@ -1,5 +1,5 @@
 -- One write of messages, step by step.
-use Rattle.std.proofs.Common.{◌≡◌, ℕ, zero, suc, Bool, true, false, ◌+◌, ◌<◌, ◌≤◌, List, [], ◌∷◌, length, drop, Option, Some, None, Ok, Err, ◌⊎◌, inl, inr, refl, sym, ap, ◌∙◌, arith, length-drop}
+use Rattle.std.proofs.Common.{◌≡◌, ℕ, zero, suc, Bool, true, false, ◌+◌, ◌<◌, ◌≤◌, List, [], ◌∷◌, ◌++◌, length, drop, Option, Some, None, Ok, Err, ◌⊎◌, inl, inr, refl, sym, ap, ◌∙◌, arith, length-drop}
 use Rattle.std.specs.Prelude.{is_ok, IsSome}
 use Rattle.std.specs.Option.{option_map_or}
 use Rattle.std.proofs.lemmas.Bool.{eqb-true}
@@ -11,6 +11,8 @@ use Rattle.model_dmsg.specs.Reading.{first_message}
 use Rattle.model_draw.specs.World.{World}
 use Rattle.model_draw.specs.Act.{Written, act, behind, is_marked, no_memory, one_message, spelled, written, written_within}
 use Rattle.model_draw.specs.Memory.{MayRunOut, reached}
+use Rattle.model_looked.specs.Rows.{rows_first, rows_within}
+use Rattle.model_looked.proofs.Done.{rows_more}
 use Rattle.r9_draw.specs.Steps.{IsDone, IsRefused, IsShortOf}
 
 -- ---- a message with a mark
@@ -153,6 +155,12 @@ step-done k before bytes mark now next rest done len w some d =
       first = λ e. absurd (omega arith);
       live = d.live;
     }
+
+pub rows-done : (k : ℕ) (before : World) (bytes : List ℕ) (mark : Option ℕ) (now next : World) (rest : List ℕ) (done len : ℕ) (marked : Bool) (rows after : List ℕ) → IsWriting k before bytes mark now rest done
+    → IsDone k now rest marked len next → rows ≡ rows_within done k before bytes → after ≡ rows ++ rows_first k now rest → after ≡ rows_within (done + 1) k before bytes
+rows-done k before bytes mark now next rest done len marked rows after w d known e =
+    let more : suc done ≡ done + 1 = omega arith in
+    e ∙ ap (λ l. l ++ rows_first k now rest) known ∙ sym (rows_more done k before now bytes rest (next, drop len rest) w.reaches d.done) ∙ ap (λ n. rows_within n k before bytes) more
 
 pub ended : (k : ℕ) (before : World) (bytes : List ℕ) (mark : Option ℕ) (now : World) (rest : List ℕ) (done : ℕ) → IsWriting k before bytes mark now rest done → rest ≡ []
     → written k before bytes mark ≡ record { world = now; done = done; refusal = None }

@@ -1,9 +1,11 @@
 -- What becomes of one message.
-use Rattle.std.specs.Prelude.{◌≡◌, ◌≢◌, ◌<◌, ◌≤◌, ◌⊎◌, ℕ, Bool, true, false, List, length, drop, None, Ok, Err, is_ok, IsSome}
+use Rattle.std.specs.Prelude.{◌≡◌, ◌≢◌, ◌<◌, ◌≤◌, ◌⊎◌, ◌++◌, ℕ, Bool, true, false, List, [], ◌∷◌, length, drop, None, Ok, Err, is_ok, IsSome}
 use Rattle.model_text.specs.Map.{lookup}
+use Rattle.model_dmsg.specs.Message.{Message, LowY}
 use Rattle.model_draw.specs.World.{World}
 use Rattle.model_draw.specs.Act.{one_message, no_memory}
 use Rattle.model_draw.specs.Memory.{MayRunOut}
+use Rattle.model_looked.specs.Rows.{rows_first}
 use Rattle.r9_draw.specs.declared.message.Step.{Step}
 use Rattle.r9_draw.specs.declared.message.Step.TheVariants.{Done, Refused, Short}
 
@@ -29,3 +31,15 @@ abbrev pub IsStep : ℕ → World → List ℕ → Bool → Step → World → T
 IsStep k before bytes marked (Done len) after = IsDone k before bytes marked len after
 IsStep k before bytes marked (Refused refusal) after = IsRefused k before bytes refusal after
 IsStep k before bytes marked Short after = IsShortOf k before bytes marked after
+
+-- ---- the rows of a `y`
+
+-- a message's rows have this length, where it is a `y`
+abbrev pub rows_by : Message → (len : ℕ) → List ℕ
+rows_by (LowY id r) len = len ∷ []
+rows_by m len = []
+
+-- the length of the rows of the first of these bytes' messages was added, where it is a `y` that was done
+abbrev pub HasRows : ℕ → World → List ℕ → Step → (before after : List ℕ) → Type 0
+HasRows k world bytes (Done len) before after = after ≡ before ++ rows_first k world bytes
+HasRows k world bytes step before after = after ≡ before

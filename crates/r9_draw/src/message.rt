@@ -2,16 +2,22 @@
 
 ghost use Rattle.model_dmsg.specs.Message.{Message};
 ghost use Rattle.model_dmsg.specs.Reading.{IsMessage, first_message};
+ghost use Rattle.model_draw.specs.Memory.{takes_no_memory};
+ghost use Rattle.model_draw.specs.World.{World};
 ghost use Rattle.model_text.specs.Map.{lookup};
 ghost use Rattle.r9_dmsg.specs.Listed.{has_list};
-ghost use Rattle.r9_draw.specs.Steps.{IsStep};
+ghost use Rattle.r9_dmsg.specs.View.{message_of};
+ghost use Rattle.r9_draw.specs.Steps.{HasRows, IsStep, rows_by};
 ghost use Rattle.r9_device.specs.World.{world_of};
-ghost use Rattle.std.specs.Prelude.{IsSome, List, drop, false, length, ℕ, ◌≡◌, ◌≤◌};
+ghost use Rattle.r9_messages.specs.Plans.{IsReady, after, is_spare, rows_behind};
+ghost use Rattle.std.specs.Prelude.{IsSome, List, OnErr, OnOk, drop, false, length, ℕ, ◌++◌, ◌<◌, ◌^◌, ◌≡◌, ◌≤◌};
 
 use crate::listed::listed_message;
 use r9_device::Device;
-use r9_dmsg::{DmsgFault, next_listed, next_msg};
-use r9_messages::{carry_out, plan_message};
+use r9_dmsg::{Dmsg, DmsgFault, next_listed, next_msg};
+use r9_memory::Memory;
+use r9_messages::{Plan, carry_out, plan_message};
+use r9_text::Numbers;
 
 /// What became of one message.
 #[derive(Clone, Copy)]
@@ -32,11 +38,62 @@ pub(crate) fn behind(bytes: &[u8], len: usize) -> &[u8]
     &bytes[len..]
 }
 
-// The first message of the bytes, which has no list.
-pub(crate) fn plain_message(device: &mut Device, client: u64, bytes: &[u8], marked: bool) -> Step
+// Adds the length of a message's rows, where it is a `y`.
+fn push_rows(rows: &mut Numbers, message: &Dmsg, len: u32) -> Result<(), Memory>
+    ensures ok { OnOk result (rows.new ≡ rows.old ++ rows_by (message_of message.now) len) }
+    ensures err { OnErr result (rows.new ≡ rows.old) }
+    ensures memory { OnErr result ((k : ℕ) (world : World) → takes_no_memory k world (message_of message.now) ≡ false) }
+{
+    match message {
+        Dmsg::LowY { .. } => rows.push(len),
+        _ => Ok(()),
+    }
+}
+
+// Does what a message without a list asks for, behind which these bytes stand, and adds the length of its rows where it is a `y`: the
+// room for it is taken first. After Memory all is as before.
+fn do_plan(
+    device: &mut Device,
+    client: u64,
+    message: &Dmsg,
+    plan: &Plan,
+    rest: &[u8],
+    rows: &mut Numbers,
+) -> Result<(), Memory>
     requires live { IsSome (lookup (world_of device.old).clients client) }
+    requires ready { IsReady client (world_of device.old) plan.now rest.now }
+    requires few { rows_behind plan.now < 2 ^ 32 }
+    requires spare { takes_no_memory client (world_of device.old) (message_of message.now) ≡ is_spare (world_of device.old) plan.now }
+    ensures done { OnOk result (world_of device.new ≡ after client (world_of device.old) plan.now rest.now) }
+    ensures rows { OnOk result (rows.new ≡ rows.old ++ rows_by (message_of message.now) (rows_behind plan.now)) }
+    ensures kept { OnErr result (world_of device.new ≡ world_of device.old) }
+    ensures rows_kept { OnErr result (rows.new ≡ rows.old) }
+    ensures memory { OnErr result (takes_no_memory client (world_of device.old) (message_of message.now) ≡ false) }
+{
+    let known = rows.len();
+    push_rows(rows, message, plan.rows_behind() as u32)?;
+    match carry_out(device, client, plan, rest) {
+        Ok(()) => Ok(()),
+        Err(fault) => {
+            rows.truncate(known);
+            Err(fault)
+        }
+    }
+}
+
+// The first message of the bytes, which has no list. Where it is done, the length of its rows is added if it is a `y`.
+pub(crate) fn plain_message(
+    device: &mut Device,
+    client: u64,
+    bytes: &[u8],
+    marked: bool,
+    rows: &mut Numbers,
+) -> Step
+    requires live { IsSome (lookup (world_of device.old).clients client) }
+    requires few { length bytes.now < 2 ^ 32 }
     requires plain { (m : Message) (rest : List ℕ) → first_message bytes.now ≡ IsMessage m rest → has_list m ≡ false }
-    ensures { IsStep client (world_of device.old) bytes.now marked result (world_of device.new) }
+    ensures step { IsStep client (world_of device.old) bytes.now marked result (world_of device.new) }
+    ensures rows { HasRows client (world_of device.old) bytes.now result rows.old rows.new }
 {
     let message = match next_msg(device.alloc, bytes) {
         Ok(message) => message,
@@ -55,19 +112,28 @@ pub(crate) fn plain_message(device: &mut Device, client: u64, bytes: &[u8], mark
     if marked {
         return Step::Short;
     }
-    match carry_out(device, client, &plan, rest) {
+    match do_plan(device, client, &message, &plan, rest, rows) {
         Ok(()) => Step::Done(len + plan.rows_behind()),
         Err(_) => Step::Short,
     }
 }
 
-/// The first message of the bytes. Where it is marked, it is looked at, and not done.
-pub(crate) fn one_message(device: &mut Device, client: u64, bytes: &[u8], marked: bool) -> Step
-    requires { IsSome (lookup (world_of device.old).clients client) }
-    ensures { IsStep client (world_of device.old) bytes.now marked result (world_of device.new) }
+/// The first message of the bytes. Where it is marked, it is looked at, and not done. Where it is done, the length of its rows is
+/// added if it is a `y`.
+pub(crate) fn one_message(
+    device: &mut Device,
+    client: u64,
+    bytes: &[u8],
+    marked: bool,
+    rows: &mut Numbers,
+) -> Step
+    requires live { IsSome (lookup (world_of device.old).clients client) }
+    requires few { length bytes.now < 2 ^ 32 }
+    ensures step { IsStep client (world_of device.old) bytes.now marked result (world_of device.new) }
+    ensures rows { HasRows client (world_of device.old) bytes.now result rows.old rows.new }
 {
     match next_listed(bytes) {
         Some(asked) => listed_message(device, client, bytes, &asked, marked),
-        None => plain_message(device, client, bytes, marked),
+        None => plain_message(device, client, bytes, marked, rows),
     }
 }

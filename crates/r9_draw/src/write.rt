@@ -4,14 +4,16 @@ ghost use Rattle.std.specs.Prelude.{◌≡◌, ◌≢◌, ◌<◌, ◌^◌, ◌�
 ghost use Rattle.model_text.specs.Map.{lookup};
 ghost use Rattle.model_draw.specs.Act.{is_marked, no_memory, written, written_within};
 ghost use Rattle.model_draw.specs.Memory.{MayRunOut};
+ghost use Rattle.model_looked.specs.Rows.{rows_within};
 ghost use Rattle.r9_draw.specs.World.{world_of};
 
 use crate::draw::Draw;
 use crate::message::{Step, behind, one_message};
 use r9_memory::Memory;
+use r9_text::Numbers;
 
 /// How a write ended.
-#[derive(Clone, Copy, Debug, PartialEq, Eq)]
+#[derive(Debug, Drop)]
 pub struct Wrote {
     /// How many of its messages were done.
     pub done: u32,
@@ -19,6 +21,8 @@ pub struct Wrote {
     pub refusal: Option<u8>,
     /// Whether the write stopped at its mark, or for want of memory, before a message that is not refused.
     pub short: bool,
+    /// How many bytes the rows had of each `y` that was done, in order.
+    pub rows: Numbers,
 }
 
 // Whether the mark stands behind so many messages.
@@ -41,20 +45,23 @@ impl Draw {
         ensures plain { IfOk result (λ w. w.short ≡ false → written client (world_of self.old) bytes.now mark ≡ record { world = world_of self.new; done = w.done; refusal = w.refusal }) }
         ensures short { IfOk result (λ w. w.short ≡ true → written client (world_of self.old) bytes.now (Some w.done) ≡ record { world = world_of self.new; done = w.done; refusal = Some no_memory }) }
         ensures refused { IfOk result (λ w. w.refusal ≢ Some no_memory) }
+        ensures rows { IfOk result (λ w. w.rows ≡ rows_within w.done client (world_of self.old) bytes.now) }
         ensures cause { IfOk result (λ w. w.short ≡ true → (mark ≡ Some w.done) ⊎ MayRunOut client (world_of self.old) bytes.now w.done) }
         ensures memory { OnErr result ((world_of self.new ≡ world_of self.old) × ((n : ℕ) × MayRunOut client (world_of self.old) bytes.now n)) }
     {
         let mut rest = bytes;
         let mut done = 0;
+        let mut rows = Numbers::new(self.device.alloc);
         'messages: while !rest.is_empty() {
             let marked = is_marked(mark, done);
-            match one_message(&mut self.device, client, rest, marked) {
+            match one_message(&mut self.device, client, rest, marked, &mut rows) {
                 Step::Done(len) => rest = behind(rest, len),
                 Step::Refused(refusal) => {
                     return Ok(Wrote {
                         done,
                         refusal: Some(refusal),
                         short: false,
+                        rows,
                     });
                 }
                 Step::Short => {
@@ -65,6 +72,7 @@ impl Draw {
                         done,
                         refusal: None,
                         short: true,
+                        rows,
                     });
                 }
             }
@@ -74,6 +82,7 @@ impl Draw {
             done,
             refusal: None,
             short: false,
+            rows,
         })
     }
 

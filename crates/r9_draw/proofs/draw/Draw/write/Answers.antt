@@ -2,31 +2,33 @@ use Rattle.std.proofs.Common.{◌<◌, Bool, length, rules, tests, sym, subst, �
 use Rattle.r9_device.specs.World as device
 use Rattle.r9_draw.specs.World.{world_of}
 use Rattle.r9_draw.specs.Steps.{IsShortOf, IsDone}
-use Rattle.r9_draw.proofs.Writing.{IsWriting, begins, refused, short-cause, short-written, step-done}
+use Rattle.r9_draw.proofs.Writing.{IsWriting, begins, refused, short-cause, rows-done, short-written, step-done}
 use Rattle.r9_draw.proofs.draw.Draw.write.Goals as goal
 
 pub messages-init : goal.messages-init
-messages-init c = begins c.args.client (world_of c.args.self.now) c.args.bytes.now c.args.mark c.requires.live
+messages-init c = (begins c.args.client (world_of c.args.self.now) c.args.bytes.now c.args.mark c.requires.live, c.new-rows.ensures)
 
 pub returns-in-Refused-clause-plain : goal.returns-in-Refused-clause-plain
 returns-in-Refused-clause-plain c = λ _.
     let some : 0 < length c.messages.rest.now = search (rules, tests) in
-    refused c.args.client (world_of c.args.self.now) c.args.bytes.now c.args.mark (world_of c.messages.self) (device.world_of c.one_message.new.device) c.messages.rest.now c.messages.done c.in-Refused.refusal c.messages.invariant some c.in-Refused.ensures
+    refused c.args.client (world_of c.args.self.now) c.args.bytes.now c.args.mark (world_of c.messages.self) (device.world_of c.one_message.new.device) c.messages.rest.now c.messages.done c.in-Refused.refusal c.messages.invariant.0 some c.in-Refused.ensures.step
 
 pub returns-in-Short-clause-short : goal.returns-in-Short-clause-short
 returns-in-Short-clause-short c = λ _.
     let some : 0 < length c.messages.rest.now = search (rules, tests) in
-    short-written c.args.client (world_of c.args.self.now) c.args.bytes.now c.args.mark (world_of c.messages.self) (device.world_of c.one_message.new.device) c.messages.rest.now c.messages.done c.is_marked-marked.result c.messages.invariant some c.in-Short.ensures
+    short-written c.args.client (world_of c.args.self.now) c.args.bytes.now c.args.mark (world_of c.messages.self) (device.world_of c.one_message.new.device) c.messages.rest.now c.messages.done c.is_marked-marked.result c.messages.invariant.0 some c.in-Short.ensures.step
 
 pub returns-in-Short-clause-cause : goal.returns-in-Short-clause-cause
 returns-in-Short-clause-cause c = λ _.
     let P : Bool → Type 0 = λ b. IsShortOf c.args.client (world_of c.messages.self) c.messages.rest.now b (device.world_of c.one_message.new.device) in
-    short-cause c.args.client (world_of c.args.self.now) c.args.bytes.now c.args.mark (world_of c.messages.self) (device.world_of c.one_message.new.device) c.messages.rest.now c.messages.done c.messages.invariant (subst P c.is_marked-marked.ensures c.in-Short.ensures)
+    short-cause c.args.client (world_of c.args.self.now) c.args.bytes.now c.args.mark (world_of c.messages.self) (device.world_of c.one_message.new.device) c.messages.rest.now c.messages.done c.messages.invariant.0 (subst P c.is_marked-marked.ensures c.in-Short.ensures.step)
 
 pub messages-preserved : goal.messages-preserved
 messages-preserved c =
     let some : 0 < length c.messages.rest.now = search (rules, tests) in
     let P : Bool → Type 0 = λ b. IsDone c.args.client (world_of c.messages.self) c.messages.rest.now b c.in-Done.len (device.world_of c.one_message.new.device) in
-    let Q : List ℕ → Type 0 = λ r. IsWriting c.args.client (world_of c.args.self.now) c.args.bytes.now c.args.mark (device.world_of c.one_message.new.device) r (c.messages.done + 1) in
-    subst Q (sym c.behind-rest.ensures)
-    (step-done c.args.client (world_of c.args.self.now) c.args.bytes.now c.args.mark (world_of c.messages.self) (device.world_of c.one_message.new.device) c.messages.rest.now c.messages.done c.in-Done.len c.messages.invariant some (subst P c.is_marked-marked.ensures c.in-Done.ensures))
+    let Q : List ℕ → Type 0 = λ r. IsWriting c.args.client (world_of c.args.self.now) c.args.bytes.now c.args.mark (device.world_of c.one_message.new.device) r (c.messages.done + 1) in (
+      subst Q (sym c.behind-rest.ensures)
+          (step-done c.args.client (world_of c.args.self.now) c.args.bytes.now c.args.mark (world_of c.messages.self) (device.world_of c.one_message.new.device) c.messages.rest.now c.messages.done c.in-Done.len c.messages.invariant.0 some (subst P c.is_marked-marked.ensures c.in-Done.ensures.step)),
+      rows-done c.args.client (world_of c.args.self.now) c.args.bytes.now c.args.mark (world_of c.messages.self) (device.world_of c.one_message.new.device) c.messages.rest.now c.messages.done c.in-Done.len c.is_marked-marked.result c.messages.rows c.one_message.new.rows c.messages.invariant.0 c.in-Done.ensures.step c.messages.invariant.1 c.in-Done.ensures.rows,
+    )
