@@ -6,4 +6,4 @@ mod outside;
 mod wrote;
 
 pub use outside::Outside;
-pub use wrote::Wrote;
+pub use wrote::{Told, Wrote};

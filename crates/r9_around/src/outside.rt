@@ -22,7 +22,7 @@ ghost use Rattle.model_world.specs.Session.{Session};
 ghost use Rattle.model_world.specs.Waiting.{one_answered};
 ghost use Rattle.r9_tree.specs.Attached.{attach_of_code};
 ghost use Rattle.r9_tree.specs.View.{node_of, view_of, most_connections, IsNode, IsView};
-ghost use Rattle.r9_around.specs.Words.{IfRefused, mark_after};
+ghost use Rattle.r9_around.specs.Words.{AreTold, IfRefused, Tells, mark_after};
 
 use crate::wrote::Wrote;
 use r9_files::Fault;
@@ -55,6 +55,9 @@ pub trait Outside {
 
     /// Where a data write of a session may want memory.
     ghost wants: { (session : ℕ) → Wants State };
+
+    /// What is told of the messages of a data write of a session.
+    ghost tells: { (session : ℕ) → Tells State };
 
     /// What the walks and listings of a file depend on, where its session has these connections.
     fn view(&self, connections: &Numbers, node: &Node) -> Result<TreeView, Memory>
@@ -193,6 +196,7 @@ pub trait Outside {
         ensures written { IfOk result (λ w. (outside session).write_data (state self.old) connection bytes.now (mark_after mark w.short) ≡ (state self.new, w.refusal)) }
         ensures cause { IfOk result (λ w. IfSome w.short (λ k. (mark ≡ Some k) ⊎ wants session connection (state self.old) bytes.now k)) }
         ensures refused { IfOk result (λ w. IsSome w.short ↔ (w.refusal ≡ Some no_memory)) }
+        ensures told { IfOk result (λ w. AreTold w.told (tells session connection (state self.old) bytes.now (mark_after mark w.short))) }
         ensures kept { OnErr result (state self.new ≡ state self.old) };
 
     /// The pending bytes of a connection, which are then gone. Refused by 26 exactly where there are none, and by 25 exactly
