@@ -1,7 +1,8 @@
 -- Calls of a desktop, as what a write leaves of it.
 use Rattle.std.proofs.Common.{◌≡◌, ℕ, true, Option, Result, Ok, Err, OnOk, OnErr, refl, sym, ap, subst}
-use Rattle.std.specs.Prelude.{IfErr}
+use Rattle.std.specs.Prelude.{IfErr, IfOk}
 use Rattle.model_text.specs.Outcome.{Outcome}
+use Rattle.model_tree.specs.declared.Kind.{Kind}
 use Rattle.model_tree.specs.declared.Kind.TheVariants.{Ctl, Data}
 use Rattle.model_tree.specs.Node.{row}
 use Rattle.model_tree.specs.Tree.{is_of_connection}
@@ -44,3 +45,10 @@ of_ctl = refl
 pub of_data : is_of_connection Data ≡ true
 unfolding row
 of_data = refl
+
+-- ---- what is told of a data write
+
+-- a write of another file tells nothing
+pub other_told : (P : Wrote → Type 0) (result : Result Wrote Fault) (kind : Kind) → (kind ≡ Data → ⊥) → IfOk result (λ w. kind ≡ Data → P w)
+other_told P (Ok w) kind other = λ same. absurd (other same)
+other_told P (Err f) kind other = tt

@@ -27,7 +27,7 @@ IsDone before (Err fault.Memory) after defined = Unit {0}
 
 -- a write that left nothing undone
 abbrev pub whole_of : (found : Result (Unit {0}) Fault) → Result Wrote Fault
-whole_of (Ok _) = Ok (record { refusal = None; short = None })
+whole_of (Ok _) = Ok (record { refusal = None; short = None; told = None })
 whole_of (Err f) = Err f
 
 -- what a write of the snarf of a rio leaves

@@ -8,6 +8,7 @@ ghost use Rattle.model_tree.specs.declared.Kind.TheVariants.{Data};
 ghost use Rattle.model_tree.specs.Node.{kind_numbered};
 ghost use Rattle.model_world.specs.Writing.{are_keys, file_written, line_of, most_keys, raw_asked};
 ghost use Rattle.r9_tree.specs.View.{node_of, IsNode};
+ghost use Rattle.r9_around.specs.Words.{AreTold, mark_after};
 ghost use Rattle.r9_access.specs.Reads.{HasClient};
 ghost use Rattle.r9_access.specs.Writes.{IsDone, IsWritten, keys_left, mouse_left, raw_left, whole_of};
 
@@ -31,6 +32,7 @@ fn whole(done: Result<(), Fault>) -> Result<Wrote, Fault>
     Ok(Wrote {
         refusal: None,
         short: None,
+        told: None,
     })
 }
 
@@ -139,6 +141,7 @@ fn write_kind<O: Outside>(
     ensures written { IsWritten mark (O.state outside.old) result (O.state outside.new) (λ m. file_written (O.outside session) (O.state outside.old) (node_of node.now) offset bytes.now m kind) }
     ensures cause { IfOk result (λ w. IfSome w.short (λ k. (kind ≡ Data) × ((mark ≡ Some k) ⊎ O.wants session (node_of node.now).connection (O.state outside.old) bytes.now k))) }
     ensures refused { IfOk result (λ w. IsSome w.short ↔ (w.refusal ≡ Some no_memory)) }
+    ensures told { IfOk result (λ w. kind ≡ Data → AreTold w.told (O.tells session (node_of node.now).connection (O.state outside.old) bytes.now (mark_after mark w.short))) }
 {
     let window = node.serial;
     match kind {
@@ -170,7 +173,7 @@ fn write_kind<O: Outside>(
 }
 
 /// Writes an open file. A data write does its messages up to the first that is refused; where memory ran out in it, or its mark took
-/// effect, `short` tells after how many. Refused as is defined, and then all is as before. Where memory ran out otherwise nothing is
+/// effect, `short` tells after how many, and `told` tells of its messages what they are read again by. Refused as is defined, and then all is as before. Where memory ran out otherwise nothing is
 /// said of the outside.
 pub fn write_file<O: Outside>(
     alloc: Global,
@@ -187,6 +190,7 @@ pub fn write_file<O: Outside>(
     ensures written { IsWritten mark (O.state outside.old) result (O.state outside.new) (λ m. file_written (O.outside session) (O.state outside.old) (node_of node.now) offset bytes.now m (node_of node.now).kind) }
     ensures cause { IfOk result (λ w. IfSome w.short (λ k. ((node_of node.now).kind ≡ Data) × ((mark ≡ Some k) ⊎ O.wants session (node_of node.now).connection (O.state outside.old) bytes.now k))) }
     ensures refused { IfOk result (λ w. IsSome w.short ↔ (w.refusal ≡ Some no_memory)) }
+    ensures told { IfOk result (λ w. (node_of node.now).kind ≡ Data → AreTold w.told (O.tells session (node_of node.now).connection (O.state outside.old) bytes.now (mark_after mark w.short))) }
 {
     let kind = kind_of(node.kind);
     write_kind(alloc, outside, session, node, kind, offset, bytes, mark)

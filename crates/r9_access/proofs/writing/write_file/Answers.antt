@@ -3,6 +3,7 @@ use Rattle.model_tree.specs.declared.Kind.{Kind}
 use Rattle.model_tree.specs.declared.Kind.TheVariants.{Data}
 use Rattle.model_world.specs.Writing.{file_written}
 use Rattle.r9_tree.specs.View.{node_of}
+use Rattle.r9_around.specs.Words.{AreTold, mark_after}
 use Rattle.r9_access.specs.Writes.{IsWritten}
 use Rattle.r9_access.proofs.writing.write_file.Goals as goal
 
@@ -15,3 +16,8 @@ pub returns-clause-cause : goal.returns-clause-cause
 returns-clause-cause g c =
     subst (λ (kind : Kind). IfOk c.write_kind.result (λ w. IfSome w.short (λ k. (kind ≡ Data) × ((c.args.mark ≡ Some k) ⊎ g.O.Outside.wants c.args.session c.args.node.now.connection (g.O.Outside.state c.args.outside.now) c.args.bytes.now k))))
     c.kind_of-kind.ensures c.write_kind.ensures.cause
+
+pub returns-clause-told : goal.returns-clause-told
+returns-clause-told g c =
+    subst (λ (kind : Kind). IfOk c.write_kind.result (λ w. kind ≡ Data → AreTold w.told (g.O.Outside.tells c.args.session c.args.node.now.connection (g.O.Outside.state c.args.outside.now) c.args.bytes.now (mark_after c.args.mark w.short))))
+    c.kind_of-kind.ensures c.write_kind.ensures.told

@@ -1,11 +1,15 @@
-use Rattle.std.proofs.Common.{◌∙◌, Ok, refl, sym, ap, subst}
+use Rattle.std.proofs.Common.{◌≡◌, ◌∙◌, Ok, refl, sym, ap, subst}
 use Rattle.model_tree.specs.declared.Kind.{Kind}
+use Rattle.model_tree.specs.declared.Kind.TheVariants as kinds
+use Rattle.model_tree.specs.declared.Kind.TheVariants.{Data}
 use Rattle.model_tree.specs.Tree.{is_of_connection}
 use Rattle.model_window.specs.Heard.{Labelled, Written}
 use Rattle.model_world.specs.Writing.{file_written}
 use Rattle.r9_tree.specs.View.{node_of}
+use Rattle.r9_around.specs.declared.wrote.Wrote.{Wrote}
+use Rattle.r9_around.specs.Words.{AreTold, mark_after}
 use Rattle.r9_access.specs.Writes.{IsWritten, keys_left, mouse_left, raw_left, snarf_left}
-use Rattle.r9_access.proofs.Done.{done_of, done_if, whole_written, of_ctl, of_data}
+use Rattle.r9_access.proofs.Done.{done_of, done_if, other_told, whole_written, of_ctl, of_data}
 use Rattle.r9_access.proofs.writing.write_kind.Goals as goal
 
 pub write_ctl-requires : goal.write_ctl-requires
@@ -92,3 +96,53 @@ returns-in-Mouse-clause-written g c =
     subst (λ (k : Kind). IsWritten c.args.mark before c.whole-in-Mouse.result before (λ m. file_written (g.O.Outside.outside c.args.session) before (node_of c.args.node.now) c.args.offset c.args.bytes.now m k)) (sym c.in-Mouse.is)
     (whole_written c.args.mark (Ok tt) c.whole-in-Mouse.result before before (Ok before) c.whole-in-Mouse.ensures.written
     (refl))
+
+pub returns-in-Ctl-clause-told : goal.returns-in-Ctl-clause-told
+returns-in-Ctl-clause-told g c =
+    let told : Wrote → Type 0 = λ w. AreTold w.told (g.O.Outside.tells c.args.session c.args.node.now.connection (g.O.Outside.state c.args.outside.now) c.args.bytes.now (mark_after c.args.mark w.short)) in
+    other_told told c.whole.result c.args.kind (λ same. let both : kinds.Ctl ≡ Data = sym c.in-Ctl.is ∙ same in absurd cc)
+
+pub returns-in-Mousein-clause-told : goal.returns-in-Mousein-clause-told
+returns-in-Mousein-clause-told g c =
+    let told : Wrote → Type 0 = λ w. AreTold w.told (g.O.Outside.tells c.args.session c.args.node.now.connection (g.O.Outside.state c.args.outside.now) c.args.bytes.now (mark_after c.args.mark w.short)) in
+    other_told told c.whole-in-Mousein.result c.args.kind (λ same. let both : kinds.Mousein ≡ Data = sym c.in-Mousein.is ∙ same in absurd cc)
+
+pub returns-in-Kbdin-clause-told : goal.returns-in-Kbdin-clause-told
+returns-in-Kbdin-clause-told g c =
+    let told : Wrote → Type 0 = λ w. AreTold w.told (g.O.Outside.tells c.args.session c.args.node.now.connection (g.O.Outside.state c.args.outside.now) c.args.bytes.now (mark_after c.args.mark w.short)) in
+    other_told told c.whole-in-Kbdin.result c.args.kind (λ same. let both : kinds.Kbdin ≡ Data = sym c.in-Kbdin.is ∙ same in absurd cc)
+
+pub returns-in-Snarf-clause-told : goal.returns-in-Snarf-clause-told
+returns-in-Snarf-clause-told g c =
+    let told : Wrote → Type 0 = λ w. AreTold w.told (g.O.Outside.tells c.args.session c.args.node.now.connection (g.O.Outside.state c.args.outside.now) c.args.bytes.now (mark_after c.args.mark w.short)) in
+    other_told told c.whole-in-Snarf.result c.args.kind (λ same. let both : kinds.Snarf ≡ Data = sym c.in-Snarf.is ∙ same in absurd cc)
+
+pub returns-in-DeviceWctl-clause-told : goal.returns-in-DeviceWctl-clause-told
+returns-in-DeviceWctl-clause-told g c =
+    let told : Wrote → Type 0 = λ w. AreTold w.told (g.O.Outside.tells c.args.session c.args.node.now.connection (g.O.Outside.state c.args.outside.now) c.args.bytes.now (mark_after c.args.mark w.short)) in
+    other_told told c.whole-in-DeviceWctl.result c.args.kind (λ same. let both : kinds.DeviceWctl ≡ Data = sym c.in-DeviceWctl.is ∙ same in absurd cc)
+
+pub returns-in_ok-write_text-in-Cons-clause-told : goal.returns-in_ok-write_text-in-Cons-clause-told
+returns-in_ok-write_text-in-Cons-clause-told g c =
+    let told : Wrote → Type 0 = λ w. AreTold w.told (g.O.Outside.tells c.args.session c.args.node.now.connection (g.O.Outside.state c.args.outside.now) c.args.bytes.now (mark_after c.args.mark w.short)) in
+    other_told told c.whole-in-Cons.result c.args.kind (λ same. let both : kinds.Cons ≡ Data = sym c.in-Cons.is ∙ same in absurd cc)
+
+pub returns-in-Consctl-clause-told : goal.returns-in-Consctl-clause-told
+returns-in-Consctl-clause-told g c =
+    let told : Wrote → Type 0 = λ w. AreTold w.told (g.O.Outside.tells c.args.session c.args.node.now.connection (g.O.Outside.state c.args.outside.now) c.args.bytes.now (mark_after c.args.mark w.short)) in
+    other_told told c.whole-in-Consctl.result c.args.kind (λ same. let both : kinds.Consctl ≡ Data = sym c.in-Consctl.is ∙ same in absurd cc)
+
+pub returns-in_ok-set_label-in-Label-clause-told : goal.returns-in_ok-set_label-in-Label-clause-told
+returns-in_ok-set_label-in-Label-clause-told g c =
+    let told : Wrote → Type 0 = λ w. AreTold w.told (g.O.Outside.tells c.args.session c.args.node.now.connection (g.O.Outside.state c.args.outside.now) c.args.bytes.now (mark_after c.args.mark w.short)) in
+    other_told told c.whole-in-Label.result c.args.kind (λ same. let both : kinds.Label ≡ Data = sym c.in-Label.is ∙ same in absurd cc)
+
+pub returns-in-Wctl-clause-told : goal.returns-in-Wctl-clause-told
+returns-in-Wctl-clause-told g c =
+    let told : Wrote → Type 0 = λ w. AreTold w.told (g.O.Outside.tells c.args.session c.args.node.now.connection (g.O.Outside.state c.args.outside.now) c.args.bytes.now (mark_after c.args.mark w.short)) in
+    other_told told c.whole-in-Wctl.result c.args.kind (λ same. let both : kinds.Wctl ≡ Data = sym c.in-Wctl.is ∙ same in absurd cc)
+
+pub returns-in-Mouse-clause-told : goal.returns-in-Mouse-clause-told
+returns-in-Mouse-clause-told g c =
+    let told : Wrote → Type 0 = λ w. AreTold w.told (g.O.Outside.tells c.args.session c.args.node.now.connection (g.O.Outside.state c.args.outside.now) c.args.bytes.now (mark_after c.args.mark w.short)) in
+    other_told told c.whole-in-Mouse.result c.args.kind (λ same. let both : kinds.Mouse ≡ Data = sym c.in-Mouse.is ∙ same in absurd cc)
