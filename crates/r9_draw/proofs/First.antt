@@ -1,9 +1,9 @@
 -- The first messages of a write, step by step.
-use Rattle.std.proofs.Common.{◌≡◌, ℕ, suc, false, ◌+◌, ◌<◌, ◌≤◌, List, [], ◌∷◌, length, drop, None, Some, Ok, inl, inr, refl, sym, ap, ◌∙◌, arith, length-drop}
+use Rattle.std.proofs.Common.{◌≡◌, ℕ, suc, false, ◌+◌, ◌<◌, ◌≤◌, List, [], ◌∷◌, length, drop, None, Some, inl, inr, refl, sym, ap, ◌∙◌, arith, length-drop}
 use Rattle.std.specs.Prelude.{◌-◌, IsSome}
 use Rattle.model_text.specs.Map.{lookup}
 use Rattle.model_draw.specs.World.{World}
-use Rattle.model_draw.specs.Act.{one_message, written_within}
+use Rattle.model_draw.specs.Act.{written_within}
 use Rattle.model_draw.specs.Memory.{MayRunOut, reached}
 use Rattle.r9_draw.specs.Steps.{IsDone, IsRefused, IsShortOf}
 use Rattle.r9_draw.proofs.Writing.{ends, goes_on, message-refused, message-unmarked, reached-more, runs-out, stops}

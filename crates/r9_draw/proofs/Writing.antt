@@ -156,11 +156,11 @@ step-done k before bytes mark now next rest done len w some d =
       live = d.live;
     }
 
-pub rows-done : (k : ℕ) (before : World) (bytes : List ℕ) (mark : Option ℕ) (now next : World) (rest : List ℕ) (done len : ℕ) (marked : Bool) (rows after : List ℕ) → IsWriting k before bytes mark now rest done
+pub rows-done : (k : ℕ) (before : World) (bytes : List ℕ) (now next : World) (rest : List ℕ) (done len : ℕ) (marked : Bool) (rows after : List ℕ) → reached done k before bytes ≡ Some (now, rest)
     → IsDone k now rest marked len next → rows ≡ rows_within done k before bytes → after ≡ rows ++ rows_first k now rest → after ≡ rows_within (done + 1) k before bytes
-rows-done k before bytes mark now next rest done len marked rows after w d known e =
+rows-done k before bytes now next rest done len marked rows after reaches d known e =
     let more : suc done ≡ done + 1 = omega arith in
-    e ∙ ap (λ l. l ++ rows_first k now rest) known ∙ sym (rows_more done k before now bytes rest (next, drop len rest) w.reaches d.done) ∙ ap (λ n. rows_within n k before bytes) more
+    e ∙ ap (λ l. l ++ rows_first k now rest) known ∙ sym (rows_more done k before now bytes rest (next, drop len rest) reaches d.done) ∙ ap (λ n. rows_within n k before bytes) more
 
 pub ended : (k : ℕ) (before : World) (bytes : List ℕ) (mark : Option ℕ) (now : World) (rest : List ℕ) (done : ℕ) → IsWriting k before bytes mark now rest done → rest ≡ []
     → written k before bytes mark ≡ record { world = now; done = done; refusal = None }

@@ -90,21 +90,25 @@ impl Draw {
     /// behind them is not looked at. Where memory runs out in a message that is not refused, it stops before it.
     pub fn write_first(&mut self, client: u64, bytes: &[u8], most: u32) -> Wrote
         requires live { IsSome (lookup (world_of self.old).clients client) }
+        requires few { length bytes.now < 2 ^ 32 }
         ensures plain { result.short ≡ false → written_within most client (world_of self.old) None 0 bytes.now ≡ record { world = world_of self.new; done = result.done; refusal = result.refusal } }
         ensures short { result.short ≡ true → written_within result.done client (world_of self.old) None 0 bytes.now ≡ record { world = world_of self.new; done = result.done; refusal = None } }
         ensures refused { result.refusal ≢ Some no_memory }
+        ensures rows { result.rows ≡ rows_within result.done client (world_of self.old) bytes.now }
         ensures cause { result.short ≡ true → MayRunOut client (world_of self.old) bytes.now result.done }
     {
         let mut rest = bytes;
         let mut done = 0;
+        let mut rows = Numbers::new(self.device.alloc);
         'messages: while done < most && !rest.is_empty() {
-            match one_message(&mut self.device, client, rest, false) {
+            match one_message(&mut self.device, client, rest, false, &mut rows) {
                 Step::Done(len) => rest = behind(rest, len),
                 Step::Refused(refusal) => {
                     return Wrote {
                         done,
                         refusal: Some(refusal),
                         short: false,
+                        rows,
                     };
                 }
                 Step::Short => {
@@ -112,6 +116,7 @@ impl Draw {
                         done,
                         refusal: None,
                         short: true,
+                        rows,
                     };
                 }
             }
@@ -121,6 +126,7 @@ impl Draw {
             done,
             refusal: None,
             short: false,
+            rows,
         }
     }
 }

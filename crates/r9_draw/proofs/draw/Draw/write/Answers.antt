@@ -30,5 +30,5 @@ messages-preserved c =
     let Q : List ℕ → Type 0 = λ r. IsWriting c.args.client (world_of c.args.self.now) c.args.bytes.now c.args.mark (device.world_of c.one_message.new.device) r (c.messages.done + 1) in (
       subst Q (sym c.behind-rest.ensures)
           (step-done c.args.client (world_of c.args.self.now) c.args.bytes.now c.args.mark (world_of c.messages.self) (device.world_of c.one_message.new.device) c.messages.rest.now c.messages.done c.in-Done.len c.messages.invariant.0 some (subst P c.is_marked-marked.ensures c.in-Done.ensures.step)),
-      rows-done c.args.client (world_of c.args.self.now) c.args.bytes.now c.args.mark (world_of c.messages.self) (device.world_of c.one_message.new.device) c.messages.rest.now c.messages.done c.in-Done.len c.is_marked-marked.result c.messages.rows c.one_message.new.rows c.messages.invariant.0 c.in-Done.ensures.step c.messages.invariant.1 c.in-Done.ensures.rows,
+      rows-done c.args.client (world_of c.args.self.now) c.args.bytes.now (world_of c.messages.self) (device.world_of c.one_message.new.device) c.messages.rest.now c.messages.done c.in-Done.len c.is_marked-marked.result c.messages.rows c.one_message.new.rows c.messages.invariant.0.reaches c.in-Done.ensures.step c.messages.invariant.1 c.in-Done.ensures.rows,
     )

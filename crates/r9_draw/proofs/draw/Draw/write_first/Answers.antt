@@ -1,26 +1,28 @@
-use Rattle.std.proofs.Common.{◌≡◌, ◌<◌, length, rules, tests, sym, ap, ◌∙◌, subst, ℕ, List, ◌+◌, ◌≤◌, arith, None}
+use Rattle.std.proofs.Common.{false, ◌≡◌, ◌<◌, length, rules, tests, sym, ap, ◌∙◌, subst, ℕ, List, ◌+◌, ◌≤◌, arith, None}
 use Rattle.model_draw.specs.Act.{written_within}
 use Rattle.r9_device.specs.World as device
 use Rattle.r9_draw.specs.World.{world_of}
+use Rattle.r9_draw.proofs.Writing.{rows-done}
 use Rattle.r9_draw.proofs.First.{AreDone, all-done, enough-done, none-done, one-more, short-since, then-refused, then-short}
+use Rattle.r9_draw.proofs.draw.Draw.write_first.Goals.{then-messages-test+else-not-is_empty, else-messages-test}
 use Rattle.r9_draw.proofs.draw.Draw.write_first.Goals as goal
 
 pub messages-init : goal.messages-init
-messages-init c = (none-done c.args.client (world_of c.args.self.now) c.args.bytes.now c.requires.live, omega arith)
+messages-init c = (none-done c.args.client (world_of c.args.self.now) c.args.bytes.now c.requires.live, omega arith, c.new-rows.ensures)
 
 pub returns-in-Refused-clause-plain : goal.returns-in-Refused-clause-plain
 returns-in-Refused-clause-plain c = λ _.
     let some : 0 < length c.messages.rest.now = search (rules, tests) in
     let few : c.messages.done < c.args.most = search (rules, tests) in
-    then-refused c.args.client (world_of c.args.self.now) c.args.bytes.now (world_of c.messages.self) (device.world_of c.one_message.new.device) c.messages.rest.now c.messages.done c.args.most c.in-Refused.refusal c.messages.invariant.0 some few c.in-Refused.ensures
+    then-refused c.args.client (world_of c.args.self.now) c.args.bytes.now (world_of c.messages.self) (device.world_of c.one_message.new.device) c.messages.rest.now c.messages.done c.args.most c.in-Refused.refusal c.messages.invariant.0 some few c.in-Refused.ensures.step
 
 pub returns-in-Short-clause-short : goal.returns-in-Short-clause-short
 returns-in-Short-clause-short c = λ _.
-    then-short c.args.client (world_of c.args.self.now) c.args.bytes.now (world_of c.messages.self) (device.world_of c.one_message.new.device) c.messages.rest.now c.messages.done c.messages.invariant.0 c.in-Short.ensures
+    then-short c.args.client (world_of c.args.self.now) c.args.bytes.now (world_of c.messages.self) (device.world_of c.one_message.new.device) c.messages.rest.now c.messages.done c.messages.invariant.0 c.in-Short.ensures.step
 
 pub returns-in-Short-clause-cause : goal.returns-in-Short-clause-cause
 returns-in-Short-clause-cause c = λ _.
-    short-since c.args.client (world_of c.args.self.now) c.args.bytes.now (world_of c.messages.self) (device.world_of c.one_message.new.device) c.messages.rest.now c.messages.done c.messages.invariant.0 c.in-Short.ensures
+    short-since c.args.client (world_of c.args.self.now) c.args.bytes.now (world_of c.messages.self) (device.world_of c.one_message.new.device) c.messages.rest.now c.messages.done c.messages.invariant.0 c.in-Short.ensures.step
 
 pub messages-preserved : goal.messages-preserved
 messages-preserved c =
@@ -28,18 +30,19 @@ messages-preserved c =
     let few : c.messages.done + 1 ≤ c.args.most = search (rules, tests) in
     let Q : List ℕ → Type 0 = λ r. AreDone c.args.client (world_of c.args.self.now) c.args.bytes.now (device.world_of c.one_message.new.device) r (c.messages.done + 1) in (
       subst Q (sym c.behind-rest.ensures)
-          (one-more c.args.client (world_of c.args.self.now) c.args.bytes.now (world_of c.messages.self) (device.world_of c.one_message.new.device) c.messages.rest.now c.messages.done c.in-Done.len c.messages.invariant.0 some c.in-Done.ensures),
+          (one-more c.args.client (world_of c.args.self.now) c.args.bytes.now (world_of c.messages.self) (device.world_of c.one_message.new.device) c.messages.rest.now c.messages.done c.in-Done.len c.messages.invariant.0 some c.in-Done.ensures.step),
       few,
+      rows-done c.args.client (world_of c.args.self.now) c.args.bytes.now (world_of c.messages.self) (device.world_of c.one_message.new.device) c.messages.rest.now c.messages.done c.in-Done.len false c.messages.rows c.one_message.new.rows c.messages.invariant.0.reaches c.in-Done.ensures.step c.messages.invariant.2 c.in-Done.ensures.rows,
     )
 
-pub returns-else-not-is_empty-clause-plain : goal.returns-else-not-is_empty-clause-plain
-returns-else-not-is_empty-clause-plain c = λ _.
-    let none : length c.messages.rest.now ≡ 0 = search (rules, tests) in
-    all-done c.args.client (world_of c.args.self.now) c.args.bytes.now (world_of c.messages.self) c.messages.rest.now c.messages.done c.args.most c.messages.invariant.0 c.messages.invariant.1 none
-
-pub returns-after-messages-clause-plain : goal.returns-after-messages-clause-plain
-returns-after-messages-clause-plain c = λ _.
-    let above : c.args.most ≤ c.messages.done = search (rules, tests) in
-    let all : c.args.most ≡ c.messages.done = omega (arith, above, c.messages.invariant.1) in
-    ap (λ m. written_within m c.args.client (world_of c.args.self.now) None 0 c.args.bytes.now) all
-    ∙ enough-done c.args.client (world_of c.args.self.now) c.args.bytes.now (world_of c.messages.self) c.messages.rest.now c.messages.done c.messages.invariant.0
+pub returns-clause-plain : goal.returns-clause-plain
+returns-clause-plain c = λ _. elim c.messages-test.branch [
+  | then-messages-test+else-not-is_empty w ↦
+      let none : length c.messages.rest.now ≡ 0 = search (rules, tests) in
+      all-done c.args.client (world_of c.args.self.now) c.args.bytes.now (world_of c.messages.self) c.messages.rest.now c.messages.done c.args.most c.messages.invariant.0 c.messages.invariant.1 none
+  | else-messages-test w ↦
+      let above : c.args.most ≤ c.messages.done = search (rules, tests) in
+      let all : c.args.most ≡ c.messages.done = omega (arith, above, c.messages.invariant.1) in
+      ap (λ m. written_within m c.args.client (world_of c.args.self.now) None 0 c.args.bytes.now) all
+      ∙ enough-done c.args.client (world_of c.args.self.now) c.args.bytes.now (world_of c.messages.self) c.messages.rest.now c.messages.done c.messages.invariant.0
+]
