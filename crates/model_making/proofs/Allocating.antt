@@ -16,7 +16,7 @@ use Rattle.model_images.proofs.Ties.{find-put}
 use Rattle.model_draw.specs.World.{Client, World, client_of, next_image}
 use Rattle.model_draw.specs.Making.{allocate, clashes, farthest, fill_raw, is_near_rect, is_too_large, screen_named, with_made, with_new_image, with_one_pixel, with_size}
 use Rattle.model_draw.specs.Orders.{manager}
-use Rattle.model_draw.specs.Sound.{IsSound}
+use Rattle.model_shown.specs.Showing.{IsOrderly}
 use Rattle.model_renamed.specs.Renamed.{And, AreRenamed}
 use Rattle.model_renamed.proofs.Drawing.{renamed_set}
 use Rattle.model_renamed.proofs.Making.{renamed_image, renamed_window}
@@ -27,6 +27,8 @@ use Rattle.model_likeness.specs.Likeness.{AreLike, SameDisplay, SameScreenId, Sa
 use Rattle.model_likeness.proofs.Shapes.{Keeps, keeps_image, keeps_set, keeps_then, keeps_window, shape_then, shape_turned}
 use Rattle.model_likeness.proofs.Looking.{client_same, with_client_like}
 use Rattle.model_likeness.proofs.Ids.{apart_manager, taken_same}
+use Rattle.model_making.specs.Standing.{IsWhole}
+use Rattle.model_making.proofs.Standing.{parent_lives}
 use Rattle.model_making.proofs.Fresh.{IsFresh, fresh_next}
 use Rattle.model_making.proofs.Making.{entered, entered_books, entry}
 
@@ -78,7 +80,7 @@ module _ (Same SameScreen : ℕ → ℕ → Type 0) (c : ℕ) (window : Option (
   clash_same chan repl (Some s) None on = absurd on
   clash_same chan repl None (Some t) on = absurd on
 
-  module _ (sound_a : IsSound a) (sound_b : IsSound b) where
+  module _ (whole_a : IsWhole a) (whole_b : IsWhole b) (orderly_a : IsOrderly a) (orderly_b : IsOrderly b) where
     abbrev p : ℕ
     p = next_image a
 
@@ -89,10 +91,10 @@ module _ (Same SameScreen : ℕ → ℕ → Type 0) (c : ℕ) (window : Option (
     More i j = And Same p q i j
 
     left : IsFresh a.images a.book p
-    left = fresh_next a sound_a
+    left = fresh_next a whole_a orderly_a
 
     right : IsFresh b.images b.book q
-    right = fresh_next b sound_b
+    right = fresh_next b whole_b orderly_b
 
     zero_left : 0 ≢ p
     zero_left = live-apart a.images p 0 left.free like.display.live_left
@@ -104,11 +106,11 @@ module _ (Same SameScreen : ℕ → ℕ → Type 0) (c : ℕ) (window : Option (
 
     pixel_same : (s t : Option ℕ) → SameOption SameScreen s t → (r : Rect) (chan raw : ℕ) → AreRenamed More (with_one_pixel a s r chan raw) (with_one_pixel b t r chan raw)
     pixel_same None None on r chan raw =
-        renamed_image Same a.images b.images like.images p q left.free right.free sound_a.forest.parents sound_b.forest.parents r chan raw
+        renamed_image Same a.images b.images like.images p q left.free right.free (parent_lives a whole_a.standing) (parent_lives b whole_b.standing) r chan raw
     pixel_same (Some s) (Some t) on r chan raw =
         let both = ground Same SameScreen c window a b like s t on in
         let face = like.images.faces (image_of a.book s) (image_of b.book t) both.image in
-        renamed_window Same a.images b.images like.images p q left.free right.free sound_a.forest.parents sound_b.forest.parents
+        renamed_window Same a.images b.images like.images p q left.free right.free (parent_lives a whole_a.standing) (parent_lives b whole_b.standing)
         (image_of a.book s) (image_of b.book t) (fill_of a.book s) (fill_of b.book t) r raw face.chan face.depth both.image both.fill
     pixel_same (Some s) None on r chan raw = absurd on
     pixel_same None (Some t) on r chan raw = absurd on

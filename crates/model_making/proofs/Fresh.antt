@@ -1,5 +1,5 @@
 -- A number that no image has: nothing in the book speaks of it.
-use Rattle.std.proofs.Common.{◌≡◌, ◌||◌, ℕ, Bool, true, false, cond, List, [], ◌∷◌, Option, Some, None, refl, sym, ap, subst, ◌∙◌}
+use Rattle.std.proofs.Common.{◌≡◌, ◌||◌, ℕ, Bool, true, false, cond, List, [], ◌∷◌, Option, Some, None, refl, ap, subst, ◌∙◌}
 use Rattle.std.specs.Prelude.{◌==◌, find, is_some, option_map, All}
 use Rattle.std.specs.Option.{option_or}
 use Rattle.std.specs.List.{list_any}
@@ -14,8 +14,10 @@ use Rattle.model_images.specs.Book.{Book, has_screen, is_on, screen_numbered, wi
 use Rattle.model_images.specs.Release.{is_used, refers_to}
 use Rattle.model_images.proofs.Freed.{any-at}
 use Rattle.model_draw.specs.World.{World, next_image}
-use Rattle.model_draw.specs.Sound.{IsSound}
+use Rattle.model_shown.specs.Showing.{IsOrderly}
+use Rattle.model_shown.proofs.Numbers.{next_in}
 use Rattle.model_shown.proofs.Tests.{not_both, same}
+use Rattle.model_making.specs.Standing.{IsWhole}
 
 -- no image has the number, and none of the book's does
 pub record IsFresh (images : Images) (book : Book) (m : ℕ) : Type 0 where
@@ -34,13 +36,13 @@ none_found images m dead (w ∷ ws) all =
     let other : (w.image == m) ≡ false = false_from_ne_true (w.image == m) (λ is. dead (subst (λ (n : ℕ). IsLive images n) (eqb-true w.image m is) live)) in
     rw other (none_found images m dead ws (All-tail (λ (w : OnScreen). IsLive images w.image) w ws all))
 
-pub fresh_next : (world : World) → IsSound world → IsFresh world.images world.book (next_image world)
-fresh_next world sound =
-    let free = none_of (world.images (next_image world)) sound.number in
+pub fresh_next : (world : World) → IsWhole world → IsOrderly world → IsFresh world.images world.book (next_image world)
+fresh_next world whole orderly =
+    let dead : IsLive world.images (next_image world) → ⊥ = λ live. next_in world.numbers (orderly.images (next_image world) (whole.used (next_image world) live)) in
     record {
-      free = free;
-      unused = sym (sound.all.images (next_image world)) ∙ ap is_some free;
-      nowhere = none_found world.images (next_image world) sound.number world.book.windows sound.all.windows;
+      free = none_of (world.images (next_image world)) dead;
+      unused = false_from_ne_true (is_used world.book (Image (next_image world))) (λ used. dead (whole.standing.live (next_image world) used));
+      nowhere = none_found world.images (next_image world) dead world.book.windows whole.standing.placed;
     }
 
 -- ---- what the book says of it

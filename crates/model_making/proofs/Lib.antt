@@ -1,4 +1,5 @@
 pub mod Entries
+pub mod Standing
 pub mod Naming
 pub mod Fresh
 pub mod Making
@@ -6,4 +7,3 @@ pub mod Allocating
 pub mod Restacking
 pub mod Screens
 pub mod Screening
-pub mod Acting

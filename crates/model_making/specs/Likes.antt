@@ -31,15 +31,15 @@ abbrev pub AreOther : List ℕ → Type 0
 AreOther [] = Unit {0}
 AreOther (id ∷ ids) = IsOther id × AreOther ids
 
--- A message of a session that is alone names no image of others and shares none of its own. One that frees an id is left out.
+-- A message of a session that is alone names no image of others and shares none of its own.
 abbrev pub IsOwn : (window : Option (ℕ × List ℕ)) → Message → Type 0
 IsOwn window (LowB id screenid refresh chan repl r clipr color) = Unit {0}
 IsOwn window (UpA id imageid fillid public) = IsOther imageid × IsOther fillid × (flag public ≡ false)
 IsOwn window (LowC dstid repl clipr) = IsOther dstid
 IsOwn window (LowD dstid srcid maskid dstr srcp maskp) = IsOther dstid × IsOther srcid × IsOther maskid
 IsOwn window (UpD debug) = Unit {0}
-IsOwn window (LowF id) = ⊥
-IsOwn window (UpF id) = ⊥
+IsOwn window (LowF id) = IsOther id
+IsOwn window (UpF id) = Unit {0}
 IsOwn window (LowI id n ascent) = IsOther id
 IsOwn window (LowL cacheid srcid index r sp left width) = IsOther cacheid × IsOther srcid
 IsOwn window (UpN id tied name) = ⊥

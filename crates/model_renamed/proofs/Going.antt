@@ -1,21 +1,20 @@
 -- Images that go, and windows of the window manager that get another image.
 use Rattle.std.proofs.Common.{◌≡◌, ◌≢◌, ◌⊎◌, ℕ, Bool, true, false, List, [], ◌∷◌, Option, Some, None, inl, inr, refl, sym, ap, subst, ◌∙◌}
-use Rattle.std.specs.Prelude.{◌==◌, All, IsSome, is_some, not, option_map, if◌then◌else◌}
+use Rattle.std.specs.Prelude.{◌==◌, All, IsSome, not, option_map, if◌then◌else◌}
 use Rattle.std.specs.List.{AllZip}
 use Rattle.std.specs.Option.{option_map_or}
-use Rattle.std.proofs.lemmas.Bool.{true≢false}
 use Rattle.std.proofs.lemmas.List.Elements.{All-head, All-tail}
 use Rattle.r9_geom.specs.declared.Point.{Point}
 use Rattle.r9_geom.specs.declared.Rect.{Rect}
 use Rattle.r9_geom.specs.Geometry.{carried}
 use Rattle.model_forest.specs.declared.Standing.{Standing}
 use Rattle.model_forest.specs.declared.Window.{Window}
-use Rattle.model_forest.specs.World.{Image, World, IsForest, IsLive, IsWindowOf, fill_of, image_at, parent_of, with_image}
+use Rattle.model_forest.specs.World.{Image, World, IsLive, fill_of, image_at, parent_of, with_image}
 use Rattle.model_forest.specs.View.{view}
 use Rattle.model_forest.specs.Stack.{moved, seen, without}
 use Rattle.model_forest.specs.Steps.{after_list, after_release, after_replace, carried_rect, outside, put_above}
-use Rattle.model_forest.proofs.Changes.{live-apart, with_image-at, with_image-other}
-use Rattle.model_renamed.specs.Renamed.{And, AreRenamed, But, IsApartLeft, IsApartRight, SameFace, SameParent, SameWindow, SameWindows}
+use Rattle.model_forest.proofs.Changes.{live-apart, with_image-other}
+use Rattle.model_renamed.specs.Renamed.{And, AreRenamed, But, IsApartLeft, IsApartRight, IsLoose, SameFace, SameParent, SameWindow, SameWindows}
 use Rattle.model_renamed.proofs.Views.{view_same}
 use Rattle.model_renamed.proofs.Changes.{at_changed, at_others, renamed_kept}
 use Rattle.model_renamed.proofs.Lists.{list_left, list_right, list_stands, number_same, renamed_list, zip_filter}
@@ -27,14 +26,9 @@ zip_all P Q L each [] (w ∷ ws) zip all = absurd zip
 zip_all P Q L each (v ∷ vs) [] zip all = absurd zip
 zip_all P Q L each (v ∷ vs) (w ∷ ws) zip all = (each v w zip.0 (All-head L v vs all), zip_all P Q L each vs ws zip.1 (All-tail L v vs all))
 
--- a number that has gone is none that lives
-gone-apart : (a : World) (m k : ℕ) → IsLive (with_image a m None) k → k ≢ m
-gone-apart a m k live is =
-    true≢false (sym live ∙ ap is_some (subst (λ (n : ℕ). with_image a m None n ≡ None) (sym is) (with_image-at a m None)))
-
 -- ---- an image goes from both
 
-module _ (Same : ℕ → ℕ → Type 0) (a b : World) (same : AreRenamed Same a b) (m n : ℕ) (both : Same m n) (forest : IsForest (with_image a m None)) where
+module _ (Same : ℕ → ℕ → Type 0) (a b : World) (same : AreRenamed Same a b) (m n : ℕ) (both : Same m n) (loose : IsLoose (with_image a m None) m) where
   abbrev Less : ℕ → ℕ → Type 0
   Less i j = But Same m i j
 
@@ -59,16 +53,16 @@ module _ (Same : ℕ → ℕ → Type 0) (a b : World) (same : AreRenamed Same a
   less_live_right : (i j : ℕ) → Less i j → IsLive d j
   less_live_right i j is = subst (λ (slot : Option Image). IsSome slot) (sym (with_image-other b n j None (other_right i j is))) (same.right i j is.0)
 
-  less_window : (i : ℕ) (v w : Window) → SameWindow Same a b v w → IsWindowOf c i v → SameWindow Less c d v w
-  less_window i v w one stands =
-      let image : Less v.image w.image = (one.image, gone-apart a m v.image stands.live) in
+  less_window : (v w : Window) → SameWindow Same a b v w → (v.image ≢ m) × (fill_of c v.image ≢ m) → SameWindow Less c d v w
+  less_window v w one apart =
+      let image : Less v.image w.image = (one.image, apart.0) in
       record {
         image = image;
         place = one.place;
         fill = (
           subst (λ (u : Image). Same (option_map_or (λ s. s.fill) u.standing 0) (fill_of d w.image)) (sym (stays_left v.image w.image image))
               (subst (λ (u : Image). Same (fill_of a v.image) (option_map_or (λ s. s.fill) u.standing 0)) (sym (stays_right v.image w.image image)) one.fill),
-          gone-apart a m (fill_of c v.image) stands.fill,
+          apart.1,
         );
       }
 
@@ -76,7 +70,7 @@ module _ (Same : ℕ → ℕ → Type 0) (a b : World) (same : AreRenamed Same a
   less_parent i j is (SameParent.on p q stands there pair) =
       let from = ap (λ (u : Image). option_map (λ s. s.parent) u.standing) (stays_left i j is) ∙ stands in
       SameParent.on p q from (ap (λ (u : Image). option_map (λ s. s.parent) u.standing) (stays_right i j is) ∙ there)
-      (pair, gone-apart a m p (forest.parents i p (less_live_left i j is) from))
+      (pair, loose.parents i p (less_live_left i j is) from)
   less_parent i j is (SameParent.apart left right) =
       SameParent.apart
       (λ p k stands pair. left p k (sym (ap (λ (u : Image). option_map (λ s. s.parent) u.standing) (stays_left i j is)) ∙ stands) pair.0)
@@ -85,9 +79,9 @@ module _ (Same : ℕ → ℕ → Type 0) (a b : World) (same : AreRenamed Same a
   less_windows : (i j : ℕ) → Less i j → SameWindows Less c d (image_at c i) (image_at d j)
   less_windows i j is =
       subst (λ (u : Image). SameWindows Less c d (image_at c i) u) (sym (stays_right i j is))
-      (zip_all (SameWindow Same a b) (SameWindow Less c d) (IsWindowOf c i) (less_window i) (image_at c i).windows (image_at b j).windows
+      (zip_all (SameWindow Same a b) (SameWindow Less c d) (λ v. (v.image ≢ m) × (fill_of c v.image ≢ m)) less_window (image_at c i).windows (image_at b j).windows
       (subst (λ (u : Image). SameWindows Same a b u (image_at b j)) (sym (stays_left i j is)) (same.windows i j is.0))
-      (forest.windows i (less_live_left i j is)))
+      (loose.windows i (less_live_left i j is)))
 
   renamed_gone : AreRenamed Less c d
   renamed_gone = record {
@@ -102,16 +96,16 @@ module _ (Same : ℕ → ℕ → Type 0) (a b : World) (same : AreRenamed Same a
     parents = λ i j is. less_parent i j is (same.parents i j is.0);
   }
 
--- the list on which it stood loses it, and what is left is a forest
-pub renamed_release : (Same : ℕ → ℕ → Type 0) (a b : World) → AreRenamed Same a b → (m n : ℕ) → Same m n → IsForest (after_release a m)
+-- the list on which it stood loses it
+pub renamed_release : (Same : ℕ → ℕ → Type 0) (a b : World) → AreRenamed Same a b → (m n : ℕ) → Same m n → IsLoose (after_release a m) m
     → AreRenamed (But Same m) (after_release a m) (after_release b n)
 unfolding after_release
-renamed_release Same a b same m n both forest =
+renamed_release Same a b same m n both loose =
     renamed_gone Same (after_list a m (without m)) (after_list b n (without n))
     (renamed_list Same a b same m n both (without m) (without n) (λ vs ws lists.
     zip_filter (SameWindow Same a b) (λ v. not (v.image == m)) (λ w. not (w.image == n))
     (λ v w one. ap not (number_same Same a b same v.image w.image m n one.image both)) vs ws lists))
-    m n both forest
+    m n both loose
 
 -- ---- a window that stands on an image that is the same as none gets another image there
 

@@ -1,5 +1,5 @@
 -- Two worlds of images, some of whose images are the same but for their numbers (draw(3)).
-use Rattle.std.specs.Prelude.{◌≡◌, ◌≢◌, ◌⊎◌, ℕ, Option, Some, None}
+use Rattle.std.specs.Prelude.{◌≡◌, ◌≢◌, ◌⊎◌, ℕ, All, Option, Some, None}
 use Rattle.std.specs.List.{AllZip}
 use Rattle.r9_geom.specs.declared.Point.{Point}
 use Rattle.model_forest.specs.declared.Window.{Window}
@@ -60,3 +60,8 @@ And Same m n i j = Same i j ⊎ ((i ≡ m) × (j ≡ n))
 -- the same but for one pair, whose first image is this
 abbrev pub But : (Same : ℕ → ℕ → Type 0) → (m : ℕ) → ℕ → ℕ → Type 0
 But Same m i j = Same i j × (i ≢ m)
+
+-- no image that lives stands on this one, has it in its list, or has a window that uncovers it
+pub record IsLoose (a : World) (m : ℕ) : Type 0 where
+  pub parents : (i p : ℕ) → IsLive a i → parent_of a i ≡ Some p → p ≢ m
+  pub windows : (i : ℕ) → IsLive a i → All (λ v. (v.image ≢ m) × (fill_of a v.image ≢ m)) (image_at a i).windows

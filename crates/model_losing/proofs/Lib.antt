@@ -1,0 +1,4 @@
+pub mod Used
+pub mod Losing
+pub mod Forgetting
+pub mod Standing
