@@ -3,3 +3,4 @@ pub mod Stepping
 pub mod Commands
 pub mod Outsides
 pub mod Answers
+pub mod Reasons
