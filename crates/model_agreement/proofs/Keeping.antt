@@ -20,7 +20,7 @@ use Rattle.model_world.specs.Waiting.{answered_or, awaited, first_of, given_or_r
 use Rattle.model_agreement.specs.Agreement.{IsOwnFid, KeepsToItself}
 
 -- what holds of each entry's value and of a new value holds of each in the map with it
-all-with : {A : Type 0} (P : A → Type 0) (es : List (ℕ × A)) (key : ℕ) (value : A) → All (λ (e : ℕ × A). P e.1) es → P value → All (λ (e : ℕ × A). P e.1) (with es key value)
+pub all-with : {A : Type 0} (P : A → Type 0) (es : List (ℕ × A)) (key : ℕ) (value : A) → All (λ (e : ℕ × A). P e.1) es → P value → All (λ (e : ℕ × A). P e.1) (with es key value)
 all-with P [] key value all is = all
 all-with {A = A} P (e ∷ es) key value all is = by (is_key key e.0) (all-with P es key value rest is)
   where

@@ -4,3 +4,6 @@ pub mod Commands
 pub mod Outsides
 pub mod Answers
 pub mod Reasons
+pub mod Walks
+pub mod Privacy
+pub mod Keeping
