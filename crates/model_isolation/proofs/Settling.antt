@@ -58,14 +58,16 @@ others-reply c d (Some reply) other = rw (not_key d c other) refl
 
 module _ (c : ℕ) (Same Later : Desktop → LoneDesktop → Type 0) (HasWindow HasConnection : ℕ → Type 0) (May : Desktop → Ask → Type 0)
     (alike : Alike (desktop_for c) lone_desktop Same Later HasWindow HasConnection May)
-    (others : (d : ℕ) (session : Session) (desktop : Desktop) (after : Left Desktop) (t : LoneDesktop) → (d ≡ c → ⊥)
-    → one_answered (desktop_for d) session desktop ≡ Some after → Same desktop t → Same after.rest t) where
+    (Elsewhere : ℕ → Session → Type 0)
+    (others : (d : ℕ) (session : Session) (desktop : Desktop) (after : Left Desktop) (t : LoneDesktop) → (d ≡ c → ⊥) → Elsewhere d session
+    → one_answered (desktop_for d) session desktop ≡ Some after → Same desktop t → Same after.rest t × Elsewhere d after.session) where
   -- the session is the same in both worlds, with what is outside of it
   pub record AreBoth (world : World) (lone : LoneWorld) : Type 0 where
     pub lives : lookup world.sessions c ≡ Some lone.session
     pub same : Same world.desktop lone.desktop
     pub keeps : KeepsToItself HasWindow HasConnection lone.session
     pub order : AreInOrder world
+    pub elsewhere : (d : ℕ) (session : Session) → (d ≡ c → ⊥) → lookup world.sessions d ≡ Some session → Elsewhere d session
 
   -- some answers to reads were given in the server, and so many of the session in its own world
   record AreSettled (after : World × List Reply) (lone : LoneWorld) : Type 0 where
@@ -81,14 +83,26 @@ module _ (c : ℕ) (Same Later : Desktop → LoneDesktop → Type 0) (HasWindow 
 
   -- ---- one answer more
 
-  others_first : (world : World) (lone : LoneWorld) (d : ℕ) (session : Session) (left : Left Desktop) → (d ≡ c → ⊥) → AreBoth world lone
+  others_first : (world : World) (lone : LoneWorld) (d : ℕ) (session : Session) (left : Left Desktop) → (d ≡ c → ⊥) → lookup world.sessions d ≡ Some session → AreBoth world lone
       → one_answered (desktop_for d) session world.desktop ≡ Some left → AreBoth (with_left world d left) lone
-  others_first world lone d session left other both is = record {
+  others_first world lone d session left other lives both is = record {
     lives = with-others world.sessions d c left.session (λ same. other (sym same)) ∙ both.lives;
-    same = others d session world.desktop left lone.desktop other is both.same;
+    same = one.0;
     keeps = both.keeps;
     order = ascend-with world.sessions d left.session both.order;
+    elsewhere = λ e next apart at. by e next apart at (eqb e d) refl;
   }
+    where
+      one : Same left.rest lone.desktop × Elsewhere d left.session
+      one = others d session world.desktop left lone.desktop other (both.elsewhere d session other lives) is both.same
+
+      by : (e : ℕ) (next : Session) → (e ≡ c → ⊥) → lookup (with_left world d left).sessions e ≡ Some next → (b : Bool) → eqb e d ≡ b → Elsewhere e next
+      by e next apart at true here =
+          let same : e ≡ d = eqb-true e d here in
+          let two : ◌≡◌ {A = Option Session} (Some left.session) (Some next) = sym (with-here world.sessions d session left.session lives) ∙ ap (lookup (with_left world d left).sessions) (sym same) ∙ at in
+          let it : left.session ≡ next = cc in
+          subst (λ (k : ℕ). Elsewhere k next) (sym same) (subst (Elsewhere d) it one.1)
+      by e next apart at false here = both.elsewhere e next apart (sym (with-others world.sessions d e left.session (eqb-false e d here)) ∙ at)
 
   others_more : (world : World) (lone : LoneWorld) (d : ℕ) (left : Left Desktop) (more : World × List Reply) → (d ≡ c → ⊥) → AreSettled more lone
       → AreSettled (and_replies (reply_to d left.reply) more) lone
@@ -126,6 +140,7 @@ module _ (c : ℕ) (Same Later : Desktop → LoneDesktop → Type 0) (HasWindow 
     same = own.same;
     keeps = subst (KeepsToItself HasWindow HasConnection) own.session (one_keeps (desktop_for c) HasWindow HasConnection lone.session world.desktop left both.keeps is);
     order = ascend-with world.sessions c left.session both.order;
+    elsewhere = λ d session other at. both.elsewhere d session other (sym (with-others world.sessions c d left.session other) ∙ at);
   }
 
   own_more : (world : World) (lone : LoneWorld) (left : Left Desktop) (own : IsOwnFirst world lone left) (more : World × List Reply) → one_answered (desktop_for c) lone.session world.desktop ≡ Some left
@@ -175,7 +190,7 @@ module _ (c : ℕ) (Same Later : Desktop → LoneDesktop → Type 0) (HasWindow 
           decide false is =
               let other = eqb-false d c is in
               others_more world lone d left (settled_within most (with_left world d left)) other
-              (further (with_left world d left) lone (others_first world lone d session left other both at))
+              (further (with_left world d left) lone (others_first world lone d session left other lives both at))
 
       by : (o : Option (World × List Reply)) → IfSome o (λ next. AreSettled (and_replies next.1 (settled_within most next.0)) lone)
           → AreSettled (option_map_or (λ next. and_replies next.1 (settled_within most next.0)) o (world, [])) lone
