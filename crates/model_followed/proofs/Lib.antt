@@ -7,3 +7,4 @@ pub mod Reasons
 pub mod Walks
 pub mod Privacy
 pub mod Keeping
+pub mod Late
