@@ -1,6 +1,6 @@
 -- Writes of draw messages, one message after the other, none of which is refused (draw(3)).
 use Rattle.std.proofs.Common.{◌≡◌, ◌∙◌, ◌<◌, ◌≤◌, ◌+◌, ℕ, zero, suc, List, [], ◌∷◌, ◌++◌, length, Some, None, Ok, Err, refl, sym, ap, subst, append_assoc, arith}
-use Rattle.std.proofs.lemmas.List.{append-nil}
+use Rattle.std.proofs.lemmas.List.{append-nil, length-append}
 use Rattle.model_text.specs.Outcome.{Outcome}
 use Rattle.model_dmsg.specs.Message.{Message}
 use Rattle.model_dmsg.specs.Reading.{IsMessage, first_message}
@@ -38,14 +38,22 @@ pub leads_then : (k : ℕ) (from mid to : World) (first second : List ℕ) → L
 leads_then k from mid to first second one two end rest run =
     subst (λ (bytes : List ℕ). Runs k from end bytes) (sym (append_assoc first second rest)) (one end (second ++ rest) (two end rest run))
 
-single : (k : ℕ) (from to : World) (m : Message) (bytes rest : List ℕ) (done : ℕ) → first_message bytes ≡ IsMessage m rest → act k from m rest ≡ Ok to → behind k from m rest ≡ rest
+single : (k : ℕ) (from to : World) (m : Message) (bytes behind_it rest : List ℕ) (done : ℕ) → first_message bytes ≡ IsMessage m behind_it → act k from m behind_it ≡ Ok to → behind k from m behind_it ≡ rest
     → one_message k from None done bytes ≡ Ok (to, rest)
 unfolding one_message
-single k from to m bytes rest done is acted after = rw (is, acted, after) refl
+single k from to m bytes behind_it rest done is acted after = rw (is, acted, after) refl
+
+-- a message that reads more than itself
+pub leads_with : (k : ℕ) (from to : World) (m : Message) (chunk tail : List ℕ) → ((rest : List ℕ) → first_message (chunk ++ rest) ≡ IsMessage m (tail ++ rest)) → ((rest : List ℕ) → act k from m (tail ++ rest) ≡ Ok to)
+    → ((rest : List ℕ) → behind k from m (tail ++ rest) ≡ rest) → Leads k from to chunk
+leads_with k from to m chunk tail first acted after end rest run =
+    let shorter : length (tail ++ rest) < length (chunk ++ rest) = rest-shorter (chunk ++ rest) (tail ++ rest) m (first rest) in
+    runs_message k from to end (chunk ++ rest) rest (λ done. single k from to m (chunk ++ rest) (tail ++ rest) rest done (first rest) (acted rest) (after rest))
+    (omega (arith, shorter, length-append tail rest)) run
 
 pub leads_message : (k : ℕ) (from to : World) (m : Message) (chunk : List ℕ) → ((rest : List ℕ) → first_message (chunk ++ rest) ≡ IsMessage m rest) → ((rest : List ℕ) → act k from m rest ≡ Ok to)
     → ((rest : List ℕ) → behind k from m rest ≡ rest) → Leads k from to chunk
-leads_message k from to m chunk first acted after end rest run = runs_message k from to end (chunk ++ rest) rest (λ done. single k from to m (chunk ++ rest) rest done (first rest) (acted rest) (after rest)) (rest-shorter (chunk ++ rest) rest m (first rest)) run
+leads_message k from to m chunk first acted after = leads_with k from to m chunk [] first acted after
 
 -- all of a write
 pub record IsWritten (k : ℕ) (from to : World) (bytes : List ℕ) : Type 0 where

@@ -1,15 +1,19 @@
 -- The draw messages of a piece of text are not refused, and lead to the next page.
-use Rattle.std.proofs.Common.{◌≡◌, ◌<◌, ◌≤◌, ◌+◌, ◌-◌, ◌*◌, ◌^◌, ℕ, zero, suc, true, List, [], ◌∷◌, ◌++◌, length, get_or, set, drop, map, Some, Ok, refl, arith}
+use Rattle.std.proofs.Common.{◌≡◌, ◌∙◌, ◌<◌, ◌≤◌, ◌+◌, ◌-◌, ◌*◌, ◌^◌, ℕ, zero, suc, true, ◌&&◌, cond, eqb, leb, List, [], ◌∷◌, ◌++◌, length, get_or, set, drop, map, Option, Some, None, Ok, refl, ap, subst, arith}
 use Rattle.std.specs.Prelude.{slice_get}
 use Rattle.std.specs.List.{All, fold, list_all}
-use Rattle.std.proofs.lemmas.Bool.{and_from}
-use Rattle.std.proofs.lemmas.List.{length-append, length-drop, length-set}
+use Rattle.std.specs.Option.{option_and_then}
+use Rattle.std.proofs.lemmas.Bool.{and_from, and_parts, eqb-true, leb-true}
+use Rattle.std.proofs.lemmas.Option.{option_and_then_some}
+use Rattle.std.proofs.lemmas.List.{get_or_append_left, get_or-append-add, length-append, length-drop, length-set}
 use Rattle.std.proofs.lemmas.List.Elements.{All-head, All-tail}
 use Rattle.std.proofs.Math.Nat.{mul-le-mul_right}
 use Rattle.r9_geom.specs.declared.Point.{Point}
 use Rattle.r9_geom.specs.declared.Rect.{Rect}
 use Rattle.model_map.proofs.Maps.{with-here}
 use Rattle.model_text.specs.Number.{AreBytes}
+use Rattle.model_text.proofs.Fields.{want_some}
+use Rattle.model_wire.proofs.Parts.{some_is}
 use Rattle.model_dmsg.specs.Message.{LowD, LowS, Writing}
 use Rattle.model_fonts.specs.Font.{Font, cell, has_index, layout, pieces}
 use Rattle.model_forest.specs.World.{World as Images}
@@ -18,7 +22,9 @@ use Rattle.model_draw.specs.World.{Client, World, client_of, look, with_images}
 use Rattle.model_draw.specs.Drawing.{draw, drawing_of, with_operator}
 use Rattle.model_draw.specs.Writing.{string_drawings, write_string}
 use Rattle.model_draw.specs.Act.{act, behind}
+use Rattle.model_textwin.specs.declared.Move.{Move}
 use Rattle.model_textwin.specs.declared.Move.TheVariants.{Scroll, Put}
+use Rattle.model_textwin.specs.Moves.{all_moved, codes_of, moved, put_at, put_codes}
 use Rattle.model_textwin.specs.Layout.{place_of}
 use Rattle.model_client.specs.Messages.{drawing, string}
 use Rattle.model_page.specs.Text as text
@@ -29,7 +35,7 @@ use Rattle.model_client.proofs.Messages.{IsPoint, IsRect, drawing_first, is_coor
 use Rattle.model_page.proofs.Painting.{stroke}
 use Rattle.model_page.proofs.Scrolls.{gone_up, high_few, rows_high, whitened, wide_few}
 use Rattle.model_page.proofs.Strings.{inking, string_shown}
-use Rattle.model_client.proofs.Writes.{Leads, leads_message, leads_then}
+use Rattle.model_client.proofs.Writes.{Leads, leads_message, leads_nowhere, leads_then}
 
 -- ---- the device after a drawing
 
@@ -52,6 +58,7 @@ still_shows k shape pixels n rows next device images to all shows =
       black_id = to.black_id;
       letters_id = to.letters_id;
       window_id = to.window_id;
+      managed = to.managed;
       all = all;
       shows = shows;
     }
@@ -94,6 +101,13 @@ pub record IsMoved (k : ℕ) (shape : Shape) (pixels : List ℕ) (n : Numbers) (
   pub after : World
   pub leads : Leads k device after bytes
   pub shows : ShowsTo k shape pixels n next after
+
+-- what holds of a joined list holds of both
+in_front : (P : ℕ → Type 0) (xs ys : List ℕ) → All P (xs ++ ys) → All P xs
+in_front P xs ys within k d lt = subst P (get_or_append_left xs ys d k lt) (within k d (omega (arith, lt, length-append xs ys)))
+
+in_behind : (P : ℕ → Type 0) (xs ys : List ℕ) → All P (xs ++ ys) → All P ys
+in_behind P xs ys within k d lt = subst P (get_or-append-add xs ys k d) (within (length xs + k) d (omega (arith, lt, length-append xs ys)))
 
 -- the row that a list has
 row_there : (rows : List (List ℕ)) (row : ℕ) (old : List ℕ) → slice_get rows row ≡ Some old → (row < length rows) × (get_or rows row [] ≡ old)
@@ -174,3 +188,45 @@ module _ (k : ℕ) (shape : Shape) (pixels : List ℕ) (n : Numbers) (is : IsSha
             (λ rest. behind_string k device (writing shape row column codes) rest);
         shows = still_shows k shape pixels n rows next device images to (omega (arith, to.all, length-set rows row (get_or rows row [] ++ codes))) shown;
       }
+
+  -- characters that go to a row go where it ends
+  put_there : (rows next : List (List ℕ)) (row column : ℕ) (codes : List ℕ) (o : Option (List ℕ)) → slice_get rows row ≡ o
+      → option_and_then (λ old. cond (eqb (length old) column && leb (column + length codes) shape.columns) (Some (set rows row (old ++ codes))) None) o ≡ Some next
+      → (row < length rows) × (length (get_or rows row []) ≡ column) × (column + length codes ≤ shape.columns) × (set rows row (get_or rows row [] ++ codes) ≡ next)
+  put_there rows next row column codes None got is = absurd (cc is)
+  put_there rows next row column codes (Some old) got is =
+      let there = row_there rows row old got in
+      let tested = want_some (eqb (length old) column && leb (column + length codes) shape.columns) (set rows row (old ++ codes)) next is in
+      let tests = and_parts (eqb (length old) column) (leb (column + length codes) shape.columns) tested.0 in (
+        there.0,
+        ap length there.1 ∙ eqb-true (length old) column tests.0,
+        leb-true (column + length codes) shape.columns tests.1,
+        ap (λ (codes_before : List ℕ). set rows row (codes_before ++ codes)) there.1 ∙ tested.1,
+      )
+
+  -- a move that fits
+  moves_once : (move : Move) (rows next : List (List ℕ)) (device : World) → ShowsTo k shape pixels n rows device → moved shape.columns move rows ≡ Some next → All (λ code. code < cells) (codes_of move)
+      → IsMoved k shape pixels n next device (move_bytes shape move)
+  moves_once Scroll rows next device to is within = subst (λ (r : List (List ℕ)). IsMoved k shape pixels n r device (move_bytes shape Scroll)) (some_is (drop 1 rows ++ [] ∷ []) next is) (scrolls rows device to)
+  moves_once (Put row column codes) rows next device to is within =
+      let there = put_there rows next row column codes (slice_get rows row) refl is in
+      subst (λ (r : List (List ℕ)). IsMoved k shape pixels n r device (move_bytes shape (Put row column codes))) there.3
+      (puts rows device row column codes to (omega (arith, there.0, to.all)) there.1 there.2 within)
+
+  -- Moves that fit one after the other are written without a refusal, and the device then shows what they make of the page.
+  pub moves_lead : (moves : List Move) (rows next : List (List ℕ)) (device : World) → ShowsTo k shape pixels n rows device → all_moved shape.columns moves rows ≡ Some next
+      → All (λ code. code < cells) (put_codes moves) → IsMoved k shape pixels n next device (moves_bytes shape moves)
+  moves_lead [] rows next device to is within = record {
+    after = device;
+    leads = leads_nowhere k device;
+    shows = subst (λ (r : List (List ℕ)). ShowsTo k shape pixels n r device) (some_is rows next is) to;
+  }
+  moves_lead (move ∷ moves) rows next device to is within =
+      option_and_then_some (all_moved shape.columns moves) (moved shape.columns move rows) next is (λ mid first then.
+      let one = moves_once move rows mid device to first (in_front (λ code. code < cells) (codes_of move) (put_codes moves) within) in
+      let rest = moves_lead moves mid next one.after one.shows then (in_behind (λ code. code < cells) (codes_of move) (put_codes moves) within) in
+      record {
+        after = rest.after;
+        leads = leads_then k device one.after rest.after (move_bytes shape move) (moves_bytes shape moves) one.leads rest.leads;
+        shows = rest.shows;
+      })

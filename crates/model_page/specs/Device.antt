@@ -3,6 +3,7 @@ use Rattle.std.specs.Prelude.{◌≡◌, ℕ, List, length, Some, Ok}
 use Rattle.model_text.specs.Map.{lookup}
 use Rattle.model_fonts.specs.Font.{Font}
 use Rattle.model_draw.specs.World.{Client, World, look}
+use Rattle.model_draw.specs.Orders.{image_shown}
 use Rattle.model_page.specs.Text as text
 use Rattle.model_page.specs.Text.{Shape}
 use Rattle.model_page.specs.Page.{IsTextFont, Numbers, Shows}
@@ -19,5 +20,7 @@ pub record ShowsTo (k : ℕ) (shape : Shape) (pixels : List ℕ) (n : Numbers) (
   pub black_id : look device k text.black ≡ Ok n.black
   pub letters_id : look device k text.letters ≡ Ok n.letters
   pub window_id : look device k text.window ≡ Ok n.window
+  -- which is the image of the window manager's window 1
+  pub managed : image_shown device 1 ≡ n.window
   pub all : length rows ≡ shape.rows
   pub shows : Shows shape pixels n rows device.images

@@ -1,0 +1,61 @@
+-- A piece of text is answered by the number of its bytes, and leads to the next page.
+use Rattle.std.proofs.Common.{◌≡◌, ◌<◌, ◌≤◌, ℕ, List, length, Some, refl, sym, ap, subst, arith}
+use Rattle.std.specs.List.{All}
+use Rattle.model_text.specs.Number.{AreBytes}
+use Rattle.model_wire.specs.Message.{Rwrite}
+use Rattle.model_wire.specs.Spelling.{message}
+use Rattle.model_textwin.specs.declared.Move.{Move}
+use Rattle.model_textwin.specs.Moves.{all_moved, put_codes}
+use Rattle.model_draw.specs.World as draw
+use Rattle.model_world.specs.Whole.{client, with_device}
+use Rattle.model_world.specs.World.{World}
+use Rattle.model_world.specs.Replay.{step}
+use Rattle.model_client.specs.Saying.{MaySay, answered, says}
+use Rattle.model_client.proofs.Saying.{said, stays}
+use Rattle.model_client.proofs.Answering.{wrote_data}
+use Rattle.model_client.proofs.Writes.{Leads, leads_written}
+use Rattle.model_page.specs.Text.{Shape, cells, moves_bytes, write}
+use Rattle.model_page.specs.Page.{AreApart, IsShape, Numbers}
+use Rattle.model_page.proofs.Acting.{moves_lead}
+use Rattle.model_typed.specs.Typing.{ShowsPage, typist}
+
+-- so many bytes are in a message
+pub may_write : (bytes : List ℕ) → length bytes ≤ 65537 → MaySay typist (write bytes)
+unfolding message
+may_write bytes few = record {
+  spelled = record { sizes = (omega arith, omega arith, omega arith); fits = omega (arith, few); spelled = refl };
+  tagged = refl;
+  short = omega (arith, few);
+}
+
+-- the step of draw messages
+pub record IsTyped (shape : Shape) (pixels : List ℕ) (n : Numbers) (next : List (List ℕ)) (world : World) (bytes : List ℕ) : Type 0 where
+  pub after : draw.World
+  pub is : step world (says (write bytes)) ≡ answered world (typist, with_device world.desktop after) (Rwrite 1 (length bytes))
+  pub shows : ShowsPage shape pixels n next (step world (says (write bytes))).world
+
+pub written_step : (world : World) (bytes : List ℕ) (after : draw.World) → length bytes ≤ 65537 → Leads (client 1 1) world.desktop.device after bytes → (shape : Shape) (pixels : List ℕ) (n : Numbers) (rows : List (List ℕ))
+    → ShowsPage shape pixels n rows world → step world (says (write bytes)) ≡ answered world (typist, with_device world.desktop after) (Rwrite 1 (length bytes))
+written_step world bytes after few leads shape pixels n rows shows =
+    let run = leads_written (client 1 1) world.desktop.device after bytes leads in
+    said world typist (write bytes) (typist, with_device world.desktop after) (Rwrite 1 (length bytes)) shows.alone (may_write bytes few)
+    (wrote_data typist world.desktop 1 2 1 1 2 0 run.done bytes after refl refl refl run.is)
+    refl
+
+-- moves of the text are written, and shown
+pub typed : (shape : Shape) (pixels : List ℕ) (n : Numbers) (rows next : List (List ℕ)) (world : World) (moves : List Move) → IsShape shape → AreApart n → AreBytes pixels
+    → ShowsPage shape pixels n rows world → all_moved shape.columns moves rows ≡ Some next → All (λ code. code < cells) (put_codes moves) → length (moves_bytes shape moves) ≤ 65537
+    → IsTyped shape pixels n next world (moves_bytes shape moves)
+typed shape pixels n rows next world moves is apart are shows fits within few =
+    let bytes : List ℕ = moves_bytes shape moves in
+    let moved = moves_lead (client 1 1) shape pixels n is apart are moves rows next world.desktop.device shows.device fits within in
+    let turn = written_step world bytes moved.after few moved.leads shape pixels n rows shows in
+    record {
+      after = moved.after;
+      is = turn;
+      shows = subst (λ (w : World). ShowsPage shape pixels n next w) (sym (ap (λ turn. turn.world) turn)) (record {
+        alone = stays world (typist, with_device world.desktop moved.after) refl refl refl;
+        lives = shows.lives;
+        device = moved.shows;
+      });
+    }
