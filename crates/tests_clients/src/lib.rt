@@ -1,7 +1,9 @@
-//! Tests of the clients' crates, through their public calls: that they find memory, and values by the rules of text windows and menus.
+//! Tests of the clients' crates, through their public calls: that they find memory, and values by the rules of text windows, menus and mirrors.
 #![tactic(auto)]
 
 #[cfg(test)]
 mod menu;
+#[cfg(test)]
+mod mirror;
 #[cfg(test)]
 mod text;

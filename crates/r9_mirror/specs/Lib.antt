@@ -1,0 +1,5 @@
+pub mod Words
+pub mod Sizes
+pub mod Left
+pub mod Shown
+pub mod View
