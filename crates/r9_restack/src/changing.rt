@@ -1,6 +1,6 @@
 //! Pixels moved when one of the windows of an image comes, goes or moves.
 
-ghost use Rattle.std.specs.Prelude.{◌≡◌, ◌≢◌, ◌+◌, ◌*◌, ◌^◌, ◌<◌, ◌≤◌, ℕ, Bool, false, true, length, slice_index, Some, None, IsTrue, All, Option};
+ghost use Rattle.std.specs.Prelude.{◌≡◌, ◌≢◌, ◌+◌, ◌++◌, ◌*◌, ◌^◌, ◌<◌, ◌≤◌, ℕ, Bool, false, true, length, slice_index, Some, None, IsTrue, All, Option};
 ghost use Rattle.r9_geom.specs.declared.Point.{Point as Spot};
 ghost use Rattle.r9_geom.specs.Geometry.{area_of, holds, strip, IsNear, IsOrdered, IsRectNear};
 ghost use Rattle.r9_plane.specs.Pixels.{along};
@@ -154,38 +154,57 @@ fn stays(a: Option<Window>, b: Option<Window>, w: u32) -> bool
     }
 }
 
-// Moves the pixels of points side by side over which the topmost window, before and then, is the same one.
+// The topmost window at a point, of a list in two parts.
+fn top_of(upper: &[Window], lower: &[Window], q: Point) -> Option<Window>
+    ensures { result ≡ top_window (upper.now ++ lower.now) q }
+{
+    top(upper, q).or(top(lower, q))
+}
+
+// For how many of n points to the right the topmost window of a list in two parts is the same one.
+fn steady_top_of(upper: &[Window], lower: &[Window], q: Point, n: usize) -> usize
+    requires { 0 < n }
+    ensures some { 0 < result }
+    ensures most { result ≤ n }
+    ensures same { (k : ℕ) → k < result → top_window (upper.now ++ lower.now) (along q k) ≡ top_window (upper.now ++ lower.now) q }
+{
+    steady_top(lower, q, steady_top(upper, q, n))
+}
+
+// Moves the pixels of points side by side over which the topmost window, before and then, is the same one. The list of then
+// is in two parts, the upper windows first.
 fn change_part<P: Pixels, S: Source, L: Ledger>(
     lists: &Lists,
     pixels: &mut P,
     source: &S,
     p: u32,
     w: u32,
-    new: &[Window],
+    upper: &[Window],
+    lower: &[Window],
     q: Point,
     raws: &mut [u32],
     steps: &mut Steps<L>,
 )
-    requires change { IsChange (shape lists.now) p new.now w }
+    requires change { IsChange (shape lists.now) p (upper.now ++ lower.now) w }
     requires near { IsNear q }
     requires some { 0 < length raws.old }
     requires width { length raws.old ≤ 2 ^ 40 }
     requires inside { (z : Spot) → IsTrue (holds (strip q (length raws.old)) z) → IsTrue (holds (image_at (shape lists.now) p).r z) }
     requires olds { (k : ℕ) → k < length raws.old → top_window (image_at (shape lists.now) p).windows (along q k) ≡ top_window (image_at (shape lists.now) p).windows q }
-    requires news { (k : ℕ) → k < length raws.old → top_window new.now (along q k) ≡ top_window new.now q }
-    requires near_new { All (λ v. IsNear v.place.min) new.now }
-    requires places { HasPlacesBut (shape lists.now) p new.now w (P.has pixels.old) }
+    requires news { (k : ℕ) → k < length raws.old → top_window (upper.now ++ lower.now) (along q k) ≡ top_window (upper.now ++ lower.now) q }
+    requires near_new { All (λ v. IsNear v.place.min) (upper.now ++ lower.now) }
+    requires places { HasPlacesBut (shape lists.now) p (upper.now ++ lower.now) w (P.has pixels.old) }
     requires bits { HasBits (shape lists.now) (P.forms pixels.old) }
     requires given { (x : Spot) → S.given source.now x < 2 ^ bits_in (P.forms pixels.old) p }
     requires fill { (z : Spot) → S.fill source.now z < 2 ^ bits_in (P.forms pixels.old) p }
-    ensures moved { (before : Place → ℕ) (done : Spot → Bool) → IsFresh q (length raws.old) done → IsChanged (shape lists.now) p new.now w (S.given source.now) (S.fill source.now) before (P.kept pixels.old) done → IsChanged (shape lists.now) p new.now w (S.given source.now) (S.fill source.now) before (P.kept pixels.new) (more q (length raws.old) done) }
+    ensures moved { (before : Place → ℕ) (done : Spot → Bool) → IsFresh q (length raws.old) done → IsChanged (shape lists.now) p (upper.now ++ lower.now) w (S.given source.now) (S.fill source.now) before (P.kept pixels.old) done → IsChanged (shape lists.now) p (upper.now ++ lower.now) w (S.given source.now) (S.fill source.now) before (P.kept pixels.new) (more q (length raws.old) done) }
     ensures has { P.has pixels.new ≡ P.has pixels.old }
     ensures forms { P.forms pixels.new ≡ P.forms pixels.old }
     ensures steps { steps.new ≤ steps.old + 2 * length raws.old }
 {
     let old = &lists.get(p).windows;
     let a = top(old, q);
-    let b = top(new, q);
+    let b = top_of(upper, lower, q);
     if !stays(a, b, w) {
         show(lists, pixels, source, p, w, a, b, q, raws, steps);
     }
@@ -198,21 +217,22 @@ fn change_row<P: Pixels, S: Source, L: Ledger>(
     source: &S,
     p: u32,
     w: u32,
-    new: &[Window],
+    upper: &[Window],
+    lower: &[Window],
     at: Point,
     n: usize,
     steps: &mut Steps<L>,
 )
-    requires change { IsChange (shape lists.now) p new.now w }
+    requires change { IsChange (shape lists.now) p (upper.now ++ lower.now) w }
     requires near { IsNear at }
     requires width { n ≤ 2 ^ 41 }
     requires inside { (z : Spot) → IsTrue (holds (strip at n) z) → IsTrue (holds (image_at (shape lists.now) p).r z) }
-    requires near_new { All (λ v. IsNear v.place.min) new.now }
-    requires places { HasPlacesBut (shape lists.now) p new.now w (P.has pixels.old) }
+    requires near_new { All (λ v. IsNear v.place.min) (upper.now ++ lower.now) }
+    requires places { HasPlacesBut (shape lists.now) p (upper.now ++ lower.now) w (P.has pixels.old) }
     requires bits { HasBits (shape lists.now) (P.forms pixels.old) }
     requires given { (x : Spot) → S.given source.now x < 2 ^ bits_in (P.forms pixels.old) p }
     requires fill { (z : Spot) → S.fill source.now z < 2 ^ bits_in (P.forms pixels.old) p }
-    ensures moved { (before : Place → ℕ) (done : Spot → Bool) → IsFresh at n done → IsChanged (shape lists.now) p new.now w (S.given source.now) (S.fill source.now) before (P.kept pixels.old) done → IsChanged (shape lists.now) p new.now w (S.given source.now) (S.fill source.now) before (P.kept pixels.new) (more at n done) }
+    ensures moved { (before : Place → ℕ) (done : Spot → Bool) → IsFresh at n done → IsChanged (shape lists.now) p (upper.now ++ lower.now) w (S.given source.now) (S.fill source.now) before (P.kept pixels.old) done → IsChanged (shape lists.now) p (upper.now ++ lower.now) w (S.given source.now) (S.fill source.now) before (P.kept pixels.new) (more at n done) }
     ensures has { P.has pixels.new ≡ P.has pixels.old }
     ensures forms { P.forms pixels.new ≡ P.forms pixels.old }
     ensures steps { steps.new ≤ steps.old + 2 * n }
@@ -222,14 +242,15 @@ fn change_row<P: Pixels, S: Source, L: Ledger>(
     let mut done = 0;
     while done < n {
         let q = along(at, done);
-        let len = steady_top(new, q, steady_top(old, q, (n - done).min(BLOCK)));
+        let len = steady_top_of(upper, lower, q, steady_top(old, q, (n - done).min(BLOCK)));
         change_part(
             lists,
             pixels,
             source,
             p,
             w,
-            new,
+            upper,
+            lower,
             q,
             &mut block[..len],
             steps,
@@ -245,20 +266,21 @@ pub(crate) fn change_area<P: Pixels, S: Source, L: Ledger>(
     source: &S,
     p: u32,
     w: u32,
-    new: &[Window],
+    upper: &[Window],
+    lower: &[Window],
     area: &Rect,
     steps: &mut Steps<L>,
 )
-    requires change { IsChange (shape lists.now) p new.now w }
+    requires change { IsChange (shape lists.now) p (upper.now ++ lower.now) w }
     requires near { IsRectNear area.now }
     requires ordered { IsOrdered area.now }
     requires inside { (z : Spot) → IsTrue (holds area.now z) → IsTrue (holds (image_at (shape lists.now) p).r z) }
-    requires near_new { All (λ v. IsNear v.place.min) new.now }
-    requires places { HasPlacesBut (shape lists.now) p new.now w (P.has pixels.old) }
+    requires near_new { All (λ v. IsNear v.place.min) (upper.now ++ lower.now) }
+    requires places { HasPlacesBut (shape lists.now) p (upper.now ++ lower.now) w (P.has pixels.old) }
     requires bits { HasBits (shape lists.now) (P.forms pixels.old) }
     requires given { (x : Spot) → S.given source.now x < 2 ^ bits_in (P.forms pixels.old) p }
     requires fill { (z : Spot) → S.fill source.now z < 2 ^ bits_in (P.forms pixels.old) p }
-    ensures moved { IsChanged (shape lists.now) p new.now w (S.given source.now) (S.fill source.now) (P.kept pixels.old) (P.kept pixels.new) (holds area.now) }
+    ensures moved { IsChanged (shape lists.now) p (upper.now ++ lower.now) w (S.given source.now) (S.fill source.now) (P.kept pixels.old) (P.kept pixels.new) (holds area.now) }
     ensures has { P.has pixels.new ≡ P.has pixels.old }
     ensures forms { P.forms pixels.new ≡ P.forms pixels.old }
     ensures steps { steps.new ≤ steps.old + 2 * area_of area.now }
@@ -271,7 +293,8 @@ pub(crate) fn change_area<P: Pixels, S: Source, L: Ledger>(
             source,
             p,
             w,
-            new,
+            upper,
+            lower,
             area.point_at(0, row),
             width,
             steps,
@@ -279,33 +302,35 @@ pub(crate) fn change_area<P: Pixels, S: Source, L: Ledger>(
     }
 }
 
-/// Moves the pixels of an image and of its windows to where they are kept when window w comes, goes or moves. The topmost
-/// window changes within the area alone. What is hidden of w then is not written yet.
+/// Moves the pixels of an image and of its windows to where they are kept when window w comes, goes or moves. The list of
+/// then is in two parts, the upper windows first. The topmost window changes within the area alone. What is hidden of w then
+/// is not written yet.
 pub fn change<P: Pixels, S: Source, L: Ledger>(
     lists: &Lists,
     pixels: &mut P,
     source: &S,
     p: u32,
     w: u32,
-    new: &[Window],
+    upper: &[Window],
+    lower: &[Window],
     area: &Rect,
     steps: &mut Steps<L>,
 )
-    requires change { IsChange (shape lists.now) p new.now w }
+    requires change { IsChange (shape lists.now) p (upper.now ++ lower.now) w }
     requires above { parent_of (shape lists.now) w ≡ Some p }
     requires near { IsRectNear area.now }
     requires ordered { IsOrdered area.now }
     requires inside { (z : Spot) → IsTrue (holds area.now z) → IsTrue (holds (image_at (shape lists.now) p).r z) }
-    requires outside { (z : Spot) → IsTrue (holds (image_at (shape lists.now) p).r z) → holds area.now z ≡ false → StaysTop (shape lists.now) p new.now w z }
-    requires near_new { All (λ v. IsNear v.place.min) new.now }
-    requires places { HasPlacesBut (shape lists.now) p new.now w (P.has pixels.old) }
+    requires outside { (z : Spot) → IsTrue (holds (image_at (shape lists.now) p).r z) → holds area.now z ≡ false → StaysTop (shape lists.now) p (upper.now ++ lower.now) w z }
+    requires near_new { All (λ v. IsNear v.place.min) (upper.now ++ lower.now) }
+    requires places { HasPlacesBut (shape lists.now) p (upper.now ++ lower.now) w (P.has pixels.old) }
     requires bits { HasBits (shape lists.now) (P.forms pixels.old) }
     requires given { (x : Spot) → S.given source.now x < 2 ^ bits_in (P.forms pixels.old) p }
     requires fill { (z : Spot) → S.fill source.now z < 2 ^ bits_in (P.forms pixels.old) p }
-    ensures moved { (as_before as_after : Place → ℕ) → IsGiven (shape lists.now) p new.now w (S.given source.now) (P.kept pixels.old) (P.kept pixels.new) as_before as_after → IsRestacked (shape lists.now) (with_list (shape lists.now) p new.now) p as_before as_after (S.fill source.now) }
+    ensures moved { (as_before as_after : Place → ℕ) → IsGiven (shape lists.now) p (upper.now ++ lower.now) w (S.given source.now) (P.kept pixels.old) (P.kept pixels.new) as_before as_after → IsRestacked (shape lists.now) (with_list (shape lists.now) p (upper.now ++ lower.now)) p as_before as_after (S.fill source.now) }
     ensures has { P.has pixels.new ≡ P.has pixels.old }
     ensures forms { P.forms pixels.new ≡ P.forms pixels.old }
     ensures steps { steps.new ≤ steps.old + 2 * area_of area.now }
 {
-    change_area(lists, pixels, source, p, w, new, area, steps);
+    change_area(lists, pixels, source, p, w, upper, lower, area, steps);
 }

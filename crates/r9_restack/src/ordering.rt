@@ -57,7 +57,7 @@ pub fn reorder<P: Pixels, L: Ledger>(
     ensures forms { P.forms pixels.new ≡ P.forms pixels.old }
     ensures steps { steps.new ≤ steps.old + 2 * area_of area.now }
 {
-    change_area(lists, pixels, &Nothing, p, p, new, area, steps);
+    change_area(lists, pixels, &Nothing, p, p, new, &[], area, steps);
 }
 
 /// A group of windows that is raised, or lowered, is another order at the same places.

@@ -1,6 +1,6 @@
 //! All the pixels moved when one of the windows of an image comes or moves.
 
-ghost use Rattle.std.specs.Prelude.{◌≡◌, ◌^◌, ◌≢◌, ◌+◌, ◌*◌, ◌<◌, ◌≤◌, ◌&&◌, ℕ, Bool, false, true, All, IsTrue, Some};
+ghost use Rattle.std.specs.Prelude.{◌≡◌, ◌^◌, ◌≢◌, ◌+◌, ◌++◌, ◌*◌, ◌<◌, ◌≤◌, ◌&&◌, ℕ, Bool, false, true, All, IsTrue, Some};
 ghost use Rattle.r9_geom.specs.declared.Point.{Point as Spot};
 ghost use Rattle.r9_geom.specs.Geometry.{area_of, carried, holds, IsNear, IsOrdered, IsRectNear};
 ghost use Rattle.model_forest.specs.declared.Window.{Window as Stood};
@@ -53,39 +53,41 @@ pub fn restack<P: Pixels, S: Source, L: Ledger>(
     ensures forms { P.forms pixels.new ≡ P.forms pixels.old }
     ensures steps { steps.new ≤ steps.old + 2 * area_of area.now + area_of (image_at (shape lists.now) w).r }
 {
-    change(lists, pixels, source, p, w, new, area, steps);
+    change(lists, pixels, source, p, w, new, &[], area, steps);
     let r = lists.get(w).r;
     let corner = place_among(new, w).min;
     keep_hidden(pixels, source, w, &r, corner, &lists.get(p).r, new, steps);
 }
 
-/// Moves all pixels to where they are kept when window w leaves the list: its own are asked for by nothing then.
+/// Moves all pixels to where they are kept when window w leaves the list, which leaves two parts of it: its own are asked for
+/// by nothing then.
 pub fn leave<P: Pixels, S: Source, L: Ledger>(
     lists: &Lists,
     pixels: &mut P,
     source: &S,
     p: u32,
     w: u32,
-    new: &[Window],
+    upper: &[Window],
+    lower: &[Window],
     area: &Rect,
     steps: &mut Steps<L>,
 )
-    requires change { IsChange (shape lists.now) p new.now w }
+    requires change { IsChange (shape lists.now) p (upper.now ++ lower.now) w }
     requires above { parent_of (shape lists.now) w ≡ Some p }
-    requires gone { (z : Spot) (v : Stood) → top_window new.now z ≡ Some v → v.image ≢ w }
+    requires gone { (z : Spot) (v : Stood) → top_window (upper.now ++ lower.now) z ≡ Some v → v.image ≢ w }
     requires near { IsRectNear area.now }
     requires ordered { IsOrdered area.now }
     requires inside { (z : Spot) → IsTrue (holds area.now z) → IsTrue (holds (image_at (shape lists.now) p).r z) }
-    requires outside { (z : Spot) → IsTrue (holds (image_at (shape lists.now) p).r z) → holds area.now z ≡ false → StaysTop (shape lists.now) p new.now w z }
-    requires near_new { All (λ v. IsNear v.place.min) new.now }
-    requires places { HasPlacesBut (shape lists.now) p new.now w (P.has pixels.old) }
+    requires outside { (z : Spot) → IsTrue (holds (image_at (shape lists.now) p).r z) → holds area.now z ≡ false → StaysTop (shape lists.now) p (upper.now ++ lower.now) w z }
+    requires near_new { All (λ v. IsNear v.place.min) (upper.now ++ lower.now) }
+    requires places { HasPlacesBut (shape lists.now) p (upper.now ++ lower.now) w (P.has pixels.old) }
     requires bits { HasBits (shape lists.now) (P.forms pixels.old) }
     requires given { (x : Spot) → S.given source.now x < 2 ^ bits_in (P.forms pixels.old) p }
     requires fill { (z : Spot) → S.fill source.now z < 2 ^ bits_in (P.forms pixels.old) p }
-    ensures moved { IsRestacked (shape lists.now) (with_list (shape lists.now) p new.now) p (P.kept pixels.old) (with_own w (λ x. P.kept pixels.old (keeping (shape lists.now) w x)) (P.kept pixels.new)) (S.fill source.now) }
+    ensures moved { IsRestacked (shape lists.now) (with_list (shape lists.now) p (upper.now ++ lower.now)) p (P.kept pixels.old) (with_own w (λ x. P.kept pixels.old (keeping (shape lists.now) w x)) (P.kept pixels.new)) (S.fill source.now) }
     ensures has { P.has pixels.new ≡ P.has pixels.old }
     ensures forms { P.forms pixels.new ≡ P.forms pixels.old }
     ensures steps { steps.new ≤ steps.old + 2 * area_of area.now }
 {
-    change(lists, pixels, source, p, w, new, area, steps);
+    change(lists, pixels, source, p, w, upper, lower, area, steps);
 }

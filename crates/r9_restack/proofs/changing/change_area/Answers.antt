@@ -1,4 +1,4 @@
-use Rattle.std.proofs.Common.{◌≡◌, ◌∙◌, ◌+◌, ◌<◌, ◌||◌, refl, sym, ap, arith, ℕ, ◌^◌, subst, Option}
+use Rattle.std.proofs.Common.{◌≡◌, ◌∙◌, ◌+◌, ◌<◌, ◌||◌, refl, sym, ap, arith, ℕ, ◌^◌, subst, Option, ◌++◌}
 use Rattle.r9_geom.specs.Geometry.{height, holds, strip, width}
 use Rattle.r9_geom.proofs.GeometryLemmas.{band, band_all, band_more, band_none, row_inside, width_most}
 use Rattle.r9_locate.specs.Forms.{bits_in, Form, HasBits}
@@ -10,7 +10,7 @@ use Rattle.r9_restack.proofs.changing.change_area.Goals as goal
 
 pub loop-row-init : goal.loop-row-init
 loop-row-init g c = record {
-  moved = changed-none (shape c.args.lists.now) c.args.p c.args.new.now c.args.w (g.S.Source.given c.args.source.now) (g.S.Source.fill c.args.source.now) (g.P.Pixels.kept c.args.pixels.now) (holds (band c.args.area.now 0)) (band_none c.args.area.now);
+  moved = changed-none (shape c.args.lists.now) c.args.p (c.args.upper.now ++ c.args.lower.now) c.args.w (g.S.Source.given c.args.source.now) (g.S.Source.fill c.args.source.now) (g.P.Pixels.kept c.args.pixels.now) (holds (band c.args.area.now 0)) (band_none c.args.area.now);
   has = refl;
   forms = refl;
   steps = omega arith;
@@ -44,7 +44,7 @@ loop-row-preserved g c =
     let kept = g.P.Pixels.kept in
     record {
       moved =
-          changed-same (shape c.args.lists.now) c.args.p c.args.new.now c.args.w (g.S.Source.given c.args.source.now) (g.S.Source.fill c.args.source.now) (kept c.args.pixels.now) (kept c.change_row.new.pixels) (more at c.width-width.result (holds (band area row))) (holds (band area (row + 1)))
+          changed-same (shape c.args.lists.now) c.args.p (c.args.upper.now ++ c.args.lower.now) c.args.w (g.S.Source.given c.args.source.now) (g.S.Source.fill c.args.source.now) (kept c.args.pixels.now) (kept c.change_row.new.pixels) (more at c.width-width.result (holds (band area row))) (holds (band area (row + 1)))
           (λ z. band_more area at z row c.requires.ordered is.0 is.1 ∙ ap (λ n. holds (strip at n) z || holds (band area row) z) (sym c.width-width.ensures))
           (c.change_row.ensures.moved (kept c.args.pixels.now) (holds (band area row)) (fresh_row area at row c.width-width.result c.point_at.ensures) c.loop-row.invariant.moved);
       has = c.change_row.ensures.has ∙ c.loop-row.invariant.has;
@@ -57,6 +57,6 @@ returns-clause-moved g c =
     let area = c.args.area.now in
     let kept = g.P.Pixels.kept in
     let end : c.loop-row.row ≡ height area = omega (arith, c.loop-row-test.false, c.loop-row.auto.row-end, c.height-row-end.ensures) in
-    changed-same (shape c.args.lists.now) c.args.p c.args.new.now c.args.w (g.S.Source.given c.args.source.now) (g.S.Source.fill c.args.source.now) (kept c.args.pixels.now) (kept c.loop-row.pixels) (holds (band area c.loop-row.row)) (holds area)
+    changed-same (shape c.args.lists.now) c.args.p (c.args.upper.now ++ c.args.lower.now) c.args.w (g.S.Source.given c.args.source.now) (g.S.Source.fill c.args.source.now) (kept c.args.pixels.now) (kept c.loop-row.pixels) (holds (band area c.loop-row.row)) (holds area)
     (λ z. sym (ap (λ n. holds (band area n) z) end ∙ band_all area z c.requires.ordered.down))
     c.loop-row.invariant.moved

@@ -1,4 +1,4 @@
-use Rattle.std.proofs.Common.{◌≡◌, ◌∙◌, ℕ, ◌+◌, ◌≤◌, ◌^◌, length, length-append, length-drop, take, drop, refl, sym, subst, ap, arith, ◌<◌, Option}
+use Rattle.std.proofs.Common.{◌≡◌, ◌∙◌, ℕ, ◌+◌, ◌≤◌, ◌^◌, length, length-append, length-drop, take, drop, refl, sym, subst, ap, arith, ◌<◌, Option, ◌++◌}
 use Rattle.std.proofs.lemmas.List.{length-take-le}
 use Rattle.r9_geom.specs.declared.Point.{Point}
 use Rattle.r9_geom.specs.Geometry.{IsNear}
@@ -17,7 +17,7 @@ use Rattle.r9_restack.proofs.changing.change_row.Goals as goal
 pub loop-done-init : goal.loop-done-init
 loop-done-init g c = record {
   within = omega arith;
-  moved = λ before also fresh m. changed-same (shape c.args.lists.now) c.args.p c.args.new.now c.args.w (g.S.Source.given c.args.source.now) (g.S.Source.fill c.args.source.now) before (g.P.Pixels.kept c.args.pixels.now) also (more c.args.at 0 also) (λ z. more_none c.args.at z also) m;
+  moved = λ before also fresh m. changed-same (shape c.args.lists.now) c.args.p (c.args.upper.now ++ c.args.lower.now) c.args.w (g.S.Source.given c.args.source.now) (g.S.Source.fill c.args.source.now) before (g.P.Pixels.kept c.args.pixels.now) also (more c.args.at 0 also) (λ z. more_none c.args.at z also) m;
   long = refl;
   has = refl;
   forms = refl;
@@ -43,11 +43,11 @@ pub loop-done-preserved : goal.loop-done-preserved
 loop-done-preserved g c =
     let w = shape c.args.lists.now in
     let p = c.args.p in
-    let ws = c.args.new.now in
+    let ws = (c.args.upper.now ++ c.args.lower.now) in
     let done = c.loop-done.done in
-    let len = c.steady_top-len.result in
-    let fits : done + len ≤ c.args.n = omega (arith, c.steady_top-len.ensures.most, c.steady_top.ensures.most, c.min.ensures, c.loop-done.invariant.within) in
-    let long : length (take len c.loop-done.block) ≡ len = length-take-le len c.loop-done.block (omega (arith, c.steady_top-len.ensures.most, c.steady_top.ensures.most, c.min.ensures, c.loop-done.invariant.long)) in
+    let len = c.steady_top_of-len.result in
+    let fits : done + len ≤ c.args.n = omega (arith, c.steady_top_of-len.ensures.most, c.steady_top.ensures.most, c.min.ensures, c.loop-done.invariant.within) in
+    let long : length (take len c.loop-done.block) ≡ len = length-take-le len c.loop-done.block (omega (arith, c.steady_top_of-len.ensures.most, c.steady_top.ensures.most, c.min.ensures, c.loop-done.invariant.long)) in
     record {
       within = fits;
       moved = λ before also fresh m.
@@ -57,7 +57,7 @@ loop-done-preserved g c =
           changed-same w p ws c.args.w (g.S.Source.given c.args.source.now) (g.S.Source.fill c.args.source.now) before (g.P.Pixels.kept c.change_part.new.pixels) (more c.along-q.result (length (take len c.loop-done.block)) (more c.args.at done also)) (more c.args.at (done + len) also)
           (λ z. more_two c.args.at z done len also ∙ ap (λ q. more q len (more c.args.at done also) z) (sym q_is) ∙ ap (λ n. more c.along-q.result n (more c.args.at done also) z) (sym long))
           (c.change_part.ensures.moved before (more c.args.at done also) ready so_far);
-      long = omega (arith, length-append c.change_part.new.raws (drop len c.loop-done.block), length-drop len c.loop-done.block, c.change_part.auto.raws, long, c.loop-done.invariant.long, c.steady_top-len.ensures.most, c.steady_top.ensures.most, c.min.ensures);
+      long = omega (arith, length-append c.change_part.new.raws (drop len c.loop-done.block), length-drop len c.loop-done.block, c.change_part.auto.raws, long, c.loop-done.invariant.long, c.steady_top_of-len.ensures.most, c.steady_top.ensures.most, c.min.ensures);
       has = c.change_part.ensures.has ∙ c.loop-done.invariant.has;
       forms = c.change_part.ensures.forms ∙ c.loop-done.invariant.forms;
       steps = omega (arith, c.change_part.ensures.steps, c.loop-done.invariant.steps, long);
@@ -66,5 +66,5 @@ loop-done-preserved g c =
 pub returns-clause-moved : goal.returns-clause-moved
 returns-clause-moved g c before also fresh m =
     let end : c.loop-done.done ≡ c.args.n = omega (arith, c.loop-done-test.false, c.loop-done.invariant.within) in
-    subst (λ (n : ℕ). IsChanged (shape c.args.lists.now) c.args.p c.args.new.now c.args.w (g.S.Source.given c.args.source.now) (g.S.Source.fill c.args.source.now) before (g.P.Pixels.kept c.loop-done.pixels) (more c.args.at n also)) end
+    subst (λ (n : ℕ). IsChanged (shape c.args.lists.now) c.args.p (c.args.upper.now ++ c.args.lower.now) c.args.w (g.S.Source.given c.args.source.now) (g.S.Source.fill c.args.source.now) before (g.P.Pixels.kept c.loop-done.pixels) (more c.args.at n also)) end
     (c.loop-done.invariant.moved before also fresh m)

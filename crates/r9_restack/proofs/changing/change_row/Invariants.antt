@@ -1,4 +1,4 @@
-use Rattle.std.proofs.Common.{◌≡◌, ◌+◌, ◌*◌, ◌≤◌, ◌-◌, ℕ, Bool, length}
+use Rattle.std.proofs.Common.{◌≡◌, ◌+◌, ◌*◌, ◌≤◌, ◌-◌, ℕ, Bool, length, ◌++◌}
 use Rattle.r9_geom.specs.declared.Point.{Point}
 use Rattle.model_kept.specs.Keeping.{Place}
 use Rattle.r9_locate.specs.Table.{shape}
@@ -9,7 +9,7 @@ use Rattle.r9_restack.proofs.changing.change_row.Given as goal
 abbrev pub invariant-loop-done : goal.invariant-loop-done
 invariant-loop-done g l = record {
   within : l.done ≤ l.n;
-  moved : (before : Place → ℕ) (also : Point → Bool) → IsFresh l.at l.n also → IsChanged (shape l.lists) l.p l.new l.w (g.S.Source.given l.source) (g.S.Source.fill l.source) before (g.P.Pixels.kept l.fn.pixels) also → IsChanged (shape l.lists) l.p l.new l.w (g.S.Source.given l.source) (g.S.Source.fill l.source) before (g.P.Pixels.kept l.pixels) (more l.at l.done also);
+  moved : (before : Place → ℕ) (also : Point → Bool) → IsFresh l.at l.n also → IsChanged (shape l.lists) l.p (l.upper ++ l.lower) l.w (g.S.Source.given l.source) (g.S.Source.fill l.source) before (g.P.Pixels.kept l.fn.pixels) also → IsChanged (shape l.lists) l.p (l.upper ++ l.lower) l.w (g.S.Source.given l.source) (g.S.Source.fill l.source) before (g.P.Pixels.kept l.pixels) (more l.at l.done also);
   long : length l.block ≡ 256;
   has : g.P.Pixels.has l.pixels ≡ g.P.Pixels.has l.fn.pixels;
   forms : g.P.Pixels.forms l.pixels ≡ g.P.Pixels.forms l.fn.pixels;

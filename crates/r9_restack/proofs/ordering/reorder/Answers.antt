@@ -1,28 +1,37 @@
+use Rattle.std.proofs.Common.{All, List, append-nil, sym, subst}
 use Rattle.std.proofs.lemmas.Nat.{pow_pos}
-use Rattle.r9_geom.specs.Geometry.{holds}
+use Rattle.r9_geom.specs.declared.Point.{Point}
+use Rattle.r9_geom.specs.Geometry.{holds, IsNear}
+use Rattle.model_forest.specs.declared.Window.{Window}
 use Rattle.r9_locate.specs.Forms.{bits_in}
 use Rattle.r9_locate.specs.Table.{shape}
+use Rattle.r9_restack.specs.Changing.{HasPlacesBut, IsChange, IsChanged}
 use Rattle.r9_restack.proofs.Orders.{moved-all, moved-changed}
 use Rattle.r9_restack.proofs.Parting.{near_all, nearby, setting}
 use Rattle.r9_restack.proofs.ordering.reorder.Goals as goal
 
 pub change_area-requires-clause-change : goal.change_area-requires-clause-change
-change_area-requires-clause-change g c = record {
-  live = c.requires.order.live;
-  places = λ i other. c.requires.order.places i;
-  stand = c.requires.order.stand;
-  one = c.requires.order.one;
-}
+change_area-requires-clause-change g c =
+    subst (λ (ws : List Window). IsChange (shape c.args.lists.now) c.args.p ws c.args.p) (sym (append-nil c.args.new.now))
+    (record {
+      live = c.requires.order.live;
+      places = λ i other. c.requires.order.places i;
+      stand = c.requires.order.stand;
+      one = c.requires.order.one;
+    })
 
 pub change_area-requires-clause-near_new : goal.change_area-requires-clause-near_new
-change_area-requires-clause-near_new g c = near_all (shape c.args.lists.now) c.args.p c.args.new.now c.requires.order (nearby c.args.lists.now)
+change_area-requires-clause-near_new g c =
+    subst (All (λ v. IsNear v.place.min)) (sym (append-nil c.args.new.now)) (near_all (shape c.args.lists.now) c.args.p c.args.new.now c.requires.order (nearby c.args.lists.now))
 
 pub change_area-requires-clause-places : goal.change_area-requires-clause-places
-change_area-requires-clause-places g c = record {
-  surface = c.requires.places.surface;
-  old_own = λ i x other. c.requires.places.old_own i x;
-  new_own = λ i x other. c.requires.places.new_own i x;
-}
+change_area-requires-clause-places g c =
+    subst (λ (ws : List Window). HasPlacesBut (shape c.args.lists.now) c.args.p ws c.args.p (g.P.Pixels.has c.args.pixels.now)) (sym (append-nil c.args.new.now))
+    (record {
+      surface = c.requires.places.surface;
+      old_own = λ i x other. c.requires.places.old_own i x;
+      new_own = λ i x other. c.requires.places.new_own i x;
+    })
 
 pub change_area-requires-clause-given : goal.change_area-requires-clause-given
 change_area-requires-clause-given g c x = pow_pos (bits_in (g.P.Pixels.forms c.args.pixels.now) c.args.p)
@@ -37,4 +46,5 @@ returns-clause-moved g c fill =
     let ok = setting c.args.lists.now c.args.p c.args.new.now c.requires.order in
     moved-all world c.args.p c.args.new.now (kept c.args.pixels.now) (kept c.change_area.new.pixels) (holds c.args.area.now) fill ok
     c.requires.inside c.requires.outside
-    (moved-changed world c.args.p c.args.new.now (kept c.args.pixels.now) (kept c.change_area.new.pixels) (holds c.args.area.now) ok c.change_area.ensures.moved)
+    (moved-changed world c.args.p c.args.new.now (kept c.args.pixels.now) (kept c.change_area.new.pixels) (holds c.args.area.now) ok
+    (subst (λ (ws : List Window). IsChanged world c.args.p ws c.args.p (λ (x : Point). 0) (λ (z : Point). 0) (kept c.args.pixels.now) (kept c.change_area.new.pixels) (holds c.args.area.now)) (append-nil c.args.new.now) c.change_area.ensures.moved))

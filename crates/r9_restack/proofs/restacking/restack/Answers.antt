@@ -1,14 +1,30 @@
-use Rattle.std.proofs.Common.{◌≡◌, ◌∙◌, ◌^◌, sym, subst, ap, arith}
+use Rattle.std.proofs.Common.{◌≡◌, ◌∙◌, ◌^◌, false, All, List, append-nil, sym, subst, ap, arith}
 use Rattle.std.specs.Prelude.{◌&&◌}
 use Rattle.r9_geom.specs.declared.Rect.{Rect}
-use Rattle.r9_geom.specs.Geometry.{carried, holds, IsRectNear}
+use Rattle.r9_geom.specs.Geometry.{carried, holds, IsNear, IsRectNear}
+use Rattle.model_forest.specs.declared.Window.{Window}
 use Rattle.model_forest.specs.World.{Image, image_at}
 use Rattle.model_kept.specs.Keeping.{is_top}
+use Rattle.model_kept.specs.Restack.{with_list, IsRestacked}
 use Rattle.r9_locate.specs.Forms.{bits_in}
 use Rattle.r9_locate.specs.Table.{shape}
+use Rattle.r9_restack.specs.Changing.{HasPlacesBut, IsChange, IsGiven, StaysTop}
 use Rattle.r9_restack.proofs.Changes.{inside_w, shown_then}
 use Rattle.r9_restack.proofs.Parting.{nearby}
 use Rattle.r9_restack.proofs.restacking.restack.Goals as goal
+
+-- the list of then is in one part
+pub change-requires-clause-change : goal.change-requires-clause-change
+change-requires-clause-change g c = subst (λ (ws : List Window). IsChange (shape c.args.lists.now) c.args.p ws c.args.w) (sym (append-nil c.args.new.now)) c.requires.change
+
+pub change-requires-clause-outside : goal.change-requires-clause-outside
+change-requires-clause-outside g c z inside out = subst (λ (ws : List Window). StaysTop (shape c.args.lists.now) c.args.p ws c.args.w z) (sym (append-nil c.args.new.now)) (c.requires.outside z inside out)
+
+pub change-requires-clause-near_new : goal.change-requires-clause-near_new
+change-requires-clause-near_new g c = subst (All (λ v. IsNear v.place.min)) (sym (append-nil c.args.new.now)) c.requires.near_new
+
+pub change-requires-clause-places : goal.change-requires-clause-places
+change-requires-clause-places g c = subst (λ (ws : List Window). HasPlacesBut (shape c.args.lists.now) c.args.p ws c.args.w (g.P.Pixels.has c.args.pixels.now)) (sym (append-nil c.args.new.now)) c.requires.places
 
 pub keep_hidden-requires-clause-near : goal.keep_hidden-requires-clause-near
 keep_hidden-requires-clause-near g c = subst (λ (im : Image). IsRectNear im.r) c.get.ensures (nearby c.args.lists.now c.args.w c.requires.live).0
@@ -24,8 +40,10 @@ returns-clause-moved g c as_before was given =
     let world = shape c.args.lists.now in
     let own : (image_at world c.args.w).r ≡ c.get.result.now.r = ap (λ (im : Image). im.r) c.get.ensures in
     let below : (image_at world c.args.p).r ≡ c.get-2.result.now.r = ap (λ (im : Image). im.r) c.get-2.ensures in
-    c.change.ensures.moved as_before (g.P.Pixels.kept c.keep_hidden.new.pixels)
-    (record {
+    let kept = g.P.Pixels.kept in
+    let new = c.args.new.now in
+    let with_w : IsGiven world c.args.p new c.args.w (g.S.Source.given c.args.source.now) (kept c.args.pixels.now) (kept c.change.new.pixels) as_before (kept c.keep_hidden.new.pixels) =
+    record {
       was_same = was;
       pixels = λ q v h top is_w. given _ (inside_w world c.args.p c.args.new.now c.args.w c.requires.change q v top is_w);
       now_same = λ place apart. c.keep_hidden.ensures.others place apart;
@@ -34,4 +52,7 @@ returns-clause-moved g c as_before was given =
           ((λ j. holds (sym below j) (carried x (sym own j).min (c.place_among.ensures j).min) && is_top c.args.new.now c.args.w (carried x (sym own j).min (c.place_among.ensures j).min))
           ∙ sym (shown_then world c.args.p c.args.new.now c.args.w x c.requires.change.live) ∙ none)
           ∙ sym (given x h);
-    })
+    } in
+    subst (λ (ws : List Window). IsRestacked world (with_list world c.args.p ws) c.args.p as_before (kept c.keep_hidden.new.pixels) (g.S.Source.fill c.args.source.now)) (append-nil new)
+    (c.change.ensures.moved as_before (kept c.keep_hidden.new.pixels)
+    (subst (λ (ws : List Window). IsGiven world c.args.p ws c.args.w (g.S.Source.given c.args.source.now) (kept c.args.pixels.now) (kept c.change.new.pixels) as_before (kept c.keep_hidden.new.pixels)) (sym (append-nil new)) with_w))
