@@ -5,12 +5,9 @@ use Rattle.std.specs.Option.{option_map_or}
 use Rattle.std.proofs.lemmas.Bool.{cases_eq, ne_eqb}
 use Rattle.model_forest.specs.World.{Image, World, with_image}
 use Rattle.model_forest.proofs.Changes.{World-same, with_image-at, with_image-other}
-use Rattle.model_kept.specs.Keeping.{HasOnePlaces, IsStanding, Place}
+use Rattle.model_kept.specs.Keeping.{Place}
 use Rattle.model_kept.specs.Restack.{with_own}
-use Rattle.r9_locate.specs.declared.lists.Lists.{Lists}
 use Rattle.r9_locate.specs.Forms.{Form}
-use Rattle.r9_locate.specs.Lists.{IsNearby}
-use Rattle.r9_locate.specs.Table.{shape}
 use Rattle.r9_pixels.specs.declared.keeping.KeptPixels.{KeptPixels}
 use Rattle.r9_pixels.specs.Kept.{form_at, has_place, kept_at}
 use Rattle.r9_pixels.specs.Owns.{has_in, kept_in, own_at}
@@ -60,19 +57,6 @@ has_out pixels i free = λ j place. at place j
         ∙ sym (ap (λ o. option_map_or (has_in pixels.cells place.image place.at) o false) (form_none (own_at pixels.owns.items place.image) (ap (form_at pixels) here ∙ free))))
         (λ (other : place.image ≢ i). ap (λ b. if b then false else has_place pixels place) (ne_eqb place.image i other))
         (cases_eq place.image i)
-
--- what lists are
-pub lists_standing : (lists : Lists) → IsStanding (shape lists)
-unfolding shape
-lists_standing lists = lists.standing
-
-pub lists_places : (lists : Lists) → HasOnePlaces (shape lists)
-unfolding shape
-lists_places lists = lists.places
-
-pub lists_near : (lists : Lists) → IsNearby (shape lists)
-unfolding shape
-lists_near lists = lists.near
 
 -- what holds holds after an error
 pub on_err : {T E P : Type 0} (r : Result T E) → P → OnErr r P

@@ -30,7 +30,7 @@ use Rattle.r9_pixels.specs.Kept.{form_at, has_place, kept_at}
 use Rattle.r9_forest.specs.Sound.{IsSound}
 use Rattle.r9_forest.proofs.Canvases.{bare_canvas, IsForest-canvas}
 use Rattle.r9_forest.proofs.Sounding.{shape_bare}
-use Rattle.r9_forest.proofs.Surfaces.{surface_has}
+use Rattle.r9_relist.proofs.Surfaces.{surface_has}
 
 -- images that stand alike keep their pixels at the same places
 pub keeping_alike : (old new : World) → ((n : ℕ) → (image_at new n).r ≡ (image_at old n).r) → ((n : ℕ) → (image_at new n).standing ≡ (image_at old n).standing) → ((n : ℕ) → (image_at new n).windows ≡ (image_at old n).windows) → (depth n : ℕ) (y : Point) → keeping_within depth new n y ≡ keeping_within depth old n y

@@ -29,11 +29,11 @@ use Rattle.r9_pixels.specs.Kept.{form_at, has_place}
 use Rattle.r9_pixels.specs.Places.{HasCells}
 use Rattle.r9_restack.specs.Changing.{StaysTop}
 use Rattle.r9_forest.specs.Numbered.{bare_window}
-use Rattle.r9_forest.specs.Relisting.{HasPlacesBefore, IsAsBefore, IsRelisting}
+use Rattle.r9_relist.specs.Relisting.{HasPlacesBefore, IsAsBefore, IsRelisting}
 use Rattle.r9_forest.proofs.Bare.{bared, bared_forest, bared_image, bared_kept, bared_windows}
 use Rattle.r9_forest.proofs.Canvases.{alone, bare_canvas}
-use Rattle.r9_forest.proofs.Near.{nearby}
-use Rattle.r9_forest.proofs.Surfaces.{surface_has, unshown_has}
+use Rattle.r9_relist.proofs.Near.{nearby}
+use Rattle.r9_relist.proofs.Surfaces.{surface_has, unshown_has}
 
 -- the new window in no list yet, and the list of its parent with it
 abbrev pub with_coming : World → ℕ → ℕ → ℕ → Rect → World

@@ -15,7 +15,6 @@ ghost use Rattle.r9_pixels.specs.Places.{StandsOn};
 ghost use Rattle.r9_forest.specs.Numbered.{numbers_of};
 
 use super::images::{Images, take_number};
-use super::relisting::{common, relist};
 use model_forest::{Standing, Window};
 use r9_chan::Chan;
 use r9_geom::{Point, Rect};
@@ -23,6 +22,7 @@ use r9_lists::on_top;
 use r9_locate::{Frame, Lists};
 use r9_memory::Memory;
 use r9_pixels::{Extent, KeptPixels};
+use r9_relist::{common, relist};
 use r9_restack::Source;
 use r9_steps::Steps;
 use std::alloc::Global;

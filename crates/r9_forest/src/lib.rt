@@ -5,7 +5,6 @@ mod coming;
 mod images;
 mod ordering;
 mod reading;
-mod relisting;
 mod telling;
 mod writing;
 

@@ -9,11 +9,11 @@ ghost use Rattle.r9_locate.specs.Table.{shape};
 ghost use Rattle.r9_restack.specs.Moving.{IsReordering};
 
 use super::images::Images;
-use super::relisting::reorder_windows;
 use model_forest::Window;
 use r9_info::ImageNo;
 use r9_lists::{lowered, raised};
 use r9_memory::Memory;
+use r9_relist::reorder_windows;
 use r9_steps::Steps;
 use std::sync::ledger::Ledger;
 

@@ -9,7 +9,8 @@ use Rattle.r9_locate.specs.Table.{shape}
 use Rattle.r9_pixels.specs.Kept.{form_at}
 use Rattle.r9_pixels.specs.Owns.{window_form}
 use Rattle.r9_pixels.specs.Places.{with_form, with_places}
-use Rattle.r9_forest.proofs.Entering.{form_out, has_out, kept_out, lists_near, lists_places, lists_standing, put_out}
+use Rattle.r9_relist.proofs.Lists.{lists_near, lists_places, lists_standing}
+use Rattle.r9_forest.proofs.Entering.{form_out, has_out, kept_out, put_out}
 use Rattle.r9_forest.proofs.Making.{put_forms}
 use Rattle.r9_forest.proofs.coming.enter.Goals as goal
 use Rattle.r9_forest.proofs.coming.enter.Goals.{After-insert}

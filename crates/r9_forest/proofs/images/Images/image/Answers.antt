@@ -17,7 +17,7 @@ use Rattle.r9_pixels.specs.Kept.{kept_at}
 use Rattle.r9_forest.specs.Images.{numbers, world}
 use Rattle.r9_forest.specs.Numbered.{numbers_of, IsTaken}
 use Rattle.r9_forest.proofs.Making.{made_world, with_made}
-use Rattle.r9_forest.proofs.Near.{nearby}
+use Rattle.r9_relist.proofs.Near.{nearby}
 use Rattle.r9_forest.proofs.Numbers.{taken_next, IsNext}
 use Rattle.r9_forest.proofs.Sounding.{coming_forest, coming_sound, IsComing}
 use Rattle.r9_forest.proofs.images.Images.image.Goals as goal

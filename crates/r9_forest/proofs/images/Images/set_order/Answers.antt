@@ -12,7 +12,7 @@ use Rattle.r9_pixels.specs.Kept.{kept_at, spare_in, wanted_in}
 use Rattle.r9_pixels.specs.Places.{HasCells, StandsOn}
 use Rattle.r9_forest.specs.Images.{numbers, world}
 use Rattle.r9_forest.specs.Numbered.{numbers_of}
-use Rattle.r9_forest.proofs.Relisted.{relist_on}
+use Rattle.r9_relist.proofs.Relisted.{relist_on}
 use Rattle.r9_forest.proofs.Sounding.{list_sound, sound_forest, sound_list, sound_same}
 use Rattle.r9_forest.proofs.images.Images.set_order.Given.{Over}
 use Rattle.r9_forest.proofs.images.Images.set_order.Goals as goal

@@ -22,12 +22,13 @@ use Rattle.r9_pixels.specs.Places.{StandsOn}
 use Rattle.r9_restack.specs.Changing.{StaysTop}
 use Rattle.r9_forest.specs.Images.{numbers, world}
 use Rattle.r9_forest.specs.Numbered.{bare_window, numbers_of, IsTaken}
-use Rattle.r9_forest.specs.Relisting.{HasPlacesBefore, IsAsBefore, IsRelisting}
+use Rattle.r9_relist.specs.Relisting.{HasPlacesBefore, IsAsBefore, IsRelisting}
 use Rattle.r9_forest.proofs.Bare.{bared_lists}
 use Rattle.r9_forest.proofs.Canvases.{bare_canvas}
-use Rattle.r9_forest.proofs.Entering.{lists_near, on_err}
+use Rattle.r9_relist.proofs.Lists.{lists_near}
+use Rattle.r9_forest.proofs.Entering.{on_err}
 use Rattle.r9_forest.proofs.Numbers.{peeked, taken_peeked, IsNext}
-use Rattle.r9_forest.proofs.Relisted.{bits_at, relist_on}
+use Rattle.r9_relist.proofs.Relisted.{bits_at, relist_on}
 use Rattle.r9_forest.proofs.Sounding.{sound_live, sound_same, window_sound}
 use Rattle.r9_forest.proofs.Windows.{at_parent, coming_live, coming_near, coming_places, coming_standing, topmost, window_before, window_forest, window_outside, window_places, window_relisting, window_sized, window_step, with_coming, IsFree}
 use Rattle.r9_forest.proofs.images.Images.window.Given.{Over}

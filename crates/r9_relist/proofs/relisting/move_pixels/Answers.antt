@@ -6,8 +6,8 @@ use Rattle.r9_locate.specs.Forms.{bits_in, Form, HasBits}
 use Rattle.r9_locate.specs.Table.{shape}
 use Rattle.r9_pixels.specs.Kept.{has_place, kept_at}
 use Rattle.r9_pixels.specs.Places.{in_hidden}
-use Rattle.r9_forest.proofs.Relisted.{relist_bits, relist_corners, relist_hidden, relist_on, relist_one, relist_ordered, relist_others, relist_places, relist_rect, relist_stand, relist_stands, relisted_world}
-use Rattle.r9_forest.proofs.relisting.move_pixels.Goals as goal
+use Rattle.r9_relist.proofs.Relisted.{relist_bits, relist_corners, relist_hidden, relist_on, relist_one, relist_ordered, relist_others, relist_places, relist_rect, relist_stand, relist_stands, relisted_world}
+use Rattle.r9_relist.proofs.relisting.move_pixels.Goals as goal
 
 pub take_hidden-requires-clause-live : goal.take_hidden-requires-clause-live
 take_hidden-requires-clause-live g c = c.requires.change.live

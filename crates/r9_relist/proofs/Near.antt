@@ -1,13 +1,15 @@
 -- The coordinates of a world of images are far from the ends of 64 bits.
-use Rattle.std.proofs.Common.{◌≤◌, ◌^◌, get_or, lit≤, arith}
+use Rattle.std.proofs.Common.{ℕ, ◌≤◌, ◌^◌, Option, None, get_or, lit≤, arith}
 use Rattle.std.proofs.lemmas.Int.{ints}
 use Rattle.r9_geom.specs.Geometry.{distance}
 use Rattle.r9_geom.proofs.GeometryLemmas.{distance_is, near_wider, rect_near_wider}
 use Rattle.model_forest.specs.World.{World, image_at, IsForest, IsImage, IsWindowOf}
+use Rattle.model_forest.proofs.Sound.{IsForestBut, IsForestBut-any}
 use Rattle.r9_locate.specs.Lists.{IsNearby}
 
-pub nearby : (world : World) → IsForest world → IsNearby world
-nearby world ok i live = (
+-- also while one of them is in no list
+pub nearby_but : (world : World) (out : Option ℕ) → IsForestBut out world → IsNearby world
+nearby_but world out ok i live = (
   rect_near_wider (2 ^ 36) (2 ^ 40) (image_at world i).r (lit≤ tt) (record { min = near_wider (2 ^ 34) (2 ^ 36) (image_at world i).r.min (lit≤ tt) own.near_min; max = own.near_max }),
   λ k d below.
       let v = get_or (image_at world i).windows k d in
@@ -37,3 +39,6 @@ nearby world ok i live = (
   where
     own : IsImage (image_at world i)
     own = ok.images i live
+
+pub nearby : (world : World) → IsForest world → IsNearby world
+nearby world ok = nearby_but world None (IsForestBut-any None world ok)

@@ -31,9 +31,9 @@ use Rattle.r9_pixels.specs.Places.{in_hidden, in_shown, HasCells, StandsOn}
 use Rattle.r9_pixels.proofs.Standing.{none_of}
 use Rattle.r9_restack.specs.Changing.{HasPlacesBut}
 use Rattle.r9_restack.specs.Moving.{HasPlaces}
-use Rattle.r9_forest.specs.Relisting.{HasOtherCells, HasPlacesBefore, IsAsBefore}
-use Rattle.r9_forest.proofs.Covering.{hides_unshown, in_hidden_is, in_shown_is}
-use Rattle.r9_forest.proofs.Near.{nearby}
+use Rattle.r9_relist.specs.Relisting.{HasOtherCells, HasPlacesBefore, IsAsBefore}
+use Rattle.r9_relist.proofs.Covering.{hides_unshown, in_hidden_is, in_shown_is}
+use Rattle.r9_relist.proofs.Near.{nearby}
 
 and_false : (b : Bool) → (b && false) ≡ false
 and_false true = refl
@@ -48,7 +48,7 @@ some_is a b e = cc
 
 -- ---- the world with the list, beside the one before
 
-abbrev listed_image : World → ℕ → List Window → Image
+abbrev pub listed_image : World → ℕ → List Window → Image
 listed_image world p ws = record (image_at world p) { windows = ws }
 
 pub list_at : (world : World) (p : ℕ) (ws : List Window) → image_at (with_list world p ws) p ≡ listed_image world p ws
@@ -265,7 +265,7 @@ module _ (world : World) (p : ℕ) (ws : List Window) (live : IsLive world p) (o
 -- ---- the pixels
 
 -- another fill, that agrees with it where points become bare
-refilled : (old new : World) (p : ℕ) (before after : Place → ℕ) (fill other : Point → ℕ) → ((q : Point) → holds (image_at new p).r q ≡ true → is_bare (image_at old p).windows q ≡ false → is_bare (image_at new p).windows q ≡ true → fill q ≡ other q) → IsRestacked old new p before after fill → IsRestacked old new p before after other
+pub refilled : (old new : World) (p : ℕ) (before after : Place → ℕ) (fill other : Point → ℕ) → ((q : Point) → holds (image_at new p).r q ≡ true → is_bare (image_at old p).windows q ≡ false → is_bare (image_at new p).windows q ≡ true → fill q ≡ other q) → IsRestacked old new p before after fill → IsRestacked old new p before after other
 refilled old new p before after fill other agree is = record {
   covered = is.covered;
   bare = λ q inside bare. is.bare q inside bare ∙ by_bare q inside bare (is_bare (image_at old p).windows q) refl;

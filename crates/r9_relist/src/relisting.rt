@@ -13,7 +13,7 @@ ghost use Rattle.r9_pixels.specs.Kept.{form_at, has_place, kept_at, spare_in, wa
 ghost use Rattle.r9_pixels.specs.Places.{in_hidden, HasCells};
 ghost use Rattle.r9_restack.specs.Changing.{StaysTop};
 ghost use Rattle.r9_restack.specs.Moving.{IsReordering};
-ghost use Rattle.r9_forest.specs.Relisting.{HasOtherCells, HasPlacesBefore, IsAsBefore, IsRelisting};
+ghost use Rattle.r9_relist.specs.Relisting.{HasOtherCells, HasPlacesBefore, IsAsBefore, IsRelisting};
 
 use model_forest::Window;
 use r9_geom::Rect;

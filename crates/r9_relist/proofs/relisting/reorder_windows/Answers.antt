@@ -8,7 +8,7 @@ use Rattle.r9_locate.specs.Table.{shape}
 use Rattle.r9_pixels.specs.Kept.{kept_at, spare_in, wanted_in}
 use Rattle.r9_pixels.specs.Places.{in_hidden}
 use Rattle.r9_restack.specs.Moving.{IsReordering}
-use Rattle.r9_forest.proofs.relisting.reorder_windows.Goals as goal
+use Rattle.r9_relist.proofs.relisting.reorder_windows.Goals as goal
 
 pub order_pixels-requires-clause-order : goal.order_pixels-requires-clause-order
 order_pixels-requires-clause-order g c = subst (IsReordering (shape c.args.lists.now) c.args.p) (sym c.deref.ensures.value) c.requires.order

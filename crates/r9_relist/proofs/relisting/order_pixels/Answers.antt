@@ -11,10 +11,10 @@ use Rattle.r9_locate.specs.Forms.{HasBits}
 use Rattle.r9_locate.specs.Table.{shape}
 use Rattle.r9_pixels.specs.Kept.{has_place, kept_at}
 use Rattle.r9_pixels.specs.Places.{in_hidden}
-use Rattle.r9_forest.proofs.Entering.{lists_near}
-use Rattle.r9_forest.proofs.Relisted.{relist_bits, relist_on, relist_orders, relist_others}
-use Rattle.r9_forest.proofs.Surfaces.{surface_has, unshown_has}
-use Rattle.r9_forest.proofs.relisting.order_pixels.Goals as goal
+use Rattle.r9_relist.proofs.Lists.{lists_near}
+use Rattle.r9_relist.proofs.Relisted.{relist_bits, relist_on, relist_orders, relist_others}
+use Rattle.r9_relist.proofs.Surfaces.{surface_has, unshown_has}
+use Rattle.r9_relist.proofs.relisting.order_pixels.Goals as goal
 
 pub take_hidden-requires-clause-live : goal.take_hidden-requires-clause-live
 take_hidden-requires-clause-live g c = c.requires.order.live

@@ -2,8 +2,8 @@ use Rattle.std.proofs.Common.{◌∙◌, ◌≤◌, sym, subst, ap, arith}
 use Rattle.r9_geom.specs.declared.Rect.{Rect}
 use Rattle.r9_geom.specs.Geometry.{area_of, is_empty, IsRectNear}
 use Rattle.r9_geom.proofs.GeometryLemmas.{empty_holds}
-use Rattle.r9_forest.proofs.Meeting.{corner_area, corner_none, meet_fewer, meet_near}
-use Rattle.r9_forest.proofs.relisting.common.Goals as goal
+use Rattle.r9_relist.proofs.Meeting.{corner_area, corner_none, meet_fewer, meet_near}
+use Rattle.r9_relist.proofs.relisting.common.Goals as goal
 
 pub returns-then-is_empty-clause-points : goal.returns-then-is_empty-clause-points
 returns-then-is_empty-clause-points c p =

@@ -9,11 +9,11 @@ use Rattle.r9_locate.specs.Forms.{forms_of}
 use Rattle.r9_locate.specs.Table.{shape}
 use Rattle.r9_pixels.specs.Kept.{form_at, has_place, kept_at}
 use Rattle.r9_pixels.specs.Places.{in_shown, HasCells, StandsOn}
-use Rattle.r9_forest.proofs.Near.{nearby}
-use Rattle.r9_forest.proofs.Relisted.{relist_cells, relist_forms, relist_on}
-use Rattle.r9_forest.proofs.Surfaces.{placed_alike}
-use Rattle.r9_forest.proofs.relisting.settle.Goals as goal
-use Rattle.r9_forest.proofs.relisting.settle.Goals.{After-set_windows}
+use Rattle.r9_relist.proofs.Near.{nearby}
+use Rattle.r9_relist.proofs.Relisted.{relist_cells, relist_forms, relist_on}
+use Rattle.r9_relist.proofs.Surfaces.{placed_alike}
+use Rattle.r9_relist.proofs.relisting.settle.Goals as goal
+use Rattle.r9_relist.proofs.relisting.settle.Goals.{After-set_windows}
 
 pub give_shown-requires-clause-windows : goal.give_shown-requires-clause-windows
 give_shown-requires-clause-windows c =

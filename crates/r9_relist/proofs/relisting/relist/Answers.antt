@@ -8,8 +8,8 @@ use Rattle.r9_locate.specs.Table.{shape}
 use Rattle.r9_pixels.specs.Kept.{kept_at, spare_in, wanted_in}
 use Rattle.r9_pixels.specs.Places.{in_hidden}
 use Rattle.r9_restack.specs.Changing.{StaysTop}
-use Rattle.r9_forest.specs.Relisting.{IsAsBefore, IsRelisting}
-use Rattle.r9_forest.proofs.relisting.relist.Goals as goal
+use Rattle.r9_relist.specs.Relisting.{IsAsBefore, IsRelisting}
+use Rattle.r9_relist.proofs.relisting.relist.Goals as goal
 
 pub move_pixels-requires-clause-change : goal.move_pixels-requires-clause-change
 move_pixels-requires-clause-change g c = subst (IsRelisting (shape c.args.lists.now) c.args.p c.args.w) (sym c.deref.ensures.value) c.requires.change
