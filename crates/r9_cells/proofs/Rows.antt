@@ -1,12 +1,12 @@
 -- Pixels side by side in the tile of a cell after some were put there.
-use Rattle.std.proofs.Common.{◌≡◌, ◌≢◌, ◌∙◌, ℕ, ◌+◌, ◌<◌, pos, ◌+ℤ◌, Bool, true, false, List, length, Option, Some, None, refl, sym, ap, eq-eqb}
+use Rattle.std.proofs.Common.{◌≡◌, ◌≢◌, ◌∙◌, ℕ, ◌<◌, false, List, length, Option, Some, None, refl, sym, ap, eq-eqb}
 use Rattle.std.specs.Prelude.{◌==◌, ◌&&◌, slice_index, if◌then◌else◌}
 use Rattle.std.specs.Option.{option_map_or}
-use Rattle.std.proofs.lemmas.Bool.{and_from, and_parts, cases_Bool, false_from_ne_true}
+use Rattle.std.proofs.lemmas.Bool.{and_from, and_parts, false_from_ne_true}
 use Rattle.std.proofs.lemmas.Bool.Decides.{Decides-eqb}
 use Rattle.r9_geom.specs.declared.Point.{Point}
 use Rattle.r9_geom.specs.Geometry.{distance, holds, strip}
-use Rattle.r9_geom.proofs.GeometryLemmas.{bounds_of, distance_is, same_point, strip_distance}
+use Rattle.r9_geom.proofs.GeometryLemmas.{strip_distance}
 use Rattle.r9_plane.specs.Pixels.{along}
 use Rattle.r9_plane.proofs.PlaneLemmas.{along_holds}
 use Rattle.r9_locate.proofs.Locating.{strip_at}

@@ -1,7 +1,7 @@
-use Rattle.std.proofs.Common.{◌≡◌, ◌∙◌, ◌+◌, ◌-◌, ◌*◌, ◌/◌, ◌%◌, ◌<◌, ◌≤◌, ◌^◌, ℕ, pos, w64, to_z, min, sym, ap, arith}
+use Rattle.std.proofs.Common.{◌≡◌, ◌∙◌, ◌+◌, ◌-◌, ◌*◌, ◌/◌, ◌%◌, ◌≤◌, ℕ, pos, w64, to_z, min, sym, ap, arith}
 use Rattle.std.proofs.lemmas.Int.{ints, to_z-of_z, to_z_pos}
 use Rattle.r9_geom.specs.declared.Point.{Point}
-use Rattle.r9_geom.specs.Geometry.{distance, holds, strip, IsOrdered}
+use Rattle.r9_geom.specs.Geometry.{distance, holds, strip}
 use Rattle.r9_geom.proofs.GeometryLemmas.{bounds_of}
 use Rattle.r9_plane.specs.Pixels.{along}
 use Rattle.model_kept.specs.Cells.{cell_of, in_cell}

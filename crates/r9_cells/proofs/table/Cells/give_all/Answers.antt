@@ -1,9 +1,9 @@
-use Rattle.std.proofs.Common.{◌≡◌, ◌∙◌, ℕ, ◌<◌, ◌≤◌, Bool, true, false, length, get_or, None, refl, sym, ap, arith, ⊎_elim}
+use Rattle.std.proofs.Common.{◌≡◌, ◌∙◌, ◌<◌, ◌≤◌, Bool, true, false, length, None, refl, sym, ap, arith, ⊎_elim}
 use Rattle.std.specs.Prelude.{◌==◌, ◌&&◌, ◌||◌, not, nat_lt, is_some, if◌then◌else◌}
 use Rattle.std.proofs.lemmas.Bool.{cases_lt, false≢true}
 use Rattle.std.proofs.lemmas.Bool.Decides.{Decides-eqb, Decides-ltb}
 use Rattle.std.proofs.lemmas.List.{get_or_past}
-use Rattle.r9_cells.specs.Rows.{cell_at, row_at, rows_of}
+use Rattle.r9_cells.specs.Rows.{cell_at, row_at}
 use Rattle.r9_cells.specs.Cells.{all_rows, cell_pixel}
 use Rattle.r9_cells.proofs.Changed.{row_long}
 use Rattle.r9_cells.proofs.Steps.{below_more, kept_twice}

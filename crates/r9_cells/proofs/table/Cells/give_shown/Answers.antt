@@ -1,16 +1,12 @@
-use Rattle.std.proofs.Common.{◌≡◌, ◌∙◌, ◌+◌, ◌<◌, ◌≤◌, ℕ, Bool, true, false, List, length, get_or, drop, refl, sym, ap, subst, arith}
-use Rattle.std.specs.Prelude.{◌==◌, ◌||◌, ◌&&◌, not, nat_lt, is_some, if◌then◌else◌, All}
+use Rattle.std.proofs.Common.{◌≡◌, ◌∙◌, ◌+◌, ℕ, get_or, drop, sym, ap}
+use Rattle.std.specs.Prelude.{◌==◌, ◌&&◌, not, nat_lt, is_some, if◌then◌else◌}
 use Rattle.std.specs.List.{list_any}
-use Rattle.r9_geom.specs.declared.Rect.{Rect}
-use Rattle.r9_store.specs.Tiles.{spare}
-use Rattle.model_forest.specs.declared.Window.{Window}
-use Rattle.model_forest.specs.World.{image_at}
 use Rattle.model_kept.specs.Cells.{cell_count}
 use Rattle.r9_locate.specs.Table.{shape}
-use Rattle.r9_cells.specs.Rows.{cell_at, row_at}
-use Rattle.r9_cells.specs.Cells.{all_rows, cell_pixel, tiles_in}
-use Rattle.r9_cells.specs.Fitting.{hides_cell, hides_of, shows_of, wanted, wanted_all, wants}
-use Rattle.r9_cells.proofs.Listed.{any_done, any_next, celled_still, no_window, sum_next}
+use Rattle.r9_cells.specs.Rows.{cell_at}
+use Rattle.r9_cells.specs.Cells.{all_rows, cell_pixel}
+use Rattle.r9_cells.specs.Fitting.{hides_cell, shows_of}
+use Rattle.r9_cells.proofs.Listed.{any_done, any_next, celled_still, no_window}
 use Rattle.r9_cells.proofs.Steps.{any_given, kept_twice}
 use Rattle.r9_cells.proofs.table.Cells.give_shown.Goals as goal
 

@@ -1,9 +1,8 @@
-use Rattle.std.proofs.Common.{◌≡◌, ◌∙◌, ℕ, ◌+◌, ◌<◌, ◌≤◌, Bool, true, sym, ap, length, arith}
-use Rattle.std.specs.Prelude.{◌==◌, ◌&&◌, ◌||◌, not, nat_lt, is_some, if◌then◌else◌}
+use Rattle.std.proofs.Common.{◌≡◌, ◌∙◌, sym, ap, arith}
+use Rattle.std.specs.Prelude.{◌==◌, ◌&&◌, not, nat_lt, is_some, if◌then◌else◌}
 use Rattle.std.proofs.lemmas.Bool.Decides.{Decides-eqb}
-use Rattle.r9_geom.specs.declared.Rect.{Rect}
-use Rattle.model_kept.specs.Cells.{cell_count, cell_part, hides_under}
-use Rattle.r9_cells.specs.Rows.{cell_at, rows_of}
+use Rattle.model_kept.specs.Cells.{cell_count, hides_under}
+use Rattle.r9_cells.specs.Rows.{cell_at}
 use Rattle.r9_cells.specs.Cells.{all_rows, cell_pixel}
 use Rattle.r9_cells.specs.Fitting.{hides_cell}
 use Rattle.r9_cells.proofs.Changed.{row_long}

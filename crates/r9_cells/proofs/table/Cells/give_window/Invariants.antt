@@ -1,12 +1,9 @@
-use Rattle.std.proofs.Common.{◌≡◌, ◌+◌, ◌≤◌, ℕ, length}
-use Rattle.std.specs.Prelude.{◌==◌, ◌&&◌, ◌||◌, not, nat_lt, is_some, if◌then◌else◌}
+use Rattle.std.proofs.Common.{◌≡◌, ℕ, length}
+use Rattle.std.specs.Prelude.{◌==◌, ◌&&◌, not, nat_lt, is_some, if◌then◌else◌}
 use Rattle.r9_geom.specs.declared.Point.{Point}
-use Rattle.r9_store.specs.Tiles.{spare}
-use Rattle.model_kept.specs.Cells.{cell_count}
 use Rattle.r9_cells.specs.Rows.{cell_at, row_at}
-use Rattle.r9_cells.specs.Cells.{all_rows, cell_pixel, tiles_in}
-use Rattle.r9_cells.specs.Fitting.{hides_cell, wanted, wants}
-use Rattle.r9_cells.proofs.Steps.{rest}
+use Rattle.r9_cells.specs.Cells.{all_rows, cell_pixel}
+use Rattle.r9_cells.specs.Fitting.{hides_cell}
 use Rattle.r9_cells.proofs.table.Cells.give_window.Given as goal
 
 abbrev pub invariant-loop-k : goal.invariant-loop-k

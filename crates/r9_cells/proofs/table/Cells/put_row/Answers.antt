@@ -1,4 +1,3 @@
-use Rattle.std.proofs.Common.{◌≡◌, ◌∙◌, ◌+ℤ◌, pos, refl, sym, ap, length}
 use Rattle.r9_cells.proofs.Rows.{row_at_place, row_others}
 use Rattle.r9_cells.proofs.table.Cells.put_row.Goals as goal
 

@@ -1,4 +1,4 @@
-use Rattle.std.proofs.Common.{◌≡◌, sym, subst, List, Option, ℕ}
+use Rattle.std.proofs.Common.{sym, subst, List, Option, ℕ}
 use Rattle.r9_cells.specs.Rows.{rows_of, IsKept}
 use Rattle.r9_cells.proofs.Remade.{kept-blank, rows_set}
 use Rattle.r9_cells.proofs.table.Cells.set_row.Goals as goal

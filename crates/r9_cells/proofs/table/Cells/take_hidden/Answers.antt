@@ -1,16 +1,14 @@
-use Rattle.std.proofs.Common.{◌≡◌, ◌∙◌, ◌+◌, ◌<◌, ◌≤◌, ℕ, Bool, true, false, List, length, get_or, drop, refl, sym, ap, subst, arith}
-use Rattle.std.specs.Prelude.{◌==◌, ◌||◌, ◌&&◌, not, nat_lt, is_some, if◌then◌else◌, All}
+use Rattle.std.proofs.Common.{◌≡◌, ◌∙◌, ◌+◌, ◌≤◌, ℕ, get_or, drop, sym, ap, arith}
+use Rattle.std.specs.Prelude.{◌==◌, ◌||◌, ◌&&◌, nat_lt, is_some}
 use Rattle.std.specs.List.{list_any}
 use Rattle.std.proofs.lemmas.Bool.{or_right}
-use Rattle.r9_geom.specs.declared.Rect.{Rect}
-use Rattle.r9_store.specs.Tiles.{spare}
 use Rattle.model_forest.specs.declared.Window.{Window}
 use Rattle.model_forest.specs.World.{image_at}
 use Rattle.model_kept.specs.Cells.{cell_count}
 use Rattle.r9_locate.specs.Table.{shape}
-use Rattle.r9_cells.specs.Rows.{cell_at, row_at}
-use Rattle.r9_cells.specs.Cells.{all_rows, cell_pixel, tiles_in}
-use Rattle.r9_cells.specs.Fitting.{hides_cell, hides_of, wanted, wanted_all, wants}
+use Rattle.r9_cells.specs.Rows.{cell_at}
+use Rattle.r9_cells.specs.Cells.{all_rows}
+use Rattle.r9_cells.specs.Fitting.{hides_cell, hides_of, wanted, wants}
 use Rattle.r9_cells.proofs.Listed.{any_done, any_next, celled_still, no_window, sum_next}
 use Rattle.r9_cells.proofs.Steps.{any_taken, count_most, or_none, wants_less}
 use Rattle.r9_cells.proofs.table.Cells.take_hidden.Goals as goal

@@ -1,12 +1,10 @@
-use Rattle.std.proofs.Common.{◌≡◌, ◌∙◌, ℕ, ◌+◌, ◌<◌, ◌≤◌, Bool, true, sym, ap, length, arith}
-use Rattle.std.specs.Prelude.{◌==◌, ◌&&◌, ◌||◌, not, nat_lt, is_some, if◌then◌else◌}
+use Rattle.std.proofs.Common.{◌≡◌, ◌∙◌, ◌<◌, sym, ap, arith}
+use Rattle.std.specs.Prelude.{◌==◌, ◌&&◌, ◌||◌, not, nat_lt, is_some}
 use Rattle.std.proofs.lemmas.Bool.Decides.{Decides-eqb}
-use Rattle.r9_geom.specs.declared.Rect.{Rect}
-use Rattle.model_kept.specs.Cells.{cell_count, cell_part, hides_under}
-use Rattle.r9_store.specs.Tiles.{spare}
-use Rattle.r9_cells.specs.Rows.{cell_at, rows_of}
-use Rattle.r9_cells.specs.Cells.{all_rows, cell_pixel, tiles_in}
-use Rattle.r9_cells.specs.Fitting.{hides_cell, wanted, wants}
+use Rattle.model_kept.specs.Cells.{cell_count, hides_under}
+use Rattle.r9_cells.specs.Rows.{cell_at}
+use Rattle.r9_cells.specs.Cells.{all_rows}
+use Rattle.r9_cells.specs.Fitting.{hides_cell, wants}
 use Rattle.r9_cells.proofs.Changed.{row_long}
 use Rattle.r9_cells.proofs.Steps.{below_more, below_self, rest, rest_more, rest_none, taken_more, taken_next, weight}
 use Rattle.r9_cells.proofs.table.Cells.take_window.Goals as goal

@@ -1,11 +1,10 @@
-use Rattle.std.proofs.Common.{◌≡◌, ◌∙◌, ◌+◌, ◌<◌, ◌≤◌, Bool, true, false, refl, ap, length, arith}
+use Rattle.std.proofs.Common.{◌≡◌, ◌∙◌, ◌<◌, ◌≤◌, Bool, true, false, refl, ap, arith}
 use mir.Val.{bool_byte}
 use Rattle.model_kept.specs.Cells.{cell_count}
-use Rattle.r9_cells.specs.Rows.{rows_of}
 use Rattle.r9_cells.specs.Fitting.{wants}
 use Rattle.r9_cells.specs.Cells.{all_rows}
 use Rattle.r9_cells.proofs.Changed.{row_long}
-use Rattle.r9_cells.proofs.Steps.{light, rest, rest_more, weight}
+use Rattle.r9_cells.proofs.Steps.{light, rest_more, weight}
 use Rattle.r9_cells.proofs.table.Cells.wanted.Goals as goal
 
 byte_weight : (b : Bool) → bool_byte b ≡ weight b

@@ -1,17 +1,10 @@
-use Rattle.std.proofs.Common.{◌≡◌, ◌∙◌, ◌+◌, ◌<◌, ◌≤◌, ℕ, Bool, true, false, List, length, get_or, drop, refl, sym, ap, subst, arith}
-use Rattle.std.specs.Prelude.{◌==◌, ◌||◌, ◌&&◌, not, nat_lt, is_some, if◌then◌else◌, All}
-use Rattle.std.specs.List.{list_any}
-use Rattle.r9_geom.specs.declared.Rect.{Rect}
-use Rattle.r9_store.specs.Tiles.{spare}
+use Rattle.std.proofs.Common.{◌≡◌, ◌∙◌, get_or, refl, arith}
 use Rattle.model_forest.specs.declared.Window.{Window}
 use Rattle.model_forest.specs.World.{image_at}
-use Rattle.model_kept.specs.Cells.{cell_count}
 use Rattle.r9_locate.specs.Table.{shape}
-use Rattle.r9_cells.specs.Rows.{cell_at, row_at}
-use Rattle.r9_cells.specs.Cells.{all_rows, cell_pixel, tiles_in}
-use Rattle.r9_cells.specs.Fitting.{hides_cell, hides_of, shows_of, wanted, wanted_all, wants}
-use Rattle.r9_cells.proofs.Listed.{any_next, celled_still, no_window, sum_next}
-use Rattle.r9_cells.proofs.Steps.{any_given, any_taken, count_most, kept_twice}
+use Rattle.r9_cells.specs.Cells.{all_rows}
+use Rattle.r9_cells.specs.Fitting.{wanted}
+use Rattle.r9_cells.proofs.Listed.{celled_still, no_window, sum_next}
 use Rattle.r9_cells.proofs.table.Cells.wanted_all.Goals as goal
 
 pub wanted-more-requires-clause-celled : goal.wanted-more-requires-clause-celled

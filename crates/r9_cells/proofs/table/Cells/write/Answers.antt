@@ -1,5 +1,5 @@
 use Rattle.std.proofs.Common.{lit≤, List, Option, ◌≡◌, ◌∙◌, ◌+◌, ◌-◌, ◌<◌, ◌≤◌, ◌^◌, ℕ, true, length, get_or, take, drop, ⊎_elim, sym, ap, arith}
-use Rattle.std.proofs.lemmas.Bool.{and_parts, cases_lt}
+use Rattle.std.proofs.lemmas.Bool.{cases_lt}
 use Rattle.std.specs.Prelude.{is_some}
 use Rattle.r9_geom.proofs.GeometryLemmas.{near_wider}
 use Rattle.r9_geom.specs.Geometry.{holds}
