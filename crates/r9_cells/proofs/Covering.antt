@@ -1,17 +1,17 @@
 -- Cells of a rectangle, and the windows above one.
-use Rattle.std.proofs.Common.{◌≡◌, ◌∙◌, ℕ, ℤ, suc, length, get_or, drop, drop-cons, ◌+◌, ◌*◌, ◌/◌, ◌%◌, ◌<◌, ◌≤◌, ◌≢◌, ◌^◌, pos, ◌+ℤ◌, ◌≤ℤ◌, ◌<ℤ◌, neg_ℤ, Bool, true, List, [], ◌∷◌, refl, sym, ap, subst, arith, ⊎_elim}
-use Rattle.std.specs.Prelude.{◌==◌, ◌||◌, if◌then◌else◌}
+use Rattle.std.proofs.Common.{◌≡◌, ◌∙◌, ℕ, ℤ, suc, length, get_or, drop, drop-cons, ◌+◌, ◌*◌, ◌/◌, ◌%◌, ◌<◌, ◌≢◌, ◌^◌, pos, ◌+ℤ◌, ◌≤ℤ◌, neg_ℤ, Bool, true, List, [], ◌∷◌, refl, ap, subst, arith, ⊎_elim}
+use Rattle.std.specs.Prelude.{◌||◌, if◌then◌else◌}
 use Rattle.std.specs.Int.{int_max, int_min}
 use Rattle.std.specs.List.{list_any}
 use Rattle.std.proofs.lemmas.Bool.{cases_eq, ne_eqb}
 use Rattle.std.proofs.lemmas.Int.{ints}
-use Rattle.std.proofs.Math.Nat.{div-lt_iff_lt-mul, mod-lt, mul_comm}
+use Rattle.std.proofs.Math.Nat.{div-add-mod, div-lt_iff_lt-mul, mod-lt, mul_comm}
 use Rattle.r9_geom.specs.declared.Point.{Point}
 use Rattle.r9_geom.specs.declared.Rect.{Rect}
-use Rattle.r9_geom.specs.Geometry.{height, meet, point_at, width, IsNear, IsOrdered, IsRectNear, IsRectNearBy}
-use Rattle.r9_geom.proofs.GeometryLemmas.{distance_is}
+use Rattle.r9_geom.specs.Geometry.{distance, height, holds, meet, point_at, width, IsOrdered, IsRectNear}
+use Rattle.r9_geom.proofs.GeometryLemmas.{distance_is, point_holds, strip_distance}
 use Rattle.model_forest.specs.declared.Window.{Window}
-use Rattle.model_kept.specs.Cells.{above, cell_count, cell_part, cells_across}
+use Rattle.model_kept.specs.Cells.{above, cell_count, cell_of, cell_part, cells_across}
 
 -- a cell begins within the rectangle
 pub cell_begins : (r : Rect) (k : ℕ) → k < cell_count r → (32 * (k % cells_across r) < width r) × (32 * (k / cells_across r) < height r)
@@ -38,6 +38,25 @@ cell_begins r k below = (omega (arith, column), omega (arith, row))
 
     row : k / across < down
     row = (div-lt_iff_lt-mul {k = across} {x = k} {y = down} some).1 (omega (arith, below, mul_comm across down))
+
+-- its corner is a point of the rectangle, and lies in that cell
+abbrev pub cell_corner : Rect → ℕ → Point
+cell_corner r k = point_at r (32 * (k % cells_across r)) (32 * (k / cells_across r))
+
+pub corner_holds : (r : Rect) (k : ℕ) → k < cell_count r → holds r (cell_corner r k) ≡ true
+corner_holds r k below =
+    let begins = cell_begins r k below in
+    point_holds r (32 * (k % cells_across r)) (32 * (k / cells_across r)) begins.0 begins.1
+
+pub corner_cell : (r : Rect) (k : ℕ) → cell_of r (cell_corner r k) ≡ k
+corner_cell r k =
+    let a = cells_across r in
+    let q = cell_corner r k in
+    let column : distance r.min.x q.x ≡ 32 * (k % a) = strip_distance r.min q (32 * (k % a)) refl in
+    let row : distance r.min.y q.y ≡ 32 * (k / a) = strip_distance (record { x = r.min.y; y = r.min.y }) (record { x = q.y; y = q.y }) (32 * (k / a)) refl in
+    let across : distance r.min.x q.x / 32 ≡ k % a = omega (arith, column) in
+    let down : distance r.min.y q.y / 32 ≡ k / a = omega (arith, row) in
+    (λ j. down j * a + across j) ∙ ap (λ n. n + k % a) (mul_comm (k / a) a) ∙ div-add-mod k a
 
 -- a cell, as the code computes it
 pub cell_is : (r : Rect) (k a : ℕ) (p : Point) → a ≡ cells_across r → p ≡ point_at r (32 * (k % a)) (32 * (k / a)) → meet r (record { min = p; max = record { x = p.x +ℤ pos 32; y = p.y +ℤ pos 32 } }) ≡ cell_part r k

@@ -36,7 +36,7 @@ pub record IsKept (rows : List (List (Option ℕ))) (store : Tiles) : Type 0 whe
 
 -- a tile is kept for just the cells that have a hidden point
 pub record IsFitting (rows : List (List (Option ℕ))) (world : World) : Type 0 where
-  pub within : (i : ℕ) → i < length rows → length (row_at rows i) ≤ cell_count (image_at world i).r
+  pub within : (i k : ℕ) → i < length rows → cell_count (image_at world i).r ≤ k → cell_at rows i k ≡ None
   pub each : (i k : ℕ) → i < length rows → k < cell_count (image_at world i).r → is_some (cell_at rows i k) ≡ hides world i (cell_part (image_at world i).r k)
 
 -- where a pixel is kept in tiles: the cell of an image, and the point counted from the corner of that cell

@@ -13,6 +13,7 @@ mod sizing;
 mod table;
 
 pub use hiding::cell_count;
+pub use runs::TilePoint;
 pub use table::{Cells, Row};
 
 /// Where a tile is kept for just the cells that have a hidden point, there are as many tiles as such cells.

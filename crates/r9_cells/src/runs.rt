@@ -1,17 +1,25 @@
 //! Hidden pixels side by side, through the cells that they lie in.
 
-ghost use Rattle.std.specs.Prelude.{◌≡◌, ◌≢◌, ◌^◌, ◌<◌, ◌≤◌, ℕ, length, slice_index, IsTrue};
+ghost use Rattle.std.specs.Prelude.{◌≡◌, ◌≢◌, ◌^◌, ◌<◌, ◌≤◌, ℕ, Some, true, length, slice_index, IsTrue};
 ghost use Rattle.r9_geom.specs.declared.Point.{Point as Spot};
 ghost use Rattle.r9_geom.specs.Geometry.{holds, strip, IsRectNear};
 ghost use Rattle.r9_plane.specs.Pixels.{along};
-ghost use Rattle.r9_store.specs.Tiles.{cell, spare};
+ghost use Rattle.r9_store.specs.Tiles.{cell, is_held, pixel, spare};
 ghost use Rattle.model_kept.specs.Cells.{cell_of, in_cell};
-ghost use Rattle.r9_cells.specs.Rows.{cell_place, has_tile, CellPlace};
+ghost use Rattle.r9_cells.specs.Rows.{cell_at, cell_place, has_tile, CellPlace};
 
 use super::hiding::cells_across;
 use super::table::Cells;
 use r9_geom::{Point, Rect, distance};
 use r9_locate::along;
+use r9_store::TileNo;
+
+/// A point of a tile, counted from its corner.
+#[derive(Clone, Copy)]
+pub struct TilePoint {
+    pub tile: TileNo,
+    pub at: Point,
+}
 
 // Points side by side in one cell, from a point of it to the right.
 #[derive(Clone, Copy)]
@@ -48,6 +56,23 @@ fn run_of(r: &Rect, p: Point, n: usize) -> Run
 
 impl Cells {
     ghost use Rattle.r9_cells.specs.Cells.{all_rows, place_pixel, tiles_in};
+
+    /// Where the pixel of a hidden point is, of an image with that rectangle: in the tile of its cell, which no other cell has.
+    pub fn in_tile(&self, i: usize, r: &Rect, p: Point) -> TilePoint
+        requires near { IsRectNear r.now }
+        requires has { IsTrue (has_tile (all_rows self.now) i r.now p) }
+        ensures tile { cell_at (all_rows self.now) i (cell_of r.now p) ≡ Some result.tile }
+        ensures at { result.at ≡ in_cell r.now p }
+        ensures held { is_held (tiles_in self.now) result.tile ≡ true }
+        ensures pixel { pixel (tiles_in self.now) result.tile result.at ≡ place_pixel self.now (cell_place i r.now p) }
+        ensures alone { (j l : ℕ) → cell_at (all_rows self.now) j l ≡ Some result.tile → (j ≡ i) × (l ≡ cell_of r.now p) }
+    {
+        let run = run_of(r, p, 1);
+        TilePoint {
+            tile: self.tile(i, run.cell),
+            at: run.at,
+        }
+    }
 
     /// Reads hidden pixels side by side, of an image with that rectangle, from a point to the right.
     pub fn read(&self, i: usize, r: &Rect, from: Point, raws: &mut [u32])

@@ -4,7 +4,7 @@ ghost use Rattle.std.specs.Prelude.{◌≡◌, ◌≢◌, ◌+◌, ◌<◌, ◌=
 ghost use Rattle.r9_geom.specs.declared.Point.{Point as Spot};
 ghost use Rattle.r9_geom.specs.Geometry.{holds, strip};
 ghost use Rattle.r9_plane.specs.Pixels.{along};
-ghost use Rattle.r9_store.specs.Tiles.{cell, spare};
+ghost use Rattle.r9_store.specs.Tiles.{cell, held, spare};
 ghost use Rattle.r9_cells.specs.Rows.{cell_at, row_at, rows_of, tiles_of, CellPlace, IsKept};
 
 use r9_geom::Point;
@@ -100,9 +100,17 @@ impl Cells {
 
     /// How many tiles are held: as many as cells have one.
     pub fn tiles(&self) -> usize
-        ensures { result ≡ tiles_of (all_rows self.now) }
+        ensures count { result ≡ tiles_of (all_rows self.now) }
+        ensures held { result ≡ held (tiles_in self.now) }
     {
         self.store.held()
+    }
+
+    /// The tiles of all cells, and those that are spare.
+    pub fn store(&self) -> &Store
+        ensures { result.now ≡ tiles_in self.now }
+    {
+        &self.store
     }
 
     /// Takes a spare tile for a cell that has none. It takes no memory, and no pixel changes.
@@ -138,8 +146,8 @@ impl Cells {
         }
     }
 
-    // The tile of a cell.
-    fn tile(&self, i: usize, k: usize) -> TileNo
+    /// The tile of a cell.
+    pub(crate) fn tile(&self, i: usize, k: usize) -> TileNo
         requires { IsTrue (is_some (cell_at (all_rows self.now) i k)) }
         ensures { cell_at (all_rows self.now) i k ≡ Some result }
     {

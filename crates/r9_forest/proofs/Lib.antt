@@ -3,6 +3,7 @@ pub mod Canvases
 pub mod Entering
 pub mod Grids
 pub mod Groups
+pub mod Keepers
 pub mod Making
 pub mod Numbers
 pub mod Putting

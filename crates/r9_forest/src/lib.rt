@@ -3,9 +3,11 @@
 
 mod coming;
 mod images;
+mod keeping;
 mod ordering;
 mod reading;
 mod telling;
 mod writing;
 
 pub use images::Images;
+pub use keeping::Kept;

@@ -31,6 +31,7 @@ fn columns_left(p: Point, r: &Rect) -> usize
 
 impl Images {
     ghost use Rattle.r9_forest.specs.Images.{world};
+    ghost use Rattle.r9_forest.specs.Keeping.{on_plane};
 
     /// Reads what an image shows side by side, from a point of it to the right.
     pub(crate) fn read_view(&self, i: u32, from: Point, raws: &mut [u32])
@@ -124,6 +125,7 @@ impl Images {
         ensures rect { rect_of result.now ≡ (image_at (world self.now) i).r }
         ensures chan { chan_of result.now ≡ (image_at (world self.now) i).chan }
         ensures pixels { (p : Spot) → IsTrue (holds (image_at (world self.now) i).r p) → pixel_at result.now p ≡ model.view (world self.now) i p }
+        ensures kept { (p : Spot) → pixel_at result.now p ≡ on_plane self.now i p }
     {
         self.pixels.plane(i)
     }

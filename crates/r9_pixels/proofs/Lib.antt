@@ -4,3 +4,4 @@ pub mod Points
 pub mod Standing
 pub mod Taking
 pub mod Telling
+pub mod Tiled

@@ -156,6 +156,12 @@ whole_of None e = absurd cc
 whole_of (Some (Whole plane)) e = (plane, refl)
 whole_of (Some (Hidden extent)) e = absurd cc
 
+-- and what has that of a window has its rectangle and channels
+pub hidden_of : (slot : Option Own) → option_map (λ (form : Form). form.is_window) (option_map form_in slot) ≡ Some true → (extent : Extent) × (slot ≡ Some (Hidden extent))
+hidden_of None e = absurd cc
+hidden_of (Some (Whole plane)) e = absurd cc
+hidden_of (Some (Hidden extent)) e = (extent, refl)
+
 pub own_there : (owns : List (Option Own)) (i : ℕ) (kept : Own) → own_at owns i ≡ Some kept → i < length owns
 own_there owns i kept is =
     ⊎_elim

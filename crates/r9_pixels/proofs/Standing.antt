@@ -67,6 +67,26 @@ hidden_rect owns world i extent formed is = by_image (world i) refl
     by_image (Some image) some =
         sym (some_same (form_of image) (window_form extent) (form (Some image) some)) ∙ sym (ap (λ (o : Option Image). (unwrap_or o no_image).r) some)
 
+-- and what is hidden stands on an image
+stands_on : (s : Option Standing) → is_some s ≡ true → (p : ℕ) × (option_map (λ (s : Standing). s.parent) s ≡ Some p)
+stands_on None e = absurd cc
+stands_on (Some s) e = (s.parent, refl)
+
+pub hidden_stands : (owns : List (Option Own)) (world : World) (i : ℕ) (extent : Extent) → IsFormed owns world → own_at owns i ≡ Some (Hidden extent) → (p : ℕ) × (parent_of world i ≡ Some p)
+hidden_stands owns world i extent formed is = by_image (world i) refl
+  where
+    form : (o : Option Image) → world i ≡ o → option_map form_of o ≡ Some (window_form extent)
+    form o e = ap (option_map form_of) (sym e) ∙ sym (ap (λ (forms : ℕ → Option Form). forms i) formed) ∙ ap (option_map form_in) is
+
+    same_kind : (a b : Form) → Some a ≡ Some b → a.is_window ≡ b.is_window
+    same_kind a b e = cc
+
+    by_image : (o : Option Image) → world i ≡ o → (p : ℕ) × (parent_of world i ≡ Some p)
+    by_image None none = let nothing : None ≡ Some (window_form extent) = form None none in absurd cc
+    by_image (Some image) some =
+        let found = stands_on image.standing (same_kind (form_of image) (window_form extent) (form (Some image) some)) in
+        (found.0, ap (λ (o : Option Image). option_map (λ (s : Standing). s.parent) (unwrap_or o no_image).standing) some ∙ found.1)
+
 -- each window of the list has its cells
 pub windowed : (owns : List (Option Own)) (rows : List (List (Option ℕ))) (world : World) (p : ℕ) (windows : List Window) → IsFormed owns world → IsTabled owns rows → All (StandsOn world p) windows → All (IsWindowed rows world) windows
 windowed owns rows world p windows formed tabled all = λ k d lt. each _ (all k d lt)

@@ -1,15 +1,15 @@
 -- The pixels of a table of images.
-use Rattle.std.specs.Prelude.{◌≡◌, ℕ, Bool, false, List, Option, length, option_map}
+use Rattle.std.specs.Prelude.{◌≡◌, ℕ, Bool, false, List, None, Option, length, option_map}
 use Rattle.std.specs.Option.{option_map_or}
 use Rattle.model_forest.specs.declared.Window.{Window}
 use Rattle.model_forest.specs.World.{World}
 use Rattle.model_kept.specs.Keeping.{Place}
-use Rattle.r9_store.specs.Tiles.{spare}
+use Rattle.r9_store.specs.Tiles.{Tiles, spare}
 use Rattle.r9_locate.specs.Forms.{Form}
 use Rattle.r9_cells.specs.Cells.{all_rows, tiles_in}
 use Rattle.r9_cells.specs.Fitting.{wanted_all}
 use Rattle.r9_pixels.specs.declared.keeping.KeptPixels.{KeptPixels}
-use Rattle.r9_pixels.specs.Owns.{form_in, has_in, kept_in, own_at}
+use Rattle.r9_pixels.specs.Owns.{form_in, has_in, kept_in, own_at, tile_in}
 
 -- the pixel at a place, 0 where there is none
 abbrev pub kept_at : KeptPixels → Place → ℕ
@@ -18,6 +18,13 @@ kept_at pixels place = option_map_or (kept_in pixels.cells place.image place.at)
 -- whether there is such a place
 abbrev pub has_place : KeptPixels → Place → Bool
 has_place pixels place = option_map_or (has_in pixels.cells place.image place.at) (own_at pixels.owns.items place.image) false
+
+-- the tile in which a place lies, where it lies in one, and all tiles
+abbrev pub tile_at : KeptPixels → Place → Option ℕ
+tile_at pixels place = option_map_or (tile_in pixels.cells place.image place.at) (own_at pixels.owns.items place.image) None
+
+abbrev pub store_of : KeptPixels → Tiles
+store_of pixels = tiles_in pixels.cells
 
 -- what an image has for its pixels
 abbrev pub form_at : KeptPixels → ℕ → Option Form

@@ -3,6 +3,7 @@ use Rattle.std.specs.Prelude.{◌≡◌, ◌≢◌, ◌^◌, ◌<◌, ℕ, Bool,
 use Rattle.r9_geom.specs.declared.Point.{Point}
 use Rattle.r9_geom.specs.Geometry.{holds}
 use Rattle.model_pixel.specs.Channels.{depth}
+use Rattle.model_kept.specs.Cells.{cell_of}
 use Rattle.r9_plane.specs.declared.plane.Plane.{Plane}
 use Rattle.r9_plane.specs.Pixels.{chan_of, pixel_at, rect_of}
 use Rattle.r9_locate.specs.Forms.{Form}
@@ -25,6 +26,11 @@ kept_in cells i p (Hidden extent) = if holds extent.r p then place_pixel cells (
 abbrev pub has_in : Cells → ℕ → Point → Own → Bool
 has_in cells i p (Whole plane) = holds (rect_of plane) p
 has_in cells i p (Hidden extent) = has_tile (all_rows cells) i extent.r p
+
+-- the tile of the cell in which a point of a window lies
+abbrev pub tile_in : Cells → ℕ → Point → Own → Option ℕ
+tile_in cells i p (Whole plane) = None
+tile_in cells i p (Hidden extent) = cell_at (all_rows cells) i (cell_of extent.r p)
 
 -- the form of a plane, and of a window's tiles
 abbrev pub plane_form : Plane → Form

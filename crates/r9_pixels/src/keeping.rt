@@ -41,8 +41,8 @@ impl KeptPixels {
         }
     }
 
-    // The rectangle and the channels of a window.
-    fn extent(&self, i: u32) -> Option<Extent>
+    /// The rectangle and the channels of a window.
+    pub(crate) fn extent(&self, i: u32) -> Option<Extent>
         requires { i < vec_len self.now.owns }
         ensures some { (extent : Size) → result ≡ Some extent → own_at self.now.owns.items i ≡ Some (Hidden extent) }
         ensures none { result ≡ None → (extent : Size) → own_at self.now.owns.items i ≢ Some (Hidden extent) }

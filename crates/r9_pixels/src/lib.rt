@@ -12,6 +12,7 @@ mod keeping;
 mod making;
 mod own;
 mod sizing;
+mod tiling;
 mod whole;
 
 pub use keeping::KeptPixels;

@@ -7,6 +7,7 @@ use Rattle.r9_locate.proofs.Locating.{keeping-root}
 use Rattle.r9_pixels.specs.Kept.{kept_at}
 use Rattle.r9_pixels.specs.Owns.{plane_form}
 use Rattle.r9_forest.specs.Images.{world}
+use Rattle.r9_forest.specs.Keeping.{on_plane}
 use Rattle.r9_forest.proofs.Canvases.{bare_canvas, parent_same}
 use Rattle.r9_forest.proofs.Showing.{form_live, shown_kept, standing_nowhere}
 use Rattle.r9_forest.proofs.images.Images.plane.Goals as goal
@@ -52,3 +53,7 @@ returns-clause-pixels c p inside =
     sym (c.plane.ensures.pixels p)
     ∙ ap (kept_at was.pixels) (sym (keeping-root (shape was.lists) c.args.i p root))
     ∙ sym (shown_kept (shape was.lists) (kept_at was.pixels) c.args.i p was.sound.forest c.requires.live inside)
+
+pub returns-clause-kept : goal.returns-clause-kept
+unfolding on_plane
+returns-clause-kept c p = sym (c.plane.ensures.pixels p)
