@@ -1,3 +1,5 @@
 pub mod Stages
 pub mod Freeing
+pub mod Pairs
+pub mod Leaving
 pub mod Acting
