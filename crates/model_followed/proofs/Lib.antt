@@ -8,3 +8,4 @@ pub mod Walks
 pub mod Privacy
 pub mod Keeping
 pub mod Late
+pub mod Others
