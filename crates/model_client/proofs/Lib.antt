@@ -1,4 +1,5 @@
 pub mod Saying
+pub mod Legal
 pub mod Walking
 pub mod Answering
 pub mod Messages

@@ -1,13 +1,14 @@
 -- A client: the one session of a server, which has agreed on a version and has no read that waits, and what it says (intro(5)).
-use Rattle.std.specs.Prelude.{◌≡◌, ◌≤◌, ◌==◌, true, false, [], ◌∷◌, length, None}
+use Rattle.std.specs.Prelude.{◌≡◌, ◌≤◌, ◌==◌, true, false, List, [], ◌∷◌, codes, length, map, None}
 use Rattle.r9_event.specs.declared.event.Event.{Event}
 use Rattle.r9_event.specs.declared.event.Event.TheVariants.{Msg}
-use Rattle.model_wire.specs.Message.{T, R, no_tag, tag_of_t}
+use Rattle.model_event.specs.Legal.{IsMessage}
+use Rattle.model_wire.specs.Message.{T, R, Rversion, Tversion, no_tag, tag_of_t}
 use Rattle.model_wire.specs.Spelling.{SpellsT, spelling_of_t, spelling_of_r}
-use Rattle.model_world.specs.Session.{Session}
+use Rattle.model_world.specs.Session.{Session, fresh}
 use Rattle.model_world.specs.Desktop.{Desktop}
 use Rattle.model_world.specs.World.{World}
-use Rattle.model_world.specs.Replay.{Turn}
+use Rattle.model_world.specs.Replay.{Turn, replies_from, world_from}
 
 -- the client is session 1
 abbrev pub says : T → Event
@@ -37,3 +38,27 @@ answered world after reply = record {
   notes = after.1.notes;
   closed = None;
 }
+
+-- ---- the beginning
+
+-- what a client says first, how it is answered, and what it then is
+abbrev pub hello : T
+hello = Tversion no_tag 65560 (codes "9P2000")
+
+abbrev pub welcome : R
+welcome = Rversion no_tag 65560 (codes "9P2000")
+
+abbrev pub greeted : Session
+greeted = record fresh { agreed = true }
+
+-- ---- several messages
+
+-- the client's messages leave this world, and these are the replies
+pub record AreAnswered (world : World) (messages : List T) (after : World) (replies : List R) : Type 0 where
+  pub left : world_from world (map says messages) ≡ after
+  pub said : replies_from world (map says messages) ≡ map (λ reply. record { session = 1; bytes = spelling_of_r reply }) replies
+
+-- each is a whole message
+abbrev pub AreMessages : List T → Type 0
+AreMessages [] = Unit {0}
+AreMessages (m ∷ messages) = IsMessage (spelling_of_t m) × AreMessages messages

@@ -1,3 +1,4 @@
 pub mod Typing
 pub mod Making
 pub mod Made
+pub mod Opening

@@ -10,7 +10,7 @@ use Rattle.model_draw.specs.World as draw
 use Rattle.model_world.specs.Whole.{client, with_device}
 use Rattle.model_world.specs.World.{World}
 use Rattle.model_world.specs.Replay.{step}
-use Rattle.model_client.specs.Saying.{MaySay, answered, says}
+use Rattle.model_client.specs.Saying.{IsClient, MaySay, answered, says}
 use Rattle.model_client.proofs.Saying.{said, stays}
 use Rattle.model_client.proofs.Answering.{wrote_data}
 use Rattle.model_client.proofs.Writes.{Leads, leads_written}
@@ -34,11 +34,11 @@ pub record IsTyped (shape : Shape) (pixels : List ℕ) (n : Numbers) (next : Lis
   pub is : step world (says (write bytes)) ≡ answered world (typist, with_device world.desktop after) (Rwrite 1 (length bytes))
   pub shows : ShowsPage shape pixels n next (step world (says (write bytes))).world
 
-pub written_step : (world : World) (bytes : List ℕ) (after : draw.World) → length bytes ≤ 65537 → Leads (client 1 1) world.desktop.device after bytes → (shape : Shape) (pixels : List ℕ) (n : Numbers) (rows : List (List ℕ))
-    → ShowsPage shape pixels n rows world → step world (says (write bytes)) ≡ answered world (typist, with_device world.desktop after) (Rwrite 1 (length bytes))
-written_step world bytes after few leads shape pixels n rows shows =
+pub written_step : (world : World) (bytes : List ℕ) (after : draw.World) → length bytes ≤ 65537 → Leads (client 1 1) world.desktop.device after bytes → IsClient world typist
+    → step world (says (write bytes)) ≡ answered world (typist, with_device world.desktop after) (Rwrite 1 (length bytes))
+written_step world bytes after few leads alone =
     let run = leads_written (client 1 1) world.desktop.device after bytes leads in
-    said world typist (write bytes) (typist, with_device world.desktop after) (Rwrite 1 (length bytes)) shows.alone (may_write bytes few)
+    said world typist (write bytes) (typist, with_device world.desktop after) (Rwrite 1 (length bytes)) alone (may_write bytes few)
     (wrote_data typist world.desktop 1 2 1 1 2 0 run.done bytes after refl refl refl run.is)
     refl
 
@@ -49,7 +49,7 @@ pub typed : (shape : Shape) (pixels : List ℕ) (n : Numbers) (rows next : List 
 typed shape pixels n rows next world moves is apart are shows fits within few =
     let bytes : List ℕ = moves_bytes shape moves in
     let moved = moves_lead (client 1 1) shape pixels n is apart are moves rows next world.desktop.device shows.device fits within in
-    let turn = written_step world bytes moved.after few moved.leads shape pixels n rows shows in
+    let turn = written_step world bytes moved.after few moved.leads shows.alone in
     record {
       after = moved.after;
       is = turn;
