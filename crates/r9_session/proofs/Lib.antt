@@ -11,3 +11,4 @@ mod Opened
 mod Awaited
 mod Taken
 mod Written
+mod Telling

@@ -4,3 +4,4 @@ pub mod Reads
 pub mod Answers
 pub mod Clients
 pub mod Roots
+pub mod Telling

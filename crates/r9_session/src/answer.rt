@@ -1,6 +1,6 @@
 //! What a session answers to a message (intro(5), version(5), flush(5)).
 
-ghost use Rattle.std.specs.Prelude.{◌≡◌, ◌<◌, ◌≤◌, ◌^◌, ◌==◌, ℕ, Option, None, Some, length, false, IsSome, IfOk, IfSome, OnOk};
+ghost use Rattle.std.specs.Prelude.{◌≡◌, ◌<◌, ◌≤◌, ◌^◌, ◌==◌, ℕ, Option, None, Some, length, true, false, is_ok, IsSome, IfOk, IfSome, OnOk};
 ghost use Rattle.std.specs.List.{before_first};
 ghost use Rattle.std.specs.Option.{option_map};
 ghost use Rattle.model_wire.specs.Message.{tag_of_t, Rflush, Rversion};
@@ -16,6 +16,7 @@ ghost use Rattle.model_world.specs.Waiting.{flushed};
 ghost use Rattle.r9_wire.specs.View.{r_of, t_of};
 ghost use Rattle.r9_session.specs.Answers.{IsBegun, IsNewTag, IsReach, IsReply, uses_file};
 ghost use Rattle.r9_session.specs.Clients.{left_of};
+ghost use Rattle.r9_session.specs.Telling.{IsToldOf, IsToldRead};
 ghost use Rattle.r9_around.specs.Words.{mark_after};
 
 use crate::session::{MAX_MSIZE, Session};
@@ -104,6 +105,7 @@ fn silence() -> Answered
         reply: None,
         short: None,
         wrote: 0,
+        told: None,
     }
 }
 
@@ -118,6 +120,7 @@ fn refuse(alloc: Global, tag: u16, number: u8) -> Result<Answered, Memory>
         reply: Some(reply),
         short: None,
         wrote: 0,
+        told: None,
     })
 }
 
@@ -241,6 +244,7 @@ impl Session {
         ensures cause { IfOk result (λ a. IfSome a.short (λ k. IsCut (O.wants number) self.old (O.state outside.old) mark k (t_of m.now))) }
         ensures refused { IfOk result (λ a. IsSome a.short → IsRefused no_memory (option_map r_of a.reply)) }
         ensures told { IfOk result (λ a. IsRefused no_memory (option_map r_of a.reply) → IsSome a.short) }
+        ensures messages { IfOk result (λ a. IsToldOf (O.tells number) self.old (O.state outside.old) (mark_after mark a.short) a.told (t_of m.now)) }
     {
         self.check_begun(m)?;
         match m {
@@ -264,6 +268,7 @@ impl Session {
                     reply,
                     short: None,
                     wrote: 0,
+                    told: None,
                 })
             }
             _ => {
@@ -272,6 +277,7 @@ impl Session {
                     reply: Some(reply),
                     short: None,
                     wrote: 0,
+                    told: None,
                 })
             }
         }
@@ -308,6 +314,7 @@ impl Session {
         ensures cause { IfOk result (λ a. IfSome a.short (λ k. IsCut (O.wants number) self.old (O.state outside.old) mark k (t_of m.now))) }
         ensures refused { IfOk result (λ a. IsSome a.short → IsRefused no_memory (option_map r_of a.reply)) }
         ensures told { IfOk result (λ a. IsRefused no_memory (option_map r_of a.reply) → IsSome a.short) }
+        ensures messages { IfOk result (λ a. is_ok (answer_read (O.outside number) self.old (O.state outside.old) (mark_after mark a.short) (t_of m.now)) ≡ true → IsToldOf (O.tells number) self.old (O.state outside.old) (mark_after mark a.short) a.told (t_of m.now)) }
         ensures linked { OnOk result (O.linked number self.new.made self.new.connections (O.state outside.new)) }
         ensures others { OnOk result (O.others number (O.state outside.old) (O.state outside.new)) }
     {
@@ -335,6 +342,7 @@ impl Session {
         ensures cause { IfOk result (λ a. IfSome a.short (λ k. IsCutSpelled (O.wants number) self.old (O.state outside.old) bytes.now mark k)) }
         ensures refused { IfOk result (λ a. IsSome a.short → IsRefused no_memory (option_map r_of a.reply)) }
         ensures told { IfOk result (λ a. IsRefused no_memory (option_map r_of a.reply) → IsSome a.short) }
+        ensures messages { IfOk result (λ a. is_ok (read_or_not (O.outside number) self.old (O.state outside.old) (mark_after mark a.short) (message_of bytes.now)) ≡ true → IsToldRead (O.tells number) self.old (O.state outside.old) (mark_after mark a.short) a.told (message_of bytes.now)) }
         ensures wrote { IfOk result (λ a. a.wrote ≡ written_to self.old (message_of bytes.now)) }
         ensures linked { OnOk result (O.linked number self.new.made self.new.connections (O.state outside.new)) }
         ensures others { OnOk result (O.others number (O.state outside.old) (O.state outside.new)) }
@@ -390,6 +398,7 @@ impl Session {
         ensures fits { IfOk result (λ a. IfSome a.reply (λ reply. FitsR (r_of reply))) }
         ensures short { IfOk result (λ a. IfSome a.short (λ k. IsCutMessage (O.outside number) (O.wants number) self.old (O.state outside.old) bytes.now mark k)) }
         ensures told { IfOk result (λ a. IsRefused no_memory (option_map r_of a.reply) → IsSome a.short) }
+        ensures messages { IfOk result (λ a. taking self.old bytes.now ≡ Reads → is_ok (read_or_not (O.outside number) self.old (O.state outside.old) (mark_after mark a.short) (message_of bytes.now)) ≡ true → IsToldRead (O.tells number) self.old (O.state outside.old) (mark_after mark a.short) a.told (message_of bytes.now)) }
         ensures wrote { IfOk result (λ a. a.wrote ≡ written_at self.old bytes.now) }
         ensures linked { OnOk result (O.linked number self.new.made self.new.connections (O.state outside.new)) }
         ensures others { OnOk result (O.others number (O.state outside.old) (O.state outside.new)) }

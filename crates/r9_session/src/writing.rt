@@ -8,10 +8,12 @@ ghost use Rattle.model_world.specs.Cut.{IsCutWrite};
 ghost use Rattle.model_world.specs.Refusal.{IsRefused};
 ghost use Rattle.model_world.specs.Writing.{write_answer};
 ghost use Rattle.r9_wire.specs.View.{r_of};
+ghost use Rattle.r9_around.specs.Words.{mark_after};
+ghost use Rattle.r9_session.specs.Telling.{IsToldWrite};
 
 use crate::session::Session;
 use r9_access::write_file;
-use r9_around::Outside;
+use r9_around::{Outside, Told};
 use r9_files::{FID_NOT_OPEN, Fault, PERMISSION_DENIED, UNKNOWN_FID, refusal};
 use r9_wire::Rmsg;
 use std::alloc::Global;
@@ -24,6 +26,8 @@ pub struct Answered {
     pub short: Option<u32>,
     /// The serial of the window or rio whose file was written; 0 where none was.
     pub wrote: u32,
+    /// What is told of the messages of a data write.
+    pub told: Option<Told>,
 }
 
 /// Whether a mode is for writing (open(5)).
@@ -56,6 +60,7 @@ impl Session {
         ensures cause { IfOk result (λ a. IfSome a.short (λ k. IsCutWrite (O.wants number) self.now (O.state outside.old) fid bytes.now mark k)) }
         ensures refused { IfOk result (λ a. IsSome a.short → IsRefused no_memory (option_map r_of a.reply)) }
         ensures told { IfOk result (λ a. IsRefused no_memory (option_map r_of a.reply) → IsSome a.short) }
+        ensures messages { IfOk result (λ a. IsToldWrite (O.tells number) self.now (O.state outside.old) fid bytes.now (mark_after mark a.short) a.told) }
     {
         let Some(found) = self.fids.get(fid) else {
             return Err(Fault::Refused(UNKNOWN_FID));
@@ -81,6 +86,7 @@ impl Session {
             reply: Some(reply),
             short: written.short,
             wrote: 0,
+            told: written.told,
         })
     }
 }

@@ -2,7 +2,8 @@ use Rattle.std.proofs.Common.{◌≡◌, ◌∙◌, None, sym, arith}
 use Rattle.std.proofs.lemmas.Result.{IfOk-weaker}
 use Rattle.model_wire.specs.Reading.{message_of}
 use Rattle.model_world.specs.Sleeping.{written_at, written_to}
-use Rattle.model_world.specs.Answer.{Ignored, TooLong, Closes, Reads}
+use Rattle.model_world.specs.Answer.{Ignored, TooLong, Closes, Reads, taking}
+use Rattle.r9_session.proofs.Telling.{never_data}
 use Rattle.r9_session.proofs.Told.{refused_other}
 use Rattle.r9_session.proofs.Written.{written_by}
 use Rattle.r9_session.proofs.session.Session.answer.Goals as goal
@@ -27,3 +28,17 @@ pub returns-in-Reads-clause-wrote : goal.returns-in-Reads-clause-wrote
 returns-in-Reads-clause-wrote g c =
     IfOk-weaker c.answer_taken.result (λ a. a.wrote ≡ written_to c.args.self.now (message_of c.args.bytes.now)) (λ a. a.wrote ≡ written_at c.args.self.now c.args.bytes.now)
     (λ a is. is ∙ sym (written_by c.args.self.now c.args.bytes.now Reads (sym c.in-Reads.ensures))) c.answer_taken.ensures.wrote
+
+pub returns-in-TooLong-clause-messages : goal.returns-in-TooLong-clause-messages
+returns-in-TooLong-clause-messages g c =
+    never_data c.refuse.result (taking c.args.self.now c.args.bytes.now ≡ Reads) _ (λ reads. let both : TooLong ≡ Reads = c.in-TooLong.ensures ∙ reads in absurd cc)
+
+pub returns-in-Closes-clause-messages : goal.returns-in-Closes-clause-messages
+returns-in-Closes-clause-messages g c =
+    never_data c.close.result (taking c.args.self.now c.args.bytes.now ≡ Reads) _ (λ reads. let both : Closes ≡ Reads = c.in-Closes.ensures ∙ reads in absurd cc)
+
+pub returns-in-Ignored-clause-messages : goal.returns-in-Ignored-clause-messages
+returns-in-Ignored-clause-messages g c = λ reads. let both : Ignored ≡ Reads = c.in-Ignored.ensures ∙ reads in absurd cc
+
+pub returns-in-Reads-clause-messages : goal.returns-in-Reads-clause-messages
+returns-in-Reads-clause-messages g c = IfOk-weaker c.answer_taken.result _ _ (λ a is. λ reads. is) c.answer_taken.ensures.messages

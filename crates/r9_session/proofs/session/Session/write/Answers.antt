@@ -8,6 +8,8 @@ use Rattle.r9_wire.specs.declared.message.Rmsg.{Rmsg}
 use Rattle.r9_wire.specs.View.{r_of}
 use Rattle.r9_tree.specs.View.{node_of}
 use Rattle.r9_session.proofs.Opened.{cut_of}
+use Rattle.r9_around.specs.Words.{mark_after}
+use Rattle.r9_session.proofs.Telling.{told_of}
 use Rattle.r9_session.proofs.Told.{write_tells}
 use Rattle.r9_session.proofs.session.Session.write.Goals as goal
 use Rattle.r9_session.proofs.session.Session.write.Goals.{in-Some-refusal+in_ok-reply-in-Some-refusal, in-None}
@@ -28,3 +30,12 @@ returns-clause-cause g c =
     let same : node_of c.node-node.result ≡ found.node = search rules in
     let node = node_of c.node-node.result in
     cut_of (g.O.Outside.wants c.args.number) session (g.O.Outside.state c.args.outside.now) c.args.fid c.args.bytes.now c.args.mark _ found node node.kind at mode_is same (ap (λ (n : Node). n.kind) (sym same)) c.in_ok-written.ensures.cause
+
+pub returns-clause-messages : goal.returns-clause-messages
+returns-clause-messages g c =
+    let session = c.args.self.now in
+    let found = c.in-Some.found.now in
+    let at : lookup session.fids c.args.fid ≡ Some found = search rules in
+    let same : node_of c.node-node.result ≡ found.node = search rules in
+    told_of (g.O.Outside.tells c.args.number) session (g.O.Outside.state c.args.outside.now) c.args.fid c.args.bytes.now (mark_after c.args.mark c.in_ok-written.written.short) c.in_ok-written.written.told found
+    (node_of c.node-node.result) at same c.in_ok-written.ensures.told
