@@ -143,7 +143,66 @@ module _ (part : Part) where
   goes_apart : (freed after : Freed) → IsApartBook part freed.book → Goes freed after → IsApartBook part after.book
   goes_apart freed after apart goes = book_apart part freed.book after.book apart goes.book
 
-  -- ---- what a connection outside frees
+  -- ---- what is freed by an id that is not in the part
+
+  pub free_id_goes : (b : Book) (k id : ℕ) (freed : Freed) → (id == 0) ≡ false → IsOther part k id → (part.id k id → ⊥) → IsApartBook part b → AreNumbered b → free_id b k id ≡ Ok freed
+      → Goes (nothing_freed b) freed
+  unfolding free_id
+  free_id_goes b k id freed counted other none apart numbers freeing = by (own_image_id b k id) own_is freeing
+    where
+      -- an id of its own that is found
+      own_is : (e : ImageId) → own_image_id b k id ≡ Some e → find (λ x. (x.client == k) && (x.id == id)) b.image_ids ≡ Some e
+      own_is e found = rw counted at found
+
+      tie_other : (t : Tie) → (part.image t.image → part.name t.name × part.id t.client t.id) → part.image t.image → is_tied_by k id t ≡ false
+      tie_other t ties is =
+          not-true (is_tied_by k id t) (λ at.
+          let parts = split (t.client == k) (t.id == id) at in
+          none (subst (λ (n : ℕ). part.id n id) (eqb-true t.client k parts.0) (subst (λ (n : ℕ). part.id t.client n) (eqb-true t.id id parts.1) (ties is).1)))
+
+      by : (o : Option ImageId) → ((e : ImageId) → o ≡ Some e → find (λ x. (x.client == k) && (x.id == id)) b.image_ids ≡ Some e)
+          → (value_or_refuse o 4 >>= λ e. Ok (with_ties_ended (is_tied_by k id) (freed_image_id (nothing_freed b) e))) ≡ Ok freed → Goes (nothing_freed b) freed
+      by None own e = absurd cc
+      by (Some x) own e =
+          let is : with_ties_ended (is_tied_by k id) (freed_image_id (nothing_freed b) x) ≡ freed = cc in
+          let found = own x refl in
+          let parts = split _ _ (find-passes (λ (y : ImageId). (y.client == k) && (y.id == id)) b.image_ids x found) in
+          let client : x.client ≡ k = eqb-true x.client k parts.0 in
+          let at : x.id ≡ id = eqb-true x.id id parts.1 in
+          let shows = all_found (λ (y : ImageId). part.image y.image → part.id y.client y.id) _ b.image_ids x apart.ids found in
+          let one = image_id_goes (nothing_freed b) x apart numbers tt (subst (λ (n : ℕ). IsOther part n x.id) (sym client) (subst (λ (n : ℕ). IsOther part k n) (sym at) other))
+          (λ is. none (subst (λ (n : ℕ). part.id n id) client (subst (λ (n : ℕ). part.id x.client n) at (shows is)))) in
+          let left = freed_image_id (nothing_freed b) x in
+          let apart_left = book_apart part b left.book apart one.book in
+          subst (Goes (nothing_freed b)) is
+          (goes_then (nothing_freed b) left _ one (ties_go left (is_tied_by k id) apart_left one.numbers one.gone
+          (λ n d h shows. tie_other (slice_index_or left.book.ties n d) (apart_left.ties n d h) shows)))
+
+  both_same : (m n : ℕ) → ((m == m) && (n == n)) ≡ true
+  both_same m n = rw (same m, same n) refl
+
+  -- a screen id that is not in the part is of no screen of the part
+  screen_id_other : (k id : ℕ) (e : ScreenId) → IsOtherScreen part k id → (part.screen e.screen → part.screen_id e.client e.id × (e.public ≡ false)) → e.client ≡ k → e.id ≡ id → part.screen e.screen → ⊥
+  screen_id_other k id e other ids client at is =
+      let key : part.screen_id k id = subst (λ (n : ℕ). part.screen_id n id) client (subst (λ (n : ℕ). part.screen_id e.client n) at (ids is).0) in
+      not_both ((k == k) && (id == id)) (both_same k id) (other.ids k id key)
+
+  pub free_screen_goes : (b : Book) (k id : ℕ) (freed : Freed) → IsOtherScreen part k id → IsApartBook part b → AreNumbered b → free_screen b k id ≡ Ok freed → Goes (nothing_freed b) freed
+  unfolding free_screen
+  free_screen_goes b k id freed other apart numbers freeing = by (screen_id b k id) refl freeing
+    where
+      by : (o : Option ScreenId) → screen_id b k id ≡ o → (value_or_refuse o 5 >>= λ e. Ok (freed_screen_id (nothing_freed b) e)) ≡ Ok freed → Goes (nothing_freed b) freed
+      by None found e = absurd cc
+      by (Some x) found e =
+          let is : freed_screen_id (nothing_freed b) x ≡ freed = cc in
+          let parts = split _ _ (find-passes (λ (y : ScreenId). (y.client == k) && (y.id == id)) b.screen_ids x found) in
+          let client : x.client ≡ k = eqb-true x.client k parts.0 in
+          let at : x.id ≡ id = eqb-true x.id id parts.1 in
+          subst (Goes (nothing_freed b)) is
+          (screen_id_goes (nothing_freed b) x apart numbers tt (subst (λ (n : ℕ). IsOtherScreen part n x.id) (sym client) (subst (λ (n : ℕ). IsOtherScreen part k n) (sym at) other))
+          (screen_id_other k id x other (all_found (λ (y : ScreenId). part.screen y.screen → part.screen_id y.client y.id × (y.public ≡ false)) _ b.screen_ids x apart.screen_ids found) client at))
+
+  -- ---- a connection outside the part that ends
 
   module _ (k : ℕ) (outside : IsOutside part k) where
     -- a tie that the connection made shows no image of the part
@@ -154,54 +213,6 @@ module _ (part : Part) where
     -- an id of the connection
     id_other : (e : ImageId) → (part.image e.image → part.id e.client e.id) → (e.client == k) ≡ true → part.image e.image → ⊥
     id_other e ids at is = outside.none e.id (subst (λ (n : ℕ). part.id n e.id) (eqb-true e.client k at) (ids is))
-
-    screen_id_other : (e : ScreenId) → (part.screen e.screen → part.screen_id e.client e.id × (e.public ≡ false)) → (e.client == k) ≡ true → part.screen e.screen → ⊥
-    screen_id_other e ids at is =
-        let key : part.screen_id k e.id = subst (λ (n : ℕ). part.screen_id n e.id) (eqb-true e.client k at) (ids is).0 in
-        not_both ((k == k) && (e.id == e.id)) (both_same k e.id) ((outside.screen_ids e.id).ids k e.id key)
-      where
-        both_same : (m n : ℕ) → ((m == m) && (n == n)) ≡ true
-        both_same m n = rw (same m, same n) refl
-
-    -- ---- each of them
-
-    pub free_id_goes : (b : Book) (id : ℕ) (freed : Freed) → (id == 0) ≡ false → IsApartBook part b → AreNumbered b → free_id b k id ≡ Ok freed → Goes (nothing_freed b) freed
-    unfolding free_id
-    free_id_goes b id freed other apart numbers freeing = by (own_image_id b k id) own_is freeing
-      where
-        -- an id of its own that is found
-        own_is : (e : ImageId) → own_image_id b k id ≡ Some e → (find (λ x. (x.client == k) && (x.id == id)) b.image_ids ≡ Some e) × ((e.client == k) ≡ true)
-        own_is e found =
-            let is : find (λ (x : ImageId). (x.client == k) && (x.id == id)) b.image_ids ≡ Some e = rw other at found in
-            (is, (split _ _ (find-passes (λ (x : ImageId). (x.client == k) && (x.id == id)) b.image_ids e is)).0)
-
-        by : (o : Option ImageId) → ((e : ImageId) → o ≡ Some e → (find (λ x. (x.client == k) && (x.id == id)) b.image_ids ≡ Some e) × ((e.client == k) ≡ true))
-            → (value_or_refuse o 4 >>= λ e. Ok (with_ties_ended (is_tied_by k id) (freed_image_id (nothing_freed b) e))) ≡ Ok freed → Goes (nothing_freed b) freed
-        by None own e = absurd cc
-        by (Some x) own e =
-            let is : with_ties_ended (is_tied_by k id) (freed_image_id (nothing_freed b) x) ≡ freed = cc in
-            let found = own x refl in
-            let client : x.client ≡ k = eqb-true x.client k found.1 in
-            let one = image_id_goes (nothing_freed b) x apart numbers tt (subst (λ (n : ℕ). IsOther part n x.id) (sym client) (outside.ids x.id))
-            (id_other x (all_found (λ (y : ImageId). part.image y.image → part.id y.client y.id) _ b.image_ids x apart.ids found.0) found.1) in
-            let left = freed_image_id (nothing_freed b) x in
-            let apart_left = book_apart part b left.book apart one.book in
-            subst (Goes (nothing_freed b)) is
-            (goes_then (nothing_freed b) left _ one (ties_go left (is_tied_by k id) apart_left one.numbers one.gone
-            (λ n d h shows. ap (λ (x : Bool). x && ((slice_index_or left.book.ties n d).id == id)) (tie_other (slice_index_or left.book.ties n d) (apart_left.ties n d h) shows))))
-
-    pub free_screen_goes : (b : Book) (id : ℕ) (freed : Freed) → IsApartBook part b → AreNumbered b → free_screen b k id ≡ Ok freed → Goes (nothing_freed b) freed
-    unfolding free_screen
-    free_screen_goes b id freed apart numbers freeing = by (screen_id b k id) refl freeing
-      where
-        by : (o : Option ScreenId) → screen_id b k id ≡ o → (value_or_refuse o 5 >>= λ e. Ok (freed_screen_id (nothing_freed b) e)) ≡ Ok freed → Goes (nothing_freed b) freed
-        by None found e = absurd cc
-        by (Some x) found e =
-            let is : freed_screen_id (nothing_freed b) x ≡ freed = cc in
-            let at = (split _ _ (find-passes (λ (y : ScreenId). (y.client == k) && (y.id == id)) b.screen_ids x found)).0 in
-            subst (Goes (nothing_freed b)) is
-            (screen_id_goes (nothing_freed b) x apart numbers tt (subst (λ (n : ℕ). IsOtherScreen part n x.id) (sym (eqb-true x.client k at)) (outside.screen_ids x.id))
-            (screen_id_other x (all_found (λ (y : ScreenId). part.screen y.screen → part.screen_id y.client y.id × (y.public ≡ false)) _ b.screen_ids x apart.screen_ids found) at))
 
     -- ids of the connection that go one after the other
     images_go : (es : List ImageId) (freed : Freed) → All (λ e. ((e.client == k) ≡ true) × (part.image e.image → ⊥)) es → IsApartBook part freed.book → AreNumbered freed.book → MayAllGo freed.gone
@@ -241,8 +252,9 @@ module _ (part : Part) where
         let two = screens_go ss images
         (λ n d h. (
           filter_passes (λ (e : ScreenId). e.client == k) b.screen_ids n d h,
-          screen_id_other (slice_index_or ss n d) (All-filter (λ e. e.client == k) (λ e. part.screen e.screen → part.screen_id e.client e.id × (e.public ≡ false)) b.screen_ids apart.screen_ids n d h)
-              (filter_passes (λ (e : ScreenId). e.client == k) b.screen_ids n d h),
+          screen_id_other k (slice_index_or ss n d).id (slice_index_or ss n d) (outside.screen_ids (slice_index_or ss n d).id)
+              (All-filter (λ e. e.client == k) (λ e. part.screen e.screen → part.screen_id e.client e.id × (e.public ≡ false)) b.screen_ids apart.screen_ids n d h)
+              (eqb-true (slice_index_or ss n d).client k (filter_passes (λ (e : ScreenId). e.client == k) b.screen_ids n d h)) refl,
         )) apart_one one.numbers one.gone in
         let apart_two = goes_apart images screens apart_one two in
         goes_then (nothing_freed b) screens (leave b k) (goes_then (nothing_freed b) images screens one two)

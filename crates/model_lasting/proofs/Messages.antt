@@ -298,7 +298,7 @@ write_string_still k w writing background o =
 
 -- ---- each message
 
-act_still : (k : ℕ) (w : World) (m : Message) (rest : List ℕ) → (k == 0) ≡ false → IsOrderly w → StillIf w (act k w m rest)
+pub act_still : (k : ℕ) (w : World) (m : Message) (rest : List ℕ) → (k == 0) ≡ false → IsOrderly w → StillIf w (act k w m rest)
 unfolding act
 act_still k w (LowB id screenid refresh chan repl r clipr color) rest other o = allocate_still k w id screenid refresh chan (flag repl) r clipr color other o
 act_still k w (UpA id imageid fillid public) rest other o = make_screen_still k w id imageid fillid (flag public) other o
