@@ -4,3 +4,4 @@ pub mod Numbering
 pub mod Releasing
 pub mod Worlds
 pub mod Devices
+pub mod Looking

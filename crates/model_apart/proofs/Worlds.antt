@@ -1,16 +1,18 @@
 -- Images that change beside a part.
-use Rattle.std.proofs.Common.{◌≡◌, ℕ, Bool, true, false, List, [], ◌∷◌, Option, Some, None, refl, sym, ap, subst, ◌∙◌}
-use Rattle.std.specs.Prelude.{◌==◌, option_map, unwrap_or}
+use Rattle.std.proofs.Common.{◌≡◌, ◌+◌, ℕ, Bool, true, false, List, [], ◌∷◌, Option, Some, None, refl, sym, ap, subst, ◌∙◌}
+use Rattle.std.specs.Prelude.{◌==◌, option_map, unwrap_or, if◌then◌else◌}
 use Rattle.std.specs.Option.{option_map_or}
 use Rattle.std.specs.List.{fold}
 use Rattle.std.proofs.lemmas.Bool.{eqb-true, eqb-false}
 use Rattle.r9_geom.specs.declared.Point.{Point}
 use Rattle.r9_geom.specs.declared.Rect.{Rect}
+use Rattle.r9_geom.specs.Geometry.{carried}
 use Rattle.model_forest.specs.declared.Window.{Window}
 use Rattle.model_forest.specs.World.{Image, World, image_at, no_image, parent_of, with_image}
+use Rattle.model_forest.specs.View.{view}
 use Rattle.model_forest.specs.Draw.{Drawing, after_draw, after_fill, after_load, with_canvas}
-use Rattle.model_forest.specs.Stack.{after_lower, after_raise, after_restack, after_window, lowered, moved, raised, with_windows, without}
-use Rattle.model_forest.specs.Steps.{after_image, after_list, after_origin, after_release, after_set, carried_rect}
+use Rattle.model_forest.specs.Stack.{after_lower, after_raise, after_restack, after_window, lowered, moved, raised, seen, with_windows, without}
+use Rattle.model_forest.specs.Steps.{after_image, after_list, after_origin, after_release, after_replace, after_replace_on, after_set, carried_rect, outside, put_above}
 use Rattle.model_forest.proofs.Changes.{with_image-at, with_image-other}
 use Rattle.model_apart.specs.Apart.{Part, StaysInImages}
 
@@ -140,3 +142,57 @@ module _ (part : Part) where
   release_stays w i together none =
       images_then w (after_list w i (without i)) _ (list_stays w i (without i) together none)
       (slot_stays (after_list w i (without i)) i None none (λ p is stands. absurd (let no : ◌≡◌ {A = Option ℕ} None (Some p) = stands in cc)))
+
+  -- ---- a window that gets another image
+
+  pub replace_stays : (w : World) (i old : ℕ) (r : Rect) (corner : Point) (raw : ℕ) (keep : Bool) → AreTogether w → (part.image i → ⊥) → (part.image old → ⊥) → StaysInImages part w (after_replace w i old r corner raw keep)
+  unfolding after_replace
+  replace_stays w i old r corner raw keep together none other =
+      let image = image_at w old in
+      let pixel : Point → ℕ = λ p. if keep then view w old (carried p r.min image.r.min) else raw in
+      let window : Image = record {
+        r = r;
+        clipr = r;
+        repl = false;
+        chan = image.chan;
+        standing = image.standing;
+        depth = image.depth;
+        canvas = seen r [] pixel;
+        windows = [];
+      } in
+      let first : Window = record { image = i; place = carried_rect r r.min corner } in
+      let one : World = with_image w i (Some window) in
+      let two : World = after_list one old (put_above first old) in
+      let one_stays = slot_stays w i (Some window) none (λ p is stands. absurd (other (together old p is stands))) in
+      let together_one = together_still w one together one_stays in
+      let two_stays = list_stays one old (put_above first old) together_one other in
+      images_then w one _ one_stays
+      (images_then one two _ two_stays (list_stays two old (moved old (carried_rect image.r image.r.min outside)) (together_still one two together_one two_stays) other))
+
+  pub replace_on_stays : (w : World) (i old parent fill : ℕ) (r : Rect) (corner : Point) (raw : ℕ) (keep : Bool) → AreTogether w → (part.image i → ⊥) → (part.image old → ⊥) → (part.image parent → ⊥)
+      → StaysInImages part w (after_replace_on w i old parent fill r corner raw keep)
+  unfolding after_replace_on
+  replace_on_stays w i old parent fill r corner raw keep together none other ground =
+      let image = image_at w old in
+      let pixel : Point → ℕ = λ p. if keep then view w old (carried p r.min image.r.min) else raw in
+      let window : Image = record {
+        r = r;
+        clipr = r;
+        repl = false;
+        chan = (image_at w parent).chan;
+        standing = Some (record { parent = parent; fill = fill });
+        depth = (image_at w parent).depth + 1;
+        canvas = seen r [] pixel;
+        windows = [];
+      } in
+      let first : Window = record { image = i; place = carried_rect r r.min corner } in
+      let one : World = with_image w i (Some window) in
+      let two : World = with_windows one parent (first ∷ (image_at w parent).windows) in
+      let one_stays = slot_stays w i (Some window) none (λ p is stands. absurd (ground (subst part.image (sym (some_is parent p stands)) is))) in
+      let together_one = together_still w one together one_stays in
+      let two_stays = windows_stay one parent (first ∷ (image_at w parent).windows) ground in
+      images_then w one _ one_stays
+      (images_then one two _ two_stays (list_stays two old (moved old (carried_rect image.r image.r.min outside)) (together_still one two together_one two_stays) other))
+    where
+      some_is : (p q : ℕ) → ◌≡◌ {A = Option ℕ} (Some p) (Some q) → p ≡ q
+      some_is p q is = cc

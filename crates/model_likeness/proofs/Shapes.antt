@@ -64,7 +64,7 @@ keeps_put w i n x same = by (n == i) refl
 
 -- ---- lists
 
-keeps_windows : (w : World) (p n : ℕ) (ws : List Window) → Keeps w (with_windows w p ws) n
+pub keeps_windows : (w : World) (p n : ℕ) (ws : List Window) → Keeps w (with_windows w p ws) n
 keeps_windows w p n ws = keeps_put w p n _ (record { r = refl; clipr = refl; repl = refl; chan = refl })
 
 keeps_on : (w : World) (o : Option ℕ) (change : List Window → List Window) (n : ℕ)
@@ -72,7 +72,7 @@ keeps_on : (w : World) (o : Option ℕ) (change : List Window → List Window) (
 keeps_on w None change n = keeps_itself w n
 keeps_on w (Some p) change n = keeps_windows w p n _
 
-keeps_list : (w : World) (i : ℕ) (change : List Window → List Window) (n : ℕ) → Keeps w (after_list w i change) n
+pub keeps_list : (w : World) (i : ℕ) (change : List Window → List Window) (n : ℕ) → Keeps w (after_list w i change) n
 keeps_list w i change n = keeps_on w (parent_of w i) change n
 
 -- ---- each change

@@ -20,7 +20,7 @@ use Rattle.model_likeness.proofs.Shapes.{Keeps, keeps_image, keeps_set, keeps_th
 use Rattle.model_making.proofs.Entries.{all_found, numbered_named, numbered_plain}
 use Rattle.model_apart.specs.Apart.{IsApart, IsApartBook, IsHeld, IsOther, IsOtherScreen, IsOutside, IsTied, Part, StaysInBook, StaysInImages}
 use Rattle.model_apart.proofs.Books.{book_then, id_put, screen_id_put, slot_put, tie_put, ties_dropped, window_put}
-use Rattle.model_others.proofs.Looking.{ground_beside, image_beside, tie_beside}
+use Rattle.model_apart.proofs.Looking.{ground_beside, image_beside, tie_beside}
 use Rattle.model_apart.proofs.Numbering.{numbered_still, numbered_tied, numbered_ties_dropped}
 use Rattle.model_apart.proofs.Worlds.{image_stays, images_then, set_stays, window_stays}
 

@@ -1,6 +1,7 @@
-pub mod Looking
 pub mod Adding
 pub mod Messages
 pub mod Writes
 pub mod Likeness
+pub mod Orders
 pub mod Others
+pub mod Display

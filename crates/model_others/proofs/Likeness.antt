@@ -1,5 +1,5 @@
 -- A device that is like another, and of which the session's part stays, is like it still.
-use Rattle.std.proofs.Common.{◌≡◌, ◌&&◌, ℕ, Bool, true, false, List, Option, Some, None, inl, inr, refl, sym, ap, subst, ◌∙◌, eq-eqb}
+use Rattle.std.proofs.Common.{◌≡◌, ◌≤◌, ◌&&◌, ℕ, Bool, true, false, List, Option, Some, None, inl, inr, refl, sym, ap, subst, ◌∙◌, eq-eqb}
 use Rattle.std.specs.Prelude.{◌==◌, codes, find, is_some, option_map, slice_index_or}
 use Rattle.std.specs.Option.{option_map_or}
 use Rattle.std.specs.List.{Contains, starts_with}
@@ -24,13 +24,13 @@ use Rattle.model_agreement.specs.Agreement.{SameOption}
 use Rattle.model_shown.specs.Showing.{IsOrderly, IsOut}
 use Rattle.model_shown.proofs.Tests.{find-passes, first_true, not-true, not_both, same, split}
 use Rattle.model_likeness.specs.Likeness.{AreLike, AreLikeBooks, IsNamed, IsOfSession, IsOwned, SameId, SamePlace, SameScreenId, SameTie, is_root}
-use Rattle.model_likeness.proofs.Ids.{owner_manager, owner_own}
+use Rattle.model_likeness.proofs.Ids.{no_manager, owner_manager, owner_own}
 use Rattle.model_likeness.proofs.Shapes.{shape_then}
 use Rattle.model_making.specs.Standing.{IsWhole, standing_on}
 use Rattle.model_making.proofs.Entries.{all_found}
 use Rattle.model_making.proofs.Standing.{stands_used}
 use Rattle.model_apart.specs.Apart.{IsApart, IsApartBook, IsHeld, IsOutside, IsTied, Part, Stays}
-use Rattle.model_others.specs.Others.{HasKeptName, IsBare, IsOfOthers, part_of}
+use Rattle.model_others.specs.Others.{HasKeptName, IsAnother, IsBare, IsManaged, IsOfOthers, IsOtherWindow, part_of}
 
 -- what makes an id owned is the connection and the id
 key_owned : (c : ℕ) (window : Option (ℕ × List ℕ)) (e : ImageId) → IsOwned c window e → IsOwned c window (record { client = e.client; id = e.id; image = 0; tie = None })
@@ -72,6 +72,32 @@ module _ (Same SameScreen : ℕ → ℕ → Type 0) (c : ℕ) (window : Option (
 
       kept : (name : List ℕ) → starts_with ◌==◌ name (codes "window.") ≡ true → is_kept_name k name ≡ true
       kept name starts = rw (others.counted, starts) refl
+
+  -- ---- the manager, and other windows
+
+  not_manager : 1 ≤ c → IsOfSession c manager → ⊥
+  not_manager counted own = not_both (client c own.number == manager) (eq-eqb (client c own.number) manager (sym own.is)) (no_manager c own.number counted)
+
+  pub part_managed : 1 ≤ c → IsManaged part
+  part_managed counted = record { screens = λ id own. not_manager counted own; client = not_manager counted }
+
+  pub other_window : 1 ≤ c → (serial : ℕ) → IsAnother window serial → IsOtherWindow part serial
+  other_window counted serial another = record {
+    counted = another.counted;
+    id = record { ids = by; display = another.counted };
+    none = none;
+  }
+    where
+      by : (l y : ℕ) → IsOwned c window (record { client = l; id = y; image = 0; tie = None }) → ((manager == owner l y) && (serial == y)) ≡ false
+      by l y (IsOwned.by_session own nonzero) =
+          fails (manager == owner l y) (serial == y)
+          (not-true (manager == owner l y) (λ at. not_manager counted (subst (IsOfSession c) (sym (eqb-true manager l (ap (λ (n : ℕ). manager == n) (sym (owner_own l y nonzero)) ∙ at))) own)))
+      by l y (IsOwned.by_manager name at is) =
+          not-true ((manager == owner l y) && (serial == y)) (λ both. another.other y name is (eqb-true serial y (split (manager == owner l y) (serial == y) both).1))
+
+      none : IsOwned c window (record { client = manager; id = serial; image = 0; tie = None }) → ⊥
+      none (IsOwned.by_session own nonzero) = not_manager counted own
+      none (IsOwned.by_manager name at is) = another.other serial name is refl
 
   -- ---- the part is apart
 

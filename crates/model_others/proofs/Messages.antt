@@ -35,7 +35,7 @@ use Rattle.model_likeness.proofs.Shapes.{keeps_draw, keeps_draws, keeps_load, ke
 use Rattle.model_apart.specs.Apart.{IsApart, IsOutside, LooksBeside, Part, Stays}
 use Rattle.model_others.proofs.Adding.{Adds, id_adds, name_adds, new_keeps, new_stays, next_beside, screen_adds, share_adds, tie_adds, untie_adds}
 use Rattle.model_apart.proofs.Devices.{books_stay, client_stays, clients_stay, freed_stays, images_stay, made_stays, stays_itself, stays_then}
-use Rattle.model_others.proofs.Looking.{image_beside, named_beside, not_bare, not_display, public_beside, window_beside, window_looked, windows_beside}
+use Rattle.model_apart.proofs.Looking.{image_beside, named_beside, not_bare, not_display, public_beside, window_beside, window_looked, windows_beside}
 use Rattle.model_apart.proofs.Releasing.{free_id_goes, free_screen_goes, leave_goes}
 use Rattle.model_apart.proofs.Worlds.{DrawBeside, draw_stays, draws_stay, load_stays, lower_stays, origin_stays, raise_stays, set_stays}
 

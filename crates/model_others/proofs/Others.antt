@@ -1,19 +1,22 @@
 -- What other sessions do leaves a device that is like another to a session so.
 use Rattle.std.proofs.Common.{ℕ, List, Option, Ok, Err}
 use Rattle.std.specs.Prelude.{All, IfOk}
+use Rattle.r9_event.specs.declared.rio.Order.{Order}
 use Rattle.model_text.specs.Outcome.{Outcome}
 use Rattle.model_dmsg.specs.Message.{Message}
 use Rattle.model_draw.specs.World.{World, after_connect, after_leave}
 use Rattle.model_draw.specs.Act.{act, written}
 use Rattle.model_draw.specs.Files.{read_data, write_ctl}
+use Rattle.model_draw.specs.Orders.{ordered}
 use Rattle.model_alone.specs.Uses.{looked_at}
 use Rattle.model_shown.specs.Showing.{IsOrderly}
 use Rattle.model_likeness.specs.Likeness.{AreLike}
 use Rattle.model_making.specs.Standing.{IsWhole}
 use Rattle.model_apart.specs.Apart.{IsApart, IsOutside, LooksBeside, Part, Stays}
-use Rattle.model_others.specs.Others.{HasKeptName, IsBare, IsOfOthers, part_of}
-use Rattle.model_others.proofs.Likeness.{bare_still, like_apart, like_still, others_outside}
+use Rattle.model_others.specs.Others.{HasKeptName, IsBare, IsOfOthers, IsOtherOrder, part_of}
+use Rattle.model_others.proofs.Likeness.{bare_still, like_apart, like_still, others_outside, part_managed}
 use Rattle.model_others.proofs.Messages.{act_stays, connect_stays, leave_stays, read_data_stays, write_ctl_stays}
+use Rattle.model_others.proofs.Orders.{ordered_stays}
 use Rattle.model_others.proofs.Writes.{written_stays}
 
 module _ (Same SameScreen : ℕ → ℕ → Type 0) (c : ℕ) (window : Option (ℕ × List ℕ)) (a b : World) (like : AreLike Same SameScreen c window a b) (whole : IsWhole a) (orderly : IsOrderly a) (bare : IsBare a)
@@ -56,3 +59,7 @@ module _ (Same SameScreen : ℕ → ℕ → Type 0) (c : ℕ) (window : Option (
 
   pub leave_others : StillLike (after_leave a k)
   leave_others = still _ (leave_stays part k outside a apart like.books.numbers_left)
+
+  -- an order of the window manager on another window
+  pub ordered_others : (order : Order) → IsOtherOrder part order → StillLike (ordered a order)
+  ordered_others order other = still _ (ordered_stays part (part_managed Same SameScreen c window like.counted) a order apart like.books.numbers_left orderly other)

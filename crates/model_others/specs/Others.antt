@@ -1,11 +1,14 @@
 -- What a session has in a draw device that is like another, as a part of it, and the connections of others (draw(3)).
 use Rattle.std.specs.Prelude.{◌≡◌, ◌==◌, ℕ, false, true, codes, List, Option, Some, None}
 use Rattle.std.specs.List.{starts_with}
-use Rattle.model_images.specs.Book.{screen_of}
+use Rattle.r9_event.specs.declared.rio.Order.{Order}
+use Rattle.r9_event.specs.declared.rio.Order.TheVariants.{Make, Place, Replace, Raise, Lower, Drop, Host, Leave}
+use Rattle.model_images.specs.Book.{image_id, screen_of}
 use Rattle.model_draw.specs.World.{World}
 use Rattle.model_draw.specs.Orders.{manager}
-use Rattle.model_likeness.specs.Likeness.{IsOfSession, IsOwned}
-use Rattle.model_apart.specs.Apart.{Part}
+use Rattle.model_shown.specs.Showing.{IsOut}
+use Rattle.model_likeness.specs.Likeness.{AreNumbered, IsOfSession, IsOwned, display_id}
+use Rattle.model_apart.specs.Apart.{IsOther, IsOutside, Part}
 
 -- The session's part: the images and screens that are the same, the ids of its connections and the manager's of its window, and the
 -- window's name.
@@ -31,3 +34,45 @@ HasKeptName window = (serial : ℕ) (name : List ℕ) → window ≡ Some (seria
 -- the display stands on no screen
 abbrev pub IsBare : World → Type 0
 IsBare device = screen_of device.book 0 ≡ None
+
+-- ---- the manager
+
+-- The window is none of the part: the manager's id of it is not in it.
+pub record IsOtherWindow (part : Part) (window : ℕ) : Type 0 where
+  pub counted : (window == 0) ≡ false
+  pub id : IsOther part manager window
+  pub none : part.id manager window → ⊥
+
+-- the manager has no screen of the part, and is no connection in it
+pub record IsManaged (part : Part) : Type 0 where
+  pub screens : (id : ℕ) → part.screen_id manager id → ⊥
+  pub client : part.client manager → ⊥
+
+-- an order on a window that is none of the part, or the end of a connection outside it
+abbrev pub IsOtherOrder : Part → Order → Type 0
+IsOtherOrder part (Make window host r name hide depth) = IsOtherWindow part window × (part.name name → ⊥)
+IsOtherOrder part (Place window at) = IsOtherWindow part window
+IsOtherOrder part (Replace window host r name keep hidden) = IsOtherWindow part window × (part.name name → ⊥)
+IsOtherOrder part (Raise window) = IsOtherWindow part window
+IsOtherOrder part (Lower window) = IsOtherWindow part window
+IsOtherOrder part (Drop window) = IsOtherWindow part window
+IsOtherOrder part (Host window fill) = IsOtherWindow part window
+IsOtherOrder part (Leave client) = IsOutside part client
+
+-- the window is not the session's
+pub record IsAnother (window : Option (ℕ × List ℕ)) (serial : ℕ) : Type 0 where
+  pub counted : (serial == 0) ≡ false
+  pub other : (n : ℕ) (name : List ℕ) → window ≡ Some (n, name) → serial ≡ n → ⊥
+
+-- ---- the display
+
+-- a part that has nothing, beside which all is
+abbrev pub nothing : Part
+nothing = record { image = λ i. ⊥; screen = λ s. ⊥; id = λ k x. ⊥; screen_id = λ k x. ⊥; name = λ name. ⊥; client = λ k. ⊥ }
+
+-- The display has its id and a number that is in use, and stands nowhere; and ties have numbers of their own.
+pub record IsFurnished (device : World) : Type 0 where
+  pub named : image_id device.book manager 0 ≡ Some display_id
+  pub out : IsOut device.numbers 0
+  pub bare : IsBare device
+  pub numbers : AreNumbered device.book
