@@ -16,11 +16,10 @@ use Rattle.model_wctl.specs.Command.{Wctl}
 use Rattle.model_wctl.specs.Command as wctl
 use Rattle.model_wctl.specs.Reading.{command_of}
 use Rattle.model_wctl.specs.Rectangle.{applied}
-use Rattle.model_images.specs.Release.{without_image_id}
 use Rattle.model_draw.specs.World as draw
 use Rattle.model_draw.specs.Act.{no_memory, written, written_within}
-use Rattle.model_draw.specs.Files.{description, read_ctl, read_data, write_ctl}
-use Rattle.model_draw.specs.Orders.{carried_out, manager, picture_of, with_root_rio}
+use Rattle.model_draw.specs.Files.{read_ctl, read_data, write_ctl}
+use Rattle.model_draw.specs.Orders.{carried_out, picture_of, with_root_rio}
 use Rattle.model_window.specs.Heard as heard
 use Rattle.model_window.specs.Heard.{Heard}
 use Rattle.model_window.specs.Pane.{Pane, new_pane, pane_heard}
@@ -35,16 +34,9 @@ use Rattle.model_world.specs.World.{display_of}
 
 -- ---- the draw device
 
--- The device whose display has no id: no connection can name it.
+-- The device as a server starts it. A session that is alone names its display in no message, and `ctl` tells of it what it was opened with.
 unfoldable pub started_alone : draw.Opening → draw.World
-started_alone opening =
-    let device = with_root_rio (draw.started opening) in
-    draw.with_book device (without_image_id device.book manager 0)
-
--- what ctl tells of a connection: of image id 0 the display as it was opened
-unfoldable pub ctl_alone : (k : ℕ) → draw.World → (number : ℕ) → Outcome (List ℕ)
-ctl_alone k device number =
-    if (draw.client_of device k).described == 0 then Ok (description number 0 (draw.at_number device 0)) else read_ctl k device number
+started_alone opening = with_root_rio (draw.started opening)
 
 -- A write of a connection. With a mark so many messages are done, and the next one is not looked at: memory ran out.
 abbrev pub written_alone : (k : ℕ) → draw.World → List ℕ → (mark : Option ℕ) → draw.World × Option ℕ
@@ -122,7 +114,7 @@ lone_desktop = record {
   write_data = λ desktop n bytes mark.
       let after = written_alone (client 1 n) desktop.device bytes mark in (with_device desktop after.0, after.1);
   read_data = λ desktop n most. read_data (client 1 n) desktop.device most >>= λ got. Ok (got.0, with_device desktop got.1);
-  read_ctl = λ desktop n. ctl_alone (client 1 n) desktop.device n;
+  read_ctl = λ desktop n. read_ctl (client 1 n) desktop.device n;
   write_ctl = λ desktop n bytes. write_ctl (client 1 n) desktop.device bytes >>= λ device. Ok (with_device desktop device);
 }
 

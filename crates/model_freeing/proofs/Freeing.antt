@@ -63,7 +63,7 @@ module _ (Same SameScreen : ℕ → ℕ → Type 0) (c : ℕ) (window : Option (
         books = id_lost (Matched at.is.images) (Matched at.is.screens) c window f.book g.book at.is.like.books counted n id few;
         display = record {
           named = manager_kept f.book.image_ids c n id 0 counted ∙ at.is.like.display.named;
-          nameless = manager_kept g.book.image_ids 1 n id 0 (omega arith) ∙ at.is.like.display.nameless;
+          named_alone = manager_kept g.book.image_ids 1 n id 0 (omega arith) ∙ at.is.like.display.named_alone;
           shape = at.is.like.display.shape;
           live_left = at.is.like.display.live_left;
           live_right = at.is.like.display.live_right;
@@ -98,7 +98,7 @@ module _ (Same SameScreen : ℕ → ℕ → Type 0) (c : ℕ) (window : Option (
         books = screen_id_lost (Matched at.is.images) (Matched at.is.screens) c window f.book g.book at.is.like.books counted n id few;
         display = record {
           named = at.is.like.display.named;
-          nameless = at.is.like.display.nameless;
+          named_alone = at.is.like.display.named_alone;
           shape = at.is.like.display.shape;
           live_left = at.is.like.display.live_left;
           live_right = at.is.like.display.live_right;

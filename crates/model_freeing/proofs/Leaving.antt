@@ -172,7 +172,7 @@ module _ (c : ℕ) (window : Option (ℕ × List ℕ)) (a b : World) (is : IsLik
       books = left_like.like.books;
       display = record {
         named = left_like.like.display.named;
-        nameless = left_like.like.display.nameless;
+        named_alone = left_like.like.display.named_alone;
         shape = left_like.like.display.shape;
         live_left = left_like.like.display.live_left;
         live_right = left_like.like.display.live_right;

@@ -63,7 +63,7 @@ module _ (Same SameScreen : ℕ → ℕ → Type 0) (c : ℕ) (window : Option (
         let keeps_right = keeps_release b.images n 0 (λ at. like.display.right m n both (sym at)) in
         record {
           named = like.display.named;
-          nameless = like.display.nameless;
+          named_alone = like.display.named_alone;
           shape = shape_then _ _ _ keeps_left.shape (shape_then _ _ _ like.display.shape (shape_turned _ _ keeps_right.shape));
           live_left = keeps_left.live like.display.live_left;
           live_right = keeps_right.live like.display.live_right;
@@ -80,7 +80,7 @@ module _ (Same SameScreen : ℕ → ℕ → Type 0) (c : ℕ) (window : Option (
     books = screen_lost Same SameScreen c window a.book b.book like.books like.images.once like.images.alone s t both unused_a unused_b;
     display = record {
       named = like.display.named;
-      nameless = like.display.nameless;
+      named_alone = like.display.named_alone;
       shape = like.display.shape;
       live_left = like.display.live_left;
       live_right = like.display.live_right;

@@ -66,7 +66,9 @@ module _ (Same SameScreen : ℕ → ℕ → Type 0) (c : ℕ) (window : Option (
       ∙ false_from_ne_true (0 == i) (λ at. like.display.left i j is (sym (eqb-true 0 i at)))
 
   pub right_other : (i j : ℕ) → Same i j → is_display b j ≡ false
-  right_other i j is = ap (λ (o : Option ImageId). option_map_or (λ e. e.image == j) o false) like.display.nameless
+  right_other i j is =
+      ap (λ (o : Option ImageId). option_map_or (λ e. e.image == j) o false) like.display.named_alone
+      ∙ false_from_ne_true (0 == j) (λ at. like.display.right i j is (sym (eqb-true 0 j at)))
 
   -- ---- windows and screens
 
@@ -85,7 +87,7 @@ module _ (Same SameScreen : ℕ → ℕ → Type 0) (c : ℕ) (window : Option (
   pub display_kept : (x y : Images) → Keeps a.images x 0 → Keeps b.images y 0 → SameDisplay Same (with_images a x) (with_images b y)
   display_kept x y left right = record {
     named = like.display.named;
-    nameless = like.display.nameless;
+    named_alone = like.display.named_alone;
     shape = shape_then _ _ _ left.shape (shape_then _ _ _ like.display.shape (shape_turned _ _ right.shape));
     live_left = left.live like.display.live_left;
     live_right = right.live like.display.live_right;
@@ -122,7 +124,7 @@ module _ (Same SameScreen : ℕ → ℕ → Type 0) (c : ℕ) (window : Option (
     books = like.books;
     display = record {
       named = like.display.named;
-      nameless = like.display.nameless;
+      named_alone = like.display.named_alone;
       shape = like.display.shape;
       live_left = like.display.live_left;
       live_right = like.display.live_right;

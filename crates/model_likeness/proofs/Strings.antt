@@ -210,7 +210,7 @@ module _ (Same SameScreen : ℕ → ℕ → Type 0) (c : ℕ) (window : Option (
     books = like.books;
     display = record {
       named = like.display.named;
-      nameless = like.display.nameless;
+      named_alone = like.display.named_alone;
       shape = like.display.shape;
       live_left = like.display.live_left;
       live_right = like.display.live_right;

@@ -1,5 +1,5 @@
 -- Two draw devices that are the same to the connections of one session but for the numbers of images and screens (draw(3)). The session
--- is session c of one device and session 1 of the other, where the display has no id.
+-- is session c of one device and session 1 of the other.
 use Rattle.std.specs.Prelude.{◌≡◌, ◌≢◌, ◌<◌, ◌≤◌, ◌^◌, ◌==◌, ℕ, true, false, is_some, All, find, Bool, List, Option, Some, None}
 use Rattle.std.specs.Option.{option_map_or}
 use Rattle.model_text.specs.Map.{lookup}
@@ -134,10 +134,10 @@ pub record SameShape (x y : ImageState) : Type 0 where
 abbrev pub display_id : ImageId
 display_id = record { client = manager; id = 0; image = 0; tie = None }
 
--- The display is image 0 of both and none of the images that are the same. It has an id in one device only.
+-- The display is image 0 of both, with the manager's id 0, and none of the images that are the same.
 pub record SameDisplay (Same : ℕ → ℕ → Type 0) (a b : World) : Type 0 where
   pub named : image_id a.book manager 0 ≡ Some display_id
-  pub nameless : image_id b.book manager 0 ≡ None
+  pub named_alone : image_id b.book manager 0 ≡ Some display_id
   pub shape : SameShape (at_number a 0) (at_number b 0)
   pub live_left : IsLive a.images 0
   pub live_right : IsLive b.images 0

@@ -140,7 +140,7 @@ module _ (Same SameScreen : ℕ → ℕ → Type 0) (c : ℕ) (window : Option (
       made_display : SameDisplay More u v
       made_display = record {
         named = find-put (λ e. (e.client == owner manager 0) && (e.id == 0)) (entry (client c n) id p) a.book.image_ids (apart_manager c n id 0 like.counted) ∙ like.display.named;
-        nameless = find-put (λ e. (e.client == owner manager 0) && (e.id == 0)) (entry (client 1 n) id q) b.book.image_ids (apart_manager 1 n id 0 (omega arith)) ∙ like.display.nameless;
+        named_alone = find-put (λ e. (e.client == owner manager 0) && (e.id == 0)) (entry (client 1 n) id q) b.book.image_ids (apart_manager 1 n id 0 (omega arith)) ∙ like.display.named_alone;
         shape = shape_then _ _ _ keeps_left.shape (shape_then _ _ _ like.display.shape (shape_turned _ _ keeps_right.shape));
         live_left = keeps_left.live like.display.live_left;
         live_right = keeps_right.live like.display.live_right;

@@ -122,7 +122,7 @@ module _ (Same SameScreen : ℕ → ℕ → Type 0) (c : ℕ) (window : Option (
     named_display : SameDisplay Same (with_book a x) (with_book b y)
     named_display = record {
       named = find-put (λ e. (e.client == owner manager 0) && (e.id == 0)) (entry (client c n) id s) a.book.image_ids (apart_manager c n id 0 like.counted) ∙ like.display.named;
-      nameless = find-put (λ e. (e.client == owner manager 0) && (e.id == 0)) (entry (client 1 n) id t) b.book.image_ids (apart_manager 1 n id 0 (omega arith)) ∙ like.display.nameless;
+      named_alone = find-put (λ e. (e.client == owner manager 0) && (e.id == 0)) (entry (client 1 n) id t) b.book.image_ids (apart_manager 1 n id 0 (omega arith)) ∙ like.display.named_alone;
       shape = like.display.shape;
       live_left = like.display.live_left;
       live_right = like.display.live_right;

@@ -108,7 +108,7 @@ module _ (Same SameScreen : ℕ → ℕ → Type 0) (c : ℕ) (window : Option (
         let at : window ≡ Some (0, name) = is ∙ ap (λ (n : ℕ). Some (n, name)) zero in
         let both = (like.books.hold 0 name at).id in
         subst (λ (o : Option ImageId). SameOption (SameId Same a.book b.book) o None) like.display.named
-        (subst (λ (o : Option ImageId). SameOption (SameId Same a.book b.book) (image_id a.book manager 0) o) like.display.nameless both)
+        (subst (λ (o : Option ImageId). SameOption (SameId Same a.book b.book) (image_id a.book manager 0) o) like.display.named_alone both)
 
     shows_same : (k x : ℕ) (e : ImageId) → IsOwned c window (record { client = k; id = x; image = 0; tie = None }) → image_id a.book k x ≡ Some e → (j : ℕ) × Same e.image j
     shows_same k x e owned found = by owned
@@ -281,7 +281,7 @@ module _ (Same SameScreen : ℕ → ℕ → Type 0) (c : ℕ) (window : Option (
       books = books_still;
       display = record {
         named = stays.book.display ∙ like.display.named;
-        nameless = like.display.nameless;
+        named_alone = like.display.named_alone;
         shape = shape_then _ _ _ stays.shape like.display.shape;
         live_left = stays.live like.display.live_left;
         live_right = like.display.live_right;
