@@ -1,0 +1,4 @@
+mod Marked
+mod Near
+mod Panes
+mod Telling

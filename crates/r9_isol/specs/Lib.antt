@@ -1,0 +1,4 @@
+pub mod Words
+pub mod Noted
+pub mod World
+pub mod Laws

@@ -1,0 +1,52 @@
+//! What a session alone with its window finds outside itself, as one value.
+
+ghost use Rattle.std.specs.Prelude.{◌≡◌, ◌^◌, ◌<ℤ◌, pos, None, IfOk};
+ghost use Rattle.r9_geom.specs.Geometry.{IsOrdered, IsRectNear};
+ghost use Rattle.model_draw.specs.Orders.{with_root_rio};
+ghost use Rattle.model_draw.specs.World.{started};
+
+use r9_chan::Chan;
+use r9_draw::Draw;
+use r9_geom::Rect;
+use r9_memory::Memory;
+use r9_pane::Pane;
+use std::alloc::Global;
+
+/// The window of a session, by its serial in the server, with what its files have.
+#[derive(Drop)]
+pub(crate) struct Window {
+    pub(crate) serial: u32,
+    pub(crate) pane: Pane,
+    ghost near: { IsRectNear pane.known.r },
+}
+
+/// A draw device; the session's window, where it has one; and the serial of the window that is made in this step.
+#[derive(Drop)]
+pub struct Desktop {
+    pub(crate) alloc: Global,
+    pub(crate) device: Draw,
+    pub(crate) window: Option<Window>,
+    pub(crate) made: Option<u32>,
+}
+
+impl Desktop {
+    ghost use Rattle.r9_isol.specs.World.{desktop_of};
+
+    /// A display with these channels, and no window.
+    #[tactic(auto, unfolding(crate::specs::World::desktop_of))]
+    pub fn start(alloc: Global, r: Rect, chan: Chan) -> Result<Self, Memory>
+        requires left { r.min.x ≡ pos 0 }
+        requires top { r.min.y ≡ pos 0 }
+        requires ordered { IsOrdered r }
+        requires width { r.max.x <ℤ pos (2 ^ 32) }
+        requires height { r.max.y <ℤ pos (2 ^ 32) }
+        ensures { IfOk result (λ desktop. desktop_of desktop ≡ record { device = with_root_rio (started (record { r = r; chan = chan })); window = None; made = None }) }
+    {
+        Ok(Desktop {
+            alloc,
+            device: Draw::start(alloc, r, chan)?,
+            window: None,
+            made: None,
+        })
+    }
+}
