@@ -2,3 +2,4 @@ pub mod Orders
 pub mod Parting
 pub mod Changes
 pub mod Raised
+pub mod Shown

@@ -2,7 +2,7 @@
 
 ghost use Rattle.std.specs.Prelude.{◌≡◌, ◌≢◌, ◌+◌, ◌*◌, ◌^◌, ◌<◌, ◌≤◌, ◌&&◌, ℕ, Bool, false, true, length, IsTrue};
 ghost use Rattle.r9_geom.specs.declared.Point.{Point as Spot};
-ghost use Rattle.r9_geom.specs.Geometry.{area_of, carried, holds, IsNear, IsOrdered, IsRectNear};
+ghost use Rattle.r9_geom.specs.Geometry.{area_of, carried, height, holds, point_at, width, IsNear, IsOrdered, IsRectNear};
 ghost use Rattle.r9_plane.specs.Pixels.{along};
 ghost use Rattle.model_kept.specs.Keeping.{is_top, own, Place};
 ghost use Rattle.r9_locate.specs.Forms.{bits_in};
@@ -56,6 +56,7 @@ fn keep_part<P: Pixels, S: Source, L: Ledger>(
     ensures has { P.has pixels.new ≡ P.has pixels.old }
     ensures forms { P.forms pixels.new ≡ P.forms pixels.old }
     ensures steps { steps.new ≤ steps.old + length raws.old }
+    ensures still { is ≡ true → steps.new ≡ steps.old }
 {
     if !is {
         source.give(x, raws);
@@ -85,6 +86,7 @@ fn keep_row<P: Pixels, S: Source, L: Ledger>(
     ensures has { P.has pixels.new ≡ P.has pixels.old }
     ensures forms { P.forms pixels.new ≡ P.forms pixels.old }
     ensures steps { steps.new ≤ steps.old + n }
+    ensures shown { (first count : ℕ) → first + count ≤ n → ((k : ℕ) → first ≤ k → k < first + count → (holds below.now (along q k) && is_top new.now w (along q k)) ≡ true) → steps.new + count ≤ steps.old + n }
 {
     let mut block = [0; BLOCK];
     let mut done = 0;
@@ -125,6 +127,7 @@ pub fn keep_hidden<P: Pixels, S: Source, L: Ledger>(
     ensures has { P.has pixels.new ≡ P.has pixels.old }
     ensures forms { P.forms pixels.new ≡ P.forms pixels.old }
     ensures steps { steps.new ≤ steps.old + area_of r.now }
+    ensures shown { (first count top rows : ℕ) → first + count ≤ width r.now → top + rows ≤ height r.now → ((k j : ℕ) → first ≤ k → k < first + count → top ≤ j → j < top + rows → (holds below.now (carried (point_at r.now k j) r.now.min corner) && is_top new.now w (carried (point_at r.now k j) r.now.min corner)) ≡ true) → steps.new + rows * count ≤ steps.old + area_of r.now }
 {
     let width = r.width() as usize;
     if width == 0 {

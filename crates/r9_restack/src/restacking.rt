@@ -2,6 +2,7 @@
 
 ghost use Rattle.std.specs.Prelude.{◌≡◌, ◌^◌, ◌≢◌, ◌+◌, ◌++◌, ◌*◌, ◌<◌, ◌≤◌, ◌&&◌, ℕ, Bool, false, true, All, IsTrue, Some};
 ghost use Rattle.r9_geom.specs.declared.Point.{Point as Spot};
+ghost use Rattle.r9_geom.specs.declared.Rect.{Rect as Part};
 ghost use Rattle.r9_geom.specs.Geometry.{area_of, carried, holds, IsNear, IsOrdered, IsRectNear};
 ghost use Rattle.model_forest.specs.declared.Window.{Window as Stood};
 ghost use Rattle.model_forest.specs.View.{top_window};
@@ -52,6 +53,7 @@ pub fn restack<P: Pixels, S: Source, L: Ledger>(
     ensures has { P.has pixels.new ≡ P.has pixels.old }
     ensures forms { P.forms pixels.new ≡ P.forms pixels.old }
     ensures steps { steps.new ≤ steps.old + 2 * area_of area.now + area_of (image_at (shape lists.now) w).r }
+    ensures shown { (s : Part) → ((z : Spot) → IsTrue (holds s z) → IsTrue (holds (image_at (shape lists.now) w).r z) × ((holds (image_at (shape lists.now) p).r (carried z (image_at (shape lists.now) w).r.min (kept.place_among new.now w).min) && is_top new.now w (carried z (image_at (shape lists.now) w).r.min (kept.place_among new.now w).min)) ≡ true)) → steps.new + area_of s ≤ steps.old + 2 * area_of area.now + area_of (image_at (shape lists.now) w).r }
 {
     change(lists, pixels, source, p, w, new, &[], area, steps);
     let r = lists.get(w).r;

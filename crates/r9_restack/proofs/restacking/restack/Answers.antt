@@ -1,7 +1,7 @@
 use Rattle.std.proofs.Common.{◌≡◌, ◌∙◌, ◌^◌, false, All, List, append-nil, sym, subst, ap, arith}
 use Rattle.std.specs.Prelude.{◌&&◌}
 use Rattle.r9_geom.specs.declared.Rect.{Rect}
-use Rattle.r9_geom.specs.Geometry.{carried, holds, IsNear, IsRectNear}
+use Rattle.r9_geom.specs.Geometry.{area_of, carried, holds, IsNear, IsOrdered, IsRectNear}
 use Rattle.model_forest.specs.declared.Window.{Window}
 use Rattle.model_forest.specs.World.{Image, image_at}
 use Rattle.model_kept.specs.Keeping.{is_top}
@@ -11,6 +11,7 @@ use Rattle.r9_locate.specs.Table.{shape}
 use Rattle.r9_restack.specs.Changing.{HasPlacesBut, IsChange, IsGiven, StaysTop}
 use Rattle.r9_restack.proofs.Changes.{inside_w, shown_then}
 use Rattle.r9_restack.proofs.Parting.{nearby}
+use Rattle.r9_restack.proofs.Shown.{less_shown}
 use Rattle.r9_restack.proofs.restacking.restack.Goals as goal
 
 -- the list of then is in one part
@@ -34,6 +35,21 @@ keep_hidden-requires-clause-given g c z =
     let same = ap (λ n. 2 ^ n) (c.requires.bits c.args.w c.args.p c.requires.live c.requires.above) in
     let still = ap (λ forms. 2 ^ bits_in forms c.args.w) c.change.ensures.forms in
     omega (arith, same, still, c.requires.given z)
+
+pub returns-clause-shown : goal.returns-clause-shown
+returns-clause-shown g c s all =
+    let world = shape c.args.lists.now in
+    let r = c.get.result.now.r in
+    let corner = c.place_among.result.min in
+    let own : (image_at world c.args.w).r ≡ r = ap (λ (im : Image). im.r) c.get.ensures in
+    let below : (image_at world c.args.p).r ≡ c.get-2.result.now.r = ap (λ (im : Image). im.r) c.get-2.ensures in
+    let fewer =
+    less_shown r s (λ z. holds c.get-2.result.now.r (carried z r.min corner) && is_top c.args.new.now c.args.w (carried z r.min corner)) c.change.new.steps c.keep_hidden.new.steps
+    (subst IsOrdered own c.requires.own_ordered)
+    (λ z h.
+    (ap (λ (q : Rect). holds q z) (sym own) ∙ (all z h).0, (λ j. holds (sym below j) (carried z (sym own j).min (c.place_among.ensures j).min) && is_top c.args.new.now c.args.w (carried z (sym own j).min (c.place_among.ensures j).min)) ∙ (all z h).1))
+    c.keep_hidden.ensures.steps c.keep_hidden.ensures.shown in
+    omega (arith, fewer, c.change.ensures.steps, ap area_of own)
 
 pub returns-clause-moved : goal.returns-clause-moved
 returns-clause-moved g c as_before was given =
