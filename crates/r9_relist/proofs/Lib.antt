@@ -1,6 +1,9 @@
 pub mod Covering
+pub mod Emptied
 pub mod Lists
 pub mod Meeting
 pub mod Near
 pub mod Relisted
 pub mod Surfaces
+pub mod Without
+pub mod Uncovering

@@ -1,0 +1,98 @@
+//! Pixels that are gathered before a window goes or moves.
+
+ghost use Rattle.std.specs.Prelude.{◌≡◌, ◌^◌, ◌<◌, ◌≤◌, ℕ, false, length, slice_index, IfNone, IfSome, IsTrue, if◌then◌else◌};
+ghost use Rattle.r9_geom.specs.declared.Point.{Point as Spot};
+ghost use Rattle.r9_geom.specs.Geometry.{area_of, holds, IsOrdered, IsRectNear};
+ghost use Rattle.r9_plane.specs.Pixels.{along, number_of};
+
+use r9_geom::{Point, Rect, distance};
+use r9_restack::Source;
+
+/// Pixels of a rectangle, row by row, and 0 outside.
+#[derive(Clone, Copy)]
+pub struct Picture<'a> {
+    r: Rect,
+    raws: &'a [u32],
+    ghost near: { IsRectNear r },
+    ghost ordered: { IsOrdered r },
+    ghost enough: { area_of r ≤ length raws.now },
+    ghost countable: { area_of r < 2 ^ 63 },
+}
+
+impl<'a> Picture<'a> {
+    ghost use Rattle.r9_fills.specs.Gathered.{pictured};
+
+    /// The pixels of a rectangle, from the first one on.
+    pub fn new(r: Rect, raws: &'a [u32]) -> Self
+        requires near { IsRectNear r }
+        requires ordered { IsOrdered r }
+        requires enough { area_of r ≤ length raws.now }
+        ensures { (p : Spot) → pictured result p ≡ (if holds r p then slice_index raws.now (number_of r p) else 0) }
+    {
+        Picture { r, raws }
+    }
+
+    // The number of the pixel so many columns to the right of a point, where that is in the rectangle.
+    fn number(&self, q: Point, columns: usize) -> Option<usize>
+        ensures inside { IfSome result (λ number. IsTrue (holds self.now.r (along q columns))) }
+        ensures value { IfSome result (λ number. number ≡ number_of self.now.r (along q columns)) }
+        ensures within { IfSome result (λ number. number < length self.now.raws.now) }
+        ensures outside { IfNone result (holds self.now.r (along q columns) ≡ false) }
+    {
+        let r = self.r;
+        if q.y < r.min.y || r.max.y <= q.y || r.max.x <= q.x {
+            return None;
+        }
+        let edge = distance(q.x, r.max.x);
+        let width = r.width();
+        let passed = columns as u64;
+        if edge <= passed || width < edge - passed {
+            return None;
+        }
+        let row = distance(r.min.y, q.y) as usize;
+        let column = (width - (edge - passed)) as usize;
+        Some(row * width as usize + column)
+    }
+
+    // The pixel there, and 0 where that is outside.
+    fn pixel(&self, q: Point, columns: usize) -> u32
+        ensures { result ≡ pictured self.now (along q columns) }
+    {
+        match self.number(q, columns) {
+            Some(number) => self.raws[number],
+            None => 0,
+        }
+    }
+
+    // Pixels side by side, from a point to the right.
+    fn row(&self, q: Point, raws: &mut [u32])
+        ensures { (k : ℕ) → k < length raws.old → slice_index raws.new k ≡ pictured self.now (along q k) }
+    {
+        for k in 0..raws.len() {
+            raws[k] = self.pixel(q, k);
+        }
+    }
+}
+
+/// The pixels of a window, and those that fill what becomes bare.
+#[derive(Clone, Copy)]
+pub struct Gathered<'a> {
+    pub given: Picture<'a>,
+    pub fill: Picture<'a>,
+}
+
+impl Source for Gathered<'_> {
+    ghost use Rattle.r9_fills.specs.Gathered.{pictured};
+
+    ghost given = { λ gathered. pictured gathered.given };
+
+    ghost fill = { λ gathered. pictured gathered.fill };
+
+    fn give(&self, x: Point, raws: &mut [u32]) {
+        self.given.row(x, raws);
+    }
+
+    fn fills(&self, q: Point, raws: &mut [u32]) {
+        self.fill.row(q, raws);
+    }
+}
