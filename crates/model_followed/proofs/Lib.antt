@@ -9,3 +9,4 @@ pub mod Privacy
 pub mod Keeping
 pub mod Late
 pub mod Others
+pub mod Strangers
