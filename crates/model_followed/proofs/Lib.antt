@@ -3,10 +3,3 @@ pub mod Stepping
 pub mod Commands
 pub mod Outsides
 pub mod Answers
-pub mod Reasons
-pub mod Walks
-pub mod Privacy
-pub mod Keeping
-pub mod Late
-pub mod Others
-pub mod Strangers

@@ -35,7 +35,7 @@ use Rattle.model_followed.specs.Devices.{AreNamesFree, IsDeviceLike, LeavesName}
 use Rattle.model_followed.specs.Following.{SameOnceTold, SameWindows, named_in}
 use Rattle.model_followed.proofs.Stepping.{SparesOwn}
 use Rattle.model_followed.proofs.Answers.{told_more}
-use Rattle.model_followed.proofs.Late.{heard_elsewhere}
+use Rattle.model_strangers.proofs.Late.{heard_elsewhere}
 
 -- an act makes another window than one whose serial was given
 makes_other : (window : ℕ) (table : Table) (a : Act) → table.serials + 1 ≢ window → MakesOther window table a

@@ -41,8 +41,8 @@ use Rattle.model_alone.specs.Lone.{LoneDesktop}
 use Rattle.model_followed.specs.Devices.{AreNamesFree, IsDeviceLike, LeavesName}
 use Rattle.model_followed.specs.Following.{HasConnection, named_in}
 use Rattle.model_followed.proofs.Answers.{all_left_told}
-use Rattle.model_followed.proofs.Late.{IsAway}
-use Rattle.model_followed.proofs.Others.{IsGiven, Reached, Told, attached_reached, beside_told, choose_told, commanded_reached, connect_told, device_commanded_reached, heard_told, leave_told, moused_reached, read_told, typed_reached, write_told}
+use Rattle.model_strangers.proofs.Late.{IsAway}
+use Rattle.model_strangers.proofs.Others.{IsGiven, Reached, Told, attached_reached, beside_told, choose_told, commanded_reached, connect_told, device_commanded_reached, heard_told, leave_told, moused_reached, read_told, typed_reached, write_told}
 
 -- the connection of a node that is not refused is one of the session's
 live_connection : (view : View) (node : Node) (u : Unit {0}) → is_of_connection node.kind ≡ true → check_live view node ≡ Ok u → list_any (λ n. n == node.connection) view.connections ≡ true

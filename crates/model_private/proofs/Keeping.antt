@@ -33,7 +33,7 @@ use Rattle.model_agreement.proofs.Keeping.{all-with}
 use Rattle.model_agreement.proofs.Relations.{not_refused}
 use Rattle.model_world.proofs.Others.{after_if, after_step}
 use Rattle.model_followed.specs.Following.{HasConnection, HasWindow}
-use Rattle.model_followed.proofs.Walks.{IsMine}
+use Rattle.model_private.proofs.Walks.{IsMine}
 
 -- a fid of the session's own, which is open on its own alone
 pub record IsMineFid (own : Option ℕ) (fid : Fid) : Type 0 where
@@ -93,7 +93,7 @@ module _ {S : Type 0} (outside : Outside S) (own : Option ℕ) where
   abbrev KeepsDone : Outcome Done → Type 0
   KeepsDone o = IfOk o (λ d. Keeps d.session)
 
-  bound_mine : (session : Session) → Keeps session → (number : ℕ) (fid : Fid) → fid_of session number ≡ Ok fid → IsMineFid own fid
+  pub bound_mine : (session : Session) → Keeps session → (number : ℕ) (fid : Fid) → fid_of session number ≡ Ok fid → IsMineFid own fid
   bound_mine session keeps number fid is = by (lookup session.fids number) (All-lookup (IsMineFid own) (is_key number) session.fids keeps.fids) is
     where
       by : (o : Option Fid) → IfSome o (IsMineFid own) → value_or_refuse o 32 ≡ Ok fid → IsMineFid own fid

@@ -30,8 +30,8 @@ use Rattle.model_alone.specs.Lone.{LoneDesktop}
 use Rattle.model_followed.specs.Devices.{AreNamesFree, IsDeviceLike, KeepsWithin, told_mark}
 use Rattle.model_followed.specs.Following.{HasConnection, HasWindow, May, SameDesktops, named_in}
 use Rattle.model_followed.proofs.Outsides.{view_same}
-use Rattle.model_followed.proofs.Reasons.{each_fine, own_message}
-use Rattle.model_followed.proofs.Walks.{IsMine, walked_mine}
+use Rattle.model_private.proofs.Reasons.{each_fine, own_message}
+use Rattle.model_private.proofs.Walks.{IsMine, walked_mine}
 
 module _ (c : ℕ) (begin : 0 < c) (Like : Option (ℕ × List ℕ) → draw.World → draw.World → Type 0) (Named : draw.World → Table → List (ℕ × Pane) → Type 0) (laws : IsDeviceLike c Like) (names : AreNamesFree Named) (seen : Watched) where
   abbrev Have : Desktop → LoneDesktop → Type 0
@@ -54,7 +54,7 @@ module _ (c : ℕ) (begin : 0 < c) (Like : Option (ℕ × List ℕ) → draw.Wor
   unfolding view_of
   seen_connections s connections node all = all
 
-  bound_is : (session : Session) (number : ℕ) (fid : Fid) → fid_of session number ≡ Ok fid → lookup session.fids number ≡ Some fid
+  pub bound_is : (session : Session) (number : ℕ) (fid : Fid) → fid_of session number ≡ Ok fid → lookup session.fids number ≡ Some fid
   bound_is session number fid is = by (lookup session.fids number) is
     where
       by : (o : Option Fid) → value_or_refuse o 32 ≡ Ok fid → o ≡ Some fid
@@ -66,7 +66,7 @@ module _ (c : ℕ) (begin : 0 < c) (Like : Option (ℕ × List ℕ) → draw.Wor
   ended_fine session tag fid newfid node ([], Some n) used fine = inl refl
   ended_fine session tag fid newfid node (next ∷ nodes, Some n) used fine = inr fine
 
-  walk_private : (session : Session) (s : Desktop) (t : LoneDesktop) → Have s t → All HasConnection session.connections → AllMine session → (tag fid newfid : ℕ) (names : List (List ℕ)) (from : Fid) → fid_of session fid ≡ Ok from
+  pub walk_private : (session : Session) (s : Desktop) (t : LoneDesktop) → Have s t → All HasConnection session.connections → AllMine session → (tag fid newfid : ℕ) (names : List (List ℕ)) (from : Fid) → fid_of session fid ≡ Ok from
       → is_some from.mode ≡ false → (not (newfid == fid) && is_bound session newfid) ≡ false → (not (newfid == fid) && is_full session) ≡ false
       → reasons_from true seen (if_done (walk_answer (desktop_for c) session s tag fid newfid names) (if_bound session fid (λ f. flat_map step_used (walked ((desktop_for c).view s session.connections) f.node names).0))) ≡ []
       → All (IsMine seen.window) (walked ((desktop_for c).view s session.connections) from.node names).0

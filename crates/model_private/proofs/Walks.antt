@@ -19,7 +19,7 @@ use Rattle.model_alone.specs.Own.{Watched, reasons_from}
 use Rattle.model_alone.specs.Uses.{node_used, step_used}
 use Rattle.model_world.proofs.Others.{after_step}
 use Rattle.model_followed.specs.Following.{HasConnection, HasWindow}
-use Rattle.model_followed.proofs.Reasons.{IsNoAttach, fine_parts}
+use Rattle.model_private.proofs.Reasons.{IsNoAttach, fine_parts}
 
 -- a kind of nodes that a window's tree may have
 abbrev pub is_inside : Kind → Bool

@@ -1,0 +1,5 @@
+pub mod Reasons
+pub mod Walks
+pub mod Privacy
+pub mod Keeping
+pub mod Own

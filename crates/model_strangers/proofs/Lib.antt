@@ -1,0 +1,3 @@
+pub mod Late
+pub mod Others
+pub mod Strangers
