@@ -3,3 +3,4 @@ pub mod Walks
 pub mod Privacy
 pub mod Keeping
 pub mod Own
+pub mod Marks
