@@ -1,9 +1,15 @@
 -- What calls of a desktop promise.
-use Rattle.std.specs.Prelude.{◌≡◌, ◌==◌, ◌||◌, ℕ, Bool, List, [], ◌∷◌, if◌then◌else◌}
+use Rattle.std.specs.Prelude.{◌≡◌, ◌==◌, ◌||◌, ℕ, Bool, Option, List, [], ◌∷◌, if◌then◌else◌}
 use Rattle.model_tree.specs.declared.Kind.{Kind}
 use Rattle.model_tree.specs.declared.Kind.TheVariants.{Wsys, Screen, Snarf}
 use Rattle.model_world.specs.Fids.{is_kind}
 use Rattle.model_world.specs.Desktop.{Desktop}
+use Rattle.model_world.specs.Whole.{client}
+use Rattle.model_draw.specs.World.{World}
+use Rattle.model_draw.specs.Act.{written}
+use Rattle.model_looked.specs.Rows.{rows_within}
+use Rattle.r9_around.specs.Words.{Tells}
+use Rattle.r9_around.specs.declared.wrote.Told.{Told}
 use Rattle.r9_draw.specs.declared.fault.DrawFault.{DrawFault}
 use Rattle.r9_draw.specs.declared.fault.DrawFault.TheVariants as draw
 use Rattle.r9_files.specs.declared.fault.Fault.{Fault}
@@ -26,3 +32,12 @@ is_of_rio kind = is_kind Wsys kind || is_kind Screen kind || is_kind Snarf kind
 abbrev pub in_front : ℕ → List ℕ → List ℕ
 in_front n [] = n ∷ []
 in_front n (m ∷ ms) = if n == m then m ∷ ms else n ∷ m ∷ ms
+
+-- so many messages of a write to the draw device were done, and the rows of each `y` among them had so many bytes
+pub record AreDone (k : ℕ) (device : World) (bytes : List ℕ) (mark : Option ℕ) (told : Told) : Type 0 where
+  pub done : told.done ≡ (written k device bytes mark).done
+  pub rows : told.rows ≡ rows_within (written k device bytes mark).done k device bytes
+
+-- what is told of a data write of a session's connection
+abbrev pub tells_for : (session : ℕ) → Tells Desktop
+tells_for session = λ connection desktop bytes mark told. AreDone (client session connection) desktop.device bytes mark told

@@ -6,6 +6,7 @@ ghost use Rattle.model_world.specs.Desktop as model;
 ghost use Rattle.model_world.specs.Links.{IsLinked, KeepsOthers, is_connected};
 ghost use Rattle.model_world.specs.Whole.{client, desktop_for};
 ghost use Rattle.r9_desktop.specs.World.{desktop_of};
+ghost use Rattle.r9_desktop.specs.Words.{tells_for};
 ghost use Rattle.r9_desktop.specs.Laws.{answer_links, answers_otherwise, cleared_links, late_links, leave_leaves, refuses_otherwise, view_has};
 
 use crate::desktop::Desktop;
@@ -31,6 +32,8 @@ impl Outside for Desktop {
     ghost others = { λ session before after. KeepsOthers session before.device after.device };
 
     ghost wants = { wants_for };
+
+    ghost tells = { tells_for };
 
     fn view(&self, connections: &Numbers, node: &Node) -> Result<TreeView, Memory> {
         Desktop::view(self, connections, node)

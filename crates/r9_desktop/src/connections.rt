@@ -5,12 +5,12 @@ ghost use Rattle.model_text.specs.Map.{lookup};
 ghost use Rattle.model_draw.specs.Act.{no_memory};
 ghost use Rattle.model_draw.specs.Memory.{MayRunOut};
 ghost use Rattle.model_world.specs.Whole.{client, desktop_for};
-ghost use Rattle.r9_around.specs.Words.{IfRefused, mark_after};
-ghost use Rattle.r9_desktop.specs.Words.{fault_of_draw};
+ghost use Rattle.r9_around.specs.Words.{AreTold, IfRefused, mark_after};
+ghost use Rattle.r9_desktop.specs.Words.{fault_of_draw, tells_for};
 ghost use Rattle.r9_desktop.specs.World.{desktop_of};
 
 use crate::desktop::Desktop;
-use r9_around::Wrote;
+use r9_around::{Told, Wrote};
 use r9_draw::DrawFault;
 use r9_files::Fault;
 use r9_memory::Memory;
@@ -75,18 +75,25 @@ impl Desktop {
         ensures written { IfOk result (λ w. (desktop_for session).write_data (desktop_of self.old) connection bytes.now (mark_after mark w.short) ≡ (desktop_of self.new, w.refusal)) }
         ensures cause { IfOk result (λ w. IfSome w.short (λ k. (mark ≡ Some k) ⊎ MayRunOut (client session connection) (desktop_of self.old).device bytes.now k)) }
         ensures refused { IfOk result (λ w. IsSome w.short ↔ (w.refusal ≡ Some no_memory)) }
+        ensures told { IfOk result (λ w. AreTold w.told (tells_for session connection (desktop_of self.old) bytes.now (mark_after mark w.short))) }
         ensures kept { OnErr result (desktop_of self.new ≡ desktop_of self.old) }
     {
         let wrote = self.device.write(client(session, connection), bytes, mark)?;
+        let told = Some(Told {
+            done: wrote.done,
+            rows: wrote.rows,
+        });
         if wrote.short {
             return Ok(Wrote {
                 refusal: Some(NO_IMAGE_MEMORY),
                 short: Some(wrote.done),
+                told,
             });
         }
         Ok(Wrote {
             refusal: wrote.refusal,
             short: None,
+            told,
         })
     }
 
