@@ -48,7 +48,7 @@ one_less c world session after is =
     right = omega arith
 
 -- what the replies to one session are to another
-own-reply : (c : ℕ) (reply : Option R) → replies_to c (reply_to c reply) ≡ replied reply
+pub own-reply : (c : ℕ) (reply : Option R) → replies_to c (reply_to c reply) ≡ replied reply
 own-reply c None = refl
 own-reply c (Some reply) = rw (eqb-same c) refl
 

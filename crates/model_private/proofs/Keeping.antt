@@ -1,5 +1,5 @@
 -- A session that is alone has only what is its own after each message too.
-use Rattle.std.proofs.Common.{◌≡◌, ℕ, ◌==◌, ◌+◌, ◌≤◌, Bool, true, false, List, [], ◌∷◌, Option, Some, None, is_some, Ok, Err, refl, subst, arith, inl, Ordering, Less, Equal, Greater, nat_cmp}
+use Rattle.std.proofs.Common.{◌≡◌, ℕ, ◌==◌, ◌+◌, ◌≤◌, Bool, true, false, List, [], ◌∷◌, Option, Some, None, is_some, Ok, Err, refl, subst, arith, inl, Ordering, Less, Equal, Greater, nat_cmp, ◌++◌}
 use Rattle.std.specs.Prelude.{All, IfOk, IfSome, IsTrue, length, map, nat_le, nat_lt, not, is_none, ◌&&◌, if◌then◌else◌}
 use Rattle.std.specs.Option.{option_map}
 use Rattle.std.specs.Ordering.{match_ordering}
@@ -14,7 +14,7 @@ use Rattle.model_tree.specs.declared.Kind.{Kind}
 use Rattle.model_tree.specs.declared.Kind.TheVariants as kind
 use Rattle.model_tree.specs.Node.{Node, is_directory, may, reads, row, writes}
 use Rattle.model_tree.specs.Tree.{check_live}
-use Rattle.model_world.specs.Session.{Fid, Kept, Session, fid_at}
+use Rattle.model_world.specs.Session.{Fid, Kept, Session, Wait, fid_at}
 use Rattle.model_world.specs.Outside.{Outside}
 use Rattle.model_world.specs.Fids.{Done, Left, and_fid, beside, cleared, fid_of, fids_gone, is_bound, is_full, is_kept, is_kind, settled, with_fid}
 use Rattle.model_world.specs.Walking.{ctl_of, is_taken, last, most_made, open_answer, opened, attach_answer, rebound, walk_answer, walk_ended, walked}
@@ -23,6 +23,7 @@ use Rattle.model_world.specs.Answer.{Taking, Ignored, TooLong, Closes, Reads, ag
 use Rattle.model_world.specs.Reading.{Given, count_within, ctl_read, directory_read, file_read, given, given_in, given_now, goes_on, is_open_for, most_waiting, mouse_len, node_read, read_answer, read_ended, read_from, read_further, told_now, wctl_len}
 use Rattle.model_world.specs.Writing.{file_written, write_answer}
 use Rattle.model_world.specs.Refusal.{refusal}
+use Rattle.model_world.specs.Waiting.{answered_or, awaited, first_of, given_or_refused, one_answered, wait_answer}
 use Rattle.model_mouse.specs.Queue.{answer_text}
 use Rattle.model_console.specs.Console as console
 use Rattle.model_window.specs.Heard.{wctl_answer, wctl_text}
@@ -353,3 +354,29 @@ module _ {S : Type 0} (outside : Outside S) (own : Option ℕ) where
       by TooLong asks = keeps
       by Closes asks = (let gone = cleared_keeps session rest keeps in record { fids = gone.fids; connections = gone.connections })
       by Reads asks = replied_keeps session rest (tag_of bytes) (read_or_not outside session rest mark (message_of bytes)) keeps (or_keeps session rest mark (message_of bytes) keeps (asks refl))
+
+  -- ---- late answers
+
+  late_mine : (session : Session) (rest : S) (tag : ℕ) (wait : Wait) (o : Outcome Fid) (later : Option (Left S)) → Keeps session → IfOk o (IsMineFid own) → IfSome later (λ l. Keeps l.session)
+      → IfSome (answered_or session rest tag wait (given_or_refused outside rest wait.count o) later) (λ l. Keeps l.session)
+  late_mine session rest tag wait (Err n) later keeps mine more = keeps
+  late_mine session rest tag wait (Ok fid) later keeps mine more = by (given_now outside rest fid wait.count fid.node.kind) (given_mine rest fid wait.count fid.node.kind mine)
+    where
+      by : (o : Option (Given S)) → IfSome o (λ got. IsMineFid own got.fid) → IfSome (answered_or session rest tag wait (option_map Ok o) later) (λ l. Keeps l.session)
+      by None given = more
+      by (Some got) given = record { fids = all-with (IsMineFid own) session.fids wait.fid got.fid keeps.fids given; connections = keeps.connections }
+
+  awaited_mine : (session : Session) (rest : S) (wait : Wait) → Keeps session → IfOk (awaited outside session rest wait) (IsMineFid own)
+  awaited_mine session rest wait keeps =
+      after_step (IsMineFid own) (fid_of session wait.fid) _ (λ fid is.
+      after_step (IsMineFid own) (check_live (outside.view rest session.connections fid.node) fid.node) _ (λ _ _. bound_mine session keeps wait.fid fid is))
+
+  first_mine : (session : Session) (rest : S) (before after : List (ℕ × Wait)) → Keeps session → IfSome (first_of outside session rest before after) (λ l. Keeps l.session)
+  unfolding first_of wait_answer
+  first_mine session rest before [] keeps = tt
+  first_mine session rest before ((tag, wait) ∷ after) keeps =
+      late_mine (record session { waiting = before ++ after }) rest tag wait (awaited outside session rest wait) _ (record { fids = keeps.fids; connections = keeps.connections })
+      (awaited_mine session rest wait keeps) (first_mine session rest (before ++ (tag, wait) ∷ []) after keeps)
+
+  pub one_mine : (session : Session) (rest : S) (left : Left S) → Keeps session → one_answered outside session rest ≡ Some left → Keeps left.session
+  one_mine session rest left keeps is = subst (λ (o : Option (Left S)). IfSome o (λ l. Keeps l.session)) is (first_mine session rest [] session.waiting keeps)
