@@ -1,11 +1,9 @@
 -- A message of the session itself, once it has its window or before it asks for one.
-use Rattle.std.proofs.Common.{◌≡◌, ◌∙◌, ℕ, eqb, ◌==◌, ◌<◌, ◌≤◌, Bool, true, false, List, [], ◌∷◌, ◌++◌, fold, Option, Some, None, refl, sym, ap, subst, arith}
-use Rattle.std.specs.Prelude.{All, if◌then◌else◌}
+use Rattle.std.proofs.Common.{◌≡◌, ◌∙◌, ℕ, eqb, ◌==◌, ◌<◌, Bool, true, false, List, [], ◌∷◌, ◌++◌, fold, length, Option, Some, None, refl, sym, ap, subst}
+use Rattle.std.specs.Prelude.{if◌then◌else◌}
 use Rattle.std.specs.List.{cons_option, filter_map}
-use Rattle.std.specs.Map.{keys_of}
 use Rattle.std.specs.Option.{option_map_or}
 use Rattle.std.proofs.lemmas.Bool.{eqb-false, eqb-true}
-use Rattle.r9_event.specs.declared.event.Event.TheVariants.{Msg}
 use Rattle.r9_event.specs.declared.event.Reply.{Reply}
 use Rattle.r9_event.specs.declared.own.Item.{Item}
 use Rattle.r9_event.specs.declared.own.Item.TheVariants.{Sent, Noted}
@@ -13,7 +11,6 @@ use Rattle.r9_event.specs.declared.rio.Note.{Note}
 use Rattle.model_text.specs.Map.{lookup}
 use Rattle.model_map.proofs.Ascending.{ascend-with}
 use Rattle.model_map.proofs.Maps.{with-here, with-others}
-use Rattle.model_map.proofs.Keys.{eqb-same}
 use Rattle.model_window.specs.Pane.{Pane}
 use Rattle.model_wire.specs.Message.{T}
 use Rattle.model_wire.specs.Reading.{message_of}
@@ -26,21 +23,20 @@ use Rattle.model_world.specs.Desktop.{Desktop}
 use Rattle.model_world.specs.Whole.{desktop_for}
 use Rattle.model_world.specs.World.{World}
 use Rattle.model_world.specs.Waiting.{one_answered}
-use Rattle.model_world.specs.Standing.{AreInOrder}
-use Rattle.model_world.specs.Replay.{first_answered, reply_to, settled, settled_within, waiting_in, with_left}
+use Rattle.model_world.specs.Standing.{AllWaitOn, AreInOrder}
+use Rattle.model_world.specs.Replay.{first_answered, reply_to, settled, waiting_in, with_left}
 use Rattle.model_world.proofs.Settling.{IfNext, all_in, first_leaves, settled_keeps}
 use Rattle.model_world.proofs.Sleeping.{one_quiet}
-use Rattle.model_orders.proofs.Leading.{led_beside, led_itself}
 use Rattle.model_alone.specs.Isolated.{replies_to}
-use Rattle.model_alone.specs.Own.{Watched, is_its, noted, reasons_from}
+use Rattle.model_alone.specs.Own.{Watched, noted, reasons_from}
 use Rattle.model_alone.specs.Uses.{bytes_used}
 use Rattle.model_alone.specs.Lone.{LoneDesktop, LoneWorld, all_settled, lone_desktop, lone_step, made_in, note_in, noted_alone, notes_in, replied}
 use Rattle.model_alone.proofs.Histories.{replies-append}
 use Rattle.model_agreement.specs.Agreement.{SameLeft}
-use Rattle.model_isolation.proofs.Settling.{EndsAlike, own-reply, settled_alike}
+use Rattle.model_isolation.proofs.Settling.{EndsAlike, own-reply, settled_alike, still, waits_alone}
 use Rattle.model_told.specs.Telling.{notes_of}
 use Rattle.model_followed.specs.Devices.{AreNamesFree, IsDeviceLike}
-use Rattle.model_followed.specs.Following.{HasConnection, HasWindow, SameDesktops, SameOnceTold, SameWindow, SameWindows}
+use Rattle.model_followed.specs.Following.{HasConnection, HasWindow, SameDesktops, SameOnceTold, SameWindows}
 use Rattle.model_private.proofs.Keeping.{KeepsMine, keeps_itself, one_mine}
 use Rattle.model_private.proofs.Marks.{bytes_quiet, told_of}
 use Rattle.model_private.proofs.Own.{own_message_alike}
@@ -109,6 +105,13 @@ module _ (c : ℕ) (begin : 0 < c) (Like : Option (ℕ × List ℕ) → draw.Wor
       kept =
           settled_keeps (λ next. AreInOrder next × (next.desktop.notes ≡ world.desktop.notes) × ((session : Session) → lookup next.sessions c ≡ Some session → KeepsMine seen.window session)) (late_mine world.desktop.notes) (waiting_in world) world
           (is.order, refl, λ session at. (let two : ◌≡◌ {A = Option Session} (Some lone.session) (Some session) = sym is.lives ∙ at in let it : lone.session ≡ session = cc in subst (KeepsMine seen.window) it is.mine))
+
+  -- Where no read that waits can be answered, the session's own world answers none either.
+  pub settled_still : (world : World) (lone : LoneWorld) → IsWith world lone → AllWaitOn world → all_settled lone ≡ (lone, [])
+  settled_still world lone is waits =
+      still c Have (λ s t. Unit {0}) (HasWindow seen.window) HasConnection (λ s asked. ⊥) (late_alike c begin Like Named laws names seen.window) (λ d session. IsElsewhere seen.window session) others_away (length lone.session.waiting) lone
+      (waits_alone c Have (λ s t. Unit {0}) (HasWindow seen.window) HasConnection (λ s asked. ⊥) (late_alike c begin Like Named laws names seen.window) (λ d session. IsElsewhere seen.window session) others_away world lone
+      (record { lives = is.lives; same = is.same; keeps = keeps_itself seen.window lone.session is.mine; order = is.order; elsewhere = is.elsewhere }) waits)
 
   -- ---- a message of the session
 

@@ -52,7 +52,7 @@ pub own-reply : (c : ℕ) (reply : Option R) → replies_to c (reply_to c reply)
 own-reply c None = refl
 own-reply c (Some reply) = rw (eqb-same c) refl
 
-others-reply : (c d : ℕ) (reply : Option R) → (d ≡ c → ⊥) → replies_to c (reply_to d reply) ≡ []
+pub others-reply : (c d : ℕ) (reply : Option R) → (d ≡ c → ⊥) → replies_to c (reply_to d reply) ≡ []
 others-reply c d None other = refl
 others-reply c d (Some reply) other = rw (not_key d c other) refl
 
@@ -204,10 +204,10 @@ module _ (c : ℕ) (Same Later : Desktop → LoneDesktop → Type 0) (HasWindow 
 
   -- ---- and no more
 
-  abbrev IsStill : LoneWorld → Type 0
+  abbrev pub IsStill : LoneWorld → Type 0
   IsStill lone = one_answered lone_desktop lone.session lone.desktop ≡ None
 
-  still : (more : ℕ) (lone : LoneWorld) → IsStill lone → settled_alone more lone ≡ (lone, [])
+  pub still : (more : ℕ) (lone : LoneWorld) → IsStill lone → settled_alone more lone ≡ (lone, [])
   unfolding settled_alone
   still zero lone none = refl
   still (suc more) lone none = rw none refl
@@ -230,7 +230,7 @@ module _ (c : ℕ) (Same Later : Desktop → LoneDesktop → Type 0) (HasWindow 
       by further None none = refl
       by further (Some after) none = ap (alone.and_replies (replied after.reply)) (further after none)
 
-  waits_alone : (world : World) (lone : LoneWorld) → AreBoth world lone → AllWaitOn world → IsStill lone
+  pub waits_alone : (world : World) (lone : LoneWorld) → AreBoth world lone → AllWaitOn world → IsStill lone
   waits_alone world lone both waits =
       by (one_answered lone_desktop lone.session lone.desktop)
       (subst (λ (o : Option (Left Desktop)). SameOption (SameLeft Same) o (one_answered lone_desktop lone.session lone.desktop)) (waits_each world c lone.session waits both.lives)
