@@ -15,9 +15,9 @@ use Rattle.model_page.specs.Text.{Shape, cell_rect, cells, dot, everywhere, font
 
 -- the sizes that a window of text may have
 pub record IsShape (shape : Shape) : Type 0 where
-  pub wide : 1 ≤ shape.columns
+  pub wide : 4 ≤ shape.columns
   pub most_columns : shape.columns ≤ 200
-  pub high : 1 ≤ shape.rows
+  pub high : 4 ≤ shape.rows
   pub most_rows : shape.rows ≤ 100
   pub some_width : 1 ≤ shape.width
   pub most_width : shape.width ≤ 8

@@ -1,4 +1,6 @@
 pub mod Typing
 pub mod Making
 pub mod Made
+pub mod Asked
 pub mod Opening
+pub mod Texts

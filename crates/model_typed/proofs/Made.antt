@@ -29,7 +29,8 @@ use Rattle.model_page.specs.Device.{ShowsTo}
 use Rattle.model_client.proofs.Messages.{IsRect, font_first, image_first, is_coordinate, named_first, rows_first}
 use Rattle.model_client.proofs.Writes.{Leads, leads_message, leads_then, leads_with}
 use Rattle.model_page.proofs.Spots.{distance_to}
-use Rattle.model_typed.specs.Making.{connection, device, has, image_id, numbers}
+use Rattle.model_typed.specs.Typing.{numbers}
+use Rattle.model_typed.specs.Making.{connection, device, has, image_id}
 use Rattle.model_typed.proofs.Making.{AreReady, IsBegun, IsLoaded, colour_made, has_code, le_pos, loads_all, makes_black, makes_font, makes_letters, makes_white, makes_window, own_three, own_two, sizes_three, sizes_two}
 
 -- ---- the font's pixels

@@ -10,7 +10,6 @@ use Rattle.std.proofs.lemmas.Int.{ints}
 use Rattle.r9_geom.specs.declared.Point.{Point}
 use Rattle.r9_geom.specs.declared.Rect.{Rect}
 use Rattle.r9_geom.specs.Geometry.{distance, holds}
-use Rattle.r9_event.specs.declared.event.Event.TheVariants.{Begin}
 use Rattle.model_wctl.specs.Command as wctl
 use Rattle.model_wctl.specs.declared.Choice.TheVariants as choice
 use Rattle.model_wctl.specs.Reading.{command_of}
@@ -27,29 +26,31 @@ use Rattle.model_images.specs.Book as book_of
 use Rattle.model_draw.specs.World as draw
 use Rattle.model_draw.specs.Making.{farthest}
 use Rattle.model_draw.specs.Orders.{bordered, is_window_rect, make_window, on_border, border_pixel, with_root_rio}
-use Rattle.model_world.specs.Session.{Session, fid_at, fresh}
-use Rattle.model_world.specs.Desktop.{Desktop, first_desktop, stepped}
+use Rattle.model_world.specs.Session.{Session, fid_at}
+use Rattle.model_world.specs.Desktop.{Desktop, stepped}
 use Rattle.model_world.specs.Whole.{used_by, view_of, window_made, with_device}
-use Rattle.model_world.specs.World.{World, display_of, opened}
-use Rattle.model_world.specs.Replay.{silent, step}
+use Rattle.model_world.specs.World.{World, display_of}
+use Rattle.model_world.specs.Replay.{step}
 use Rattle.model_client.specs.Files.{data_way, file, new_way, open_on, own_file, to_data, to_new}
 use Rattle.model_client.specs.Messages.{character, font, image, named, rows}
 use Rattle.model_page.specs.Text.{Shape, asked, black, cell, cells, dot, everywhere, font_rect, grey8, letters, making, opening, page_rect, rgb24, white, window, write}
 use Rattle.model_page.specs.Page.{IsShape, page, paper, row_of}
 use Rattle.model_page.proofs.Pages.{row_ended}
 use Rattle.model_page.proofs.Scrolls.{high_few, wide_few}
-use Rattle.model_typed.specs.Typing.{ShowsPage, display, typist}
-use Rattle.model_typed.specs.Making.{connection, device, numbers}
+use Rattle.model_typed.specs.Typing.{ShowsPage, begun_world, display, numbers, first, opened_replies, opening_replies, typist}
+use Rattle.model_typed.specs.Making.{connection, device}
 use Rattle.model_typed.proofs.Made.{IsBlank, all_made, empty_page, font_few, made_device}
+use Rattle.model_typed.proofs.Asked.{asks_for_page}
 use Rattle.model_typed.proofs.Typing.{written_step}
 use Rattle.model_client.proofs.Writes.{Leads}
 use Rattle.model_client.proofs.Answering.{attached_window, made_window, opened_file, opened_new, walked_to}
 use Rattle.model_client.proofs.Walking.{window_data, window_new}
 use Rattle.model_client.proofs.Saying.{agreed_on_version, all_said, nothing_said, said, stays, then_said}
 use Rattle.model_client.specs.Saying.{AreAnswered, IsClient, MaySay, answered, greeted, hello, says, welcome, world_left}
-use Rattle.model_wire.specs.Message.{R, Rattach, Ropen, Rwalk, Rwrite, T, Tattach, Topen, Twalk, no_fid}
+use Rattle.model_wire.specs.Message.{Rattach, Ropen, Rwalk, Rwrite, T, Tattach, Topen, Twalk, no_fid}
 use Rattle.model_wire.specs.Spelling.{IsString, message, sized}
 use Rattle.std.proofs.lemmas.List.{length-append}
+use Rattle.std.proofs.Math.Nat.{le_trans, mul-le-mul_left, mul-le-mul_right}
 use Rattle.std.proofs.lemmas.Fmt.{IsAscii-decimal, length-decimal-le}
 use Rattle.std.proofs.lemmas.Str.{IsUtf8-append, IsUtf8-from_ascii, IsUtf8-from_is_utf8}
 use Rattle.std.proofs.lemmas.List.Elements.{All-cons, All-nil}
@@ -63,8 +64,16 @@ use Rattle.model_world.specs.Fids.{is_kind}
 side : (a : ℕ) → 4 ≤ a → a ≤ 1600 → (leb 12 (a + 8 + 0) && leb (a + 8 + 0) 2048) ≡ true
 side a some few = and_from _ _ (le-leb 12 (a + 8 + 0) (omega (arith, some))) (le-leb (a + 8 + 0) 2048 (omega (arith, few)))
 
-fits_window : (shape : Shape) → IsShape shape → 4 ≤ shape.columns * shape.width → 4 ≤ shape.rows * shape.height → is_window (page_rect shape) ≡ true
-fits_window shape is wide high =
+four_columns : (shape : Shape) → IsShape shape → 4 ≤ shape.columns * shape.width
+four_columns shape is = le_trans (mul-le-mul_left 4 is.some_width) (mul-le-mul_right shape.width is.wide)
+
+four_rows : (shape : Shape) → IsShape shape → 4 ≤ shape.rows * shape.height
+four_rows shape is = le_trans (mul-le-mul_left 4 is.some_height) (mul-le-mul_right shape.height is.high)
+
+fits_window : (shape : Shape) → IsShape shape → is_window (page_rect shape) ≡ true
+fits_window shape is =
+    let wide = four_columns shape is in
+    let high = four_rows shape is in
     let few_columns = wide_few shape is in
     let few_rows = high_few shape is in
     and_from _ _ (and_from _ _ (side (shape.columns * shape.width) wide few_columns) (side (shape.rows * shape.height) high few_rows))
@@ -73,8 +82,10 @@ fits_window shape is wide high =
 has_inside : (a : ℕ) → 4 ≤ a → int_le (pos (a + 8) -ℤ pos 4) (pos 4) ≡ false
 has_inside a some = grind (arith, ints)
 
-fits_order : (shape : Shape) → IsShape shape → 4 ≤ shape.columns * shape.width → 4 ≤ shape.rows * shape.height → is_window_rect (page_rect shape) ≡ true
-fits_order shape is wide high =
+fits_order : (shape : Shape) → IsShape shape → is_window_rect (page_rect shape) ≡ true
+fits_order shape is =
+    let wide = four_columns shape is in
+    let high = four_rows shape is in
     let few_columns = wide_few shape is in
     let few_rows = high_few shape is in
     and_from _ _
@@ -99,9 +110,6 @@ unfolding new_in applied
 window_asked shape fits = rw fits refl
 
 -- the desktop after it
-abbrev pub first : Desktop
-first = first_desktop (display_of display)
-
 abbrev pub with_window : Shape → Desktop
 with_window shape = stepped first (making_window shape)
 
@@ -253,9 +261,6 @@ not_consctl = refl
 abbrev pub opens : List T
 opens = Twalk 1 0 1 to_new ∷ Topen 1 1 2 ∷ Twalk 1 0 2 to_data ∷ Topen 1 2 2 ∷ []
 
-abbrev pub opened_replies : List R
-opened_replies = Rwalk 1 (map qid (new_way 1)) ∷ Ropen 1 (qid (file 1 Ctl 1)) 0 ∷ Rwalk 1 (map qid (data_way 1)) ∷ Ropen 1 (qid (file 1 Data 1)) 0 ∷ []
-
 -- the desktop in a later turn, with another connection
 abbrev connected : Desktop → Desktop
 connected desktop = with_device desktop (draw.after_connect desktop.device connection)
@@ -314,13 +319,6 @@ attach_may shape is =
       short = omega (arith, across_len, down_len, between, all_of_it);
     }
 
--- the world when the session has begun
-abbrev pub begun_world : World
-begun_world = record { opening = display; desktop = first; sessions = (1, fresh) ∷ [] }
-
-pub begins : step (opened display) (Begin 1) ≡ silent begun_world
-begins = refl
-
 -- what is made takes one message
 characters_len : (shape : Shape) (left from : ℕ) → length (flat_map (cell shape) (range_with_len from left)) ≡ left * 37
 unfolding character
@@ -373,19 +371,18 @@ attaches shape is fits asks =
 abbrev pub files_world : Shape → World
 files_world shape = world_left (entered_world shape) (typist, connected (told (entered_desktop shape)))
 
--- What a client says to open a text is answered without an error, and its window then shows the empty page.
+-- what the client says to open a text, and the world that it leaves
 pub record IsOpened (shape : Shape) (pixels : List ℕ) : Type 0 where
   pub after : World
-  pub answers : AreAnswered begun_world (opening shape pixels) after (welcome ∷ Rattach 1 (qid (own_file 1 Window)) ∷ opened_replies ++ Rwrite 1 (length (making shape pixels)) ∷ [])
+  pub answers : AreAnswered begun_world (opening shape pixels) after (opening_replies shape pixels)
   pub shows : ShowsPage shape pixels numbers (replicate shape.rows []) after
 
-pub opened_text : (shape : Shape) (pixels : List ℕ) → IsShape shape → 4 ≤ shape.columns * shape.width → 4 ≤ shape.rows * shape.height → length pixels ≡ shape.height * (cells * shape.width)
-    → command_of false (asked shape) ≡ Some (record { what = wctl.New (choice.R (page_rect shape) ∷ []) false; id = [] }) → IsOpened shape pixels
-opened_text shape pixels is wide high all asks =
+pub opened_text : (shape : Shape) (pixels : List ℕ) → IsShape shape → length pixels ≡ shape.height * (cells * shape.width) → IsOpened shape pixels
+opened_text shape pixels is all =
     let blank : IsBlank shape pixels (start shape) = start_blank shape pixels in
     let final : draw.World = made_device shape pixels (start shape) is all blank in
     let leads : Leads connection (files_world shape).desktop.device final (making shape pixels) =
-    subst (λ (d : draw.World). Leads connection d final (making shape pixels)) (sym (device_is shape (fits_order shape is wide high))) (all_made shape pixels (start shape) is all blank)
+    subst (λ (d : draw.World). Leads connection d final (making shape pixels)) (sym (device_is shape (fits_order shape is))) (all_made shape pixels (start shape) is all blank)
     in
     let opening_alone : IsClient (files_world shape) typist = stays (entered_world shape) (typist, connected (told (entered_desktop shape))) refl refl refl in
     let write_turn = written_step (files_world shape) (making shape pixels) final (making_few shape pixels is all) leads opening_alone in
@@ -393,7 +390,7 @@ opened_text shape pixels is wide high all asks =
     record {
       after = after;
       answers = then_said begun_world after hello _ (greeted, first) welcome _ (agreed_on_version begun_world refl)
-          (then_said greeted_world after (Tattach 1 0 no_fid [] (asked shape)) _ (entered, entered_desktop shape) (Rattach 1 (qid (own_file 1 Window))) _ (attaches shape is (fits_window shape is wide high) asks)
+          (then_said greeted_world after (Tattach 1 0 no_fid [] (asked shape)) _ (entered, entered_desktop shape) (Rattach 1 (qid (own_file 1 Window))) _ (attaches shape is (fits_window shape is) (asks_for_page shape is))
           (all_said (entered_world shape) (files_world shape) after opens (write (making shape pixels) ∷ []) opened_replies (Rwrite 1 (length (making shape pixels)) ∷ [])
           (files_opened (entered_world shape) (stays greeted_world (entered, entered_desktop shape) refl refl refl) (window_lives shape))
           (then_said (files_world shape) after (write (making shape pixels)) [] (typist, with_device (files_world shape).desktop final) (Rwrite 1 (length (making shape pixels))) [] write_turn (nothing_said after))));

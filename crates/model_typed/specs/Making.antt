@@ -7,7 +7,6 @@ use Rattle.model_images.specs.declared.ImageId.{ImageId}
 use Rattle.model_draw.specs.World.{Client, World, s_over_d}
 use Rattle.model_world.specs.Whole.{client}
 use Rattle.model_world.specs.World.{display_of}
-use Rattle.model_page.specs.Page.{Numbers}
 use Rattle.model_typed.specs.Typing.{display}
 
 -- the client's connection
@@ -41,7 +40,3 @@ device images made own c = record {
 
 abbrev pub has : (described : ℕ) (sizes : List (ℕ × ℕ)) (fonts : List (ℕ × Font)) → Client
 has described sizes fonts = record { op = s_over_d; described = described; pending = []; sizes = sizes; fonts = fonts }
-
--- the numbers of the images
-abbrev pub numbers : Numbers
-numbers = record { white = 3; black = 4; letters = 5; window = 2 }
