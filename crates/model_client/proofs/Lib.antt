@@ -5,3 +5,5 @@ pub mod Walking
 pub mod Answering
 pub mod Messages
 pub mod Writes
+pub mod May
+pub mod Pointing

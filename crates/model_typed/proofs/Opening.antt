@@ -1,5 +1,5 @@
 -- The client attaches its window, and opens the files of its connection.
-use Rattle.std.proofs.Common.{◌≡◌, ◌∙◌, ◌<◌, ◌≤◌, ◌+◌, ◌*◌, ◌/◌, ◌%◌, ◌^◌, ℕ, zero, suc, pos, ◌-ℤ◌, true, false, not, Bool, ◌&&◌, cond, leb, List, [], ◌∷◌, ◌++◌, length, get_or, map, replicate, Some, Ok, refl, sym, ap, subst, arith}
+use Rattle.std.proofs.Common.{◌≡◌, ◌∙◌, ◌≤◌, ◌+◌, ◌*◌, ◌/◌, ◌%◌, ℕ, zero, suc, pos, ◌-ℤ◌, true, false, not, Bool, ◌&&◌, cond, leb, List, [], ◌∷◌, ◌++◌, length, get_or, map, replicate, Some, Ok, refl, sym, ap, subst, arith}
 use Rattle.std.specs.Prelude.{codes, int_le, is_some}
 use Rattle.std.specs.Char.{encode_utf8}
 use Rattle.std.specs.List.{flat_map, range_with_len}
@@ -44,16 +44,16 @@ use Rattle.model_typed.proofs.Asked.{asks_for_page}
 use Rattle.model_typed.proofs.Typing.{written_step}
 use Rattle.model_client.proofs.Writes.{Leads}
 use Rattle.model_client.proofs.Answering.{attached_window, made_window, opened_file, opened_new, walked_to}
+use Rattle.model_client.proofs.May.{may_open, may_walk_data, may_walk_new}
 use Rattle.model_client.proofs.Walking.{window_data, window_new}
 use Rattle.model_client.proofs.Saying.{agreed_on_version, all_said, nothing_said, said, stays, then_said}
 use Rattle.model_client.specs.Saying.{AreAnswered, IsClient, MaySay, answered, greeted, hello, says, welcome, world_left}
 use Rattle.model_wire.specs.Message.{Rattach, Ropen, Rwalk, Rwrite, T, Tattach, Topen, Twalk, no_fid}
-use Rattle.model_wire.specs.Spelling.{IsString, message, sized}
+use Rattle.model_wire.specs.Spelling.{message, sized}
 use Rattle.std.proofs.lemmas.List.{length-append}
 use Rattle.std.proofs.Math.Nat.{le_trans, mul-le-mul_left, mul-le-mul_right}
 use Rattle.std.proofs.lemmas.Fmt.{IsAscii-decimal, length-decimal-le}
 use Rattle.std.proofs.lemmas.Str.{IsUtf8-append, IsUtf8-from_ascii, IsUtf8-from_is_utf8}
-use Rattle.std.proofs.lemmas.List.Elements.{All-cons, All-nil}
 use Rattle.model_tree.specs.declared.Kind.TheVariants.{Consctl, Ctl, Data, Mouse, New, Window}
 use Rattle.model_tree.specs.Node.{may, qid, row}
 use Rattle.model_tree.specs.Tree.{check_live}
@@ -191,47 +191,6 @@ at_data = record greeted {
   made = 1;
 }
 
-new_may : MaySay entered (Twalk 1 0 1 to_new)
-unfolding is_utf8 chars encode_utf8 message sized
-new_may = record {
-  spelled = record {
-    sizes = (omega arith, omega arith, omega arith);
-    fits = (
-      omega arith,
-      All-cons IsString (codes "draw") (codes "new" ∷ []) (IsUtf8-from_is_utf8 (codes "draw") refl, omega arith)
-          (All-cons IsString (codes "new") [] (IsUtf8-from_is_utf8 (codes "new") refl, omega arith) (All-nil IsString)),
-    );
-    spelled = refl;
-  };
-  tagged = refl;
-  short = omega arith;
-}
-
-data_may : MaySay at_ctl (Twalk 1 0 2 to_data)
-unfolding is_utf8 chars encode_utf8 message sized
-data_may = record {
-  spelled = record {
-    sizes = (omega arith, omega arith, omega arith);
-    fits = (
-      omega arith,
-      All-cons IsString (codes "draw") (codes "1" ∷ codes "data" ∷ []) (IsUtf8-from_is_utf8 (codes "draw") refl, omega arith)
-          (All-cons IsString (codes "1") (codes "data" ∷ []) (IsUtf8-from_is_utf8 (codes "1") refl, omega arith)
-          (All-cons IsString (codes "data") [] (IsUtf8-from_is_utf8 (codes "data") refl, omega arith) (All-nil IsString))),
-    );
-    spelled = refl;
-  };
-  tagged = refl;
-  short = omega arith;
-}
-
-open_may : (session : Session) (fid : ℕ) → session.msize ≡ 65560 → fid < 2 ^ 32 → MaySay session (Topen 1 fid 2)
-unfolding message
-open_may session fid msize few = record {
-  spelled = record { sizes = (omega arith, few, omega arith); fits = tt; spelled = refl };
-  tagged = refl;
-  short = omega (arith, msize);
-}
-
 -- the data file may be opened
 data_lives : (table : Table) → check_live (view_of table (1 ∷ []) (file 1 Data 1)) (file 1 Data 1) ≡ Ok tt
 unfolding view_of check_live row
@@ -276,16 +235,16 @@ files_opened world client lives =
     let two : World = world_left one (at_ctl, connected (told desktop)) in
     let three : World = world_left two (at_data, connected (told desktop)) in
     then_said world _ (Twalk 1 0 1 to_new) _ (at_new, desktop) (Rwalk 1 (map qid (new_way 1))) _
-    (said world entered (Twalk 1 0 1 to_new) (at_new, desktop) (Rwalk 1 (map qid (new_way 1))) client new_may
+    (said world entered (Twalk 1 0 1 to_new) (at_new, desktop) (Rwalk 1 (map qid (new_way 1))) client (may_walk_new entered 0 1 refl (omega arith) (omega arith))
     (walked_to entered desktop 1 0 1 to_new (own_file 1 Window) (new_way 1) refl refl refl refl (window_new desktop.table [] 1 lives)) refl)
     (then_said one _ (Topen 1 1 2) _ (at_ctl, connected (told desktop)) (Ropen 1 (qid (file 1 Ctl 1)) 0) _
-    (said one at_new (Topen 1 1 2) (at_ctl, connected (told desktop)) (Ropen 1 (qid (file 1 Ctl 1)) 0) (stays world (at_new, desktop) refl refl refl) (open_may at_new 1 refl (omega arith))
+    (said one at_new (Topen 1 1 2) (at_ctl, connected (told desktop)) (Ropen 1 (qid (file 1 Ctl 1)) 0) (stays world (at_new, desktop) refl refl refl) (may_open at_new 1 2 refl (omega arith) (omega arith))
     (opened_new at_new (told desktop) 1 1 1 refl refl refl) refl)
     (then_said two _ (Twalk 1 0 2 to_data) _ (at_data, connected (told desktop)) (Rwalk 1 (map qid (data_way 1))) _
-    (said two at_ctl (Twalk 1 0 2 to_data) (at_data, connected (told desktop)) (Rwalk 1 (map qid (data_way 1))) (stays one (at_ctl, connected (told desktop)) refl refl refl) data_may
+    (said two at_ctl (Twalk 1 0 2 to_data) (at_data, connected (told desktop)) (Rwalk 1 (map qid (data_way 1))) (stays one (at_ctl, connected (told desktop)) refl refl refl) (may_walk_data at_ctl 0 2 refl (omega arith) (omega arith))
     (walked_to at_ctl (connected (told desktop)) 1 0 2 to_data (own_file 1 Window) (data_way 1) refl refl refl refl (window_data desktop.table 1 lives)) refl)
     (then_said three _ (Topen 1 2 2) [] (typist, connected (told desktop)) (Ropen 1 (qid (file 1 Data 1)) 0) []
-    (said three at_data (Topen 1 2 2) (typist, connected (told desktop)) (Ropen 1 (qid (file 1 Data 1)) 0) (stays two (at_data, connected (told desktop)) refl refl refl) (open_may at_data 2 refl (omega arith))
+    (said three at_data (Topen 1 2 2) (typist, connected (told desktop)) (Ropen 1 (qid (file 1 Data 1)) 0) (stays two (at_data, connected (told desktop)) refl refl refl) (may_open at_data 2 2 refl (omega arith) (omega arith))
     (opened_file at_data (connected (told desktop)) 1 2 2 (file 1 Data 1) refl (data_lives desktop.table) data_allowed not_new not_ctl not_mouse not_consctl) refl)
     (nothing_said (world_left three (typist, connected (told desktop)))))))
 

@@ -3,14 +3,14 @@ use Rattle.std.proofs.Common.{◌≡◌, ◌<◌, ◌≤◌, ℕ, List, length, 
 use Rattle.std.specs.List.{All}
 use Rattle.model_text.specs.Number.{AreBytes}
 use Rattle.model_wire.specs.Message.{Rwrite}
-use Rattle.model_wire.specs.Spelling.{message}
 use Rattle.model_textwin.specs.declared.Move.{Move}
 use Rattle.model_textwin.specs.Moves.{all_moved, put_codes}
 use Rattle.model_draw.specs.World as draw
 use Rattle.model_world.specs.Whole.{client, with_device}
 use Rattle.model_world.specs.World.{World}
 use Rattle.model_world.specs.Replay.{step}
-use Rattle.model_client.specs.Saying.{IsClient, MaySay, answered, says}
+use Rattle.model_client.specs.Saying.{IsClient, answered, says}
+use Rattle.model_client.proofs.May.{may_write}
 use Rattle.model_client.proofs.Saying.{said, stays}
 use Rattle.model_client.proofs.Answering.{wrote_data}
 use Rattle.model_client.proofs.Writes.{Leads, leads_written}
@@ -18,15 +18,6 @@ use Rattle.model_page.specs.Text.{Shape, cells, moves_bytes, write}
 use Rattle.model_page.specs.Page.{AreApart, IsShape, Numbers}
 use Rattle.model_page.proofs.Acting.{moves_lead}
 use Rattle.model_typed.specs.Typing.{ShowsPage, typist}
-
--- so many bytes are in a message
-pub may_write : (bytes : List ℕ) → length bytes ≤ 65537 → MaySay typist (write bytes)
-unfolding message
-may_write bytes few = record {
-  spelled = record { sizes = (omega arith, omega arith, omega arith); fits = omega (arith, few); spelled = refl };
-  tagged = refl;
-  short = omega (arith, few);
-}
 
 -- the step of draw messages
 pub record IsTyped (shape : Shape) (pixels : List ℕ) (n : Numbers) (next : List (List ℕ)) (world : World) (bytes : List ℕ) : Type 0 where
@@ -38,7 +29,7 @@ pub written_step : (world : World) (bytes : List ℕ) (after : draw.World) → l
     → step world (says (write bytes)) ≡ answered world (typist, with_device world.desktop after) (Rwrite 1 (length bytes))
 written_step world bytes after few leads alone =
     let run = leads_written (client 1 1) world.desktop.device after bytes leads in
-    said world typist (write bytes) (typist, with_device world.desktop after) (Rwrite 1 (length bytes)) alone (may_write bytes few)
+    said world typist (write bytes) (typist, with_device world.desktop after) (Rwrite 1 (length bytes)) alone (may_write typist 2 bytes refl (omega arith) few)
     (wrote_data typist world.desktop 1 2 1 1 2 0 run.done bytes after refl refl refl run.is)
     refl
 
