@@ -13,4 +13,6 @@ pub mod Rows
 pub mod Setting
 pub mod Showing
 pub mod Sounding
+pub mod Surfaces
+pub mod Wholes
 pub mod Windows

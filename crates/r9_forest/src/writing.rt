@@ -1,6 +1,6 @@
 //! Pixels that are put on an image. They are written where it keeps them, at the points on which nothing stands.
 
-ghost use Rattle.std.specs.Prelude.{◌≡◌, ◌+◌, ◌*◌, ◌^◌, ◌<◌, ◌≤◌, ℕ, length, slice_index, EachIndex, IsTrue};
+ghost use Rattle.std.specs.Prelude.{◌≡◌, ◌+◌, ◌*◌, ◌^◌, ◌<◌, ◌≤◌, ℕ, None, true, length, slice_index, EachIndex, IsTrue};
 ghost use Rattle.r9_geom.specs.declared.Point.{Point as Spot};
 ghost use Rattle.r9_geom.specs.Geometry.{area_of, distance, height, holds, point_at, strip, width, IsNear, IsOrdered, IsRectNear};
 ghost use Rattle.model_pixel.specs.Channels as channels;
@@ -8,8 +8,8 @@ ghost use Rattle.model_pixel.specs.Rows.{row_bytes, row_pixel};
 ghost use Rattle.r9_plane.specs.Pixels.{along, number_of};
 ghost use Rattle.model_forest.specs.Draw.{after_fill, after_load, with_canvas};
 ghost use Rattle.model_forest.specs.View.{top_window};
-ghost use Rattle.model_forest.specs.World.{image_at, IsLive};
-ghost use Rattle.r9_locate.specs.Forms.{bits_in};
+ghost use Rattle.model_forest.specs.World.{image_at, parent_of, IsLive};
+ghost use Rattle.r9_locate.specs.Forms.{bits_in, forms_of};
 ghost use Rattle.r9_locate.specs.Table.{shape};
 ghost use Rattle.r9_pixels.specs.Kept.{form_at};
 ghost use Rattle.r9_forest.specs.Written.{IsStored, IsWritten};
@@ -253,6 +253,68 @@ fn load_rows<L: Ledger>(
     }
 }
 
+// Whether an image stands nowhere and nothing stands on it.
+fn is_whole(lists: &Lists, i: u32) -> bool
+    requires { IsLive (shape lists.now) i }
+    ensures { result ≡ true → (parent_of (shape lists.now) i ≡ None) × (length (image_at (shape lists.now) i).windows ≡ 0) }
+{
+    let frame = lists.get(i);
+    frame.standing.is_none() && frame.windows.is_empty()
+}
+
+// Writes one raw pixel at the points of a rectangle of an image: in its plane where nothing stands on that.
+fn fill_area<L: Ledger>(
+    lists: &Lists,
+    pixels: &mut KeptPixels,
+    i: u32,
+    r: Rect,
+    raw: u32,
+    steps: &mut Steps<L>,
+)
+    requires live { IsLive (shape lists.now) i }
+    requires near { IsRectNear r }
+    requires ordered { IsOrdered r }
+    requires inside { (p : Spot) → IsTrue (holds r p) → IsTrue (holds (image_at (shape lists.now) i).r p) }
+    requires stored { IsStored (shape lists.now) pixels.old }
+    requires forms { form_at pixels.old ≡ forms_of (shape lists.now) }
+    requires below { raw < 2 ^ bits_in (form_at pixels.old) i }
+    ensures written { IsWritten (shape lists.now) i (holds r) (λ _. raw) pixels.old pixels.new }
+    ensures steps { steps.new ≤ steps.old + area_of r }
+{
+    if is_whole(lists, i) {
+        pixels.fill_whole(i, r, raw, steps);
+    } else {
+        fill_rows(lists, pixels, i, &r, &[raw; BLOCK], steps);
+    }
+}
+
+// Puts the pixels of the rows of a rectangle on an image: in its plane where nothing stands on that.
+fn load_area<L: Ledger>(
+    lists: &Lists,
+    pixels: &mut KeptPixels,
+    i: u32,
+    r: Rect,
+    rows: &[u8],
+    steps: &mut Steps<L>,
+)
+    requires live { IsLive (shape lists.now) i }
+    requires near { IsRectNear r }
+    requires ordered { IsOrdered r }
+    requires of_image { (p : Spot) → IsTrue (holds r p) → IsTrue (holds (image_at (shape lists.now) i).r p) }
+    requires rows { length rows.now ≡ row_bytes r (channels.depth (image_at (shape lists.now) i).chan) * height r }
+    requires stored { IsStored (shape lists.now) pixels.old }
+    requires forms { form_at pixels.old ≡ forms_of (shape lists.now) }
+    requires bits { bits_in (form_at pixels.old) i ≡ channels.depth (image_at (shape lists.now) i).chan }
+    ensures written { IsWritten (shape lists.now) i (holds r) (row_pixel r (channels.depth (image_at (shape lists.now) i).chan) rows.now) pixels.old pixels.new }
+    ensures steps { steps.new ≤ steps.old + area_of r }
+{
+    if is_whole(lists, i) {
+        pixels.load_whole(i, r, rows, steps);
+    } else {
+        load_rows(lists, pixels, i, &r, rows, steps);
+    }
+}
+
 impl Images {
     ghost use Rattle.r9_forest.specs.Images.{numbers, world};
 
@@ -282,7 +344,7 @@ impl Images {
         ensures numbers { numbers self.new ≡ numbers self.old }
         ensures steps { steps.new ≤ steps.old + area_of r }
     {
-        fill_rows(&self.lists, &mut self.pixels, i, &r, &[raw; BLOCK], steps);
+        fill_area(&self.lists, &mut self.pixels, i, r, raw, steps);
     }
 
     /// Takes the pixels of a rectangle of an image from its rows (image(6)). At most one is written for each.
@@ -296,6 +358,6 @@ impl Images {
         ensures numbers { numbers self.new ≡ numbers self.old }
         ensures steps { steps.new ≤ steps.old + area_of r }
     {
-        load_rows(&self.lists, &mut self.pixels, i, &r, rows, steps);
+        load_area(&self.lists, &mut self.pixels, i, r, rows, steps);
     }
 }

@@ -5,3 +5,4 @@ pub mod Standing
 pub mod Taking
 pub mod Telling
 pub mod Tiled
+pub mod Wholes

@@ -1,17 +1,37 @@
 //! The planes of images that stand nowhere.
 
-ghost use Rattle.std.specs.Prelude.{◌≡◌, false, Some, option_map};
+ghost use Rattle.std.specs.Prelude.{◌≡◌, ◌≢◌, ◌+◌, ◌*◌, ◌^◌, ◌<◌, true, false, Some, length, option_map, vec_len, IsTrue};
 ghost use Rattle.r9_geom.specs.declared.Point.{Point as Spot};
+ghost use Rattle.r9_geom.specs.Geometry.{area_of, height, holds, IsOrdered, IsRectNear};
+ghost use Rattle.model_pixel.specs.Rows.{row_bytes, row_pixel};
 ghost use Rattle.r9_plane.specs.Pixels.{pixel_at};
-ghost use Rattle.model_kept.specs.Keeping.{own};
-ghost use Rattle.r9_pixels.specs.Owns.{plane_form};
+ghost use Rattle.model_kept.specs.Keeping.{own, Place};
+ghost use Rattle.r9_locate.specs.Forms.{bits_in};
+ghost use Rattle.r9_pixels.specs.declared.own.Extent.{Extent as Size};
+ghost use Rattle.r9_pixels.specs.declared.own.Own.TheVariants.{Hidden};
+ghost use Rattle.r9_pixels.specs.Owns.{own_at, plane_form};
 
 use super::keeping::KeptPixels;
 use super::own::Own;
+use r9_geom::Rect;
 use r9_plane::Plane;
+use r9_steps::Steps;
+use std::sync::ledger::Ledger;
+
+// Takes a step for each point of a rectangle.
+fn count_points<L: Ledger>(r: &Rect, steps: &mut Steps<L>)
+    requires near { IsRectNear r.now }
+    requires ordered { IsOrdered r.now }
+    ensures { steps.new ≡ steps.old + area_of r.now }
+{
+    let width = r.width();
+    for _row in 0..r.height() {
+        steps.add(width);
+    }
+}
 
 impl KeptPixels {
-    ghost use Rattle.r9_pixels.specs.Kept.{form_at, kept_at};
+    ghost use Rattle.r9_pixels.specs.Kept.{form_at, has_place, kept_at};
 
     /// The plane of an image that stands nowhere.
     pub fn plane(&self, i: u32) -> &Plane
@@ -23,5 +43,75 @@ impl KeptPixels {
             Some(Own::Whole(plane)) => plane,
             _ => unreachable!(),
         }
+    }
+
+    // Writes one raw pixel at all points of a rectangle of the plane of an image.
+    fn fill_plane(&mut self, i: u32, r: Rect, raw: u32)
+        requires live { i < vec_len self.old.owns }
+        requires whole { (extent : Size) → own_at self.old.owns.items i ≢ Some (Hidden extent) }
+        requires near { IsRectNear r }
+        requires ordered { IsOrdered r }
+        requires has { (p : Spot) → IsTrue (holds r p) → has_place self.old (own i p) ≡ true }
+        requires below { raw < 2 ^ bits_in (form_at self.old) i }
+        ensures at { (p : Spot) → IsTrue (holds r p) → kept_at self.new (own i p) ≡ raw }
+        ensures others { (place : Place) → ((p : Spot) → IsTrue (holds r p) → place ≢ own i p) → kept_at self.new place ≡ kept_at self.old place }
+        ensures has { has_place self.new ≡ has_place self.old }
+        ensures forms { form_at self.new ≡ form_at self.old }
+    {
+        if let Some(Own::Whole(plane)) = &mut self.owns[i as usize] {
+            plane.fill(r, raw);
+        }
+    }
+
+    /// Writes one raw pixel at all points of a rectangle of an image that stands nowhere, a step for each.
+    pub fn fill_whole<L: Ledger>(&mut self, i: u32, r: Rect, raw: u32, steps: &mut Steps<L>)
+        requires whole { option_map (λ form. form.is_window) (form_at self.old i) ≡ Some false }
+        requires near { IsRectNear r }
+        requires ordered { IsOrdered r }
+        requires has { (p : Spot) → IsTrue (holds r p) → has_place self.old (own i p) ≡ true }
+        requires below { raw < 2 ^ bits_in (form_at self.old) i }
+        ensures at { (p : Spot) → IsTrue (holds r p) → kept_at self.new (own i p) ≡ raw }
+        ensures others { (place : Place) → ((p : Spot) → IsTrue (holds r p) → place ≢ own i p) → kept_at self.new place ≡ kept_at self.old place }
+        ensures has { has_place self.new ≡ has_place self.old }
+        ensures forms { form_at self.new ≡ form_at self.old }
+        ensures steps { steps.new ≡ steps.old + area_of r }
+    {
+        self.fill_plane(i, r, raw);
+        count_points(&r, steps);
+    }
+
+    // Takes the pixels of a rectangle of the plane of an image from its rows.
+    fn load_plane(&mut self, i: u32, r: Rect, rows: &[u8])
+        requires live { i < vec_len self.old.owns }
+        requires whole { (extent : Size) → own_at self.old.owns.items i ≢ Some (Hidden extent) }
+        requires near { IsRectNear r }
+        requires ordered { IsOrdered r }
+        requires has { (p : Spot) → IsTrue (holds r p) → has_place self.old (own i p) ≡ true }
+        requires rows { length rows.now ≡ row_bytes r (bits_in (form_at self.old) i) * height r }
+        ensures at { (p : Spot) → IsTrue (holds r p) → kept_at self.new (own i p) ≡ row_pixel r (bits_in (form_at self.old) i) rows.now p }
+        ensures others { (place : Place) → ((p : Spot) → IsTrue (holds r p) → place ≢ own i p) → kept_at self.new place ≡ kept_at self.old place }
+        ensures has { has_place self.new ≡ has_place self.old }
+        ensures forms { form_at self.new ≡ form_at self.old }
+    {
+        if let Some(Own::Whole(plane)) = &mut self.owns[i as usize] {
+            plane.load(r, rows);
+        }
+    }
+
+    /// Takes the pixels of a rectangle of an image that stands nowhere from its rows (image(6)), a step for each.
+    pub fn load_whole<L: Ledger>(&mut self, i: u32, r: Rect, rows: &[u8], steps: &mut Steps<L>)
+        requires whole { option_map (λ form. form.is_window) (form_at self.old i) ≡ Some false }
+        requires near { IsRectNear r }
+        requires ordered { IsOrdered r }
+        requires has { (p : Spot) → IsTrue (holds r p) → has_place self.old (own i p) ≡ true }
+        requires rows { length rows.now ≡ row_bytes r (bits_in (form_at self.old) i) * height r }
+        ensures at { (p : Spot) → IsTrue (holds r p) → kept_at self.new (own i p) ≡ row_pixel r (bits_in (form_at self.old) i) rows.now p }
+        ensures others { (place : Place) → ((p : Spot) → IsTrue (holds r p) → place ≢ own i p) → kept_at self.new place ≡ kept_at self.old place }
+        ensures has { has_place self.new ≡ has_place self.old }
+        ensures forms { form_at self.new ≡ form_at self.old }
+        ensures steps { steps.new ≡ steps.old + area_of r }
+    {
+        self.load_plane(i, r, rows);
+        count_points(&r, steps);
     }
 }

@@ -1,5 +1,4 @@
-use Rattle.std.proofs.Common.{◌∙◌, ◌<◌, ◌^◌, refl, sym, ap, subst, arith}
-use Rattle.std.proofs.lemmas.List.{get_or-replicate}
+use Rattle.std.proofs.Common.{◌∙◌, ◌<◌, ◌^◌, refl, sym, ap, subst}
 use Rattle.r9_geom.specs.Geometry.{holds}
 use Rattle.model_forest.specs.Draw.{after_fill}
 use Rattle.r9_locate.specs.Table.{shape}
@@ -10,21 +9,21 @@ use Rattle.r9_forest.proofs.Putting.{put_shown, put_sound, stored_sound}
 use Rattle.r9_forest.proofs.Showing.{bits_of}
 use Rattle.r9_forest.proofs.images.Images.fill.Goals as goal
 
-pub fill_rows-requires-clause-live : goal.fill_rows-requires-clause-live
+pub fill_area-requires-clause-live : goal.fill_area-requires-clause-live
 unfolding world
-fill_rows-requires-clause-live g c = (bare_canvas (shape c.args.self.now.lists) (kept_at c.args.self.now.pixels)).live c.args.i ∙ c.requires.live
+fill_area-requires-clause-live g c = (bare_canvas (shape c.args.self.now.lists) (kept_at c.args.self.now.pixels)).live c.args.i ∙ c.requires.live
 
-pub fill_rows-requires-clause-inside : goal.fill_rows-requires-clause-inside
+pub fill_area-requires-clause-inside : goal.fill_area-requires-clause-inside
 unfolding world
-fill_rows-requires-clause-inside g c p h =
+fill_area-requires-clause-inside g c p h =
     ap (λ r. holds r p) ((bare_canvas (shape c.args.self.now.lists) (kept_at c.args.self.now.pixels)).r c.args.i) ∙ c.requires.inside p h
 
-pub fill_rows-requires-clause-stored : goal.fill_rows-requires-clause-stored
-fill_rows-requires-clause-stored g c = stored_sound c.args.self.now.lists c.args.self.now.pixels c.args.self.now.spare.items c.args.self.now.sound
+pub fill_area-requires-clause-stored : goal.fill_area-requires-clause-stored
+fill_area-requires-clause-stored g c = stored_sound c.args.self.now.lists c.args.self.now.pixels c.args.self.now.spare.items c.args.self.now.sound
 
-pub fill_rows-requires-clause-below : goal.fill_rows-requires-clause-below
+pub fill_area-requires-clause-below : goal.fill_area-requires-clause-below
 unfolding world
-fill_rows-requires-clause-below g c =
+fill_area-requires-clause-below g c =
     let was = c.args.self.now in
     subst (λ n. c.args.raw < 2 ^ n) (sym (bits_of was.lists was.pixels was.spare.items c.args.i was.sound c.requires.live)) c.requires.raw
 
@@ -34,9 +33,9 @@ invariant_of-self g c =
     let was = c.args.self.now in
     record {
       sound =
-          put_sound was.lists was.pixels c.fill_rows.new.pixels was.spare.items c.args.i (holds c.args.r) (λ _. c.args.raw) was.sound c.requires.live c.requires.inside
+          put_sound was.lists was.pixels c.fill_area.new.pixels was.spare.items c.args.i (holds c.args.r) (λ _. c.args.raw) was.sound c.requires.live c.requires.inside
           (λ p h. c.requires.raw)
-          c.fill_rows.ensures.written;
+          c.fill_area.ensures.written;
       back = was.back;
     }
 
@@ -44,13 +43,9 @@ pub returns-clause-world : goal.returns-clause-world
 unfolding world after_fill
 returns-clause-world g c =
     let was = c.args.self.now in
-    put_shown was.lists was.pixels c.fill_rows.new.pixels was.spare.items c.args.i (holds c.args.r) (λ _. c.args.raw) was.sound c.requires.live c.requires.inside
-    c.fill_rows.ensures.written
+    put_shown was.lists was.pixels c.fill_area.new.pixels was.spare.items c.args.i (holds c.args.r) (λ _. c.args.raw) was.sound c.requires.live c.requires.inside
+    c.fill_area.ensures.written
 
 pub returns-clause-numbers : goal.returns-clause-numbers
 unfolding numbers
 returns-clause-numbers g c = refl
-
-pub fill_rows-requires-clause-alike : goal.fill_rows-requires-clause-alike
-fill_rows-requires-clause-alike g c k below =
-    get_or-replicate 256 k c.args.raw 0 below ∙ sym (get_or-replicate 256 0 c.args.raw 0 (omega arith))

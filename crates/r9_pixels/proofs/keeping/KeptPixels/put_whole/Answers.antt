@@ -1,20 +1,19 @@
-use Rattle.std.proofs.Common.{◌≡◌, ◌≢◌, ◌∙◌, ◌<◌, ℕ, false, length, Option, Some, ⊎_elim, refl, sym, subst, ap, arith}
-use Rattle.std.specs.Prelude.{option_map, slice_index, slice_set, if◌then◌else◌}
+use Rattle.std.proofs.Common.{◌≡◌, ◌∙◌, ◌<◌, ℕ, false, length, Option, Some, refl, sym, subst, ap, arith}
+use Rattle.std.specs.Prelude.{slice_index, slice_set}
 use Rattle.std.specs.Option.{option_map_or}
-use Rattle.std.proofs.lemmas.Bool.{cases_eq, false_from_ne_true}
 use Rattle.std.proofs.Math.ListN.{length-set}
-use Rattle.r9_geom.specs.Geometry.{distance, holds}
+use Rattle.r9_geom.specs.Geometry.{distance, holds, strip}
 use Rattle.r9_geom.proofs.GeometryLemmas.{strip_distance}
-use Rattle.r9_plane.specs.Pixels.{along, pixel_at, rect_of}
+use Rattle.r9_plane.specs.Pixels.{along, rect_of}
 use Rattle.r9_plane.proofs.PlaneLemmas.{along_holds}
-use Rattle.model_kept.specs.Keeping.{Place}
+use Rattle.model_kept.specs.Keeping.{own}
 use Rattle.r9_locate.proofs.Locating.{strip_at}
 use Rattle.r9_cells.specs.Cells.{all_rows}
 use Rattle.r9_pixels.specs.declared.own.Own.{Own}
 use Rattle.r9_pixels.specs.declared.own.Own.TheVariants.{Whole}
-use Rattle.r9_pixels.specs.Kept.{has_place}
-use Rattle.r9_pixels.specs.Owns.{form_in, has_in, kept_in, own_at, plane_form}
-use Rattle.r9_pixels.proofs.Owning.{hidden_set, no_window, own_again, own_is, own_other, own_same, tabled_as, tabled_set, IsNoWindow}
+use Rattle.r9_pixels.specs.Owns.{has_in, own_at}
+use Rattle.r9_pixels.proofs.Owning.{hidden_set, no_window, own_again, own_is, tabled_as, tabled_set, IsNoWindow}
+use Rattle.r9_pixels.proofs.Wholes.{whole_at, whole_forms, whole_has, whole_others, IsPlaneWritten}
 use Rattle.r9_pixels.proofs.keeping.KeptPixels.put_whole.Goals as goal
 
 pub put_row-requires-clause-inside : goal.put_row-requires-clause-inside
@@ -57,9 +56,8 @@ returns-in-Some-Whole-clause-at c k below =
     let below_owns : c.args.i < length owns = omega (arith, c.requires.live, c.args.self.now.owns.ok.0) in
     let at = c.args.at in
     let raws = c.args.raws.now in
-    ap (λ o. option_map_or (kept_in c.args.self.now.cells c.args.i (along at k)) o 0) (own_same owns c.args.i (Some (Whole c.put_row.new.self)) below_owns)
-    ∙ c.put_row.ensures.pixels (along at k)
-    ∙ ap (λ b. if b then slice_index raws (distance at.x (along at k).x) else pixel_at c.in-Some-Whole.plane (along at k)) (along_holds at (length raws) k below)
+    let written : IsPlaneWritten (holds (strip c.args.at (length c.args.raws.now))) (λ q. slice_index c.args.raws.now (distance c.args.at.x q.x)) c.in-Some-Whole.plane c.put_row.new.self = record { rect = c.put_row.ensures.rect; chan = c.put_row.ensures.chan; pixels = c.put_row.ensures.pixels } in
+    whole_at owns c.args.self.now.cells c.args.i (holds (strip c.args.at (length c.args.raws.now))) (λ q. slice_index c.args.raws.now (distance c.args.at.x q.x)) c.in-Some-Whole.plane c.put_row.new.self below_owns written (along at k) (along_holds at (length raws) k below)
     ∙ ap (slice_index raws) (strip_distance at (along at k) k refl)
 
 pub returns-in-Some-Whole-clause-others : goal.returns-in-Some-Whole-clause-others
@@ -67,47 +65,22 @@ returns-in-Some-Whole-clause-others c place apart =
     let owns = c.args.self.now.owns.items in
     let below_owns : c.args.i < length owns = omega (arith, c.requires.live, c.args.self.now.owns.ok.0) in
     let was : own_at owns c.args.i ≡ Some (Whole c.in-Some-Whole.plane) = own_is owns c.args.i c.index_mut.result.now below_owns c.index_mut.ensures.value ∙ c.in-Some-Whole.is ∙ ap (λ o. Some o) c.in-Some-Whole.field-0-is in
-    let new : Option Own = Some (Whole c.put_row.new.self) in
-    let raws = c.args.raws.now in
-    ⊎_elim
-    (λ (same : place.image ≡ c.args.i).
-    let outside = false_from_ne_true _ (λ h. let found = strip_at c.args.at place.at (length raws) h in apart found.0 found.1 (λ j. record { image = same j; at = found.2 j })) in
-    ap (λ o. option_map_or (kept_in c.args.self.now.cells place.image place.at) o 0) (ap (own_at (slice_set owns c.args.i new)) same ∙ own_same owns c.args.i new below_owns)
-    ∙ c.put_row.ensures.pixels place.at
-    ∙ ap (λ b. if b then slice_index raws (distance c.args.at.x place.at.x) else pixel_at c.in-Some-Whole.plane place.at) outside
-    ∙ sym (ap (λ o. option_map_or (kept_in c.args.self.now.cells place.image place.at) o 0) (ap (own_at owns) same ∙ was)))
-    (λ (other : place.image ≢ c.args.i). ap (λ o. option_map_or (kept_in c.args.self.now.cells place.image place.at) o 0) (own_other owns c.args.i place.image new other))
-    (cases_eq place.image c.args.i)
+    let written : IsPlaneWritten (holds (strip c.args.at (length c.args.raws.now))) (λ q. slice_index c.args.raws.now (distance c.args.at.x q.x)) c.in-Some-Whole.plane c.put_row.new.self = record { rect = c.put_row.ensures.rect; chan = c.put_row.ensures.chan; pixels = c.put_row.ensures.pixels } in
+    whole_others owns c.args.self.now.cells c.args.i (holds (strip c.args.at (length c.args.raws.now))) (λ q. slice_index c.args.raws.now (distance c.args.at.x q.x)) c.in-Some-Whole.plane c.put_row.new.self below_owns was written place
+    (λ p h is. let found = strip_at c.args.at p (length c.args.raws.now) h in apart found.0 found.1 (is ∙ ap (own c.args.i) found.2))
 
 pub returns-in-Some-Whole-clause-has : goal.returns-in-Some-Whole-clause-has
 returns-in-Some-Whole-clause-has c =
     let owns = c.args.self.now.owns.items in
     let below_owns : c.args.i < length owns = omega (arith, c.requires.live, c.args.self.now.owns.ok.0) in
     let was : own_at owns c.args.i ≡ Some (Whole c.in-Some-Whole.plane) = own_is owns c.args.i c.index_mut.result.now below_owns c.index_mut.ensures.value ∙ c.in-Some-Whole.is ∙ ap (λ o. Some o) c.in-Some-Whole.field-0-is in
-    let new : Option Own = Some (Whole c.put_row.new.self) in
-    let each : (place : Place) → option_map_or (has_in c.args.self.now.cells place.image place.at) (own_at (slice_set owns c.args.i new) place.image) false ≡ has_place c.args.self.now place = λ place.
-    ⊎_elim
-    (λ (same : place.image ≡ c.args.i).
-    ap (λ o. option_map_or (has_in c.args.self.now.cells place.image place.at) o false) (ap (own_at (slice_set owns c.args.i new)) same ∙ own_same owns c.args.i new below_owns)
-    ∙ ap (λ r. holds r place.at) c.put_row.ensures.rect
-    ∙ sym (ap (λ o. option_map_or (has_in c.args.self.now.cells place.image place.at) o false) (ap (own_at owns) same ∙ was)))
-    (λ (other : place.image ≢ c.args.i). ap (λ o. option_map_or (has_in c.args.self.now.cells place.image place.at) o false) (own_other owns c.args.i place.image new other))
-    (cases_eq place.image c.args.i) in
-    λ j place. each place j
+    let written : IsPlaneWritten (holds (strip c.args.at (length c.args.raws.now))) (λ q. slice_index c.args.raws.now (distance c.args.at.x q.x)) c.in-Some-Whole.plane c.put_row.new.self = record { rect = c.put_row.ensures.rect; chan = c.put_row.ensures.chan; pixels = c.put_row.ensures.pixels } in
+    λ j place. whole_has owns c.args.self.now.cells c.args.i (holds (strip c.args.at (length c.args.raws.now))) (λ q. slice_index c.args.raws.now (distance c.args.at.x q.x)) c.in-Some-Whole.plane c.put_row.new.self below_owns was written place j
 
 pub returns-in-Some-Whole-clause-forms : goal.returns-in-Some-Whole-clause-forms
 returns-in-Some-Whole-clause-forms c =
     let owns = c.args.self.now.owns.items in
     let below_owns : c.args.i < length owns = omega (arith, c.requires.live, c.args.self.now.owns.ok.0) in
     let was : own_at owns c.args.i ≡ Some (Whole c.in-Some-Whole.plane) = own_is owns c.args.i c.index_mut.result.now below_owns c.index_mut.ensures.value ∙ c.in-Some-Whole.is ∙ ap (λ o. Some o) c.in-Some-Whole.field-0-is in
-    let new : Option Own = Some (Whole c.put_row.new.self) in
-    let form : plane_form c.put_row.new.self ≡ plane_form c.in-Some-Whole.plane = λ j. record { r = c.put_row.ensures.rect j; chan = c.put_row.ensures.chan j; is_window = false } in
-    let each : (n : ℕ) → option_map form_in (own_at (slice_set owns c.args.i new) n) ≡ option_map form_in (own_at owns n) = λ n.
-    ⊎_elim
-    (λ (same : n ≡ c.args.i).
-    ap (option_map form_in) (ap (own_at (slice_set owns c.args.i new)) same ∙ own_same owns c.args.i new below_owns)
-    ∙ ap (λ f. Some f) form
-    ∙ sym (ap (option_map form_in) (ap (own_at owns) same ∙ was)))
-    (λ (other : n ≢ c.args.i). ap (option_map form_in) (own_other owns c.args.i n new other))
-    (cases_eq n c.args.i) in
-    λ j n. each n j
+    let written : IsPlaneWritten (holds (strip c.args.at (length c.args.raws.now))) (λ q. slice_index c.args.raws.now (distance c.args.at.x q.x)) c.in-Some-Whole.plane c.put_row.new.self = record { rect = c.put_row.ensures.rect; chan = c.put_row.ensures.chan; pixels = c.put_row.ensures.pixels } in
+    λ j n. whole_forms owns c.args.i (holds (strip c.args.at (length c.args.raws.now))) (λ q. slice_index c.args.raws.now (distance c.args.at.x q.x)) c.in-Some-Whole.plane c.put_row.new.self below_owns was written n j
