@@ -1,6 +1,9 @@
+pub mod Backs
 pub mod Bare
 pub mod Canvases
 pub mod Entering
+pub mod Gathering
+pub mod Going
 pub mod Grids
 pub mod Groups
 pub mod Keepers
@@ -9,10 +12,10 @@ pub mod Numbers
 pub mod Putting
 pub mod Raws
 pub mod Repeats
+pub mod Roomy
 pub mod Rows
 pub mod Setting
 pub mod Showing
 pub mod Sounding
-pub mod Surfaces
 pub mod Wholes
 pub mod Windows

@@ -73,7 +73,7 @@ impl Images {
         ensures err { OnErr result (IsUnchanged self.old self.new) }
         ensures steps { steps.new ≤ steps.old + 3 * area_of r }
     {
-        self.reserve()?;
+        self.reserve_window(&r)?;
         let below = self.lists.get(parent);
         if is_full(below) {
             return Err(Memory);

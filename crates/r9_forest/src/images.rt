@@ -1,7 +1,7 @@
 //! Images by number, and the numbers that came back.
 
-ghost use Rattle.std.specs.Prelude.{◌≡◌, ◌^◌, ◌<◌, ◌≤◌, ℕ, None, vec_capacity, IfOk, OnErr, OnOk};
-ghost use Rattle.r9_geom.specs.Geometry.{IsOrdered, IsRectNearBy};
+ghost use Rattle.std.specs.Prelude.{◌≡◌, ◌^◌, ◌<◌, ◌≤◌, ℕ, None, vec_capacity, vec_len, IfOk, OnErr, OnOk};
+ghost use Rattle.r9_geom.specs.Geometry.{area_of, IsOrdered, IsRectNearBy};
 ghost use Rattle.model_pixel.specs.Channels as channels;
 ghost use Rattle.model_forest.specs.Numbers.{next_number, no_numbers, taken};
 ghost use Rattle.model_forest.specs.World.{IsForest};
@@ -10,6 +10,7 @@ ghost use Rattle.r9_locate.specs.Table.{made, shape, HasRoom};
 ghost use Rattle.r9_pixels.specs.Kept.{room_of};
 ghost use Rattle.r9_locate.specs.Lists.{frame_image};
 ghost use Rattle.r9_forest.specs.Numbered.{bare_image, IsTaken};
+ghost use Rattle.r9_forest.specs.Room.{HasFillRoom};
 ghost use Rattle.r9_forest.specs.Sound.{IsSound};
 
 use r9_chan::Chan;
@@ -30,9 +31,12 @@ pub struct Images {
     pub(crate) pixels: KeptPixels,
     // The numbers that came back, the last one at the end. There is room for all.
     pub(crate) spare: Vec<u32>,
+    // Room for the pixels that fill what a window uncovers, for each window.
+    pub(crate) room: Vec<u32>,
     pub(crate) alloc: Global,
     ghost sound: { IsSound lists pixels spare.items },
     ghost back: { made lists ≤ vec_capacity spare },
+    ghost fills: { HasFillRoom (shape lists) (vec_len room) },
 }
 
 impl Images {
@@ -47,6 +51,7 @@ impl Images {
             lists: Lists::new(alloc),
             pixels: KeptPixels::new(alloc),
             spare: Vec::new(alloc),
+            room: Vec::new(alloc),
             alloc,
         }
     }
@@ -70,6 +75,25 @@ impl Images {
         Ok(())
     }
 
+    /// Makes room for a window of this rectangle under the next number, and for the pixels that fill what it uncovers.
+    pub(crate) fn reserve_window(&mut self, r: &Rect) -> Result<(), Memory>
+        requires { IsOrdered r.now }
+        ensures list { OnOk result ((i : ℕ) → i ≤ made self.new.lists → HasRoom self.new.lists i) }
+        ensures pixels { OnOk result (made self.new.lists < room_of self.new.pixels) }
+        ensures back { OnOk result (made self.new.lists < vec_capacity self.new.spare) }
+        ensures fills { OnOk result (area_of r.now ≤ vec_len self.new.room) }
+        ensures kept { IsUnchanged self.old self.new }
+    {
+        self.reserve()?;
+        let Some(count) = r.width().checked_mul(r.height()) else {
+            return Err(Memory);
+        };
+        if self.room.len() < count as usize {
+            self.room = zeros(self.alloc, count as usize)?;
+        }
+        Ok(())
+    }
+
     /// Makes an image of one raw pixel that stands nowhere, with all of r as its clip rectangle, under the next number.
     pub fn image(&mut self, r: Rect, chan: Chan, raw: u32) -> Result<u32, Memory>
         requires near { IsRectNearBy (2 ^ 34) r }
@@ -90,6 +114,13 @@ impl Images {
         self.pixels.insert_whole(number, plane);
         Ok(number)
     }
+}
+
+// So many pixels that are 0.
+fn zeros(alloc: Global, count: usize) -> Result<Vec<u32>, Memory>
+    ensures { IfOk result (λ room. vec_len room ≡ count) }
+{
+    Ok(vec![in alloc; 0; count]?)
 }
 
 /// Takes the number that came back last, or where none is back the next one.

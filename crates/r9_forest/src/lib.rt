@@ -2,8 +2,10 @@
 #![tactic(auto)]
 
 mod coming;
+mod filling;
 mod images;
 mod keeping;
+mod leaving;
 mod ordering;
 mod reading;
 mod telling;

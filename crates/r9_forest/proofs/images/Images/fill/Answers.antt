@@ -37,6 +37,7 @@ invariant_of-self g c =
           (λ p h. c.requires.raw)
           c.fill_area.ensures.written;
       back = was.back;
+      fills = was.fills;
     }
 
 pub returns-clause-world : goal.returns-clause-world

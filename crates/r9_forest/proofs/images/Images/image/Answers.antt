@@ -1,4 +1,4 @@
-use Rattle.std.proofs.Common.{◌≡◌, ◌∙◌, ℕ, ◌+◌, ◌<◌, ◌^◌, Option, Some, lit≤, sym, subst, ap, arith}
+use Rattle.std.proofs.Common.{◌≡◌, ◌∙◌, ℕ, ◌+◌, ◌<◌, ◌^◌, Option, Some, lit≤, refl, sym, subst, ap, arith}
 use Rattle.std.specs.Prelude.{option_map}
 use Rattle.r9_geom.proofs.GeometryLemmas.{rect_near_wider}
 use Rattle.model_pixel.specs.Channels.{is_descriptor}
@@ -15,11 +15,12 @@ use Rattle.r9_locate.specs.Lists.{frame_image}
 use Rattle.r9_locate.specs.Table.{made, shape, HasRoom}
 use Rattle.r9_pixels.specs.Kept.{kept_at}
 use Rattle.r9_forest.specs.Images.{numbers, world}
-use Rattle.r9_forest.specs.Numbered.{numbers_of, IsTaken}
+use Rattle.r9_forest.specs.Numbered.{bare_image, numbers_of, IsTaken}
 use Rattle.r9_forest.proofs.Making.{made_world, with_made}
 use Rattle.r9_relist.proofs.Near.{nearby}
 use Rattle.r9_forest.proofs.Numbers.{taken_next, IsNext}
 use Rattle.r9_forest.proofs.Sounding.{coming_forest, coming_sound, IsComing}
+use Rattle.r9_forest.proofs.Roomy.{fills_put, fills_same, needs_nothing}
 use Rattle.r9_forest.proofs.images.Images.image.Goals as goal
 use Rattle.r9_forest.proofs.images.Images.image.Goals.{After-insert_whole, After-whole_frame}
 
@@ -102,6 +103,9 @@ invariant_of-self c =
           c.reserve.new.self.sound (coming before) (next before) (listed after) c.insert.ensures.made (few before)
           c.insert_whole.ensures.kept c.insert_whole.ensures.has c.insert_whole.ensures.forms;
       back = omega (arith, c.insert.ensures.made, (next before).most, c.in_ok-reserve.ensures.back, c.take_number-number.ensures.room);
+      fills =
+          fills_same (with_made (shape c.reserve.new.self.lists) c.take_number-number.result c.args.r c.args.chan) (shape c.insert.new.self) c.reserve.new.self.room.len (listed after)
+          (fills_put (shape c.reserve.new.self.lists) c.reserve.new.self.room.len c.take_number-number.result (Some (bare_image c.args.r c.args.chan)) (needs_nothing c.reserve.new.self.room.len (Some (bare_image c.args.r c.args.chan)) refl) c.reserve.new.self.fills);
     }
 
 pub returns-clause-number : goal.returns-clause-number

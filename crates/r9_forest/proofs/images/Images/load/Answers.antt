@@ -54,6 +54,7 @@ invariant_of-self g c =
           (λ p h. row_pixel_below c.args.r (image_at here c.args.i).chan c.args.rows.now p (was.sound.forest.images c.args.i c.requires.live).chan (λ j. (c.type_inv.rows j).fits))
           written;
       back = was.back;
+      fills = was.fills;
     }
 
 pub returns-clause-world : goal.returns-clause-world

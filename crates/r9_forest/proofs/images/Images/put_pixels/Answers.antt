@@ -40,6 +40,7 @@ invariant_of-self g c =
           (λ p h. c.requires.raws (number_of r p) (subst (λ n. number_of r p < n) (sym c.requires.pixels) (number_below r p h)))
           c.put_rows.ensures.written;
       back = was.back;
+      fills = was.fills;
     }
 
 pub returns-clause-world : goal.returns-clause-world

@@ -4,6 +4,8 @@ use Rattle.r9_pixels.specs.Kept.{kept_at}
 use Rattle.r9_forest.specs.Images.{numbers, world}
 use Rattle.r9_forest.specs.Numbered.{numbers_of}
 use Rattle.r9_forest.specs.Sound.{IsSound}
+use Rattle.r9_locate.specs.Table.{shape}
+use Rattle.r9_forest.proofs.Roomy.{fills_same}
 use Rattle.r9_forest.proofs.Sounding.{sound_same}
 use Rattle.r9_forest.proofs.images.Images.reserve.Goals as goal
 
@@ -13,6 +15,7 @@ invariant_of-self c =
     record {
       sound = sound_same was.lists c.reserve.new.self was.pixels was.pixels was.spare.items c.reserve.ensures.world c.reserve.ensures.made (record { kept = refl; has = refl; forms = refl }) was.sound;
       back = omega (arith, c.reserve.ensures.made, was.back);
+      fills = fills_same (shape was.lists) (shape c.reserve.new.self) was.room.len c.reserve.ensures.world was.fills;
     }
 
 pub returns-in_err-reserve-clause-kept : goal.returns-in_err-reserve-clause-kept
@@ -28,6 +31,7 @@ invariant_of-self-in-Break-branch-2 c =
     record {
       sound = sound_same was.lists c.reserve.new.self was.pixels c.make_room.new.self was.spare.items c.reserve.ensures.world c.reserve.ensures.made c.make_room.ensures.kept was.sound;
       back = omega (arith, c.reserve.ensures.made, was.back);
+      fills = fills_same (shape was.lists) (shape c.reserve.new.self) was.room.len c.reserve.ensures.world was.fills;
     }
 
 pub returns-in_err-make_room-clause-kept : goal.returns-in_err-make_room-clause-kept
@@ -45,6 +49,7 @@ invariant_of-self-2 c =
           subst (IsSound c.reserve.new.self c.make_room.new.self) (sym c.reserve-2.ensures.items)
           (sound_same was.lists c.reserve.new.self was.pixels c.make_room.new.self was.spare.items c.reserve.ensures.world c.reserve.ensures.made c.make_room.ensures.kept was.sound);
       back = omega (arith, c.reserve.ensures.made, was.back, c.reserve-2.ensures.capacity);
+      fills = fills_same (shape was.lists) (shape c.reserve.new.self) was.room.len c.reserve.ensures.world was.fills;
     }
 
 pub returns-in_err-reserve-2-clause-kept : goal.returns-in_err-reserve-2-clause-kept

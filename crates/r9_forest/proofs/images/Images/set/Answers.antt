@@ -1,4 +1,5 @@
 use Rattle.std.proofs.Common.{◌∙◌, ap, arith}
+use Rattle.model_forest.specs.Steps.{after_set}
 use Rattle.model_forest.specs.World.{World}
 use Rattle.model_kept.specs.Keeping.{with_kept}
 use Rattle.r9_pixels.specs.Kept.{kept_at}
@@ -7,6 +8,7 @@ use Rattle.r9_forest.specs.Numbered.{numbers_of}
 use Rattle.r9_forest.proofs.Canvases.{bare_canvas}
 use Rattle.r9_forest.proofs.Setting.{set_shown, set_sound}
 use Rattle.r9_locate.specs.Table.{shape}
+use Rattle.r9_forest.proofs.Roomy.{fills_same, fills_set}
 use Rattle.r9_forest.proofs.images.Images.set.Goals as goal
 
 pub set-requires : goal.set-requires
@@ -20,6 +22,9 @@ invariant_of-self c =
     record {
       sound = set_sound was.lists c.set.new.self was.pixels was.spare.items c.args.i c.args.repl c.args.clipr c.requires.live c.requires.points c.requires.near c.set.ensures.world c.set.ensures.made was.sound;
       back = omega (arith, c.set.ensures.made, was.back);
+      fills =
+          fills_same (after_set (shape was.lists) c.args.i c.args.repl c.args.clipr) (shape c.set.new.self) was.room.len c.set.ensures.world
+          (fills_set (shape was.lists) was.room.len c.args.i c.args.repl c.args.clipr was.fills);
     }
 
 pub returns-clause-world : goal.returns-clause-world

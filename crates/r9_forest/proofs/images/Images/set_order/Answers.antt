@@ -1,10 +1,10 @@
-use Rattle.std.proofs.Common.{◌≡◌, ◌∙◌, ◌≤◌, ℕ, All, List, refl, sym, subst, ap, arith}
+use Rattle.std.proofs.Common.{◌≡◌, ◌∙◌, ◌≤◌, ℕ, All, List, Some, refl, sym, subst, ap, arith}
 use Rattle.r9_geom.specs.Geometry.{area_of}
 use Rattle.r9_forest.proofs.Canvases.{bare_canvas}
 use Rattle.r9_forest.proofs.Entering.{on_err}
 use Rattle.model_forest.specs.declared.Window.{Window}
 use Rattle.model_forest.specs.Stack.{with_windows}
-use Rattle.model_forest.specs.World.{IsForest}
+use Rattle.model_forest.specs.World.{image_at, IsForest}
 use Rattle.model_kept.specs.Keeping.{with_kept, Place}
 use Rattle.model_kept.specs.Restack.{with_list}
 use Rattle.r9_locate.specs.Table.{shape}
@@ -14,6 +14,7 @@ use Rattle.r9_forest.specs.Images.{numbers, world}
 use Rattle.r9_forest.specs.Numbered.{numbers_of}
 use Rattle.r9_relist.proofs.Relisted.{relist_on}
 use Rattle.r9_forest.proofs.Sounding.{list_sound, sound_forest, sound_list, sound_same}
+use Rattle.r9_forest.proofs.Roomy.{fills_put, fills_same}
 use Rattle.r9_forest.proofs.images.Images.set_order.Given.{Over}
 use Rattle.r9_forest.proofs.images.Images.set_order.Goals as goal
 use Rattle.r9_forest.proofs.images.Images.set_order.Goals.{After-reorder_windows, Start}
@@ -60,6 +61,7 @@ pub invariant_of-self : goal.invariant_of-self
 invariant_of-self g c = record {
   sound = sound_same c.args.self.now.lists c.args.self.now.lists c.args.self.now.pixels c.reserve_hidden.new.self c.args.self.now.spare.items refl refl c.reserve_hidden.ensures.kept c.args.self.now.sound;
   back = c.args.self.now.back;
+  fills = c.args.self.now.fills;
 }
 
 pub returns-in_err-reserve_hidden-clause-numbers : goal.returns-in_err-reserve_hidden-clause-numbers
@@ -81,6 +83,9 @@ invariant_of-self-2 g c =
           (subst IsForest (sym (after g (goal.at.invariant_of-self-2 g c).After-reorder_windows)) c.requires.forest)
           c.reorder_windows.ensures.cells c.reorder_windows.ensures.forms;
       back = omega (arith, c.reorder_windows.ensures.made, was.back);
+      fills =
+          fills_same (with_list (shape was.lists) c.args.parent c.args.list.items) (shape c.reorder_windows.new.lists) was.room.len c.reorder_windows.ensures.lists
+          (fills_put (shape was.lists) was.room.len c.args.parent (Some (record (image_at (shape was.lists) c.args.parent) { windows = c.args.list.items })) (was.fills c.args.parent) was.fills);
     }
 
 pub returns-clause-world : goal.returns-clause-world

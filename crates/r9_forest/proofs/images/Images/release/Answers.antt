@@ -1,0 +1,26 @@
+use Rattle.std.proofs.Common.{◌∙◌, sym, ap}
+use Rattle.std.specs.Prelude.{option_map}
+use Rattle.model_forest.specs.declared.Standing.{Standing}
+use Rattle.model_forest.specs.World.{Image, image_at}
+use Rattle.r9_locate.specs.Table.{shape}
+use Rattle.r9_pixels.specs.Kept.{kept_at}
+use Rattle.r9_forest.specs.Images.{world}
+use Rattle.r9_forest.proofs.Canvases.{bare_canvas}
+use Rattle.r9_forest.proofs.images.Images.release.Goals as goal
+
+pub get-requires : goal.get-requires
+unfolding world
+get-requires g c = (bare_canvas (shape c.args.self.now.lists) (kept_at c.args.self.now.pixels)).live c.args.i ∙ c.requires.live
+
+pub take_out-requires-clause-stands : goal.take_out-requires-clause-stands
+unfolding world
+take_out-requires-clause-stands g c =
+    sym ((bare_canvas (shape c.args.self.now.lists) (kept_at c.args.self.now.pixels)).standing c.args.i)
+    ∙ ap (λ (image : Image). image.standing) c.get.ensures ∙ c.in-Some.is
+
+pub take_root-requires-clause-nowhere : goal.take_root-requires-clause-nowhere
+unfolding world
+take_root-requires-clause-nowhere g c =
+    ap (option_map (λ (s : Standing). s.parent))
+    (sym ((bare_canvas (shape c.args.self.now.lists) (kept_at c.args.self.now.pixels)).standing c.args.i)
+    ∙ ap (λ (image : Image). image.standing) c.get.ensures ∙ c.in-None.is)

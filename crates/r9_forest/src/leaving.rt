@@ -1,0 +1,73 @@
+//! Images that go.
+
+ghost use Rattle.std.specs.Prelude.{◌≡◌, ◌+◌, ◌*◌, ◌≤◌, None, Some};
+ghost use Rattle.r9_geom.specs.Geometry.{area_of};
+ghost use Rattle.model_forest.specs.Numbers.{given_back};
+ghost use Rattle.model_forest.specs.World.{image_at, parent_of, CanGo};
+ghost use Rattle.model_forest.specs.Steps.{after_release};
+
+use super::images::Images;
+use model_forest::Standing;
+use r9_fills::{Gathered, Picture};
+use r9_locate::place_among;
+use r9_relist::{common, take_away, take_whole};
+use r9_steps::Steps;
+use std::sync::ledger::Ledger;
+
+impl Images {
+    ghost use Rattle.r9_forest.specs.Images.{numbers, world};
+
+    /// Takes an image away on which nothing stands and which fills for no window: first from the list that it stands in,
+    /// where the fill then shows, as it was before. It takes no memory. At most two pixels are written for each point of the
+    /// image.
+    pub fn release<L: Ledger>(&mut self, i: u32, steps: &mut Steps<L>)
+        requires { CanGo (world self.old) i }
+        ensures world { world self.new ≡ after_release (world self.old) i }
+        ensures back { numbers self.new ≡ given_back (numbers self.old) i }
+        ensures steps { steps.new ≤ steps.old + 2 * area_of (image_at (world self.old) i).r }
+    {
+        match self.lists.get(i).standing {
+            Some(standing) => self.take_out(i, standing, steps),
+            None => self.take_root(i),
+        }
+    }
+
+    // Takes a window away, where its fill then shows.
+    fn take_out<L: Ledger>(&mut self, i: u32, standing: Standing, steps: &mut Steps<L>)
+        requires can { CanGo (world self.old) i }
+        requires stands { (image_at (world self.old) i).standing ≡ Some standing }
+        ensures world { world self.new ≡ after_release (world self.old) i }
+        ensures back { numbers self.new ≡ given_back (numbers self.old) i }
+        ensures steps { steps.new ≤ steps.old + 2 * area_of (image_at (world self.old) i).r }
+    {
+        let below = self.lists.get(standing.parent);
+        let chan = below.chan;
+        let area = common(&place_among(&below.windows, i), &below.r);
+        self.gather(standing.fill, &chan, &area);
+        // Nothing asks for its own pixels.
+        let fill = Picture::new(area, &self.room);
+        let gathered = Gathered { given: fill, fill };
+        take_away(
+            self.alloc,
+            &mut self.lists,
+            &mut self.pixels,
+            &gathered,
+            standing.parent,
+            i,
+            &area,
+            steps,
+        );
+        let _ = self.spare.push(i);
+    }
+
+    // Takes an image away that stands nowhere.
+    fn take_root(&mut self, i: u32)
+        requires can { CanGo (world self.old) i }
+        requires nowhere { parent_of (world self.old) i ≡ None }
+        ensures world { world self.new ≡ after_release (world self.old) i }
+        ensures back { numbers self.new ≡ given_back (numbers self.old) i }
+    {
+        take_whole(&mut self.lists, &mut self.pixels, i);
+        let _ = self.spare.push(i);
+    }
+}
