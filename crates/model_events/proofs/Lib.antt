@@ -1,3 +1,4 @@
 pub mod Messages
 pub mod Strangers
 pub mod Leaving
+pub mod Opening

@@ -1,0 +1,22 @@
+-- At the opening both worlds are the same to a session.
+use Rattle.std.proofs.Common.{ℕ, List, Option, None, refl}
+use Rattle.r9_event.specs.declared.event.Opening.{Opening}
+use Rattle.model_window.specs.Pane.{Pane}
+use Rattle.model_rio.specs.Table.{Table}
+use Rattle.model_rio.proofs.Soundness.{opened_sound}
+use Rattle.model_draw.specs.World as draw
+use Rattle.model_fitting.proofs.Opening.{first_orderly, first_shows}
+use Rattle.model_world.specs.World.{display_of, opened}
+use Rattle.model_alone.specs.Lone.{first_lone_world}
+use Rattle.model_followed.specs.Devices.{AreNamesFree, IsDeviceLike}
+use Rattle.model_followed.specs.Following.{SameDesktops}
+
+pub first_same : (c : ℕ) (Like : Option (ℕ × List ℕ) → draw.World → draw.World → Type 0) (Named : draw.World → Table → List (ℕ × Pane) → Type 0) → IsDeviceLike c Like → AreNamesFree Named → (opening : Opening)
+    → SameDesktops Like Named None (opened opening).desktop (first_lone_world opening).desktop
+first_same c Like Named laws names opening = record {
+  drawn = record { sound = opened_sound (display_of opening).r; orderly = first_orderly (display_of opening); shows = first_shows (display_of opening) };
+  order = tt;
+  names = names.start (display_of opening);
+  window = refl;
+  device = laws.start (display_of opening);
+}
