@@ -86,7 +86,7 @@ module _ (part : Part) where
       subst (Adds b) (same_Ok _ next made.1) (record { book = book_then part b _ _ slot entry; numbers = numbered_still b _ refl refl refl numbers })
 
   pub tie_adds : (k id : ℕ) → (part.id k id → ⊥) → (part.client k → ⊥) → (b next : Book) (name : List ℕ) → AreNumbered b → ((i : ℕ) → image b k id ≡ Ok i → part.image i → ⊥)
-      → (is_kept_name k name ≡ false → part.name name → ⊥) → tie b k id name ≡ Ok next → Adds b next
+      → ((is_some (tie_of b name) || is_kept_name k name) ≡ false → part.name name → ⊥) → tie b k id name ≡ Ok next → Adds b next
   unfolding tie
   tie_adds k id none_id none_client b next name numbers beside free_name tied =
       let looked = then_ok (image b k id) _ next tied in
@@ -94,7 +94,7 @@ module _ (part : Part) where
       let t : Tie = record { name = name; number = b.next_tie; image = looked.0; client = k; id = id } in
       subst (Adds b) (same_Ok _ next free.1) (record {
         book = tie_put part b t numbers refl (other t refl refl (beside looked.0 looked.1))
-            (free_name (second_false (is_some (tie_of b name)) _ free.0));
+            (free_name free.0);
         numbers = numbered_tied b t refl numbers;
       })
     where

@@ -108,9 +108,9 @@ module _ (w : World) (furnished : IsFurnished w) where
   beside_nothing window counted = record { counted = counted; id = record { ids = λ k x none. absurd none; display = counted }; none = λ none. none }
 
   other_order : (order : Order) → IsCounted order → IsOtherOrder nothing order
-  other_order (Make window host r name hide depth) counted = (beside_nothing window counted, λ none. none)
+  other_order (Make window host r name hide depth) counted = beside_nothing window counted
   other_order (Place window at) counted = beside_nothing window counted
-  other_order (Replace window host r name keep hidden) counted = (beside_nothing window counted, λ none. none)
+  other_order (Replace window host r name keep hidden) counted = beside_nothing window counted
   other_order (Raise window) counted = beside_nothing window counted
   other_order (Lower window) counted = beside_nothing window counted
   other_order (Drop window) counted = beside_nothing window counted
@@ -119,4 +119,4 @@ module _ (w : World) (furnished : IsFurnished w) where
 
   pub ordered_furnished : IsOrderly w → (order : Order) → IsCounted order → IsFurnished (ordered w order)
   ordered_furnished orderly order counted =
-      furnished_still _ (ordered_stays nothing (record { screens = λ id none. none; client = λ none. none }) w order nothing_apart furnished.numbers orderly (other_order order counted))
+      furnished_still _ (ordered_stays nothing (record { screens = λ id none. none; client = λ none. none }) w order nothing_apart furnished.numbers orderly (λ name none. absurd none) (other_order order counted))

@@ -23,7 +23,7 @@ use Rattle.model_world.specs.Whole.{client}
 use Rattle.model_agreement.specs.Agreement.{SameOption}
 use Rattle.model_shown.specs.Showing.{IsOrderly, IsOut}
 use Rattle.model_shown.proofs.Tests.{find-passes, first_true, not-true, not_both, same, split}
-use Rattle.model_likeness.specs.Likeness.{AreLike, AreLikeBooks, IsNamed, IsOfSession, IsOwned, SameId, SamePlace, SameScreenId, SameTie, is_root}
+use Rattle.model_likeness.specs.Likeness.{AreLike, AreLikeBooks, IsNamed, IsOfSession, IsOwned, SameId, SamePlace, SameScreenId, SameTie, display_id, is_root}
 use Rattle.model_likeness.proofs.Ids.{no_manager, owner_manager, owner_own}
 use Rattle.model_likeness.proofs.Shapes.{shape_then}
 use Rattle.model_making.specs.Standing.{IsWhole, standing_on}
@@ -107,8 +107,10 @@ module _ (Same SameScreen : ℕ → ℕ → Type 0) (c : ℕ) (window : Option (
     serial_counted serial name is zero =
         let at : window ≡ Some (0, name) = is ∙ ap (λ (n : ℕ). Some (n, name)) zero in
         let both = (like.books.hold 0 name at).id in
-        subst (λ (o : Option ImageId). SameOption (SameId Same a.book b.book) o None) like.display.named
-        (subst (λ (o : Option ImageId). SameOption (SameId Same a.book b.book) (image_id a.book manager 0) o) like.display.named_alone both)
+        let display : SameId Same a.book b.book display_id display_id =
+        subst (λ (o : Option ImageId). SameOption (SameId Same a.book b.book) o (Some display_id)) like.display.named
+        (subst (λ (o : Option ImageId). SameOption (SameId Same a.book b.book) (image_id a.book manager 0) o) like.display.named_alone both) in
+        like.display.left 0 0 display.image refl
 
     shows_same : (k x : ℕ) (e : ImageId) → IsOwned c window (record { client = k; id = x; image = 0; tie = None }) → image_id a.book k x ≡ Some e → (j : ℕ) × Same e.image j
     shows_same k x e owned found = by owned

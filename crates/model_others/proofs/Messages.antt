@@ -1,6 +1,6 @@
 -- Each message of a connection outside a part leaves the part as it is.
 use Rattle.std.proofs.Common.{◌≡◌, ◌+◌, ◌&&◌, ◌||◌, ℕ, Bool, true, false, ℤ, List, [], ◌∷◌, ◌++◌, Option, Some, None, Ok, Err, refl, sym, ap, subst}
-use Rattle.std.specs.Prelude.{◌==◌, IfOk, length, map, nat_lt, not, if◌then◌else◌}
+use Rattle.std.specs.Prelude.{◌==◌, IfOk, is_some, length, map, nat_lt, not, if◌then◌else◌}
 use Rattle.std.specs.Int.{w32, from_le_bytes}
 use Rattle.std.specs.Option.{option_map_or}
 use Rattle.std.specs.List.{fold}
@@ -18,7 +18,7 @@ use Rattle.model_fonts.specs.Font.{layout, with_cell}
 use Rattle.model_forest.specs.Draw.{Drawing, after_draw}
 use Rattle.model_forest.specs.Stack.{after_lower, after_raise}
 use Rattle.model_forest.specs.Steps.{after_origin, after_set}
-use Rattle.model_images.specs.Book.{Book, add_id, add_named, add_screen, by_name, has_screen, image_of, is_image_id_taken, is_kept_name, is_screen_id_taken, new_screen, public, tie, untie}
+use Rattle.model_images.specs.Book.{Book, add_id, add_named, add_screen, by_name, has_screen, image_of, is_image_id_taken, is_kept_name, is_screen_id_taken, new_screen, public, tie, tie_of, untie}
 use Rattle.model_images.specs.Release.{free_id, free_screen, leave}
 use Rattle.model_draw.specs.World.{Client, World, after_connect, after_freed, after_leave, at_number, client_of, is_display, look, new_client, next_image, with_book, with_client, with_images}
 use Rattle.model_draw.specs.Making.{allocate, clashes, farthest, fill_raw, flag, free_image, free_screen_id, is_near_rect, is_too_large, is_window, make_screen, screen_named, set_clip, share_screen, with_made, with_new_image}
@@ -29,7 +29,7 @@ use Rattle.model_draw.specs.Writing.{background_drawing, character, font_of, is_
 use Rattle.model_draw.specs.Act.{act}
 use Rattle.model_draw.specs.Files.{is_known, read_data, write_ctl}
 use Rattle.model_shown.specs.Showing.{IsOrderly}
-use Rattle.model_shown.proofs.Tests.{after_if, after_step, not_both, then_ok}
+use Rattle.model_shown.proofs.Tests.{after_if, after_step, not_both, second_false, then_ok}
 use Rattle.model_likeness.specs.Likeness.{AreNumbered}
 use Rattle.model_likeness.proofs.Shapes.{keeps_draw, keeps_draws, keeps_load, keeps_lower, keeps_origin, keeps_raise, keeps_set}
 use Rattle.model_apart.specs.Apart.{IsApart, IsOutside, LooksBeside, Part, Stays}
@@ -189,7 +189,7 @@ module _ (part : Part) (k : ℕ) (outside : IsOutside part k) (w : World) (apart
       after_step _ (if tied then tie w.book k id name else untie w.book k id name) _ (λ book e. by tied book e)))
     where
       by : (b : Bool) (book : Book) → (if b then tie w.book k id name else untie w.book k id name) ≡ Ok book → Stays part w (with_book w book)
-      by true book e = adds book (tie_adds part k id (outside.none id) outside.client w.book book name numbers (looked_beside id) (λ kept is. not_both (is_kept_name k name) (outside.names name is) kept) e)
+      by true book e = adds book (tie_adds part k id (outside.none id) outside.client w.book book name numbers (looked_beside id) (λ free is. not_both (is_kept_name k name) (outside.names name is) (second_false (is_some (tie_of w.book name)) _ free)) e)
       by false book e = adds book (untie_adds part k outside w.book book id name apart.book numbers e)
 
   use_name_stays : (id : ℕ) (name : List ℕ) → (part.name name → ⊥) → Still (use_name k w id name)

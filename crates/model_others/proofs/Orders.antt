@@ -13,7 +13,7 @@ use Rattle.model_text.specs.Outcome.{Outcome, ◌>>=◌, refuse_if}
 use Rattle.model_pixel.specs.Channels.{colour_of, pack}
 use Rattle.model_images.specs.declared.ImageId.{ImageId}
 use Rattle.model_images.specs.declared.ScreenId.{ScreenId}
-use Rattle.model_images.specs.Book.{Book, add_id, fill_of, image, image_id, image_of, is_stale, new_screen, screen_id, tie}
+use Rattle.model_images.specs.Book.{Book, add_id, fill_of, image, image_id, image_of, is_stale, new_screen, screen_id, tie, tie_of}
 use Rattle.model_images.specs.Release.{Freed, free_id, free_screen, nothing_freed}
 use Rattle.model_forest.specs.World.{World as Images}
 use Rattle.model_forest.specs.Draw.{after_fill}
@@ -23,18 +23,18 @@ use Rattle.model_draw.specs.World.{World, after_freed, at_number, next_image, wi
 use Rattle.model_draw.specs.Making.{is_window, with_made}
 use Rattle.model_draw.specs.Orders.{after_order, bordered, corner, drop_window, fits, has_window, host_rio, image_freed, image_shown, inside_border, make_window, manager, new_white, next_white, ordered, place_window, replace_window, rio_screen, screen_freed, stands_on, white, with_window, with_window_id, with_window_name}
 use Rattle.model_shown.specs.Showing.{IsOrderly}
-use Rattle.model_shown.proofs.Tests.{find-passes, not-true, split, value_ok}
+use Rattle.model_shown.proofs.Tests.{find-passes, first_false, not-true, not_both, split, value_ok}
 use Rattle.model_shown.proofs.Following.{none}
 use Rattle.model_lasting.proofs.Freeing.{free_screen_follows}
 use Rattle.model_likeness.specs.Likeness.{AreNumbered}
 use Rattle.model_likeness.proofs.Shapes.{Keeps, keeps_itself, keeps_list, keeps_lower, keeps_origin, keeps_other, keeps_put, keeps_raise, keeps_then, keeps_window, keeps_windows}
 use Rattle.model_making.proofs.Entries.{all_found}
-use Rattle.model_apart.specs.Apart.{IsApart, IsApartBook, IsHeld, IsOtherScreen, Part, Stays, StaysInImages}
+use Rattle.model_apart.specs.Apart.{IsApart, IsApartBook, IsHeld, IsOtherScreen, Part, Stays, StaysInBook, StaysInImages}
 use Rattle.model_apart.proofs.Books.{book_apart, book_itself, book_then}
 use Rattle.model_apart.proofs.Devices.{books_stay, freed_stays, images_stay, made_stays, stays_apart, stays_itself, stays_then}
 use Rattle.model_apart.proofs.Releasing.{Goes, free_id_goes, free_screen_goes}
 use Rattle.model_apart.proofs.Worlds.{canvas_stays, fill_stays, images_itself, images_then, lower_stays, origin_stays, raise_stays, replace_on_stays, replace_stays, together_still, window_stays}
-use Rattle.model_others.specs.Others.{IsManaged, IsOtherOrder, IsOtherWindow}
+use Rattle.model_others.specs.Others.{AreTied, IsManaged, IsOtherOrder, IsOtherWindow}
 use Rattle.model_others.proofs.Adding.{Adds, id_adds, next_beside, screen_adds, tie_adds}
 use Rattle.model_apart.proofs.Looking.{ground_beside, not_bare, own_beside}
 use Rattle.model_others.proofs.Messages.{leave_stays}
@@ -81,15 +81,18 @@ module _ (part : Part) (managed : IsManaged part) where
 
   -- ---- a window's id and name
 
+  pub tied_still : (old new : Book) → AreTied part old → StaysInBook part old new → AreTied part new
+  tied_still old new names stays name is = ap is_some (stays.ties name is) ∙ names name is
+
   adds_nothing : (b : Book) → AreNumbered b → Adds part b b
   adds_nothing b numbers = record { book = book_itself part b; numbers = numbers }
 
-  window_stays_in : (w : World) (window i s : ℕ) (name : List ℕ) → IsApart part w → AreNumbered w.book → IsOtherWindow part window → (part.name name → ⊥) → (IsHeld part i → ⊥) → (part.screen s → ⊥)
+  window_stays_in : (w : World) (window i s : ℕ) (name : List ℕ) → IsApart part w → AreNumbered w.book → IsOtherWindow part window → AreTied part w.book → (IsHeld part i → ⊥) → (part.screen s → ⊥)
       → Stays part w (with_window w window i s name)
-  window_stays_in w window i s name apart numbers other none_name none_image none_screen =
+  window_stays_in w window i s name apart numbers other names none_image none_screen =
       let one = by_id (add_id w.book manager window i (Some s)) refl in
       let b = with_window_id w.book window i s in
-      let two = by_tie b (book_apart part w.book b apart.book one.book) one.numbers (tie b manager window name) refl in
+      let two = by_tie b (book_apart part w.book b apart.book one.book) one.numbers (tied_still w.book b names one.book) (tie b manager window name) refl in
       books_stay part w (with_window_name b window name) (book_then part w.book b (with_window_name b window name) one.book two.book) (λ _. two.numbers)
     where
       same : (t : ℕ) → ◌≡◌ {A = Option ℕ} (Some s) (Some t) → s ≡ t
@@ -99,14 +102,14 @@ module _ (part : Part) (managed : IsManaged part) where
       by_id (Ok b) added = id_adds part manager window other.id w.book b i (Some s) numbers none_image (λ t at is. none_screen (subst part.screen (sym (same t at)) is)) added
       by_id (Err n) added = adds_nothing w.book numbers
 
-      by_tie : (b : Book) → IsApartBook part b → AreNumbered b → (o : Outcome Book) → tie b manager window name ≡ o → Adds part b (result_unwrap_or o b)
-      by_tie b apart numbers (Ok next) tied =
+      by_tie : (b : Book) → IsApartBook part b → AreNumbered b → AreTied part b → (o : Outcome Book) → tie b manager window name ≡ o → Adds part b (result_unwrap_or o b)
+      by_tie b apart numbers names (Ok next) tied =
           tie_adds part manager window other.none managed.client b next name numbers
           (λ j looked is.
           let shown = shown_of b window j looked in
           own_beside part manager window other.counted other.none b shown.0 apart shown.1 (subst part.image (sym shown.2) is))
-          (λ _ is. none_name is) tied
-      by_tie b apart numbers (Err n) tied = adds_nothing b numbers
+          (λ free is. not_both (is_some (tie_of b name)) (names name is) (first_false (is_some (tie_of b name)) _ free)) tied
+      by_tie b apart numbers names (Err n) tied = adds_nothing b numbers
 
   -- ---- what is freed
 
@@ -201,10 +204,10 @@ module _ (part : Part) (managed : IsManaged part) where
 
   -- ---- each order
 
-  make_stays : (w : World) (window host : ℕ) (r : Rect) (name : List ℕ) (hide : Bool) → IsApart part w → AreNumbered w.book → IsOtherWindow part window → (part.name name → ⊥)
+  make_stays : (w : World) (window host : ℕ) (r : Rect) (name : List ℕ) (hide : Bool) → IsApart part w → AreNumbered w.book → IsOtherWindow part window → AreTied part w.book
       → is_some (screen_id w.book manager host) ≡ true → Stays part w (make_window w window host r name hide)
   unfolding make_window
-  make_stays w window host r name hide apart numbers other none there =
+  make_stays w window host r name hide apart numbers other names there =
       let s = rio_screen w host in
       let i = next_image w in
       let new = new_white w s r hide in
@@ -213,12 +216,12 @@ module _ (part : Part) (managed : IsManaged part) where
       let none_screen = rio_other w host apart there in
       let one : Stays part w taken = made_stays part w images (images_then part w.images new images (white_stays w apart s r hide none_screen) (bordered_stays w apart new))
       (keeps_then w.images new images 0 (white_keeps w apart s r hide) (bordered_keeps w apart new)) in
-      stays_then part w taken _ one (window_stays_in taken window i s name (stays_apart part w taken apart one) numbers other none (next_beside part w apart) none_screen)
+      stays_then part w taken _ one (window_stays_in taken window i s name (stays_apart part w taken apart one) numbers other names (next_beside part w apart) none_screen)
 
-  replace_window_stays : (w : World) (window host : ℕ) (r : Rect) (name : List ℕ) (keep hidden : Bool) → IsApart part w → AreNumbered w.book → IsOtherWindow part window → (part.name name → ⊥)
+  replace_window_stays : (w : World) (window host : ℕ) (r : Rect) (name : List ℕ) (keep hidden : Bool) → IsApart part w → AreNumbered w.book → IsOtherWindow part window → AreTied part w.book
       → is_some (screen_id w.book manager host) ≡ true → Stays part w (replace_window w window host r name keep hidden)
   unfolding replace_window
-  replace_window_stays w window host r name keep hidden apart numbers other none there =
+  replace_window_stays w window host r name keep hidden apart numbers other names there =
       let s = rio_screen w host in
       let i = next_image w in
       let new = next_white w (image_shown w window) s r keep hidden in
@@ -234,7 +237,7 @@ module _ (part : Part) (managed : IsManaged part) where
       let apart_taken = stays_apart part w taken apart one in
       let two : Stays part taken left = freed_stays part taken freed apart_taken goes in
       stays_then part w taken _ one
-      (stays_then part taken left _ two (window_stays_in left window i s name (stays_apart part taken left apart_taken two) (two.numbers numbers) other none (next_beside part w apart) none_screen))
+      (stays_then part taken left _ two (window_stays_in left window i s name (stays_apart part taken left apart_taken two) (two.numbers numbers) other (tied_still w.book left.book names two.book) (next_beside part w apart) none_screen))
     where
       kept_stays : (keep : Bool) (new : Images) → StaysInImages part new (if keep then new else bordered new (next_image w))
       kept_stays true new = images_itself part new
@@ -311,22 +314,22 @@ module _ (part : Part) (managed : IsManaged part) where
       head [] = 0
       head (x ∷ xs) = x
 
-  order_stays : (w : World) (order : Order) → IsApart part w → AreNumbered w.book → IsOrderly w → IsOtherOrder part order → fits w order ≡ true → Stays part w (after_order w order)
-  order_stays w (Make window host r name hide depth) apart numbers orderly other may = make_stays w window host r name hide apart numbers other.0 other.1 (split _ _ (split _ _ may).0).0
-  order_stays w (Place window at) apart numbers orderly other may = place_stays w window at apart other (stands w window (split _ _ may).0)
-  order_stays w (Replace window host r name keep hidden) apart numbers orderly other may =
-      replace_window_stays w window host r name keep hidden apart numbers other.0 other.1 (split _ _ (split _ _ (split _ _ may).0).0).1
-  order_stays w (Raise window) apart numbers orderly other may =
+  order_stays : (w : World) (order : Order) → IsApart part w → AreNumbered w.book → IsOrderly w → AreTied part w.book → IsOtherOrder part order → fits w order ≡ true → Stays part w (after_order w order)
+  order_stays w (Make window host r name hide depth) apart numbers orderly names other may = make_stays w window host r name hide apart numbers other names (split _ _ (split _ _ may).0).0
+  order_stays w (Place window at) apart numbers orderly names other may = place_stays w window at apart other (stands w window (split _ _ may).0)
+  order_stays w (Replace window host r name keep hidden) apart numbers orderly names other may =
+      replace_window_stays w window host r name keep hidden apart numbers other names (split _ _ (split _ _ (split _ _ may).0).0).1
+  order_stays w (Raise window) apart numbers orderly names other may =
       images_stay part w _ (raise_stays part w.images (image_shown w window ∷ []) apart.stands apart.book.display (λ i rest is. first w window apart other i rest is)) (keeps_raise w.images (image_shown w window ∷ []) 0)
-  order_stays w (Lower window) apart numbers orderly other may =
+  order_stays w (Lower window) apart numbers orderly names other may =
       images_stay part w _ (lower_stays part w.images (image_shown w window ∷ []) apart.stands apart.book.display (λ i rest is. first w window apart other i rest is)) (keeps_lower w.images (image_shown w window ∷ []) 0)
-  order_stays w (Drop window) apart numbers orderly other may = drop_stays w window apart numbers other (stands w window may)
-  order_stays w (Host window fill) apart numbers orderly other may = host_stays w window fill apart numbers orderly other (split _ _ (split _ _ may).0).1
-  order_stays w (Leave client) apart numbers orderly other may = leave_stays part client other w apart numbers
+  order_stays w (Drop window) apart numbers orderly names other may = drop_stays w window apart numbers other (stands w window may)
+  order_stays w (Host window fill) apart numbers orderly names other may = host_stays w window fill apart numbers orderly other (split _ _ (split _ _ may).0).1
+  order_stays w (Leave client) apart numbers orderly names other may = leave_stays part client other w apart numbers
 
-  pub ordered_stays : (w : World) (order : Order) → IsApart part w → AreNumbered w.book → IsOrderly w → IsOtherOrder part order → Stays part w (ordered w order)
-  ordered_stays w order apart numbers orderly other = by (fits w order) refl
+  pub ordered_stays : (w : World) (order : Order) → IsApart part w → AreNumbered w.book → IsOrderly w → AreTied part w.book → IsOtherOrder part order → Stays part w (ordered w order)
+  ordered_stays w order apart numbers orderly names other = by (fits w order) refl
     where
       by : (b : Bool) → fits w order ≡ b → Stays part w (if b then after_order w order else w)
-      by true may = order_stays w order apart numbers orderly other may
+      by true may = order_stays w order apart numbers orderly names other may
       by false may = stays_itself part w

@@ -13,10 +13,10 @@ use Rattle.model_shown.specs.Showing.{IsOrderly}
 use Rattle.model_likeness.specs.Likeness.{AreLike}
 use Rattle.model_making.specs.Standing.{IsWhole}
 use Rattle.model_apart.specs.Apart.{IsApart, IsOutside, LooksBeside, Part, Stays}
-use Rattle.model_others.specs.Others.{HasKeptName, IsBare, IsOfOthers, IsOtherOrder, part_of}
+use Rattle.model_others.specs.Others.{AreTied, HasKeptName, IsBare, IsOfOthers, IsOtherOrder, part_of}
 use Rattle.model_others.proofs.Likeness.{bare_still, like_apart, like_still, others_outside, part_managed}
 use Rattle.model_others.proofs.Messages.{act_stays, connect_stays, leave_stays, read_data_stays, write_ctl_stays}
-use Rattle.model_others.proofs.Orders.{ordered_stays}
+use Rattle.model_others.proofs.Orders.{ordered_stays, tied_still}
 use Rattle.model_others.proofs.Writes.{written_stays}
 
 module _ (Same SameScreen : ℕ → ℕ → Type 0) (c : ℕ) (window : Option (ℕ × List ℕ)) (a b : World) (like : AreLike Same SameScreen c window a b) (whole : IsWhole a) (orderly : IsOrderly a) (bare : IsBare a)
@@ -24,9 +24,11 @@ module _ (Same SameScreen : ℕ → ℕ → Type 0) (c : ℕ) (window : Option (
   abbrev part : Part
   part = part_of Same SameScreen c window
 
-  -- the devices are like still, and the display stands on no screen
-  abbrev StillLike : World → Type 0
-  StillLike next = AreLike Same SameScreen c window next b × IsBare next
+  -- the devices are like still, the display stands on no screen, and the window's name is tied if it was
+  pub record StillLike (next : World) : Type 0 where
+    pub devices : AreLike Same SameScreen c window next b
+    pub display : IsBare next
+    pub names_tied : AreTied part a.book → AreTied part next.book
 
   apart : IsApart part a
   apart = like_apart Same SameScreen c window a b like whole orderly bare
@@ -35,7 +37,11 @@ module _ (Same SameScreen : ℕ → ℕ → Type 0) (c : ℕ) (window : Option (
   outside = others_outside Same SameScreen c window k others names
 
   still : (next : World) → Stays part a next → StillLike next
-  still next stays = (like_still Same SameScreen c window a b next like stays, bare_still Same SameScreen c window a b next like stays bare)
+  still next stays = record {
+    devices = like_still Same SameScreen c window a b next like stays;
+    display = bare_still Same SameScreen c window a b next like stays bare;
+    names_tied = λ tied. tied_still part (part_managed Same SameScreen c window like.counted) a.book next.book tied stays.book;
+  }
 
   still_if : {X : Type 0} (device : X → World) (o : Outcome X) → IfOk o (λ x. Stays part a (device x)) → IfOk o (λ x. StillLike (device x))
   still_if device (Ok x) stays = still (device x) stays
@@ -61,5 +67,5 @@ module _ (Same SameScreen : ℕ → ℕ → Type 0) (c : ℕ) (window : Option (
   leave_others = still _ (leave_stays part k outside a apart like.books.numbers_left)
 
   -- an order of the window manager on another window
-  pub ordered_others : (order : Order) → IsOtherOrder part order → StillLike (ordered a order)
-  ordered_others order other = still _ (ordered_stays part (part_managed Same SameScreen c window like.counted) a order apart like.books.numbers_left orderly other)
+  pub ordered_others : (order : Order) → AreTied part a.book → IsOtherOrder part order → StillLike (ordered a order)
+  ordered_others order tied other = still _ (ordered_stays part (part_managed Same SameScreen c window like.counted) a order apart like.books.numbers_left orderly tied other)

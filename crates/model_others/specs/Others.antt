@@ -1,9 +1,9 @@
 -- What a session has in a draw device that is like another, as a part of it, and the connections of others (draw(3)).
-use Rattle.std.specs.Prelude.{◌≡◌, ◌==◌, ℕ, false, true, codes, List, Option, Some, None}
+use Rattle.std.specs.Prelude.{◌≡◌, ◌==◌, ℕ, false, true, codes, is_some, List, Option, Some, None}
 use Rattle.std.specs.List.{starts_with}
 use Rattle.r9_event.specs.declared.rio.Order.{Order}
 use Rattle.r9_event.specs.declared.rio.Order.TheVariants.{Make, Place, Replace, Raise, Lower, Drop, Host, Leave}
-use Rattle.model_images.specs.Book.{image_id, screen_of}
+use Rattle.model_images.specs.Book.{Book, image_id, screen_of, tie_of}
 use Rattle.model_draw.specs.World.{World}
 use Rattle.model_draw.specs.Orders.{manager}
 use Rattle.model_shown.specs.Showing.{IsOut}
@@ -48,11 +48,15 @@ pub record IsManaged (part : Part) : Type 0 where
   pub screens : (id : ℕ) → part.screen_id manager id → ⊥
   pub client : part.client manager → ⊥
 
+-- the names of the part are tied, so that no other image gets them
+abbrev pub AreTied : Part → Book → Type 0
+AreTied part book = (name : List ℕ) → part.name name → is_some (tie_of book name) ≡ true
+
 -- an order on a window that is none of the part, or the end of a connection outside it
 abbrev pub IsOtherOrder : Part → Order → Type 0
-IsOtherOrder part (Make window host r name hide depth) = IsOtherWindow part window × (part.name name → ⊥)
+IsOtherOrder part (Make window host r name hide depth) = IsOtherWindow part window
 IsOtherOrder part (Place window at) = IsOtherWindow part window
-IsOtherOrder part (Replace window host r name keep hidden) = IsOtherWindow part window × (part.name name → ⊥)
+IsOtherOrder part (Replace window host r name keep hidden) = IsOtherWindow part window
 IsOtherOrder part (Raise window) = IsOtherWindow part window
 IsOtherOrder part (Lower window) = IsOtherWindow part window
 IsOtherOrder part (Drop window) = IsOtherWindow part window
