@@ -3,3 +3,4 @@ pub mod Freeing
 pub mod Pairs
 pub mod Leaving
 pub mod Acting
+pub mod Writing
