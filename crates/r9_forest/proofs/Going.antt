@@ -1,5 +1,5 @@
 -- An image that may go, and what fills where it stood.
-use Rattle.std.proofs.Common.{◌≡◌, ◌∙◌, ℕ, ◌*◌, ◌<◌, ◌≤◌, ◌^◌, Bool, true, false, List, [], ◌∷◌, ◌++◌, Option, Some, None, get_or, refl, sym, subst, ap, arith}
+use Rattle.std.proofs.Common.{◌≡◌, ◌∙◌, ℕ, ◌*◌, ◌<◌, ◌^◌, Bool, true, false, List, [], ◌∷◌, ◌++◌, Option, Some, None, get_or, refl, sym, subst, ap, arith}
 use Rattle.std.specs.Prelude.{◌&&◌, ◌||◌, is_none, option_map, if◌then◌else◌}
 use Rattle.std.specs.Option.{option_map_or}
 use Rattle.std.proofs.lemmas.Bool.{true≢false}
@@ -14,9 +14,9 @@ use Rattle.model_forest.specs.declared.Standing.{Standing}
 use Rattle.model_forest.specs.declared.Window.{Window}
 use Rattle.model_forest.specs.Draw.{reaches}
 use Rattle.model_forest.specs.Stack.{filled, with_windows, without}
-use Rattle.model_forest.specs.Steps.{after_list, after_release}
-use Rattle.model_forest.specs.View.{at, is_bare, top_window}
-use Rattle.model_forest.specs.World.{Image, World, fill_of, image_at, parent_of, with_image, CanGo, IsForest, IsLive, SameSize}
+use Rattle.model_forest.specs.Steps.{after_release}
+use Rattle.model_forest.specs.View.{at, top_window}
+use Rattle.model_forest.specs.World.{World, fill_of, image_at, parent_of, with_image, CanGo, IsForest, IsLive, SameSize}
 use Rattle.model_forest.proofs.Changes.{live-apart, live-standing, with_image-at, with_image-other}
 use Rattle.model_forest.proofs.Listed.{All-listed, window_of}
 use Rattle.model_forest.proofs.Raws.{converted_below}

@@ -1,11 +1,11 @@
 -- An image loses all its windows for a moment.
-use Rattle.std.proofs.Common.{◌≡◌, ◌≢◌, ◌∙◌, ℕ, suc, ◌≤◌, All, List, [], Option, Some, None, refl, sym, ap, true, ◌^◌, ⊎_elim, arith}
-use Rattle.std.specs.Prelude.{◌==◌, is_some, unwrap_or}
+use Rattle.std.proofs.Common.{◌≡◌, ◌≢◌, ◌∙◌, ℕ, suc, All, List, [], Some, refl, sym, ap, true, ◌^◌, ⊎_elim, arith}
+use Rattle.std.specs.Prelude.{is_some, unwrap_or}
 use Rattle.std.proofs.lemmas.Bool.{cases_eq}
 use Rattle.std.proofs.lemmas.List.Elements.{All-nil, All-weaker}
 use Rattle.r9_geom.specs.Geometry.{IsRectNearBy}
 use Rattle.model_forest.specs.declared.Window.{Window}
-use Rattle.model_forest.specs.World.{Image, World, image_at, no_image, parent_of, with_image, IsForest, IsLive, IsWindowOf}
+use Rattle.model_forest.specs.World.{Image, World, image_at, no_image, with_image, IsForest, IsLive, IsWindowOf}
 use Rattle.model_forest.proofs.Changes.{with_image-at, with_image-each, with_image-other, World-same}
 use Rattle.model_forest.proofs.Sound.{IsStill, IsStill-with_image, IsWindowOf-still}
 use Rattle.model_kept.specs.Keeping.{place_among, HasOnePlaces, IsStanding}
@@ -14,7 +14,7 @@ use Rattle.model_kept.proofs.Once.{places-forest}
 use Rattle.model_kept.proofs.Worlds.{standing-forest, with_list-same}
 use Rattle.r9_locate.specs.Lists.{IsNearby}
 use Rattle.r9_relist.proofs.Near.{nearby}
-use Rattle.r9_relist.proofs.Relisted.{list_at, list_parent, list_rect, listed_image}
+use Rattle.r9_relist.proofs.Relisted.{list_at, list_parent, listed_image}
 
 pub empty_standing : (world : World) (p : ℕ) → IsForest world → IsLive world p → IsStanding (with_list world p [])
 empty_standing world p ok live = record {

@@ -1,9 +1,9 @@
 -- A window that goes: what is known of the lists without it, and where pixels lie then.
-use Rattle.std.proofs.Common.{◌≡◌, ◌≢◌, ◌∙◌, ℕ, suc, ◌<◌, ◌≤◌, ◌^◌, All, Bool, true, false, List, [], Option, Some, None, refl, sym, ap, subst, ⊎_elim, arith, eq-eqb}
+use Rattle.std.proofs.Common.{◌≡◌, ◌≢◌, ◌∙◌, ℕ, suc, ◌<◌, ◌≤◌, ◌^◌, All, Bool, true, false, List, Option, Some, None, refl, sym, ap, ⊎_elim, arith, eq-eqb}
 use Rattle.std.specs.Prelude.{◌==◌, ◌&&◌, ◌||◌, is_none, is_some, not, option_map, unwrap_or, if◌then◌else◌}
 use Rattle.std.specs.Option.{option_map_or}
 use Rattle.std.specs.List.{list_any}
-use Rattle.std.proofs.lemmas.Bool.{and_parts, cases_eq, cases_lt, false_from_ne_true, false≢true, ne_eqb, or_left, or_right, true≢false}
+use Rattle.std.proofs.lemmas.Bool.{and_parts, cases_eq, cases_lt, false_from_ne_true, false≢true, ne_eqb, true≢false}
 use Rattle.std.proofs.lemmas.Bool.Decides.{Decides-eqb}
 use Rattle.std.proofs.lemmas.List.{get_or_past}
 use Rattle.std.proofs.lemmas.List.Elements.{All-filter}
@@ -12,14 +12,14 @@ use Rattle.r9_geom.specs.declared.Rect.{Rect}
 use Rattle.r9_geom.specs.Geometry.{carried, holds, is_empty, is_inside, meet, IsNear, IsRectNear}
 use Rattle.model_forest.specs.declared.Standing.{Standing}
 use Rattle.model_forest.specs.declared.Window.{Window}
-use Rattle.model_forest.specs.Stack.{with_windows, without}
+use Rattle.model_forest.specs.Stack.{with_windows}
 use Rattle.model_forest.specs.View.{top_window}
 use Rattle.model_forest.specs.World.{Image, World, image_at, no_image, parent_of, with_image, CanGo, IsForest, IsImage, IsLive, IsWindowOf}
 use Rattle.model_forest.proofs.Changes.{live-standing, with_image-at, with_image-each, with_image-other}
 use Rattle.model_forest.proofs.Gone.{IsForest-gone}
 use Rattle.model_forest.proofs.Listed.{length-without, listed-without, listed-without_other, parent-apart, times-without, unlisted}
 use Rattle.model_forest.proofs.Sound.{is_listed, IsForestBut, IsForestBut-any, IsForestBut-with_list}
-use Rattle.model_kept.specs.Cells.{above, cell_of, cell_part, hides, hides_on, hides_under}
+use Rattle.model_kept.specs.Cells.{above, cell_of, cell_part, hides_on, hides_under}
 use Rattle.model_kept.specs.Keeping.{is_top, keeping, outward, own, place_among, with_kept, HasOnePlaces, IsStanding, Place}
 use Rattle.model_kept.specs.Restack.{fill_of_top, with_list, with_own, IsAlone, IsRestacked}
 use Rattle.model_kept.proofs.Coming.{go-world, released, unlisted-top}
@@ -39,7 +39,7 @@ use Rattle.r9_relist.proofs.Covering.{in_shown_is}
 use Rattle.r9_relist.proofs.Near.{nearby, nearby_but}
 use Rattle.r9_relist.proofs.Relisted.{list_at, list_live, list_other, list_parent, list_rect, listed_image, refilled}
 use Rattle.r9_relist.proofs.Surfaces.{placed_alike, surface_has, unshown_has}
-use Rattle.r9_relist.proofs.Without.{above-without, parts-without, place-without, top-past, top-without, without-apart}
+use Rattle.r9_relist.proofs.Without.{above-without, place-without, top-past, top-without, without-apart}
 
 some_is : (a b : ℕ) → Some a ≡ Some b → a ≡ b
 some_is a b e = cc

@@ -1,9 +1,9 @@
 -- A list of windows without one of them.
-use Rattle.std.proofs.Common.{◌≡◌, ◌≢◌, ◌∙◌, ℕ, zero, suc, ◌+◌, ◌<◌, ◌≤◌, Bool, true, false, All, List, [], ◌∷◌, ◌++◌, Option, Some, None, cond, drop, find, take, refl, sym, ap, ⊎_elim, arith, eq-eqb}
+use Rattle.std.proofs.Common.{◌≡◌, ◌≢◌, ◌∙◌, ℕ, suc, ◌+◌, ◌<◌, ◌≤◌, Bool, true, false, All, List, [], ◌∷◌, ◌++◌, Some, None, cond, drop, find, take, refl, sym, ap, ⊎_elim, arith, eq-eqb}
 use Rattle.std.specs.Prelude.{◌==◌, ◌||◌, nat_lt, not, if◌then◌else◌}
 use Rattle.std.specs.Option.{option_map_or}
 use Rattle.std.specs.List.{after_first, before_first, list_any, position_or_len, AllByRecursion}
-use Rattle.std.proofs.lemmas.Bool.{cases_lt, false≢true, ne_eqb, or_right, true≢false}
+use Rattle.std.proofs.lemmas.Bool.{cases_lt, ne_eqb, or_right, true≢false}
 use Rattle.std.proofs.lemmas.Bool.Decides.{Decides-eqb, Decides-ltb}
 use Rattle.std.proofs.lemmas.List.Elements.{All-from_recursion, recursion_from_All}
 use Rattle.std.proofs.lemmas.List.Sums.{sum_by-cons}
@@ -15,7 +15,7 @@ use Rattle.model_forest.specs.View.{top_window}
 use Rattle.model_forest.specs.World.{no_rect}
 use Rattle.model_forest.proofs.Sound.{times}
 use Rattle.model_kept.specs.Cells.{above}
-use Rattle.model_kept.specs.Keeping.{is_top, place_among}
+use Rattle.model_kept.specs.Keeping.{place_among}
 
 -- ---- what is found
 

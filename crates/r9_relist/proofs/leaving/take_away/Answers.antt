@@ -1,8 +1,8 @@
-use Rattle.std.proofs.Common.{◌≡◌, ◌∙◌, All, Bool, List, None, Option, ℕ, sym, subst, ap}
+use Rattle.std.proofs.Common.{◌≡◌, ◌∙◌, All, List, None, Option, ℕ, sym, subst, ap}
 use Rattle.std.specs.Prelude.{◌&&◌, not}
 use Rattle.model_forest.specs.declared.Window.{Window}
 use Rattle.model_forest.specs.World.{Image, World, image_at, with_image, IsLive}
-use Rattle.model_kept.specs.Keeping.{with_kept, HasOnePlaces, IsStanding, Place}
+use Rattle.model_kept.specs.Keeping.{with_kept, HasOnePlaces, IsStanding}
 use Rattle.model_kept.specs.Restack.{with_list}
 use Rattle.model_kept.proofs.Once.{places-forest}
 use Rattle.model_kept.proofs.Worlds.{standing-forest}

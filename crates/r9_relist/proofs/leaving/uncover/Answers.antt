@@ -1,14 +1,14 @@
-use Rattle.std.proofs.Common.{◌≡◌, ◌∙◌, ◌++◌, ◌≤◌, All, List, Some, sym, subst, ap, arith}
+use Rattle.std.proofs.Common.{◌≡◌, ◌∙◌, ◌++◌, ◌≤◌, All, List, Some, sym, subst, ap}
 use Rattle.std.specs.Prelude.{◌==◌}
 use Rattle.std.specs.List.{count_by}
 use Rattle.r9_geom.specs.Geometry.{IsNear}
 use Rattle.model_forest.specs.declared.Window.{Window}
 use Rattle.model_forest.specs.Stack.{without}
 use Rattle.model_forest.specs.View.{top_window}
-use Rattle.model_forest.specs.World.{Image, image_at}
+use Rattle.model_forest.specs.World.{Image}
 use Rattle.model_kept.specs.Keeping.{keeping}
 use Rattle.model_kept.specs.Restack.{with_list, with_own, IsRestacked}
-use Rattle.r9_locate.specs.Forms.{forms_of, HasBits}
+use Rattle.r9_locate.specs.Forms.{HasBits}
 use Rattle.r9_locate.specs.Table.{shape}
 use Rattle.r9_pixels.specs.Kept.{has_place, kept_at}
 use Rattle.r9_restack.specs.Changing.{HasPlacesBut, IsChange, StaysTop}

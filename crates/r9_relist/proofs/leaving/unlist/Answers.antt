@@ -1,7 +1,7 @@
 use Rattle.std.proofs.Common.{◌≡◌, ◌∙◌, List, [], sym, subst, ap}
 use Rattle.model_forest.specs.declared.Window.{Window}
 use Rattle.model_forest.specs.Stack.{without}
-use Rattle.model_forest.specs.World.{Image, World, IsLive}
+use Rattle.model_forest.specs.World.{World, IsLive}
 use Rattle.model_kept.specs.Keeping.{HasOnePlaces, IsStanding}
 use Rattle.model_kept.specs.Restack.{with_list}
 use Rattle.r9_locate.specs.Lists.{IsNearby}

@@ -1,9 +1,7 @@
-use Rattle.std.proofs.Common.{◌≡◌, ◌∙◌, ◌+◌, ◌-◌, ◌*◌, ◌<◌, ◌≤◌, ℤ, ◌≤ℤ◌, true, sym, subst, ap, arith}
+use Rattle.std.proofs.Common.{◌≡◌, ◌+◌, ◌-◌, ◌*◌, ◌<◌, ◌≤ℤ◌, true, arith}
 use Rattle.std.proofs.lemmas.Bool.{false_from_ne_true}
 use Rattle.std.proofs.lemmas.Int.{ints, to_z-of_z}
 use native.Mathlib.Nat.{mul_comm}
-use Rattle.r9_geom.specs.declared.Point.{Point as Spot}
-use Rattle.r9_geom.specs.declared.Rect.{Rect}
 use Rattle.r9_geom.specs.Geometry.{distance, height, holds, width}
 use Rattle.r9_geom.proofs.GeometryLemmas.{bounds_of, distance_is, holds_from}
 use Rattle.r9_plane.specs.Pixels.{along, number_of}

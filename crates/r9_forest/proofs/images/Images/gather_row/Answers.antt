@@ -1,9 +1,7 @@
-use Rattle.std.proofs.Common.{◌≡◌, ◌∙◌, ◌+◌, ◌-◌, ◌<◌, ◌≤◌, ◌^◌, length, get_or, drop, take, lit≤, refl, sym, subst, ap, ⊎_elim, arith, length-append, length-drop}
+use Rattle.std.proofs.Common.{◌≡◌, ◌∙◌, ◌+◌, ◌-◌, ◌<◌, ◌≤◌, length, get_or, drop, take, refl, sym, subst, ap, ⊎_elim, arith, length-append, length-drop}
 use Rattle.std.proofs.lemmas.Bool.{cases_lt}
 use Rattle.std.proofs.lemmas.List.{length-take-le, with_items_is}
-use Rattle.r9_geom.specs.declared.Point.{Point}
 use Rattle.r9_geom.specs.Geometry.{IsNear}
-use Rattle.r9_geom.proofs.GeometryLemmas.{near_wider}
 use Rattle.model_forest.specs.World.{World, IsLive}
 use Rattle.model_kept.specs.Keeping.{with_kept}
 use Rattle.r9_plane.specs.Pixels.{along}

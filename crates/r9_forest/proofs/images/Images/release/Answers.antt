@@ -1,7 +1,7 @@
 use Rattle.std.proofs.Common.{◌∙◌, sym, ap}
 use Rattle.std.specs.Prelude.{option_map}
 use Rattle.model_forest.specs.declared.Standing.{Standing}
-use Rattle.model_forest.specs.World.{Image, image_at}
+use Rattle.model_forest.specs.World.{Image}
 use Rattle.r9_locate.specs.Table.{shape}
 use Rattle.r9_pixels.specs.Kept.{kept_at}
 use Rattle.r9_forest.specs.Images.{world}

@@ -1,5 +1,5 @@
-use Rattle.std.proofs.Common.{◌≡◌, ◌∙◌, ◌+◌, ◌*◌, ◌<◌, ◌≤◌, ◌^◌, ◌++◌, ◌∷◌, [], true, false, Bool, None, Some, ℕ, get_or, length, refl, sym, subst, ap, arith}
-use Rattle.std.specs.Prelude.{◌&&◌, option_map, if◌then◌else◌}
+use Rattle.std.proofs.Common.{◌≡◌, ◌∙◌, ◌<◌, ◌≤◌, ◌^◌, ◌++◌, ◌∷◌, [], true, false, Bool, Some, ℕ, get_or, length, refl, sym, subst, ap, arith}
+use Rattle.std.specs.Prelude.{option_map, if◌then◌else◌}
 use Rattle.std.proofs.lemmas.Bool.{and_from, and_parts}
 use Rattle.std.proofs.lemmas.Nat.{pow_pos}
 use Rattle.r9_geom.specs.declared.Point.{Point}
@@ -9,13 +9,13 @@ use Rattle.model_pixel.specs.Channels.{depth, is_descriptor}
 use Rattle.model_forest.specs.declared.Standing.{Standing}
 use Rattle.model_forest.specs.Numbers.{given_back}
 use Rattle.model_forest.specs.Steps.{after_release}
-use Rattle.model_forest.specs.World.{CanGo, Image, World, fill_of, image_at, parent_of, with_image, IsForest, IsLive}
+use Rattle.model_forest.specs.World.{CanGo, Image, World, fill_of, image_at, parent_of, IsLive}
 use Rattle.model_forest.proofs.Changes.{live-standing}
 use Rattle.model_kept.specs.Keeping.{place_among, with_kept}
 use Rattle.model_kept.proofs.Once.{places-forest}
 use Rattle.r9_plane.specs.Pixels.{number_of}
 use Rattle.r9_locate.specs.declared.lists.Lists.{Lists}
-use Rattle.r9_locate.specs.Forms.{bits_in, Form}
+use Rattle.r9_locate.specs.Forms.{bits_in}
 use Rattle.r9_locate.specs.Table.{made, shape}
 use Rattle.r9_pixels.specs.Kept.{form_at, kept_at}
 use Rattle.r9_fills.specs.Fills.{fill_at}

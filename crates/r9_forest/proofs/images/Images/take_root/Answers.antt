@@ -1,4 +1,4 @@
-use Rattle.std.proofs.Common.{◌≡◌, ◌∙◌, ◌++◌, ◌∷◌, [], None, refl, sym, subst, ap, arith}
+use Rattle.std.proofs.Common.{◌≡◌, ◌∙◌, ◌++◌, ◌∷◌, [], None, refl, sym, subst, arith}
 use Rattle.model_forest.specs.Steps.{after_release}
 use Rattle.model_forest.specs.World.{World, with_image}
 use Rattle.model_kept.specs.Keeping.{with_kept}
