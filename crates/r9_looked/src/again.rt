@@ -68,8 +68,7 @@ fn look_within(
 
 /// Adds what a write to the draw device used, by its bytes, how many of its messages are looked at (those that were done, and the one
 /// behind them unless memory ran out before it), and how many bytes the rows had of each `y` that was done; where the files of windows
-/// have these. A write that uses nothing takes no memory. Of the uses nothing is said after
-/// Memory.
+/// have these. A write that uses nothing takes no memory. Of the uses nothing is said after Memory.
 pub fn look_again(
     alloc: Global,
     panes: &BTreeMap<u32, Pane>,

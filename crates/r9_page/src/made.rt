@@ -15,13 +15,16 @@ use r9_memory::Memory;
 use r9_text::Bytes;
 use std::alloc::Global;
 
-/// The ids of the client's images.
+/// The id of an image of white.
 pub const WHITE: u32 = 1;
 
+/// The id of an image of black.
 pub const BLACK: u32 = 2;
 
+/// The id of the font, whose image has its characters side by side.
 pub const LETTERS: u32 = 3;
 
+/// The id of the window's image.
 pub const WINDOW: u32 = 4;
 
 /// The point where both coordinates are 0.
@@ -30,9 +33,10 @@ pub const ORIGIN: Place = Place { x: 0, y: 0 };
 /// How many characters a font has.
 const CELLS: u16 = 95;
 
-/// The channels k8 and x8r8g8b8.
+/// The channels k8.
 const GREY8: u32 = 0x38;
 
+/// The channels x8r8g8b8.
 const RGB24: u32 = 0x6808_1828;
 
 /// How far the greatest clip rectangle goes.
