@@ -19,12 +19,12 @@ use Rattle.model_draw.specs.World.{World, after_freed, at_number, next_image, wi
 use Rattle.model_draw.specs.Making.{with_made}
 use Rattle.model_draw.specs.Orders.{after_order, carried_out, bordered, drop_window, fits, host_rio, image_freed, image_shown, inside_border, make_window, next_white, ordered, place_window, replace_window, rio_screen, screen_freed}
 
-gone-clients : (things : List Thing) (world : World) → (fold without_thing world things).clients ≡ world.clients
+pub gone-clients : (things : List Thing) (world : World) → (fold without_thing world things).clients ≡ world.clients
 gone-clients [] world = refl
 gone-clients (Image i ∷ things) world = gone-clients things (without_thing world (Image i))
 gone-clients (Screen s ∷ things) world = gone-clients things world
 
-freed-clients : (world : World) (freed : Freed) → (after_freed world freed).clients ≡ world.clients
+pub freed-clients : (world : World) (freed : Freed) → (after_freed world freed).clients ≡ world.clients
 freed-clients world freed = gone-clients freed.gone (with_book world freed.book)
 
 make-clients : (world : World) (window host : ℕ) (r : Rect) (name : List ℕ) (hide : Bool) → (make_window world window host r name hide).clients ≡ world.clients

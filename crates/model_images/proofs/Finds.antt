@@ -52,7 +52,7 @@ all-put {X = X} alike e xs ys every other new itself turned free all =
 
 -- ---- image ids
 
-every-image : (P : ImageId → Type 0) (e : ImageId) (xs : List ImageId) → P e → All P xs → All P (put_image_id e xs)
+pub every-image : (P : ImageId → Type 0) (e : ImageId) (xs : List ImageId) → P e → All P xs → All P (put_image_id e xs)
 every-image P e [] h all = All-cons P e [] h all
 every-image P e (x ∷ xs) h all = by (every-image P e xs h (All-tail P x xs all)) (comes_before e.client e.id x.client x.id)
   where
@@ -113,7 +113,7 @@ any-put_screen p e (x ∷ xs) = by (any-put_screen p e xs) (comes_before e.clien
     by more true = refl
     by more false = ap (λ b. p x || b) more ∙ swapped (p x) (p e) (list_any p xs)
 
-every-screen : (P : ScreenId → Type 0) (e : ScreenId) (xs : List ScreenId) → P e → All P xs → All P (put_screen_id e xs)
+pub every-screen : (P : ScreenId → Type 0) (e : ScreenId) (xs : List ScreenId) → P e → All P xs → All P (put_screen_id e xs)
 every-screen P e [] h all = All-cons P e [] h all
 every-screen P e (x ∷ xs) h all = by (every-screen P e xs h (All-tail P x xs all)) (comes_before e.client e.id x.client x.id)
   where

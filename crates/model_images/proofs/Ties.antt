@@ -60,7 +60,7 @@ any-found {X = X} p q (y ∷ ys) x h k = by (λ e. any-found p q ys x e k) (p y)
     by more false e = or_right (q y) _ (more e)
 
 -- what holds of all holds of what is found
-All-found : {X : Type 0} (P : X → Type 0) (p : X → Bool) (xs : List X) (x : X) → All P xs → find p xs ≡ Some x → P x
+pub All-found : {X : Type 0} (P : X → Type 0) (p : X → Bool) (xs : List X) (x : X) → All P xs → find p xs ≡ Some x → P x
 All-found P p [] x h e = absurd cc
 All-found {X = X} P p (y ∷ ys) x h e = by (λ e. All-found P p ys x (All-tail P y ys h) e) (p y) e
   where

@@ -250,7 +250,7 @@ files_opened world client lives =
 
 -- ---- all of the opening
 
-attach_may : (shape : Shape) → IsShape shape → MaySay greeted (Tattach 1 0 no_fid [] (asked shape))
+pub attach_may : (shape : Shape) → IsShape shape → MaySay greeted (Tattach 1 0 no_fid [] (asked shape))
 unfolding asked is_utf8 chars encode_utf8 message sized
 attach_may shape is =
     let few_columns = wide_few shape is in
@@ -295,7 +295,7 @@ rest_len shape pixels = omega arith
 seven : (a b c d e f g : List ℕ) → length (a ++ b ++ c ++ d ++ e ++ f ++ g) ≡ length a + length b + length c + length d + length e + length f + length g
 seven a b c d e f g = simp length-append refl
 
-making_few : (shape : Shape) (pixels : List ℕ) → IsShape shape → length pixels ≡ shape.height * (cells * shape.width) → length (making shape pixels) ≤ 65537
+pub making_few : (shape : Shape) (pixels : List ℕ) → IsShape shape → length pixels ≡ shape.height * (cells * shape.width) → length (making shape pixels) ≤ 65537
 unfolding making
 making_few shape pixels is all =
     let white_image : List ℕ = image white rgb24 1 dot everywhere 0xffffffff in

@@ -42,7 +42,7 @@ late_less session rest tag wait n None later here less = less
 late_less session rest tag wait n (Some (Err k)) later here less = here
 late_less session rest tag wait n (Some (Ok got)) later here less = here
 
-first_less : {S : Type 0} (outside : Outside S) (session : Session) (rest : S) (before after : List (ℕ × Wait)) (n : ℕ) → length before + length after ≡ n → LeavesOneLess n (first_of outside session rest before after)
+pub first_less : {S : Type 0} (outside : Outside S) (session : Session) (rest : S) (before after : List (ℕ × Wait)) (n : ℕ) → length before + length after ≡ n → LeavesOneLess n (first_of outside session rest before after)
 unfolding first_of
 first_less outside session rest before [] n whole = tt
 first_less outside session rest before ((tag, wait) ∷ after) n whole =

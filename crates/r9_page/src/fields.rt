@@ -1,6 +1,6 @@
 //! Fields at the end of bytes. For want of memory a part of a field may be there.
 
-ghost use Rattle.std.specs.Prelude.{◌≡◌, ◌++◌, pos, length, drop, OnOk};
+ghost use Rattle.std.specs.Prelude.{◌≡◌, ◌++◌, pos, OnOk};
 ghost use Rattle.std.specs.List.{flat_map};
 ghost use Rattle.model_text.specs.Number.{two_bytes, four_bytes};
 ghost use Rattle.model_client.specs.Messages.{coordinate, point, rect};

@@ -1,6 +1,6 @@
 //! What a client draws with: white, black, a font, and its window's image.
 
-ghost use Rattle.std.specs.Prelude.{◌≡◌, ◌<◌, ◌++◌, length, OnOk, IfOk};
+ghost use Rattle.std.specs.Prelude.{◌≡◌, ◌<◌, ◌++◌, OnOk, IfOk};
 ghost use Rattle.std.specs.List.{flat_map, range_with_len};
 ghost use Rattle.model_client.specs.Messages as messages;
 ghost use Rattle.model_page.specs.Text as text;

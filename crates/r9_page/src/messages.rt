@@ -1,6 +1,6 @@
 //! Draw messages (draw(3)), each whole.
 
-ghost use Rattle.std.specs.Prelude.{◌≡◌, ◌<◌, ◌^◌, ◌++◌, length, IfOk};
+ghost use Rattle.std.specs.Prelude.{◌≡◌, ◌<◌, ◌^◌, length, IfOk};
 ghost use Rattle.model_client.specs.Messages.{character, drawing, font, image, named, rows, string};
 ghost use Rattle.r9_page.specs.Shown.{point_of, rect_of, writing_of};
 

@@ -1,10 +1,10 @@
 //! The draw messages of a piece of the text.
 
-ghost use Rattle.std.specs.Prelude.{◌≡◌, ◌<◌, ◌≤◌, ◌+◌, ◌++◌, length, All, IfOk, OnOk};
+ghost use Rattle.std.specs.Prelude.{◌≡◌, All, IfOk};
 ghost use Rattle.model_textwin.specs.declared.Move.TheVariants.{Scroll, Put};
-ghost use Rattle.model_page.specs.Text.{below_first, last_row, move_bytes, moves_bytes, page_rect, upper};
+ghost use Rattle.model_page.specs.Text.{last_row, move_bytes, moves_bytes, page_rect, upper};
 ghost use Rattle.model_page.specs.Page.{IsShape};
-ghost use Rattle.r9_page.specs.Shown.{IsWithin, point_of, rect_of, shape_of};
+ghost use Rattle.r9_page.specs.Shown.{IsWithin, rect_of, shape_of};
 
 use crate::fields::{Area, Place};
 use crate::made::{BLACK, LETTERS, ORIGIN, WHITE, WINDOW};
