@@ -4,3 +4,4 @@ pub mod Made
 pub mod Asked
 pub mod Opening
 pub mod Texts
+pub mod Shown

@@ -2,7 +2,8 @@
 //! contract of a function that does nothing, and the lemmas that proofs of other crates cite; no code.
 #![tactic(auto)]
 
-ghost use Rattle.std.specs.Prelude.{◌≡◌, ◌*◌, ℕ, List, [], length, replicate, true};
+ghost use Rattle.std.specs.Prelude.{◌≡◌, ◌*◌, ℕ, List, [], length, map, replicate, true};
+ghost use Rattle.std.specs.List.{flat_map};
 ghost use Rattle.r9_geom.specs.declared.Point.{Point};
 ghost use Rattle.r9_geom.specs.Geometry.{holds};
 ghost use Rattle.model_event.specs.Legal.{IsLegal};
@@ -11,9 +12,13 @@ ghost use Rattle.model_draw.specs.Orders.{image_shown};
 ghost use Rattle.model_world.specs.World.{World};
 ghost use Rattle.model_client.specs.Saying.{AreMessages};
 ghost use Rattle.model_text.specs.Number.{AreBytes};
+ghost use Rattle.model_textwin.specs.Moves.{put_codes};
+ghost use Rattle.model_textwin.specs.Pieces.{pieces};
+ghost use Rattle.model_textwin.specs.Wrap.{blank, characters};
 ghost use Rattle.model_page.specs.Text.{Shape, cells, page_rect};
 ghost use Rattle.model_page.specs.Page.{IsShape, Numbers, page};
 ghost use Rattle.model_typed.specs.Typing.{AllFit, Piece, ShowsPage, ShowsText, text_history, text_messages};
+ghost use Rattle.model_typed.specs.Shown.{IsShown, pages};
 
 /// A client that is a server's only session shows a text in a window: what it says before the first piece is answered without
 /// an error, and leaves the empty page; each piece is answered by the number of its bytes, and leaves the page after it. A page that
@@ -22,4 +27,10 @@ pub fn texts_are_shown()
     ensures shown { (shape : Shape) (pixels : List ℕ) (pieces : List Piece) → IsShape shape → AreBytes pixels → length pixels ≡ shape.height * (cells * shape.width) → AllFit shape (replicate shape.rows []) pieces → ShowsText shape pixels pieces }
     ensures viewed { (shape : Shape) (pixels : List ℕ) (n : Numbers) (rows : List (List ℕ)) (world : World) (p : Point) → ShowsPage shape pixels n rows world → holds (page_rect shape) p ≡ true → view world.desktop.device.images (image_shown world.desktop.device 1) p ≡ page shape pixels rows p }
     ensures legal { (shape : Shape) (pixels : List ℕ) (pieces : List Piece) → AreMessages (text_messages shape pixels pieces) → IsLegal (text_history shape pixels pieces) }
+{}
+
+/// Where the moves of each piece of a text lead to the rows of the page after it, put the characters of the text in order, and each
+/// message is whole, the history shows the text.
+pub fn text_histories_show_texts()
+    ensures { (shape : Shape) (pixels text : List ℕ) (all : List Piece) → IsShape shape → AreBytes pixels → length pixels ≡ shape.height * (cells * shape.width) → AllFit shape (replicate shape.rows []) all → map (λ piece. piece.1) all ≡ pages shape blank (pieces text) → flat_map (λ piece. put_codes piece.0) all ≡ characters text → AreMessages (text_messages shape pixels all) → IsShown shape pixels text (text_history shape pixels all) }
 {}
