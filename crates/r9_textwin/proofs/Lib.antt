@@ -1,2 +1,4 @@
 mod Pages
+mod Lines
 mod Cuts
+pub mod Codes

@@ -1,18 +1,22 @@
--- The moves of each byte, on the rows that are shown.
-use Rattle.std.proofs.Common.{◌≡◌, ℕ, suc, ◌+◌, ◌-◌, ◌<◌, ◌≤◌, ◌==◌, min, Bool, true, false, List, [], ◌∷◌, ◌++◌, length, take, drop, replicate, set, get_or, refl, sym, ap, ◌∙◌, arith, append_assoc, append-nil, length-drop, length-append, cond, subst, eq-eqb, ⊎_elim}
-use Rattle.std.proofs.lemmas.List.{drop-append-le, drop-drop, set_at, take_all}
-use Rattle.std.proofs.lemmas.Bool.{cases_lt, lt-ltb, le-ltb, le-leb, lt-leb}
-use Rattle.std.specs.Prelude.{nat_lt, nat_le}
-use Rattle.std.specs.Prelude.{slice_get, Option, Some, None, map, not}
+-- A new row, and characters that go to a row together, on the rows that are shown.
+use Rattle.std.proofs.Common.{◌≡◌, ℕ, suc, ◌+◌, ◌-◌, ◌<◌, ◌≤◌, ◌==◌, Bool, true, false, List, [], ◌∷◌, ◌++◌, length, take, drop, replicate, refl, sym, ap, ◌∙◌, arith, append_assoc, append-nil, length-drop, length-append, cond, subst, eq-eqb, ⊎_elim}
+use Rattle.std.proofs.lemmas.List.{drop-append-le, drop-drop, set_at, length-map, take_all, take-append-drop}
+use Rattle.std.proofs.lemmas.List.{map-append}
+use Rattle.std.proofs.lemmas.List.Sums.{fold-append}
+use Rattle.std.proofs.lemmas.List.Elements.{filter-append, All-append, All-cons, All-nil}
+use Rattle.std.proofs.lemmas.Bool.{cases_lt, lt-ltb, le-ltb, le-leb, lt-leb, ltb-true, ltb-false}
+use Rattle.std.specs.Prelude.{nat_lt, ◌&&◌}
+use Rattle.std.specs.Prelude.{slice_get, Option, Some, None, map, not, All}
 use Rattle.std.specs.Option.{option_and_then}
-use Rattle.std.specs.List.{fold, filter}
+use Rattle.std.specs.List.{fold, filter, list_all}
 use Rattle.std.proofs.lemmas.List.Concat.{flat_map-append}
 use Rattle.model_textwin.specs.declared.Move.TheVariants.{Scroll, Put}
 use Rattle.model_textwin.specs.Wrap.{Page, rows, new_row, longer, with_byte, wrapped, code_of, characters}
 use Rattle.model_textwin.specs.Moves.{screen, moved, all_moved, put_at, codes_of, put_codes}
 use Rattle.model_textwin.specs.declared.Move.{Move}
-use Rattle.r9_textwin.specs.Window.{Spot, IsSpot, IsBehind}
-use Rattle.r9_textwin.specs.Steps.{row_moves, row_place, code_moves, code_place, byte_moves, byte_place, moves_of, place_of}
+use Rattle.r9_textwin.proofs.Lines.{IsLine}
+use Rattle.r9_textwin.specs.Window.{Spot, IsSpot, IsBehind, IsWithin}
+use Rattle.r9_textwin.specs.Steps.{Brings, put_moves, put_place, room_moves, room_place, row_moves, row_place}
 
 row_count : (p : Page) → length (rows p) ≡ length p.above + 1
 row_count p = length-append p.above (p.last ∷ [])
@@ -34,14 +38,18 @@ put_in_row above last below columns row column codes here end room =
     let ends : (length last == column) ≡ true = eq-eqb (length last) column (sym end) in
     rw (got, ends, le-leb (column + length codes) columns room) (ap Some (set_at above last below (last ++ codes) row here))
 
-pub put_shows : (s : Spot) (p : Page) (code : ℕ) → IsSpot s → IsBehind s p → s.column < s.columns → all_moved s.columns (code_moves s code) (screen s.rows p) ≡ Some (screen s.rows (longer p code))
-put_shows s p code is behind room =
+-- characters at the end of the last row
+abbrev lengthened : Page → List ℕ → Page
+lengthened p codes = record p { last = p.last ++ codes }
+
+put_shows : (s : Spot) (p : Page) (codes : List ℕ) → IsSpot s → IsBehind s p → s.column + length codes ≤ s.columns → all_moved s.columns (put_moves s codes) (screen s.rows p) ≡ Some (screen s.rows (lengthened p codes))
+put_shows s p codes is behind room =
     let some : 1 ≤ s.rows = omega (arith, is.row) in
     let above = drop (length p.above + 1 - s.rows) p.above in
     let below : List (List ℕ) = replicate (s.rows - (length p.above + 1)) [] in
     let here : length above ≡ s.row = omega (arith, length-drop (length p.above + 1 - s.rows) p.above, behind.row) in
-    ap (λ (xs : List (List ℕ)). all_moved s.columns (code_moves s code) xs) (screen_is s.rows p some)
-    ∙ rw (put_in_row above p.last below s.columns s.row s.column (code ∷ []) here behind.column (omega (arith, room))) (ap Some (sym (screen_is s.rows (longer p code) some)))
+    ap (λ (xs : List (List ℕ)). all_moved s.columns (put_moves s codes) xs) (screen_is s.rows p some)
+    ∙ rw (put_in_row above p.last below s.columns s.row s.column codes here behind.column room) (ap Some (sym (screen_is s.rows (lengthened p codes) some)))
 
 all_moved-append : (columns : ℕ) (first later : List Move) (screen : List (List ℕ)) → all_moved columns (first ++ later) screen ≡ option_and_then (all_moved columns later) (all_moved columns first screen)
 all_moved-append columns [] later screen = refl
@@ -52,33 +60,25 @@ all_moved-append columns (move ∷ first) later screen = from (all_moved-append 
     from same (Some next) = same next
 
 -- moves that bring the shown rows of one page to those of another, and the place with them
-pub record Step (s : Spot) (moves : List Move) (next : Spot) (p q : Page) : Type 0 where
+record Step (s : Spot) (moves : List Move) (next : Spot) (p q : Page) : Type 0 where
   pub shown : all_moved s.columns moves (screen s.rows p) ≡ Some (screen s.rows q)
   pub behind : IsBehind next q
-  pub is : IsSpot next
-  pub same_columns : next.columns ≡ s.columns
-  pub same_rows : next.rows ≡ s.rows
 
-both : (s : Spot) (moves more : List Move) (next last : Spot) (p q r : Page) → Step s moves next p q → Step next more last q r → Step s (moves ++ more) last p r
-both s moves more next last p q r first second = record {
+-- moves that go on from others, in a window of the same sides
+both : (s : Spot) (moves more : List Move) (next last : Spot) (p q r : Page) → next.columns ≡ s.columns → next.rows ≡ s.rows → Step s moves next p q → Step next more last q r → Step s (moves ++ more) last p r
+both s moves more next last p q r columns rows first second = record {
   shown =
       all_moved-append s.columns moves more (screen s.rows p)
       ∙ ap (λ (xs : Option (List (List ℕ))). option_and_then (all_moved s.columns more) xs) first.shown
-      ∙ subst (λ (n : ℕ). all_moved n more (screen s.rows q) ≡ Some (screen s.rows r)) first.same_columns
-      (subst (λ (n : ℕ). all_moved next.columns more (screen n q) ≡ Some (screen n r)) first.same_rows second.shown);
+      ∙ subst (λ (n : ℕ). all_moved n more (screen s.rows q) ≡ Some (screen s.rows r)) columns
+      (subst (λ (n : ℕ). all_moved next.columns more (screen n q) ≡ Some (screen n r)) rows second.shown);
   behind = second.behind;
-  is = second.is;
-  same_columns = second.same_columns ∙ first.same_columns;
-  same_rows = second.same_rows ∙ first.same_rows;
 }
 
-put_step : (s : Spot) (p : Page) (code : ℕ) → IsSpot s → IsBehind s p → s.column < s.columns → Step s (code_moves s code) (code_place s) p (longer p code)
-put_step s p code is behind room = record {
-  shown = put_shows s p code is behind room;
-  behind = record { row = behind.row; column = omega (arith, behind.column, length-append p.last (code ∷ [])) };
-  is = record { wide = is.wide; row = is.row; column = omega (arith, room) };
-  same_columns = refl;
-  same_rows = refl;
+put_step : (s : Spot) (p : Page) (codes : List ℕ) → IsSpot s → IsBehind s p → s.column + length codes ≤ s.columns → Step s (put_moves s codes) (put_place s (length codes)) p (lengthened p codes)
+put_step s p codes is behind room = record {
+  shown = put_shows s p codes is behind room;
+  behind = record { row = behind.row; column = omega (arith, behind.column, length-append p.last codes) };
 }
 
 -- a new row where there is room below
@@ -122,93 +122,253 @@ row_step s p is behind =
     (record {
       shown = ap Some (below_shows s.rows p (omega (arith, behind.row, room)));
       behind = record { row = omega (arith, behind.row, room, row_count p); column = refl };
-      is = record { wide = is.wide; row = room; column = omega arith };
-      same_columns = refl;
-      same_rows = refl;
     }))
     (λ (full : s.rows ≤ s.row + 1).
     rw (le-ltb (s.row + 1) s.rows full)
     (record {
       shown = scroll_shows s.columns s.rows p (omega (arith, is.row)) (omega (arith, behind.row, full));
       behind = record { row = omega (arith, behind.row, full, row_count p); column = refl };
-      is = record { wide = is.wide; row = is.row; column = omega arith };
-      same_columns = refl;
-      same_rows = refl;
     }))
     (cases_lt (s.row + 1) s.rows)
 
--- one byte
-byte_step : (s : Spot) (p : Page) (byte : ℕ) → IsSpot s → IsBehind s p → Step s (byte_moves s byte) (byte_place s byte) p (with_byte s.columns p byte)
-unfolding byte_moves byte_place
-byte_step s p byte is behind =
-    ⊎_elim
-    (λ (room : s.column < s.columns).
-    rw (lt-ltb s.column s.columns room, lt-leb s.columns (length p.last) (omega (arith, room, behind.column))) (with_room (byte == 10) room))
-    (λ (full : s.columns ≤ s.column).
-    rw (le-ltb s.column s.columns full, le-leb s.columns (length p.last) (omega (arith, full, behind.column))) (when_full (byte == 10)))
-    (cases_lt s.column s.columns)
+row_is : (s : Spot) → IsSpot s → IsSpot (row_place s)
+row_is s is = record { wide = is.wide; row = by (nat_lt (s.row + 1) s.rows) refl; column = omega arith }
   where
-    with_room : (b : Bool) → s.column < s.columns → Step s (cond b (row_moves s) (code_moves s (code_of byte))) (cond b (row_place s) (code_place s)) p (cond b (new_row p) (longer p (code_of byte)))
-    with_room true room = row_step s p is behind
-    with_room false room = put_step s p (code_of byte) is behind room
+    by : (b : Bool) → nat_lt (s.row + 1) s.rows ≡ b → cond b (s.row + 1) s.row < s.rows
+    by true room = ltb-true (s.row + 1) s.rows room
+    by false full = is.row
 
-    when_full : (b : Bool) → Step s (cond b (row_moves s) (row_moves s ++ code_moves (row_place s) (code_of byte))) (cond b (row_place s) (code_place (row_place s))) p (cond b (new_row p) (longer (new_row p) (code_of byte)))
-    when_full true = row_step s p is behind
-    when_full false =
-        let first = row_step s p is behind in
-        both s (row_moves s) (code_moves (row_place s) (code_of byte)) (row_place s) (code_place (row_place s)) p (new_row p) (longer (new_row p) (code_of byte)) first
-        (put_step (row_place s) (new_row p) (code_of byte) first.is first.behind (omega (arith, is.wide)))
+-- ---- a newline
 
--- all bytes of a piece
-pub piece_step : (bytes : List ℕ) (s : Spot) (p : Page) → IsSpot s → IsBehind s p → Step s (moves_of s bytes) (place_of s bytes) p (wrapped s.columns p bytes)
+few_rows : (s : Spot) → length (row_moves s) ≤ 1
+few_rows s = by (nat_lt (s.row + 1) s.rows)
+  where
+    by : (b : Bool) → length (cond b [] (Scroll ∷ [])) ≤ 1
+    by true = omega arith
+    by false = omega arith
+
+no_codes : (s : Spot) → put_codes (row_moves s) ≡ []
+no_codes s = by (nat_lt (s.row + 1) s.rows)
+  where
+    by : (b : Bool) → put_codes (cond b [] (Scroll ∷ [])) ≡ []
+    by true = refl
+    by false = refl
+
+rows_within : (columns rows : ℕ) (s : Spot) → All (IsWithin columns rows) (row_moves s)
+rows_within columns rows s = by (nat_lt (s.row + 1) s.rows)
+  where
+    by : (b : Bool) → All (IsWithin columns rows) (cond b [] (Scroll ∷ []))
+    by true = All-nil (IsWithin columns rows)
+    by false = All-cons (IsWithin columns rows) Scroll [] tt (All-nil (IsWithin columns rows))
+
+pub newline_brings : (s : Spot) → IsSpot s → Brings s (10 ∷ []) (row_moves s) (row_place s)
 unfolding wrapped
-piece_step [] s p is behind = record { shown = refl; behind = behind; is = is; same_columns = refl; same_rows = refl }
-piece_step (byte ∷ bytes) s p is behind =
-    let first = byte_step s p byte is behind in
-    let next = with_byte s.columns p byte in
-    both s (byte_moves s byte) (moves_of (byte_place s byte) bytes) (byte_place s byte) (place_of (byte_place s byte) bytes) p next (fold (with_byte s.columns) next bytes) first
-    (subst (λ (n : ℕ). Step (byte_place s byte) (moves_of (byte_place s byte) bytes) (place_of (byte_place s byte) bytes) next (fold (with_byte n) next bytes)) first.same_columns
-    (unfold wrapped in piece_step bytes (byte_place s byte) next first.is first.behind))
+newline_brings s is = record {
+  shown = λ p behind. (row_step s p is behind).shown;
+  behind = λ p behind. (row_step s p is behind).behind;
+  codes = no_codes s;
+  few = omega (arith, few_rows s);
+  within = rows_within s.columns s.rows s;
+  is = row_is s is;
+  same_columns = refl;
+  same_rows = refl;
+}
 
-byte_keeps : (s : Spot) (byte : ℕ) → ((byte_place s byte).columns ≡ s.columns) × ((byte_place s byte).rows ≡ s.rows)
-unfolding byte_place
-byte_keeps s byte = by_tests (byte == 10) (nat_lt s.column s.columns)
+-- ---- characters that go to a row
+
+abbrev is_character : ℕ → Bool
+is_character byte = not (byte == 10)
+
+first_and_more : (b c : Bool) → (not b && c) ≡ true → (b ≡ false) × (c ≡ true)
+first_and_more true c e = absurd cc
+first_and_more false c e = (refl, e)
+
+line_wrapped : (columns : ℕ) (bytes : List ℕ) (p : Page) → list_all is_character bytes ≡ true → length p.last + length bytes ≤ columns → wrapped columns p bytes ≡ lengthened p (map code_of bytes)
+unfolding wrapped
+line_wrapped columns [] p all room = ap (λ (xs : List ℕ). record p { last = xs }) (sym (append-nil p.last))
+line_wrapped columns (byte ∷ bytes) p all room =
+    let are = first_and_more (byte == 10) (list_all is_character bytes) all in
+    let next = longer p (code_of byte) in
+    let first : with_byte columns p byte ≡ next = rw (are.0, lt-leb columns (length p.last) (omega (arith, room))) refl in
+    ap (λ (q : Page). fold (with_byte columns) q bytes) first
+    ∙ unfold wrapped in line_wrapped columns bytes next are.1 (omega (arith, room, length-append p.last (code_of byte ∷ [])))
+    ∙ ap (λ (xs : List ℕ). record p { last = xs }) (append_assoc p.last (code_of byte ∷ []) (map code_of bytes))
+
+-- a line that begins behind a full row begins a new one
+full_wrapped : (columns : ℕ) (byte : ℕ) (bytes : List ℕ) (p : Page) → (byte == 10) ≡ false → 1 ≤ columns → columns ≤ length p.last → wrapped columns p (byte ∷ bytes) ≡ wrapped columns (new_row p) (byte ∷ bytes)
+unfolding wrapped
+full_wrapped columns byte bytes p is_other some full =
+    ap (λ (q : Page). fold (with_byte columns) q bytes)
+    (rw (is_other, le-leb columns (length p.last) full, lt-leb columns 0 some) refl)
+
+line_characters : (bytes : List ℕ) → list_all is_character bytes ≡ true → characters bytes ≡ map code_of bytes
+line_characters [] all = refl
+line_characters (byte ∷ bytes) all =
+    let are = first_and_more (byte == 10) (list_all is_character bytes) all in
+    rw are.0 (ap (λ (xs : List ℕ). code_of byte ∷ xs) (line_characters bytes are.1))
+
+line_step : (s : Spot) (bytes : List ℕ) (p : Page) → IsSpot s → IsBehind s p → list_all is_character bytes ≡ true → s.column + length bytes ≤ s.columns
+    → Step s (put_moves s (map code_of bytes)) (put_place s (length (map code_of bytes))) p (wrapped s.columns p bytes)
+line_step s bytes p is behind all room =
+    subst (λ (q : Page). Step s (put_moves s (map code_of bytes)) (put_place s (length (map code_of bytes))) p q)
+    (sym (line_wrapped s.columns bytes p all (omega (arith, room, behind.column))))
+    (put_step s p (map code_of bytes) is behind (omega (arith, room, length-map bytes code_of)))
+
+one_put : (columns rows row column : ℕ) (codes : List ℕ) → row < rows → column + length codes ≤ columns → 0 < length codes → All (IsWithin columns rows) (Put row column codes ∷ [])
+one_put columns rows row column codes below beside some = All-cons (IsWithin columns rows) (Put row column codes) [] (below, beside, some) (All-nil (IsWithin columns rows))
+
+pub line_brings : (s : Spot) (byte : ℕ) (bytes : List ℕ) → IsSpot s → list_all is_character (byte ∷ bytes) ≡ true → (room_place s).column + length (byte ∷ bytes) ≤ s.columns
+    → Brings s (byte ∷ bytes) (room_moves s ++ put_moves (room_place s) (map code_of (byte ∷ bytes))) (put_place (room_place s) (length (map code_of (byte ∷ bytes))))
+line_brings s byte bytes is all room = by (nat_lt s.column s.columns) refl room
   where
-    by_tests : (b d : Bool) → ((cond b (row_place s) (cond d (code_place s) (code_place (row_place s)))).columns ≡ s.columns) × ((cond b (row_place s) (cond d (code_place s) (code_place (row_place s)))).rows ≡ s.rows)
-    by_tests true d = (refl, refl)
-    by_tests false true = (refl, refl)
-    by_tests false false = (refl, refl)
+    line : List ℕ
+    line = byte ∷ bytes
 
--- the window keeps its sides
-pub keeps : (bytes : List ℕ) (s : Spot) → ((place_of s bytes).columns ≡ s.columns) × ((place_of s bytes).rows ≡ s.rows)
-keeps [] s = (refl, refl)
-keeps (byte ∷ bytes) s =
-    let first = byte_keeps s byte in
-    let later = keeps bytes (byte_place s byte) in
-    (later.0 ∙ first.0, later.1 ∙ first.1)
+    line_codes : List ℕ
+    line_codes = map code_of line
 
--- the characters of the moves of a byte
-byte_codes : (s : Spot) (byte : ℕ) → put_codes (byte_moves s byte) ≡ characters (byte ∷ [])
-unfolding byte_moves
-byte_codes s byte = by_tests (byte == 10) (nat_lt s.column s.columns) (nat_lt (s.row + 1) s.rows)
+    as_many : length line_codes ≡ suc (length bytes)
+    as_many = length-map line code_of
+
+    is_other : (byte == 10) ≡ false
+    is_other = (first_and_more (byte == 10) (list_all is_character bytes) all).0
+
+    by : (b : Bool) → nat_lt s.column s.columns ≡ b → (cond b s (row_place s)).column + length line ≤ s.columns
+        → Brings s line (cond b [] (row_moves s) ++ put_moves (cond b s (row_place s)) line_codes) (put_place (cond b s (row_place s)) (length line_codes))
+    by true e room = record {
+      shown = λ p behind. (line_step s line p is behind all room).shown;
+      behind = λ p behind. (line_step s line p is behind all room).behind;
+      codes = append-nil line_codes ∙ sym (line_characters line all);
+      few = omega arith;
+      within = one_put s.columns s.rows s.row s.column line_codes is.row (omega (arith, room, as_many)) (omega (arith, as_many));
+      is = record { wide = is.wide; row = is.row; column = omega (arith, room, as_many) };
+      same_columns = refl;
+      same_rows = refl;
+    }
+    by false e room =
+        let full : s.columns ≤ s.column = ltb-false s.column s.columns e in
+        let next = row_place s in
+        let next_is = row_is s is in
+        let step : (p : Page) → IsBehind s p → Step s (row_moves s ++ put_moves next line_codes) (put_place next (length line_codes)) p (wrapped s.columns p line) =
+        λ p behind.
+        let first = row_step s p is behind in
+        subst (λ (q : Page). Step s (row_moves s ++ put_moves next line_codes) (put_place next (length line_codes)) p q)
+        (sym (full_wrapped s.columns byte bytes p is_other is.wide (omega (arith, full, behind.column))))
+        (both s (row_moves s) (put_moves next line_codes) next (put_place next (length line_codes)) p (new_row p) (wrapped s.columns (new_row p) line) refl refl first
+        (line_step next line (new_row p) next_is first.behind all room))
+        in
+        record {
+          shown = λ p behind. (step p behind).shown;
+          behind = λ p behind. (step p behind).behind;
+          codes =
+              flat_map-append codes_of (row_moves s) (put_moves next line_codes)
+              ∙ ap (λ (xs : List ℕ). xs ++ (line_codes ++ [])) (no_codes s)
+              ∙ append-nil line_codes
+              ∙ sym (line_characters line all);
+          few = omega (arith, few_rows s, length-append (row_moves s) (put_moves next line_codes));
+          within =
+              All-append (IsWithin s.columns s.rows) (row_moves s) (put_moves next line_codes) (rows_within s.columns s.rows s)
+              (one_put s.columns s.rows next.row 0 line_codes next_is.row (omega (arith, room, as_many)) (omega (arith, as_many)));
+          is = record { wide = is.wide; row = next_is.row; column = omega (arith, room, as_many) };
+          same_columns = refl;
+          same_rows = refl;
+        }
+
+-- ---- one after the other
+
+wrapped-append : (columns : ℕ) (p : Page) (bytes more : List ℕ) → wrapped columns p (bytes ++ more) ≡ wrapped columns (wrapped columns p bytes) more
+unfolding wrapped
+wrapped-append columns p bytes more = fold-append (with_byte columns) p bytes more
+
+characters-append : (bytes more : List ℕ) → characters (bytes ++ more) ≡ characters bytes ++ characters more
+characters-append bytes more = ap (map code_of) (filter-append is_character bytes more) ∙ map-append code_of (filter is_character bytes) (filter is_character more)
+
+pub nothing_brings : (s : Spot) → IsSpot s → Brings s [] [] s
+unfolding wrapped
+nothing_brings s is = record {
+  shown = λ p behind. refl;
+  behind = λ p behind. behind;
+  codes = refl;
+  few = omega arith;
+  within = All-nil (IsWithin s.columns s.rows);
+  is = is;
+  same_columns = refl;
+  same_rows = refl;
+}
+
+pub more_brings : (s next last : Spot) (bytes more : List ℕ) (moves later : List Move) → Brings s bytes moves next → Brings next more later last → Brings s (bytes ++ more) (moves ++ later) last
+more_brings s next last bytes more moves later first second =
+    let step : (p : Page) → IsBehind s p → Step s (moves ++ later) last p (wrapped s.columns p (bytes ++ more)) =
+    λ p behind.
+    let q = wrapped s.columns p bytes in
+    let then_behind = first.behind p behind in
+    let same : wrapped next.columns q more ≡ wrapped s.columns p (bytes ++ more) = ap (λ (n : ℕ). wrapped n q more) first.same_columns ∙ sym (wrapped-append s.columns p bytes more) in
+    subst (λ (r : Page). Step s (moves ++ later) last p r) same
+    (both s moves later next last p q (wrapped next.columns q more) first.same_columns first.same_rows
+    (record { shown = first.shown p behind; behind = then_behind })
+    (record { shown = second.shown q then_behind; behind = second.behind q then_behind }))
+    in
+    record {
+      shown = λ p behind. (step p behind).shown;
+      behind = λ p behind. (step p behind).behind;
+      codes = flat_map-append codes_of moves later ∙ (λ i. first.codes i ++ second.codes i) ∙ sym (characters-append bytes more);
+      few = omega (arith, first.few, second.few, length-append moves later, length-append bytes more);
+      within =
+          All-append (IsWithin s.columns s.rows) moves later first.within
+          (subst (λ (n : ℕ). All (IsWithin n s.rows) later) first.same_columns (subst (λ (n : ℕ). All (IsWithin next.columns n) later) first.same_rows second.within));
+      is = second.is;
+      same_columns = second.same_columns ∙ first.same_columns;
+      same_rows = second.same_rows ∙ first.same_rows;
+    }
+
+same_brings : (s : Spot) (bytes same : List ℕ) (moves alike : List Move) (next there : Spot) → bytes ≡ same → moves ≡ alike → next ≡ there → Brings s bytes moves next → Brings s same alike there
+same_brings s bytes same moves alike next there bytes_are moves_are next_is brings =
+    subst (λ (n : Spot). Brings s same alike n) next_is
+    (subst (λ (ms : List Move). Brings s same ms next) moves_are (subst (λ (bs : List ℕ). Brings s bs moves next) bytes_are brings))
+
+pub newline_fed : (s place next : Spot) (front bytes : List ℕ) (moves after : List Move) → take 1 bytes ≡ 10 ∷ [] → after ≡ moves ++ row_moves place → next ≡ row_place place
+    → Brings s front moves place → Brings s (front ++ take 1 bytes) after next
+newline_fed s place next front bytes moves after first after_is next_is brings =
+    same_brings s (front ++ 10 ∷ []) (front ++ take 1 bytes) (moves ++ row_moves place) after (row_place place) next
+    (ap (λ (xs : List ℕ). front ++ xs) (sym first)) (sym after_is) (sym next_is)
+    (more_brings s place (row_place place) front (10 ∷ []) moves (row_moves place) brings (newline_brings place brings.is))
+
+room_columns : (s : Spot) → (room_place s).columns ≡ s.columns
+room_columns s = by (nat_lt s.column s.columns)
   where
-    by_tests : (b d e : Bool) → put_codes (cond b (cond e [] (Scroll ∷ [])) (cond d (code_moves s (code_of byte)) (cond e [] (Scroll ∷ []) ++ code_moves (row_place s) (code_of byte)))) ≡ map code_of (cond (not b) (byte ∷ []) [])
-    by_tests true d true = refl
-    by_tests true d false = refl
-    by_tests false true e = refl
-    by_tests false false true = refl
-    by_tests false false false = refl
+    by : (b : Bool) → (cond b s (row_place s)).columns ≡ s.columns
+    by true = refl
+    by false = refl
 
-characters_cons : (byte : ℕ) (bytes : List ℕ) → characters (byte ∷ []) ++ characters bytes ≡ characters (byte ∷ bytes)
-characters_cons byte bytes = by_test (not (byte == 10))
+pub room_left : (s : Spot) → IsSpot s → 0 < (room_place s).columns - (room_place s).column
+room_left s is = by (nat_lt s.column s.columns) refl
   where
-    by_test : (b : Bool) → map code_of (cond b (byte ∷ []) []) ++ characters bytes ≡ map code_of (cond b (byte ∷ filter (λ byte. not (byte == 10)) bytes) (filter (λ byte. not (byte == 10)) bytes))
-    by_test true = refl
-    by_test false = refl
+    by : (b : Bool) → nat_lt s.column s.columns ≡ b → 0 < (cond b s (row_place s)).columns - (cond b s (row_place s)).column
+    by true room = omega (arith, ltb-true s.column s.columns room)
+    by false full = omega (arith, is.wide)
 
-pub piece_codes : (bytes : List ℕ) (s : Spot) → put_codes (moves_of s bytes) ≡ characters bytes
-piece_codes [] s = refl
-piece_codes (byte ∷ bytes) s =
-    flat_map-append codes_of (byte_moves s byte) (moves_of (byte_place s byte) bytes)
-    ∙ (λ i. byte_codes s byte i ++ piece_codes bytes (byte_place s byte) i)
-    ∙ characters_cons byte bytes
+pub line_fed : (s place roomy next : Spot) (front bytes line codes : List ℕ) (moves room after : List Move) → IsLine (roomy.columns - roomy.column) bytes line
+    → roomy ≡ room_place place → room ≡ moves ++ room_moves place → codes ≡ map code_of line → after ≡ room ++ put_moves roomy codes → next ≡ put_place roomy (length codes)
+    → Brings s front moves place → Brings s (front ++ take (length line) bytes) after next
+line_fed s place roomy next front bytes line codes moves room after is roomy_is room_is codes_are after_is next_is brings =
+    let text = is.first ∷ is.more in
+    let there = room_place place in
+    let put = put_moves there (map code_of text) in
+    let columns : roomy.columns ≡ place.columns = ap (λ (t : Spot). t.columns) roomy_is ∙ room_columns place in
+    let column : roomy.column ≡ there.column = ap (λ (t : Spot). t.column) roomy_is in
+    let fits : there.column + length text ≤ place.columns = omega (arith, is.few, columns, column) in
+    let codes_is : map code_of text ≡ codes = ap (map code_of) (sym is.is) ∙ sym codes_are in
+    same_brings s (front ++ text) (front ++ take (length line) bytes) (moves ++ (room_moves place ++ put)) after (put_place there (length (map code_of text))) next
+    (ap (λ (xs : List ℕ). front ++ xs) (sym is.front))
+    (sym (append_assoc moves (room_moves place) put) ∙ (λ i. sym room_is i ++ put_moves (sym roomy_is i) (codes_is i)) ∙ sym after_is)
+    ((λ i. put_place (sym roomy_is i) (length (codes_is i))) ∙ sym next_is)
+    (more_brings s place (put_place there (length (map code_of text))) front text moves (room_moves place ++ put) brings
+    (line_brings place is.first is.more brings.is is.all fits))
+
+-- what has come and what is left are the piece
+pub rest_cut : (front rest piece : List ℕ) (n : ℕ) → front ++ rest ≡ piece → (front ++ take n rest) ++ take (length rest - n) (drop n rest) ≡ piece
+rest_cut front rest piece n parts =
+    ap (λ (xs : List ℕ). (front ++ take n rest) ++ xs) (take_all (length rest - n) (drop n rest) (omega (arith, length-drop n rest)))
+    ∙ append_assoc front (take n rest) (drop n rest)
+    ∙ ap (λ (xs : List ℕ). front ++ xs) (take-append-drop n rest)
+    ∙ parts

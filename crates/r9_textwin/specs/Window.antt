@@ -1,6 +1,8 @@
 -- A window of text: its sides, and where the next character goes.
-use Rattle.std.specs.Prelude.{◌≡◌, ℕ, ◌-◌, ◌*◌, ◌^◌, ◌<◌, ◌≤◌, min, length}
+use Rattle.std.specs.Prelude.{◌≡◌, ℕ, ◌+◌, ◌-◌, ◌*◌, ◌^◌, ◌<◌, ◌≤◌, min, length}
 use Rattle.model_textwin.specs.Wrap.{Page}
+use Rattle.model_textwin.specs.declared.Move.{Move}
+use Rattle.model_textwin.specs.declared.Move.TheVariants.{Scroll, Put}
 
 -- a window's columns and rows, and where in it the next character goes
 pub record Spot : Type 0 where
@@ -33,6 +35,11 @@ pub record IsBehind (s : Spot) (p : Page) : Type 0 where
 -- a window has some rows of text
 abbrev pub Stands : Window → Page → Type 0
 Stands w p = IsBehind w.spot p
+
+-- characters that are put stand in rows and columns of a window of so many, and there are some
+abbrev pub IsWithin : (columns rows : ℕ) → Move → Type 0
+IsWithin columns rows Scroll = Unit {0}
+IsWithin columns rows (Put row column codes) = (row < rows) × (column + length codes ≤ columns) × (0 < length codes)
 
 -- two windows have the same columns, rows and characters' sides
 pub record SameSides (old new : Window) : Type 0 where

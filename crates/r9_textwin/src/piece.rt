@@ -1,6 +1,6 @@
 //! The pieces that a text is cut into.
 
-ghost use Rattle.std.specs.Prelude.{◌≡◌, ◌∷◌, ◌++◌, ◌<◌, ◌==◌, length, drop, position, IfSome};
+ghost use Rattle.std.specs.Prelude.{◌≡◌, ◌∷◌, ◌++◌, ◌<◌, ◌≤◌, ◌==◌, length, drop, position, IfSome};
 ghost use Rattle.model_textwin.specs.Pieces.{pieces};
 
 /// How many bytes a piece has at most.
@@ -20,6 +20,7 @@ pub fn first_piece(text: &[u8]) -> &[u8]
     ensures cut { pieces text.now ≡ result.now ∷ pieces (drop (length result.now) text.now) }
     ensures front { text.now ≡ result.now ++ drop (length result.now) text.now }
     ensures some { 0 < length result.now }
+    ensures short { length result.now ≤ 100 }
 {
     let most = text.len().min(LONGEST);
     match first_newline(&text[..most]) {

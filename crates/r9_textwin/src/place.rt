@@ -1,8 +1,9 @@
 //! Where the next character goes.
 
-ghost use Rattle.std.specs.Prelude.{◌≡◌, ◌<◌, ◌≤◌, ◌++◌, IfOk, OnOk};
+ghost use Rattle.std.specs.Prelude.{◌≡◌, ◌<◌, ◌≤◌, ◌+◌, ◌++◌, ◌==◌, ℕ, List, length, map, not, take, IfOk, OnOk};
+ghost use Rattle.std.specs.List.{prefix_len};
 ghost use Rattle.model_textwin.specs.Wrap.{code_of};
-ghost use Rattle.r9_textwin.specs.Steps.{row_moves, row_place, code_moves, code_place, byte_moves, byte_place};
+ghost use Rattle.r9_textwin.specs.Steps.{Brings, put_moves, put_place, room_moves, room_place, row_moves, row_place, run};
 
 use crate::moves::Moves;
 use model_textwin::Move;
@@ -43,8 +44,35 @@ fn code_of(byte: u8) -> u8
     }
 }
 
+/// The characters of bytes.
+fn codes_of(alloc: Global, bytes: &[u8]) -> Result<Bytes, Memory>
+    ensures { IfOk result (λ codes. codes ≡ map code_of bytes.now) }
+{
+    let mut codes = Bytes::new(alloc);
+    codes.reserve(bytes.len())?;
+    for byte in bytes {
+        codes.push(code_of(*byte))?;
+    }
+    Ok(codes)
+}
+
+/// How many bytes stand before the first newline.
+fn line_len(text: &[u8]) -> usize
+    ensures { result ≡ prefix_len (λ byte. not (byte == 10)) text.now }
+{
+    text.iter().take_while(|byte| **byte != b'\n').count()
+}
+
+/// The characters that bytes begin with, at most so many.
+fn run(bytes: &[u8], most: usize) -> &[u8]
+    ensures { result.now ≡ run most bytes.now }
+{
+    let front = &bytes[..most.min(bytes.len())];
+    &front[..line_len(front)]
+}
+
 impl Place {
-    ghost use Rattle.r9_textwin.specs.Window.{IsSpot};
+    ghost use Rattle.r9_textwin.specs.Window.{IsSpot, Spot};
 
     /// The start of a window.
     pub fn start(columns: u32, rows: u32) -> Self
@@ -101,38 +129,57 @@ impl Place {
         })
     }
 
-    // A character goes to the place.
-    fn put(self, alloc: Global, code: u8, moves: &mut Moves) -> Result<Place, Memory>
-        requires { self.column < self.columns }
-        ensures moves { OnOk result (moves.new ≡ moves.old ++ code_moves self code) }
-        ensures place { IfOk result (λ next. next ≡ code_place self) }
+    // A new row begins where this one is full.
+    fn with_room(self, moves: &mut Moves) -> Result<Place, Memory>
+        ensures moves { OnOk result (moves.new ≡ moves.old ++ room_moves self) }
+        ensures place { IfOk result (λ next. next ≡ room_place self) }
     {
+        if self.column < self.columns {
+            Ok(self)
+        } else {
+            self.new_row(moves)
+        }
+    }
+
+    // Characters go to the place.
+    fn put(self, codes: Bytes, moves: &mut Moves) -> Result<Place, Memory>
+        requires { self.column + length codes ≤ self.columns }
+        ensures moves { OnOk result (moves.new ≡ moves.old ++ put_moves self codes) }
+        ensures place { IfOk result (λ next. next ≡ put_place self (length codes)) }
+    {
+        let column = self.column + codes.len() as u32;
         moves.push(Move::Put {
             row: self.row,
             column: self.column,
-            codes: Bytes::from_slice(alloc, &[code])?,
+            codes,
         })?;
         Ok(Place {
             columns: self.columns,
             rows: self.rows,
             row: self.row,
-            column: self.column + 1,
+            column,
         })
     }
 
-    /// A byte comes.
-    #[tactic(auto, unfolding(crate::specs::Steps::byte_moves, crate::specs::Steps::byte_place))]
-    pub fn feed(self, alloc: Global, byte: u8, moves: &mut Moves) -> Result<Place, Memory>
-        ensures moves { OnOk result (moves.new ≡ moves.old ++ byte_moves self byte) }
-        ensures place { IfOk result (λ next. next ≡ byte_place self byte) }
+    /// The front of some bytes comes: a newline, or the characters before the next one for which the row has room, or a new row
+    /// where it is full. Gives the place behind them, and how many they are.
+    pub fn feed(
+        self,
+        alloc: Global,
+        bytes: &[u8],
+        moves: &mut Moves,
+    ) -> Result<(Place, usize), Memory>
+        requires { 0 < length bytes.now }
+        ensures some { IfOk result (λ fed. 0 < fed.1) }
+        ensures within { IfOk result (λ fed. fed.1 ≤ length bytes.now) }
+        ensures brings { IfOk result (λ fed. (s : Spot) (front : List ℕ) → Brings s front moves.old self → Brings s (front ++ take fed.1 bytes.now) moves.new fed.0) }
     {
-        if byte == b'\n' {
-            self.new_row(moves)
-        } else if self.column < self.columns {
-            self.put(alloc, code_of(byte), moves)
-        } else {
-            let next = self.new_row(moves)?;
-            next.put(alloc, code_of(byte), moves)
+        if bytes[0] == b'\n' {
+            return Ok((self.new_row(moves)?, 1));
         }
+        let place = self.with_room(moves)?;
+        let line = run(bytes, (place.columns - place.column) as usize);
+        let next = place.put(codes_of(alloc, line)?, moves)?;
+        Ok((next, line.len()))
     }
 }

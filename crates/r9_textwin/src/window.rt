@@ -1,12 +1,11 @@
 //! A window of text.
 
-ghost use Rattle.std.specs.Prelude.{◌≡◌, ◌*◌, ◌^◌, ◌<◌, ◌≤◌, ◌++◌, pos, Some, IfOk, OnOk, OnErr};
+ghost use Rattle.std.specs.Prelude.{◌≡◌, ◌*◌, ◌^◌, ◌<◌, ◌≤◌, length, pos, All, Some, IfOk, OnOk, OnErr};
 ghost use Rattle.model_textwin.specs.Wrap.{Page, blank, characters, wrapped};
 ghost use Rattle.model_textwin.specs.Moves.{screen, all_moved, put_codes};
 ghost use Rattle.model_textwin.specs.Layout as layout;
-ghost use Rattle.r9_textwin.specs.Window.{SameSides, Stands};
-ghost use Rattle.r9_textwin.specs.Steps.{moves_of};
-ghost use Rattle.r9_textwin.specs.Steps as steps;
+ghost use Rattle.r9_textwin.specs.Window.{IsSpot, IsWithin, SameSides, Stands};
+ghost use Rattle.r9_textwin.specs.Steps.{Brings};
 
 use crate::moves::Moves;
 use crate::place::Place;
@@ -95,30 +94,35 @@ impl TextWin {
     }
 
     /// A piece of the text comes. The moves bring the rows that were shown before it to those after it, whatever the text
-    /// was so far, and put the piece's characters in order. Where there is no memory the window is as before.
+    /// was so far, and put the piece's characters in order, those that go to one row together. Where there is no memory the
+    /// window is as before.
     pub fn feed(&mut self, piece: &[u8]) -> Result<Moves, Memory>
         ensures moves { IfOk result (λ moves. (p : Page) → Stands self.old p → all_moved self.old.spot.columns moves (screen self.old.spot.rows p) ≡ Some (screen self.old.spot.rows (wrapped self.old.spot.columns p piece.now))) }
         ensures codes { IfOk result (λ moves. put_codes moves ≡ characters piece.now) }
+        ensures few { IfOk result (λ moves. length moves ≤ 2 * length piece.now) }
+        ensures within { IfOk result (λ moves. All (IsWithin self.old.spot.columns self.old.spot.rows) moves) }
         ensures stands { OnOk result ((p : Page) → Stands self.old p → Stands self.new (wrapped self.old.spot.columns p piece.now)) }
         ensures sides { OnOk result (SameSides self.old self.new) }
         ensures err { OnErr result (self.new ≡ self.old) }
     {
-        let mut moves = Moves::new(self.alloc);
-        let place = self.place.known();
-        self.place = feed_all(self.alloc, place, piece, &mut moves)?;
+        let (place, moves) = feed_all(self.alloc, self.place.known(), piece)?;
+        self.place = place;
         Ok(moves)
     }
 }
 
-fn feed_all(alloc: Global, place: Place, piece: &[u8], moves: &mut Moves) -> Result<Place, Memory>
-    ensures moves { OnOk result (moves.new ≡ moves.old ++ moves_of place piece.now) }
-    ensures place { IfOk result (λ next. next ≡ steps.place_of place piece.now) }
+// All bytes of a piece come, those that go to one row together.
+fn feed_all(alloc: Global, place: Place, piece: &[u8]) -> Result<(Place, Moves), Memory>
+    requires { IsSpot place }
+    ensures { IfOk result (λ fed. Brings place piece.now fed.1 fed.0) }
 {
+    let mut moves = Moves::new(alloc);
     let mut next = place;
     let mut rest = piece;
-    while let [byte, after @ ..] = rest {
-        next = next.feed(alloc, *byte, moves)?;
-        rest = after;
+    while !rest.is_empty() {
+        let (behind, len) = next.feed(alloc, rest, &mut moves)?;
+        next = behind;
+        rest = &rest[len..];
     }
-    Ok(next)
+    Ok((next, moves))
 }

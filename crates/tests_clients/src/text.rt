@@ -11,15 +11,9 @@ fn rows_fill_and_scroll(rt: HostRuntime) -> Result<(), Fail> {
         let Move::Put { row, column, codes } = next else {
             return Err("no move that scrolls")?;
         };
-        put.push((*row, *column, codes.as_slice().first().copied()))?;
+        put.push((*row, *column, codes.as_slice()))?;
     }
-    let wanted = [
-        (0, 0, Some(65)),
-        (0, 1, Some(66)),
-        (0, 2, Some(67)),
-        (0, 3, Some(68)),
-        (1, 0, Some(69)),
-    ];
+    let wanted: [(u32, u32, &[u8]); 2] = [(0, 0, &[65, 66, 67, 68]), (1, 0, &[69])];
     assert_eq!(rt; put.as_slice(), wanted.as_slice());
     assert_eq!(rt; window.feed(b"\n")?.as_slice().len(), 0);
     assert!(rt; matches!(window.feed(b"\n")?.as_slice(), [Move::Scroll]));

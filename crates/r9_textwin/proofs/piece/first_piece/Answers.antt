@@ -1,4 +1,4 @@
-use Rattle.std.proofs.Common.{◌≡◌, ◌∙◌, arith, length, min}
+use Rattle.std.proofs.Common.{◌≡◌, arith, length, min}
 use Rattle.r9_textwin.proofs.Cuts.{at_newline, at_most}
 use Rattle.r9_textwin.proofs.piece.first_piece.Goals as goal
 
