@@ -1,0 +1,4 @@
+pub mod Said
+pub mod Fits
+pub mod Moving
+pub mod Typing
