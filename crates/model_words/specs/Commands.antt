@@ -52,6 +52,25 @@ pub record AsksForAlone (words : List (List ℕ)) (opening : Opening) (session :
   pub chosen : value_of (codes "conn") given ≡ Some number
   pub counts : counted 4294967295 number ≡ Some session
 
+-- a number that is given under a name, from a least to a most one
+pub record GivesNumber (given : List Given) (name : List ℕ) (least most n : ℕ) : Type 0 where
+  pub text : List ℕ
+  pub valued : value_of name given ≡ Some text
+  pub counts : counted most text ≡ Some n
+  pub enough : least ≤ n
+
+abbrev pub text_syntax : Syntax
+text_syntax = record { flags = []; valued = codes "cols" ∷ codes "rows" ∷ [] }
+
+-- shows a text in a window of so many columns and rows
+pub record AsksForText (words : List (List ℕ)) (columns rows : ℕ) : Type 0 where
+  pub given : List Given
+  pub rest : List (List ℕ)
+  pub begins : words ≡ codes "text" ∷ rest
+  pub gives : GivesOptions text_syntax given rest
+  pub wide : GivesNumber given (codes "cols") 4 200 columns
+  pub high : GivesNumber given (codes "rows") 4 100 rows
+
 -- one word, with `--` before it, behind it, or nowhere
 abbrev pub IsAlone : (word : List ℕ) → (words : List (List ℕ)) → Type 0
 IsAlone word words = (words ≡ word ∷ []) ⊎ (words ≡ ending ∷ word ∷ []) ⊎ (words ≡ word ∷ ending ∷ [])

@@ -1,8 +1,7 @@
 -- The words that ask for a job are those that clap takes, and whose matches give it.
-use Rattle.std.proofs.Common.{◌≡◌, ◌∙◌, ℕ, ◌==◌, ◌&&◌, ◌||◌, Bool, true, false, true≢false, not, refl, sym, ap, subst, List, [], ◌∷◌, codes, length, Option, Some, None, cond, string_bytes}
+use Rattle.std.proofs.Common.{◌≡◌, ◌∙◌, ℕ, ◌==◌, ◌&&◌, ◌||◌, Bool, true, false, not, refl, sym, ap, ap₂, subst, List, [], ◌∷◌, codes, length, Option, Some, None, cond, string_bytes}
 use Rattle.std.specs.List.{list_all}
-use Rattle.std.specs.Prelude.{nat_le, nat_lt}
-use Rattle.std.specs.Str.{bytes_eq}
+use Rattle.std.specs.Prelude.{if◌then◌else◌, nat_le, nat_lt}
 use Rattle.std.proofs.lemmas.Bool.Decides.{Decides-eqb}
 use Rattle.clap.specs.Simple.{subcommand_of}
 use Rattle.clap.specs.Faults.{fault_of}
@@ -11,23 +10,66 @@ use Rattle.model_text.specs.Field.{value}
 use Rattle.model_text.specs.Reading.{◌>>=◌}
 use Rattle.model_words.specs.Options.{is_value}
 use Rattle.model_words.specs.Values.{counted}
-use Rattle.model_words.specs.Commands.{AsksToGenerate, alone_syntax, replay_syntax, serve_syntax}
+use Rattle.model_words.specs.Commands.{AsksToGenerate, alone_syntax, replay_syntax, serve_syntax, text_syntax}
 use Rattle.r9_opts.specs.declared.job.Job.{Job}
-use Rattle.r9_opts.specs.declared.job.Job.TheVariants.{Replay, Serve, Alone, Gen}
+use Rattle.r9_opts.specs.declared.job.Job.TheVariants.{Replay, Serve, Alone, Text as Texts, Gen}
 use Rattle.r9_opts.specs.App.{rio9_app}
 use Rattle.r9_opts.specs.Asked.{AskFor, JobOf}
 use Rattle.r9_opts.specs.Fit.{is_fit}
-use Rattle.r9_opts.specs.Rows.{IsCountOf}
-use Rattle.r9_opts.proofs.Options.{none_some, some_inj}
+use Rattle.r9_opts.specs.Rows.{IsAloneOf, IsCountOf, IsReplayOf, IsServeOf, IsTextOf}
+use Rattle.r9_opts.proofs.Options.{both, none_some, some_inj}
 use Rattle.r9_opts.proofs.Given.{value_fits}
-use Rattle.r9_opts.proofs.Levels.{Front, replays, serves, alones, generates, other, alone_is, alone_rules, fault_in, front, gen_is, gen_rules, leaf_takes, leaf_took, replay_is, replay_rules, rows_in, serve_is, serve_rules}
-use Rattle.r9_opts.proofs.Tables.{alone_names, alone_optional, alone_table, gen_defaults, gen_optional, replay_names, replay_optional, replay_table, serve_names, serve_optional, serve_table}
+use Rattle.r9_opts.proofs.Levels.{Command, replays, serves, alones, texts, generates, Front, begins, other, fault_behind, fault_in, front, gen_rules, is_word, leaf_takes, leaf_took, rows_in, rules_of, sub_behind, word_of}
+use Rattle.r9_opts.proofs.Tables.{alone_names, gen_defaults, gen_optional, replay_names, serve_names, text_names}
 use Rattle.r9_opts.proofs.Number.{alone as one_word, alone_fits, alone_run, number_rows}
-use Rattle.r9_opts.proofs.Matched.{Matches, alone_asked, alone_found, matched, matches, replay_asked, replay_found, serve_asked, serve_found}
+use Rattle.r9_opts.proofs.Matched.{Matches, alone_asked, alone_found, matched, matches, replay_asked, replay_found, serve_asked, serve_found, text_asked, text_found}
 
--- two names that are not the same
-pub apart : {A : Type 0} (a b : Text) → bytes_eq a b ≡ false → bytes_eq b b ≡ true → a ≡ b → A
-apart a b differ same e = absurd (true≢false (sym same ∙ ap (λ t. bytes_eq t b) (sym e) ∙ differ))
+-- ---- commands and jobs
+
+abbrev pub command_of : Job → Command
+command_of (Replay opening screen) = replays
+command_of (Serve opening listen workers conns) = serves
+command_of (Alone opening session) = alones
+command_of (Texts columns lines) = texts
+command_of (Gen n) = generates
+
+-- the matches give the job, whatever the command
+abbrev pub AreOf : List Row → Job → Type 0
+AreOf rows (Replay opening screen) = IsReplayOf rows opening screen
+AreOf rows (Serve opening listen workers conns) = IsServeOf rows opening (string_bytes listen) workers conns
+AreOf rows (Alone opening session) = IsAloneOf rows opening session
+AreOf rows (Texts columns lines) = IsTextOf rows columns lines
+AreOf rows (Gen n) = IsCountOf rows (codes "number") 100000 n
+
+job_of : (name : Text) (rows : List Row) (job : Job) → JobOf name rows job → (name ≡ word_of (command_of job)) × AreOf rows job
+job_of name rows (Replay opening screen) of = of
+job_of name rows (Serve opening listen workers conns) of = of
+job_of name rows (Alone opening session) of = of
+job_of name rows (Texts columns lines) of = of
+job_of name rows (Gen n) of = of
+
+abbrev command_by : Text → Option Command
+command_by word =
+    if is_word replays word then Some replays
+    else if is_word serves word then Some serves
+    else if is_word alones word then Some alones
+    else if is_word texts word then Some texts
+    else if is_word generates word then Some generates
+    else None
+
+known : (command : Command) → command_by (word_of command) ≡ Some command
+known replays = refl
+known serves = refl
+known alones = refl
+known texts = refl
+known generates = refl
+
+same_command : (a b : Command) → word_of a ≡ word_of b → a ≡ b
+same_command a b e = some_inj (sym (known a) ∙ ap command_by e ∙ known b)
+
+-- the matches of a command give a job of this command alone
+pub job_by : (command : Command) (rows : List Row) (job : Job) → JobOf (word_of command) rows job → (command ≡ command_of job) × AreOf rows job
+job_by command rows job of = let parts = job_of (word_of command) rows job of in (same_command command (command_of job) parts.0, parts.1)
 
 -- ---- gen
 
@@ -58,46 +100,35 @@ gen_found rest rows n fit fault are of =
 command_same : (a b : Text) (r s : List Row) → ◌≡◌ {A = Option (Text × List Row)} (Some (a, r)) (Some (b, s)) → (b ≡ a) × (s ≡ r)
 command_same a b r s e = let same = some_inj e in (ap (λ (p : Text × List Row). p.0) (sym same), ap (λ (p : Text × List Row). p.1) (sym same))
 
+-- the words behind a command are fit where all are
+fit_behind : (command : Command) (rest : List Text) → list_all is_fit (word_of command ∷ rest) ≡ true → list_all is_fit rest ≡ true
+fit_behind command rest fit = (both (is_fit (word_of command)) (list_all is_fit rest) fit).1
+
+-- a command in front, and the job that its matches give
+by_job : (rest : List Text) (rows : List Row) (job : Job) → list_all is_fit rest ≡ true → fault_in (word_of (command_of job)) (rules_of (command_of job)) rest ≡ []
+    → rows ≡ rows_in (rules_of (command_of job)) rest → AreOf rows job → AskFor (word_of (command_of job) ∷ rest) job
+by_job rest rows (Replay opening screen) fit fault are of =
+    replay_found rest rows opening screen (subst (Matches replay_syntax rest) (sym are) (matches (codes "replay") replay_syntax replay_names rest fit fault)) of
+by_job rest rows (Serve opening listen workers conns) fit fault are of =
+    serve_found rest rows opening (string_bytes listen) workers conns (subst (Matches serve_syntax rest) (sym are) (matches (codes "serve") serve_syntax serve_names rest fit fault)) of
+by_job rest rows (Alone opening session) fit fault are of =
+    alone_found rest rows opening session (subst (Matches alone_syntax rest) (sym are) (matches (codes "alone") alone_syntax alone_names rest fit fault)) of
+by_job rest rows (Texts columns lines) fit fault are of =
+    text_found rest rows columns lines (subst (Matches text_syntax rest) (sym are) (matches (codes "text") text_syntax text_names rest fit fault)) of
+by_job rest rows (Gen n) fit fault are of = gen_found rest rows n fit fault are of
+
+by_command : (command : Command) (rest : List Text) (rows : List Row) (job : Job) → command ≡ command_of job → list_all is_fit rest ≡ true
+    → fault_in (word_of command) (rules_of command) rest ≡ [] → rows ≡ rows_in (rules_of command) rest → AreOf rows job → AskFor (word_of command ∷ rest) job
+by_command command rest rows job e fit fault are of =
+    subst (λ (c : Command). fault_in (word_of c) (rules_of c) rest ≡ [] → rows ≡ rows_in (rules_of c) rest → AskFor (word_of c ∷ rest) job) (sym e)
+    (λ fault are. by_job rest rows job fit fault are of) fault are
+
 by_front : (words : List Text) (name : Text) (rows : List Row) (job : Job) → Front words → list_all is_fit words ≡ true → fault_of rio9_app words ≡ []
     → subcommand_of rio9_app words ≡ Some (name, rows) → JobOf name rows job → AskFor words job
-by_front words name rows (Replay opening screen) (replays rest) fit fault sub (e, of) =
-    let same = command_same _ _ _ _ (sym (replay_is.sub rest) ∙ sub) in
-    let got = matches (codes "replay") replay_rules replay_syntax replay_table replay_names replay_optional rest fit (sym (replay_is.fault rest) ∙ fault) in
-    replay_found rest rows opening screen (subst (Matches replay_syntax replay_rules rest) (sym same.1) got) of
-by_front words name rows (Serve opening listen workers conns) (replays rest) fit fault sub (e, of) =
-    let same = command_same _ _ _ _ (sym (replay_is.sub rest) ∙ sub) in apart (codes "replay") (codes "serve") refl refl (sym same.0 ∙ e)
-by_front words name rows (Alone opening session) (replays rest) fit fault sub (e, of) =
-    let same = command_same _ _ _ _ (sym (replay_is.sub rest) ∙ sub) in apart (codes "replay") (codes "alone") refl refl (sym same.0 ∙ e)
-by_front words name rows (Gen n) (replays rest) fit fault sub (e, of) =
-    let same = command_same _ _ _ _ (sym (replay_is.sub rest) ∙ sub) in apart (codes "replay") (codes "gen") refl refl (sym same.0 ∙ e)
-by_front words name rows (Replay opening screen) (serves rest) fit fault sub (e, of) =
-    let same = command_same _ _ _ _ (sym (serve_is.sub rest) ∙ sub) in apart (codes "serve") (codes "replay") refl refl (sym same.0 ∙ e)
-by_front words name rows (Serve opening listen workers conns) (serves rest) fit fault sub (e, of) =
-    let same = command_same _ _ _ _ (sym (serve_is.sub rest) ∙ sub) in
-    let got = matches (codes "serve") serve_rules serve_syntax serve_table serve_names serve_optional rest fit (sym (serve_is.fault rest) ∙ fault) in
-    serve_found rest rows opening (string_bytes listen) workers conns (subst (Matches serve_syntax serve_rules rest) (sym same.1) got) of
-by_front words name rows (Alone opening session) (serves rest) fit fault sub (e, of) =
-    let same = command_same _ _ _ _ (sym (serve_is.sub rest) ∙ sub) in apart (codes "serve") (codes "alone") refl refl (sym same.0 ∙ e)
-by_front words name rows (Gen n) (serves rest) fit fault sub (e, of) =
-    let same = command_same _ _ _ _ (sym (serve_is.sub rest) ∙ sub) in apart (codes "serve") (codes "gen") refl refl (sym same.0 ∙ e)
-by_front words name rows (Replay opening screen) (alones rest) fit fault sub (e, of) =
-    let same = command_same _ _ _ _ (sym (alone_is.sub rest) ∙ sub) in apart (codes "alone") (codes "replay") refl refl (sym same.0 ∙ e)
-by_front words name rows (Serve opening listen workers conns) (alones rest) fit fault sub (e, of) =
-    let same = command_same _ _ _ _ (sym (alone_is.sub rest) ∙ sub) in apart (codes "alone") (codes "serve") refl refl (sym same.0 ∙ e)
-by_front words name rows (Alone opening session) (alones rest) fit fault sub (e, of) =
-    let same = command_same _ _ _ _ (sym (alone_is.sub rest) ∙ sub) in
-    let got = matches (codes "alone") alone_rules alone_syntax alone_table alone_names alone_optional rest fit (sym (alone_is.fault rest) ∙ fault) in
-    alone_found rest rows opening session (subst (Matches alone_syntax alone_rules rest) (sym same.1) got) of
-by_front words name rows (Gen n) (alones rest) fit fault sub (e, of) =
-    let same = command_same _ _ _ _ (sym (alone_is.sub rest) ∙ sub) in apart (codes "alone") (codes "gen") refl refl (sym same.0 ∙ e)
-by_front words name rows (Replay opening screen) (generates rest) fit fault sub (e, of) =
-    let same = command_same _ _ _ _ (sym (gen_is.sub rest) ∙ sub) in apart (codes "gen") (codes "replay") refl refl (sym same.0 ∙ e)
-by_front words name rows (Serve opening listen workers conns) (generates rest) fit fault sub (e, of) =
-    let same = command_same _ _ _ _ (sym (gen_is.sub rest) ∙ sub) in apart (codes "gen") (codes "serve") refl refl (sym same.0 ∙ e)
-by_front words name rows (Alone opening session) (generates rest) fit fault sub (e, of) =
-    let same = command_same _ _ _ _ (sym (gen_is.sub rest) ∙ sub) in apart (codes "gen") (codes "alone") refl refl (sym same.0 ∙ e)
-by_front words name rows (Gen n) (generates rest) fit fault sub (e, of) =
-    let same = command_same _ _ _ _ (sym (gen_is.sub rest) ∙ sub) in gen_found rest rows n fit (sym (gen_is.fault rest) ∙ fault) same.1 of
+by_front words name rows job (begins command rest) fit fault sub of =
+    let same = command_same _ _ _ _ (sym (sub_behind command rest) ∙ sub) in
+    let parts = job_of name rows job of in
+    by_command command rest rows job (same_command command (command_of job) (sym same.0 ∙ parts.0)) (fit_behind command rest fit) (sym (fault_behind command rest) ∙ fault) same.1 parts.1
 by_front words name rows job (other others nothing) fit fault sub of = absurd (nothing (name, rows) fault sub)
 
 pub job_found : (words : List Text) (name : Text) (rows : List Row) (job : Job) → list_all is_fit words ≡ true → fault_of rio9_app words ≡ []
@@ -114,45 +145,49 @@ pub record IsTaken (words : List Text) (job : Job) : Type 0 where
   pub sub : subcommand_of rio9_app words ≡ Some (name, rows)
   pub gives : JobOf name rows job
 
+word_fits : (command : Command) → is_fit (word_of command) ≡ true
+word_fits replays = refl
+word_fits serves = refl
+word_fits alones = refl
+word_fits texts = refl
+word_fits generates = refl
+
+fits_behind : (command : Command) (rest : List Text) → list_all is_fit rest ≡ true → list_all is_fit (word_of command ∷ rest) ≡ true
+fits_behind command rest fit = ap₂ (λ a b. a && b) (word_fits command) fit
+
+-- the words of a command that are taken
+by_rest : (rest : List Text) (job : Job) → list_all is_fit rest ≡ true → fault_in (word_of (command_of job)) (rules_of (command_of job)) rest ≡ []
+    → JobOf (word_of (command_of job)) (rows_in (rules_of (command_of job)) rest) job → IsTaken (word_of (command_of job) ∷ rest) job
+by_rest rest job fit fault of = record {
+  fit = fits_behind (command_of job) rest fit;
+  fault = fault_behind (command_of job) rest ∙ fault;
+  name = word_of (command_of job);
+  rows = rows_in (rules_of (command_of job)) rest;
+  sub = sub_behind (command_of job) rest;
+  gives = of;
+}
+
 pub taken : (words : List Text) (job : Job) → AskFor words job → IsTaken words job
 taken words (Replay opening screen) asks =
-    let got = matched (codes "replay") replay_rules replay_syntax replay_table replay_names replay_optional asks.rest asks.given asks.gives in
-    subst (λ w. IsTaken w (Replay opening screen)) (sym asks.begins) (record {
-      fit = got.0;
-      fault = replay_is.fault asks.rest ∙ got.1;
-      name = codes "replay";
-      rows = rows_in replay_rules asks.rest;
-      sub = replay_is.sub asks.rest;
-      gives = (refl, replay_asked asks.rest (rows_in replay_rules asks.rest) asks.given opening screen asks.gives got.2 asks.opened asks.shown);
-    })
+    let got = matched (codes "replay") replay_syntax replay_names asks.rest asks.given asks.gives in
+    subst (λ w. IsTaken w (Replay opening screen)) (sym asks.begins)
+    (by_rest asks.rest (Replay opening screen) got.0 got.1
+    (refl, replay_asked asks.rest (rows_in (rules_of replays) asks.rest) asks.given opening screen asks.gives got.2 asks.opened asks.shown))
 taken words (Serve opening listen workers conns) asks =
-    let got = matched (codes "serve") serve_rules serve_syntax serve_table serve_names serve_optional asks.rest asks.given asks.gives in
-    subst (λ w. IsTaken w (Serve opening listen workers conns)) (sym asks.begins) (record {
-      fit = got.0;
-      fault = serve_is.fault asks.rest ∙ got.1;
-      name = codes "serve";
-      rows = rows_in serve_rules asks.rest;
-      sub = serve_is.sub asks.rest;
-      gives = (refl, serve_asked words (rows_in serve_rules asks.rest) opening (string_bytes listen) workers conns asks got.2);
-    })
+    let got = matched (codes "serve") serve_syntax serve_names asks.rest asks.given asks.gives in
+    subst (λ w. IsTaken w (Serve opening listen workers conns)) (sym asks.begins)
+    (by_rest asks.rest (Serve opening listen workers conns) got.0 got.1 (refl, serve_asked words (rows_in (rules_of serves) asks.rest) opening (string_bytes listen) workers conns asks got.2))
 taken words (Alone opening session) asks =
-    let got = matched (codes "alone") alone_rules alone_syntax alone_table alone_names alone_optional asks.rest asks.given asks.gives in
-    subst (λ w. IsTaken w (Alone opening session)) (sym asks.begins) (record {
-      fit = got.0;
-      fault = alone_is.fault asks.rest ∙ got.1;
-      name = codes "alone";
-      rows = rows_in alone_rules asks.rest;
-      sub = alone_is.sub asks.rest;
-      gives = (refl, alone_asked words (rows_in alone_rules asks.rest) opening session asks got.2);
-    })
+    let got = matched (codes "alone") alone_syntax alone_names asks.rest asks.given asks.gives in
+    subst (λ w. IsTaken w (Alone opening session)) (sym asks.begins)
+    (by_rest asks.rest (Alone opening session) got.0 got.1 (refl, alone_asked words (rows_in (rules_of alones) asks.rest) opening session asks got.2))
+taken words (Texts columns lines) asks =
+    let got = matched (codes "text") text_syntax text_names asks.rest asks.given asks.gives in
+    subst (λ w. IsTaken w (Texts columns lines)) (sym asks.begins)
+    (by_rest asks.rest (Texts columns lines) got.0 got.1 (refl, text_asked words (rows_in (rules_of texts) asks.rest) columns lines asks got.2))
 taken words (Gen n) asks =
     let value = counted_value 100000 n asks.word asks.counts in
     let took = leaf_takes (codes "gen") gen_rules gen_optional asks.rest (number_rows asks.word) (alone_run asks.word asks.rest value asks.one) in
-    subst (λ w. IsTaken w (Gen n)) (sym asks.begins) (record {
-      fit = alone_fits asks.word asks.rest (value_fits asks.word value) asks.one;
-      fault = gen_is.fault asks.rest ∙ took.0;
-      name = codes "gen";
-      rows = rows_in gen_rules asks.rest;
-      sub = gen_is.sub asks.rest;
-      gives = (refl, record { text = asks.word; given = ap (first_of (codes "number")) (took.1 ∙ gen_defaults (number_rows asks.word)); counts = asks.counts });
-    })
+    subst (λ w. IsTaken w (Gen n)) (sym asks.begins)
+    (by_rest asks.rest (Gen n) (alone_fits asks.word asks.rest (value_fits asks.word value) asks.one) took.0
+    (refl, record { text = asks.word; given = ap (first_of (codes "number")) (took.1 ∙ gen_defaults (number_rows asks.word)); counts = asks.counts }))

@@ -1,5 +1,5 @@
 -- The program's words: the command in front, and the words that are left to it.
-use Rattle.std.proofs.Common.{◌≡◌, ◌∙◌, ℕ, ◌==◌, ◌&&◌, Bool, true, false, true≢false, not, refl, sym, ap, ap₂, subst, List, [], ◌∷◌, codes, Option, Some, None}
+use Rattle.std.proofs.Common.{◌≡◌, ◌∙◌, ℕ, ◌==◌, ◌&&◌, Bool, true, false, true≢false, not, refl, sym, ap, ap₂, subst, List, [], ◌∷◌, ◌++◌, map, codes, Option, Some, None}
 use Rattle.std.specs.Prelude.{if◌then◌else◌}
 use Rattle.std.specs.List.{fold, list_all, list_any}
 use Rattle.std.specs.Option.{is_some}
@@ -16,7 +16,8 @@ use Rattle.clap.proofs.WalkLemmas.{walk_stopped}
 use Rattle.clap.proofs.FaultLemmas.{stopped_fault}
 use Rattle.clap.specs.declared.error.kind.ErrorKind.TheVariants as kind
 use Rattle.clap.specs.declared.error.kind.ErrorKind.{ErrorKind}
-use Rattle.model_words.specs.Options.{ending, dashed}
+use Rattle.model_words.specs.Options.{Syntax, ending, dashed}
+use Rattle.model_words.specs.Commands.{alone_syntax, replay_syntax, serve_syntax, text_syntax}
 use Rattle.r9_opts.specs.App.{rio9_app}
 use Rattle.r9_opts.specs.Fit.{is_fit}
 use Rattle.r9_opts.proofs.Walks.{View, ends, long, plain, view, at, built_flag, built_valued, goes_on, leaf, no_short, run}
@@ -101,18 +102,36 @@ built_word name = record (new_rule name) {
   parser = Some parser.String;
 }
 
-abbrev pub replay_rules : List Rule
-replay_rules = built_valued (codes "size") ∷ built_valued (codes "chan") ∷ built_flag (codes "screen") ∷ []
-
-abbrev pub serve_rules : List Rule
-serve_rules =
-    built_valued (codes "size") ∷ built_valued (codes "chan") ∷ built_valued (codes "listen") ∷ built_valued (codes "workers") ∷ built_valued (codes "conns") ∷ []
-
-abbrev pub alone_rules : List Rule
-alone_rules = built_valued (codes "size") ∷ built_valued (codes "chan") ∷ built_valued (codes "conn") ∷ []
+-- the rules of the options that a command takes
+abbrev pub rules_with : Syntax → List Rule
+rules_with syntax = map built_valued syntax.valued ++ map built_flag syntax.flags
 
 abbrev pub gen_rules : List Rule
 gen_rules = built_word (codes "number") ∷ []
+
+pub data Command : Type 0 where
+  replays : Command
+  serves : Command
+  alones : Command
+  texts : Command
+  generates : Command
+
+abbrev pub word_of : Command → Text
+word_of replays = codes "replay"
+word_of serves = codes "serve"
+word_of alones = codes "alone"
+word_of texts = codes "text"
+word_of generates = codes "gen"
+
+abbrev pub rules_of : Command → List Rule
+rules_of replays = rules_with replay_syntax
+rules_of serves = rules_with serve_syntax
+rules_of alones = rules_with alone_syntax
+rules_of texts = rules_with text_syntax
+rules_of generates = gen_rules
+
+abbrev leaf_of : Command → Shape
+leaf_of command = leaf (word_of command) (rules_of command)
 
 abbrev top : Shape
 top = record (leaf (codes "rio9") []) { is_leaf = false }
@@ -120,7 +139,7 @@ top = record (leaf (codes "rio9") []) { is_leaf = false }
 abbrev built_app : App
 built_app = record {
   top = top;
-  subs = leaf (codes "replay") replay_rules ∷ leaf (codes "serve") serve_rules ∷ leaf (codes "alone") alone_rules ∷ leaf (codes "gen") gen_rules ∷ [];
+  subs = leaf_of replays ∷ leaf_of serves ∷ leaf_of alones ∷ leaf_of texts ∷ leaf_of generates ∷ [];
 }
 
 app_is : built rio9_app ≡ built_app
@@ -150,71 +169,51 @@ fault_is words = refl
 sub_is : (words : List Text) → subcommand_of rio9_app words ≡ entered built_app (fold (walked [] names) start words).stopped
 sub_is words = refl
 
-entered_replay : (rest : List Text) → top_fault [] (stopped (codes "replay") rest) ≡ fault_in (codes "replay") replay_rules rest
+entered_is : (command : Command) (rest : List Text) → top_fault [] (stopped (word_of command) rest) ≡ fault_in (word_of command) (rules_of command) rest
 unfolding defaults_fault
-entered_replay rest = or_nothing (fault_in (codes "replay") replay_rules rest)
+entered_is replays rest = or_nothing (fault_in (word_of replays) (rules_of replays) rest)
+entered_is serves rest = or_nothing (fault_in (word_of serves) (rules_of serves) rest)
+entered_is alones rest = or_nothing (fault_in (word_of alones) (rules_of alones) rest)
+entered_is texts rest = or_nothing (fault_in (word_of texts) (rules_of texts) rest)
+entered_is generates rest = or_nothing (fault_in (word_of generates) (rules_of generates) rest)
 
-entered_serve : (rest : List Text) → top_fault [] (stopped (codes "serve") rest) ≡ fault_in (codes "serve") serve_rules rest
-unfolding defaults_fault
-entered_serve rest = or_nothing (fault_in (codes "serve") serve_rules rest)
+rows_are : (command : Command) (rest : List Text) → entered built_app (Some (word_of command, rest)) ≡ Some (word_of command, rows_in (rules_of command) rest)
+rows_are replays rest = refl
+rows_are serves rest = refl
+rows_are alones rest = refl
+rows_are texts rest = refl
+rows_are generates rest = refl
 
-entered_alone : (rest : List Text) → top_fault [] (stopped (codes "alone") rest) ≡ fault_in (codes "alone") alone_rules rest
-unfolding defaults_fault
-entered_alone rest = or_nothing (fault_in (codes "alone") alone_rules rest)
-
-entered_gen : (rest : List Text) → top_fault [] (stopped (codes "gen") rest) ≡ fault_in (codes "gen") gen_rules rest
-unfolding defaults_fault
-entered_gen rest = or_nothing (fault_in (codes "gen") gen_rules rest)
-
-walked_replay : walked [] names start (codes "replay") ≡ stopped (codes "replay") []
+walked_is : (command : Command) → walked [] names start (word_of command) ≡ stopped (word_of command) []
 unfolding walked
-walked_replay = refl
+walked_is replays = refl
+walked_is serves = refl
+walked_is alones = refl
+walked_is texts = refl
+walked_is generates = refl
 
-walked_serve : walked [] names start (codes "serve") ≡ stopped (codes "serve") []
-unfolding walked
-walked_serve = refl
-
-walked_alone : walked [] names start (codes "alone") ≡ stopped (codes "alone") []
-unfolding walked
-walked_alone = refl
-
-walked_gen : walked [] names start (codes "gen") ≡ stopped (codes "gen") []
-unfolding walked
-walked_gen = refl
+no_fault : (command : Command) → turn_fault top names start (word_of command) ≡ []
+no_fault replays = refl
+no_fault serves = refl
+no_fault alones = refl
+no_fault texts = refl
+no_fault generates = refl
 
 -- behind a command the walk only keeps the words
-walk_behind : (name : Text) (rest : List Text) → walked [] names start name ≡ stopped name [] → turn_fault top names start name ≡ []
-    → (walk_fault top names start (name ∷ rest) ≡ []) × (◌≡◌ {A = Walk} (fold (walked [] names) start (name ∷ rest)) (stopped name rest))
+walk_behind : (command : Command) (rest : List Text)
+    → (walk_fault top names start (word_of command ∷ rest) ≡ []) × (◌≡◌ {A = Walk} (fold (walked [] names) start (word_of command ∷ rest)) (stopped (word_of command) rest))
 unfolding walk_fault
-walk_behind name rest first fine = (
-  ap₂ (λ k w. or_else k (walk_fault top names w rest)) fine first ∙ stopped_fault top names start (name, []) rest,
-  ap (λ w. fold (walked [] names) w rest) first ∙ sym (walk_stopped [] names start name [] rest),
+walk_behind command rest = (
+  ap₂ (λ k w. or_else k (walk_fault top names w rest)) (no_fault command) (walked_is command) ∙ stopped_fault top names start (word_of command, []) rest,
+  ap (λ w. fold (walked [] names) w rest) (walked_is command) ∙ sym (walk_stopped [] names start (word_of command) [] rest),
 )
 
 -- a command in front, and the words behind it
-pub record IsCommand (name : Text) (c : List Rule) : Type 0 where
-  pub fault : (rest : List Text) → fault_of rio9_app (name ∷ rest) ≡ fault_in name c rest
-  pub sub : (rest : List Text) → subcommand_of rio9_app (name ∷ rest) ≡ Some (name, rows_in c rest)
+pub fault_behind : (command : Command) (rest : List Text) → fault_of rio9_app (word_of command ∷ rest) ≡ fault_in (word_of command) (rules_of command) rest
+fault_behind command rest = let behind = walk_behind command rest in ap₂ top_fault behind.0 behind.1 ∙ entered_is command rest
 
-command_is : (name : Text) (c : List Rule) → walked [] names start name ≡ stopped name [] → turn_fault top names start name ≡ []
-    → ((rest : List Text) → top_fault [] (stopped name rest) ≡ fault_in name c rest)
-    → ((rest : List Text) → entered built_app (Some (name, rest)) ≡ Some (name, rows_in c rest)) → IsCommand name c
-command_is name c first fine enters gives = record {
-  fault = λ rest. let behind = walk_behind name rest first fine in ap₂ top_fault behind.0 behind.1 ∙ enters rest;
-  sub = λ rest. let behind = walk_behind name rest first fine in ap (λ (w : Walk). entered built_app w.stopped) behind.1 ∙ gives rest;
-}
-
-pub replay_is : IsCommand (codes "replay") replay_rules
-replay_is = command_is (codes "replay") replay_rules walked_replay refl entered_replay (λ rest. refl)
-
-pub serve_is : IsCommand (codes "serve") serve_rules
-serve_is = command_is (codes "serve") serve_rules walked_serve refl entered_serve (λ rest. refl)
-
-pub alone_is : IsCommand (codes "alone") alone_rules
-alone_is = command_is (codes "alone") alone_rules walked_alone refl entered_alone (λ rest. refl)
-
-pub gen_is : IsCommand (codes "gen") gen_rules
-gen_is = command_is (codes "gen") gen_rules walked_gen refl entered_gen (λ rest. refl)
+pub sub_behind : (command : Command) (rest : List Text) → subcommand_of rio9_app (word_of command ∷ rest) ≡ Some (word_of command, rows_in (rules_of command) rest)
+sub_behind command rest = ap (λ (w : Walk). entered built_app w.stopped) (walk_behind command rest).1 ∙ rows_are command rest
 
 -- ---- words that begin with no command
 
@@ -269,22 +268,23 @@ nothing_first word words (plain x xs none) unmet = plain_first x xs words none u
 
 -- what words begin with
 pub data Front : List Text → Type 0 where
-  replays : (rest : List Text) → Front (codes "replay" ∷ rest)
-  serves : (rest : List Text) → Front (codes "serve" ∷ rest)
-  alones : (rest : List Text) → Front (codes "alone" ∷ rest)
-  generates : (rest : List Text) → Front (codes "gen" ∷ rest)
+  begins : (command : Command) (rest : List Text) → Front (word_of command ∷ rest)
   other : (words : List Text) → IsNothing words → Front words
+
+abbrev pub is_word : Command → Text → Bool
+is_word command word = bytes_eq (word_of command) word
 
 pub front : (words : List Text) → list_all is_fit words ≡ true → Front words
 front [] fit = other [] no_words
-front (word ∷ rest) fit = go (bytes_eq (codes "replay") word) (bytes_eq (codes "serve") word) (bytes_eq (codes "alone") word) (bytes_eq (codes "gen") word) refl refl refl refl
+front (word ∷ rest) fit = go (is_word replays word) (is_word serves word) (is_word alones word) (is_word texts word) (is_word generates word) refl refl refl refl refl
   where
-    same : (name : Text) → bytes_eq name word ≡ true → Front (name ∷ rest) → Front (word ∷ rest)
-    same name e f = subst (λ (w : Text). Front (w ∷ rest)) ((bytes_eq-Decides name word).0 e) f
+    same : (command : Command) → is_word command word ≡ true → Front (word ∷ rest)
+    same command e = subst (λ (w : Text). Front (w ∷ rest)) ((bytes_eq-Decides (word_of command) word).0 e) (begins command rest)
 
-    go : (p q r s : Bool) → bytes_eq (codes "replay") word ≡ p → bytes_eq (codes "serve") word ≡ q → bytes_eq (codes "alone") word ≡ r → bytes_eq (codes "gen") word ≡ s → Front (word ∷ rest)
-    go true q r s e f g h = same (codes "replay") e (replays rest)
-    go false true r s e f g h = same (codes "serve") f (serves rest)
-    go false false true s e f g h = same (codes "alone") g (alones rest)
-    go false false false true e f g h = same (codes "gen") h (generates rest)
-    go false false false false e f g h = other (word ∷ rest) (nothing_first word rest (view word (both _ _ fit).0) (rw e (rw f (rw g (rw h refl)))))
+    go : (p q r s t : Bool) → is_word replays word ≡ p → is_word serves word ≡ q → is_word alones word ≡ r → is_word texts word ≡ s → is_word generates word ≡ t → Front (word ∷ rest)
+    go true q r s t e f g h i = same replays e
+    go false true r s t e f g h i = same serves f
+    go false false true s t e f g h i = same alones g
+    go false false false true t e f g h i = same texts h
+    go false false false false true e f g h i = same generates i
+    go false false false false false e f g h i = other (word ∷ rest) (nothing_first word rest (view word (both _ _ fit).0) (rw e (rw f (rw g (rw h (rw i refl))))))

@@ -1,19 +1,20 @@
 -- The options of each command: their names, their rules and their defaults.
-use Rattle.std.proofs.Common.{◌≡◌, ◌∙◌, ℕ, ◌||◌, Bool, true, false, true≢false, refl, sym, ap, ap₂, subst, List, [], ◌∷◌, ◌++◌, codes, Some, None, cond}
+use Rattle.std.proofs.Common.{◌≡◌, ◌∙◌, ℕ, ◌&&◌, ◌||◌, Bool, true, false, true≢false, not, refl, sym, ap, ap₂, subst, List, [], ◌∷◌, ◌++◌, map, codes, Some, None, cond}
 use Rattle.std.specs.Prelude.{option_and_then, slice_get}
-use Rattle.std.specs.List.{find}
+use Rattle.std.specs.List.{find, list_any}
 use Rattle.std.specs.Str.{bytes_eq}
 use Rattle.std.proofs.lemmas.Slice.Eq.{bytes_eq-Decides}
-use Rattle.clap.specs.Walk.{Row, Rule, Text, arg_by_id, arg_by_long, first_of, has_row, one_of, with_default, with_values}
+use Rattle.clap.specs.Walk.{Row, Rule, Text, arg_by_id, arg_by_index, arg_by_long, first_of, has_row, one_of, with_default, with_values}
 use Rattle.clap.specs.Faults.{default_fault, defaults_fault, given_default_fault}
 use Rattle.clap.specs.Kinds.{or_else}
+use Rattle.clap.specs.Takes.{is_given}
 use Rattle.clap.specs.declared.builder.value_parser.Reading.TheVariants as reading
 use Rattle.clap.specs.declared.parser.matches.ValueSource.TheVariants as source
-use Rattle.model_words.specs.Options.{is_among}
-use Rattle.model_words.specs.Commands.{alone_syntax, replay_syntax, serve_syntax}
+use Rattle.model_words.specs.Options.{Syntax, is_among}
+use Rattle.model_words.specs.Commands.{alone_syntax, replay_syntax, serve_syntax, text_syntax}
 use Rattle.r9_opts.proofs.Walks.{IsTable, built_flag, built_valued}
 use Rattle.r9_opts.proofs.Options.{IsNamed, IsSyntax, has_sign, or_false}
-use Rattle.r9_opts.proofs.Levels.{IsOptional, alone_rules, built_word, gen_rules, replay_rules, serve_rules, with_defaults}
+use Rattle.r9_opts.proofs.Levels.{IsOptional, built_word, gen_rules, rules_with, with_defaults}
 
 -- ---- names
 
@@ -54,6 +55,12 @@ conns = named _ _ refl
 conn : IsNamed (codes "conn")
 conn = named _ _ refl
 
+cols : IsNamed (codes "cols")
+cols = named _ _ refl
+
+lines : IsNamed (codes "rows")
+lines = named _ _ refl
+
 pub replay_names : IsSyntax replay_syntax
 replay_names = record {
   apart = each (λ name. is_among name replay_syntax.flags ≡ false) replay_syntax.valued (refl, (refl, tt));
@@ -75,47 +82,71 @@ alone_names = record {
   valued = each IsNamed alone_syntax.valued (size, (chan, (conn, tt)));
 }
 
+pub text_names : IsSyntax text_syntax
+text_names = record {
+  apart = λ name _. refl;
+  flags = λ name e. absurd (true≢false (sym e));
+  valued = each IsNamed text_syntax.valued (cols, (lines, tt));
+}
+
 -- ---- rules
 
-pub replay_table : IsTable replay_rules replay_syntax
-replay_table = record {
-  flag = each (λ name. arg_by_long replay_rules name ≡ Some (built_flag name)) replay_syntax.flags (refl, tt);
-  valued = λ name _. each (λ name. arg_by_long replay_rules name ≡ Some (built_valued name)) replay_syntax.valued (refl, (refl, tt)) name;
-  other = λ name f v.
-      let one = or_false (bytes_eq (codes "screen") name) _ f in
-      let two = or_false (bytes_eq (codes "size") name) _ v in
-      let three = or_false (bytes_eq (codes "chan") name) _ two.1 in
-      rw two.0 (rw three.0 (rw one.0 refl));
-  by_id = each (λ name. arg_by_id replay_rules name ≡ Some (built_valued name)) replay_syntax.valued (refl, (refl, tt));
-  no_index = refl;
-}
+-- the rules of options with values, before others
+abbrev before : List Text → List Rule → List Rule
+before names c = map built_valued names ++ c
 
-pub serve_table : IsTable serve_rules serve_syntax
-serve_table = record {
-  flag = λ name e. absurd (true≢false (sym e));
-  valued = λ name _. each (λ name. arg_by_long serve_rules name ≡ Some (built_valued name)) serve_syntax.valued (refl, (refl, (refl, (refl, (refl, tt))))) name;
-  other = λ name f v.
-      let one = or_false (bytes_eq (codes "size") name) _ v in
-      let two = or_false (bytes_eq (codes "chan") name) _ one.1 in
-      let three = or_false (bytes_eq (codes "listen") name) _ two.1 in
-      let four = or_false (bytes_eq (codes "workers") name) _ three.1 in
-      let five = or_false (bytes_eq (codes "conns") name) _ four.1 in
-      rw one.0 (rw two.0 (rw three.0 (rw four.0 (rw five.0 refl))));
-  by_id = each (λ name. arg_by_id serve_rules name ≡ Some (built_valued name)) serve_syntax.valued (refl, (refl, (refl, (refl, (refl, tt)))));
-  no_index = refl;
-}
+long_behind : (names : List Text) (c : List Rule) (name : Text) → is_among name names ≡ false → arg_by_long (before names c) name ≡ arg_by_long c name
+long_behind [] c name none = refl
+long_behind (first ∷ names) c name none = let two = or_false (bytes_eq first name) (is_among name names) none in rw two.0 (long_behind names c name two.1)
 
-pub alone_table : IsTable alone_rules alone_syntax
-alone_table = record {
-  flag = λ name e. absurd (true≢false (sym e));
-  valued = λ name _. each (λ name. arg_by_long alone_rules name ≡ Some (built_valued name)) alone_syntax.valued (refl, (refl, (refl, tt))) name;
-  other = λ name f v.
-      let one = or_false (bytes_eq (codes "size") name) _ v in
-      let two = or_false (bytes_eq (codes "chan") name) _ one.1 in
-      let three = or_false (bytes_eq (codes "conn") name) _ two.1 in
-      rw one.0 (rw two.0 (rw three.0 refl));
-  by_id = each (λ name. arg_by_id alone_rules name ≡ Some (built_valued name)) alone_syntax.valued (refl, (refl, (refl, tt)));
-  no_index = refl;
+long_among : (names : List Text) (c : List Rule) (name : Text) → is_among name names ≡ true → arg_by_long (before names c) name ≡ Some (built_valued name)
+long_among [] c name e = absurd (true≢false (sym e))
+long_among (first ∷ names) c name e = go (long_among names c name) (bytes_eq first name) refl e
+  where
+    go : (is_among name names ≡ true → arg_by_long (before names c) name ≡ Some (built_valued name)) → (b : Bool) → bytes_eq first name ≡ b → (b || is_among name names) ≡ true → arg_by_long (before (first ∷ names) c) name ≡ Some (built_valued name)
+    go rest true same e = rw same (ap (λ n. Some (built_valued n)) ((bytes_eq-Decides first name).0 same))
+    go rest false other e = rw other (rest e)
+
+id_among : (names : List Text) (c : List Rule) (name : Text) → is_among name names ≡ true → arg_by_id (before names c) name ≡ Some (built_valued name)
+id_among [] c name e = absurd (true≢false (sym e))
+id_among (first ∷ names) c name e = go (id_among names c name) (bytes_eq first name) refl e
+  where
+    go : (is_among name names ≡ true → arg_by_id (before names c) name ≡ Some (built_valued name)) → (b : Bool) → bytes_eq first name ≡ b → (b || is_among name names) ≡ true → arg_by_id (before (first ∷ names) c) name ≡ Some (built_valued name)
+    go rest true same e = rw same (ap (λ n. Some (built_valued n)) ((bytes_eq-Decides first name).0 same))
+    go rest false other e = rw other (rest e)
+
+no_flag : (names : List Text) (name : Text) → is_among name names ≡ false → arg_by_long (map built_flag names) name ≡ None
+no_flag [] name none = refl
+no_flag (first ∷ names) name none = let two = or_false (bytes_eq first name) (is_among name names) none in rw two.0 (no_flag names name two.1)
+
+flag_among : (names : List Text) (name : Text) → is_among name names ≡ true → arg_by_long (map built_flag names) name ≡ Some (built_flag name)
+flag_among [] name e = absurd (true≢false (sym e))
+flag_among (first ∷ names) name e = go (flag_among names name) (bytes_eq first name) refl e
+  where
+    go : (is_among name names ≡ true → arg_by_long (map built_flag names) name ≡ Some (built_flag name)) → (b : Bool) → bytes_eq first name ≡ b → (b || is_among name names) ≡ true → arg_by_long (map built_flag (first ∷ names)) name ≡ Some (built_flag name)
+    go rest true same e = rw same (ap (λ n. Some (built_flag n)) ((bytes_eq-Decides first name).0 same))
+    go rest false other e = rw other (rest e)
+
+no_index : (valued flags : List Text) → arg_by_index (before valued (map built_flag flags)) 1 ≡ None
+no_index [] [] = refl
+no_index [] (name ∷ flags) = no_index [] flags
+no_index (name ∷ valued) flags = no_index valued flags
+
+-- a flag's name is that of no option with a value
+not_valued : (syntax : Syntax) → IsSyntax syntax → (name : Text) → is_among name syntax.flags ≡ true → is_among name syntax.valued ≡ false
+not_valued syntax is name flag = go (is_among name syntax.valued) refl
+  where
+    go : (b : Bool) → is_among name syntax.valued ≡ b → b ≡ false
+    go true e = absurd (true≢false (sym flag ∙ is.apart name e))
+    go false e = refl
+
+pub table : (syntax : Syntax) → IsSyntax syntax → IsTable (rules_with syntax) syntax
+table syntax is = record {
+  flag = λ name e. long_behind syntax.valued (map built_flag syntax.flags) name (not_valued syntax is name e) ∙ flag_among syntax.flags name e;
+  valued = λ name _ e. long_among syntax.valued (map built_flag syntax.flags) name e;
+  other = λ name f v. long_behind syntax.valued (map built_flag syntax.flags) name v ∙ no_flag syntax.flags name f;
+  by_id = λ name e. id_among syntax.valued (map built_flag syntax.flags) name e;
+  no_index = no_index syntax.valued syntax.flags;
 }
 
 -- ---- defaults
@@ -161,23 +192,18 @@ with_word : (name : Text) (c : List Rule) → Passes c → Passes (built_word na
 unfolding defaults_fault
 with_word name c passes rows = ap₂ or_else (word_default rows name) (passes (with_default rows (built_word name)))
 
-pub replay_optional : IsOptional replay_rules
-replay_optional = record {
-  defaults = with_valued (codes "size") _ (with_valued (codes "chan") _ (with_one_flag (codes "screen") _ no_rules));
-  free = λ rows. refl;
-}
+all_pass : (valued flags : List Text) → Passes (before valued (map built_flag flags))
+all_pass [] [] = no_rules
+all_pass [] (name ∷ flags) = with_one_flag name (map built_flag flags) (all_pass [] flags)
+all_pass (name ∷ valued) flags = with_valued name (before valued (map built_flag flags)) (all_pass valued flags)
 
-pub serve_optional : IsOptional serve_rules
-serve_optional = record {
-  defaults = with_valued (codes "size") _ (with_valued (codes "chan") _ (with_valued (codes "listen") _ (with_valued (codes "workers") _ (with_valued (codes "conns") _ no_rules))));
-  free = λ rows. refl;
-}
+all_free : (rows : List Row) (valued flags : List Text) → list_any (λ a. a.required && not (is_given a.id rows)) (before valued (map built_flag flags)) ≡ false
+all_free rows [] [] = refl
+all_free rows [] (name ∷ flags) = all_free rows [] flags
+all_free rows (name ∷ valued) flags = all_free rows valued flags
 
-pub alone_optional : IsOptional alone_rules
-alone_optional = record {
-  defaults = with_valued (codes "size") _ (with_valued (codes "chan") _ (with_valued (codes "conn") _ no_rules));
-  free = λ rows. refl;
-}
+pub optional : (syntax : Syntax) → IsOptional (rules_with syntax)
+optional syntax = record { defaults = all_pass syntax.valued syntax.flags; free = λ rows. all_free rows syntax.valued syntax.flags }
 
 pub gen_optional : IsOptional gen_rules
 gen_optional = record { defaults = with_word (codes "number") _ no_rules; free = λ rows. refl }
@@ -199,15 +225,10 @@ word_kept rows name = go (has_row name rows)
 abbrev pub with_flag : Text → List Row → List Row
 with_flag name rows = with_default rows (built_flag name)
 
-pub replay_defaults : (rows : List Row) → with_defaults replay_rules rows ≡ with_flag (codes "screen") rows
-replay_defaults rows = ap (with_flag (codes "screen")) (valued_kept _ (codes "chan") ∙ valued_kept rows (codes "size"))
-
-pub serve_defaults : (rows : List Row) → with_defaults serve_rules rows ≡ rows
-serve_defaults rows =
-    valued_kept _ (codes "conns") ∙ valued_kept _ (codes "workers") ∙ valued_kept _ (codes "listen") ∙ valued_kept _ (codes "chan") ∙ valued_kept rows (codes "size")
-
-pub alone_defaults : (rows : List Row) → with_defaults alone_rules rows ≡ rows
-alone_defaults rows = valued_kept _ (codes "conn") ∙ valued_kept _ (codes "chan") ∙ valued_kept rows (codes "size")
+-- options with values have no default
+pub defaults_behind : (names : List Text) (c : List Rule) (rows : List Row) → with_defaults (before names c) rows ≡ with_defaults c rows
+defaults_behind [] c rows = refl
+defaults_behind (name ∷ names) c rows = ap (with_defaults (before names c)) (valued_kept rows name) ∙ defaults_behind names c rows
 
 pub gen_defaults : (rows : List Row) → with_defaults gen_rules rows ≡ rows
 gen_defaults rows = word_kept rows (codes "number")

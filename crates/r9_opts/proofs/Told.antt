@@ -17,38 +17,54 @@ use Rattle.clap.specs.declared.parser.matches.ArgMatches.{ArgMatches}
 use Rattle.clap.specs.declared.parser.matches.ArgMatches.TheViews.{out-ArgMatches, out-SubCommand}
 use Rattle.clap.specs.declared.parser.matches.SubCommand.{SubCommand}
 use Rattle.r9_opts.specs.declared.job.Job.{Job}
-use Rattle.r9_opts.specs.declared.job.Job.TheVariants.{Replay, Serve, Alone, Gen}
+use Rattle.r9_opts.specs.declared.job.Job.TheVariants.{Replay, Serve, Alone, Text as Texts, Gen}
 use Rattle.r9_opts.specs.declared.job.OptsFault.{OptsFault}
 use Rattle.r9_opts.specs.declared.job.OptsFault.TheVariants.{Usage, Memory}
 use Rattle.r9_opts.specs.App.{rio9_app}
 use Rattle.r9_opts.specs.Asked.{AskFor, IfUsage, JobOf, texts_of}
 use Rattle.r9_opts.specs.Fit.{is_fit}
-use Rattle.r9_opts.specs.Rows.{IsCountOf}
+use Rattle.r9_opts.specs.Rows.{IsCountOf, IsNumberOf}
 use Rattle.r9_opts.proofs.Options.{none_some, some_inj}
-use Rattle.r9_opts.proofs.Jobs.{apart, job_found, taken}
+use Rattle.r9_opts.proofs.Levels.{Command, replays, serves, alones, texts, generates, word_of}
+use Rattle.r9_opts.proofs.Jobs.{AreOf, command_of, job_by, job_found, taken}
 
 abbrev pub AskForNothing : List Text → Type 0
 AskForNothing words = (job : Job) → AskFor words job → ⊥
 
 -- ---- no number
 
+-- what the matches of a command give, whatever the job
+abbrev Given : Command → List Row → Type 0
+Given replays rows = Unit {0}
+Given serves rows = (conns : ℕ) × IsCountOf rows (codes "conns") 100000 conns
+Given alones rows = (session : ℕ) × IsCountOf rows (codes "conn") 4294967295 session
+Given texts rows = ((columns : ℕ) × IsNumberOf rows (codes "cols") 4 200 columns) × ((lines : ℕ) × IsNumberOf rows (codes "rows") 4 100 lines)
+Given generates rows = (n : ℕ) × IsCountOf rows (codes "number") 100000 n
+
+given_by : (rows : List Row) (job : Job) → AreOf rows job → Given (command_of job) rows
+given_by rows (Replay opening screen) of = tt
+given_by rows (Serve opening listen workers conns) of = (conns, of.connections)
+given_by rows (Alone opening session) of = (session, of.chosen)
+given_by rows (Texts columns lines) of = ((columns, of.wide), (lines, of.high))
+given_by rows (Gen n) of = (n, of)
+
+given : (command : Command) (rows : List Row) (job : Job) → JobOf (word_of command) rows job → Given command rows
+given command rows job of = let parts = job_by command rows job of in subst (λ c. Given c rows) (sym parts.0) (given_by rows job parts.1)
+
 pub no_connections : (rows : List Row) → ((n : ℕ) → IsCountOf rows (codes "conns") 100000 n → ⊥) → (x : Job) → JobOf (codes "serve") rows x → ⊥
-no_connections rows none (Replay opening screen) (e, of) = apart (codes "serve") (codes "replay") refl refl e
-no_connections rows none (Serve opening listen workers conns) (e, of) = none conns of.connections
-no_connections rows none (Alone opening session) (e, of) = apart (codes "serve") (codes "alone") refl refl e
-no_connections rows none (Gen n) (e, of) = apart (codes "serve") (codes "gen") refl refl e
+no_connections rows none job of = let got = given serves rows job of in none got.0 got.1
 
 pub no_session : (rows : List Row) → ((n : ℕ) → IsCountOf rows (codes "conn") 4294967295 n → ⊥) → (x : Job) → JobOf (codes "alone") rows x → ⊥
-no_session rows none (Replay opening screen) (e, of) = apart (codes "alone") (codes "replay") refl refl e
-no_session rows none (Serve opening listen workers conns) (e, of) = apart (codes "alone") (codes "serve") refl refl e
-no_session rows none (Alone opening session) (e, of) = none session of.chosen
-no_session rows none (Gen n) (e, of) = apart (codes "alone") (codes "gen") refl refl e
+no_session rows none job of = let got = given alones rows job of in none got.0 got.1
+
+pub no_columns : (rows : List Row) → ((n : ℕ) → IsNumberOf rows (codes "cols") 4 200 n → ⊥) → (x : Job) → JobOf (codes "text") rows x → ⊥
+no_columns rows none job of = let got = given texts rows job of in none got.0.0 got.0.1
+
+pub no_lines : (rows : List Row) → ((n : ℕ) → IsNumberOf rows (codes "rows") 4 100 n → ⊥) → (x : Job) → JobOf (codes "text") rows x → ⊥
+no_lines rows none job of = let got = given texts rows job of in none got.1.0 got.1.1
 
 pub no_number : (rows : List Row) → ((n : ℕ) → IsCountOf rows (codes "number") 100000 n → ⊥) → (x : Job) → JobOf (codes "gen") rows x → ⊥
-no_number rows none (Replay opening screen) (e, of) = apart (codes "gen") (codes "replay") refl refl e
-no_number rows none (Serve opening listen workers conns) (e, of) = apart (codes "gen") (codes "serve") refl refl e
-no_number rows none (Alone opening session) (e, of) = apart (codes "gen") (codes "alone") refl refl e
-no_number rows none (Gen n) (e, of) = none n of
+no_number rows none job of = let got = given generates rows job of in none got.0 got.1
 
 -- ---- words that are not fit
 

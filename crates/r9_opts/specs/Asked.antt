@@ -6,8 +6,8 @@ use Rattle.r9_opts.specs.declared.job.Job.{Job}
 use Rattle.r9_opts.specs.declared.job.Job.TheVariants as job
 use Rattle.r9_opts.specs.declared.job.OptsFault.{OptsFault}
 use Rattle.r9_opts.specs.declared.job.OptsFault.TheVariants as fault
-use Rattle.model_words.specs.Commands.{AsksForAlone, AsksForReplay, AsksToServe, AsksToGenerate}
-use Rattle.r9_opts.specs.Rows.{IsAloneOf, IsReplayOf, IsServeOf, IsCountOf}
+use Rattle.model_words.specs.Commands.{AsksForAlone, AsksForReplay, AsksForText, AsksToServe, AsksToGenerate}
+use Rattle.r9_opts.specs.Rows.{IsAloneOf, IsReplayOf, IsServeOf, IsTextOf, IsCountOf}
 
 -- the bytes of words
 abbrev pub texts_of : List (Bor (List ℕ)) → List (List ℕ)
@@ -18,6 +18,7 @@ abbrev pub AskFor : List (List ℕ) → Job → Type 0
 AskFor words (job.Replay opening screen) = AsksForReplay words opening screen
 AskFor words (job.Serve opening listen workers conns) = AsksToServe words opening (string_bytes listen) workers conns
 AskFor words (job.Alone opening session) = AsksForAlone words opening session
+AskFor words (job.Text columns rows) = AsksForText words columns rows
 AskFor words (job.Gen number) = AsksToGenerate words number
 
 -- the matches of a command give this job
@@ -25,6 +26,7 @@ abbrev pub JobOf : (command : List ℕ) → List Row → Job → Type 0
 JobOf command rows (job.Replay opening screen) = (command ≡ codes "replay") × IsReplayOf rows opening screen
 JobOf command rows (job.Serve opening listen workers conns) = (command ≡ codes "serve") × IsServeOf rows opening (string_bytes listen) workers conns
 JobOf command rows (job.Alone opening session) = (command ≡ codes "alone") × IsAloneOf rows opening session
+JobOf command rows (job.Text columns lines) = (command ≡ codes "text") × IsTextOf rows columns lines
 JobOf command rows (job.Gen number) = (command ≡ codes "gen") × IsCountOf rows (codes "number") 100000 number
 
 -- this holds where the fault is that the words ask for nothing

@@ -32,6 +32,15 @@ pub record IsAloneOf (rows : List Row) (opening : Opening) (session : ℕ) : Typ
   pub opened : IsDisplay rows opening
   pub chosen : IsCountOf rows (codes "conn") 4294967295 session
 
+-- the number that is given under a name, from a least to a most one
+pub record IsNumberOf (rows : List Row) (name : List ℕ) (least most n : ℕ) : Type 0 where
+  pub count : IsCountOf rows name most n
+  pub enough : least ≤ n
+
+pub record IsTextOf (rows : List Row) (columns lines : ℕ) : Type 0 where
+  pub wide : IsNumberOf rows (codes "cols") 4 200 columns
+  pub high : IsNumberOf rows (codes "rows") 4 100 lines
+
 pub record IsServeOf (rows : List Row) (opening : Opening) (listen : List ℕ) (workers conns : ℕ) : Type 0 where
   pub opened : IsDisplay rows opening
   pub address : IsAddressOf rows listen

@@ -3,7 +3,7 @@
 ghost use Rattle.std.specs.Prelude.{◌≡◌, codes, false, IfOk};
 ghost use Rattle.clap.specs.Words.{app_of, rule_of};
 ghost use Rattle.clap.specs.declared.builder.command.Command.TheViews.{out-Command};
-ghost use Rattle.r9_opts.specs.App.{valued_rule, flag_rule, word_rule, sized_app, replay_app, serve_app, alone_app, gen_app, bare_app, answering_app, rio9_app};
+ghost use Rattle.r9_opts.specs.App.{valued_rule, flag_rule, word_rule, sized_app, replay_app, serve_app, alone_app, text_app, gen_app, bare_app, answering_app, rio9_app};
 
 use clap::{Arg, ArgAction, Command};
 use std::alloc::{AllocError, Global};
@@ -58,6 +58,15 @@ fn alone<'a>(alloc: Global) -> Result<Command<'a>, AllocError>
     sized(alloc, "alone")?.arg(valued(alloc, "conn"))
 }
 
+fn text<'a>(alloc: Global) -> Result<Command<'a>, AllocError>
+    ensures app { IfOk result (λ c. app_of c ≡ text_app) }
+    ensures local { IfOk result (λ c. (out-Command c).has_globals ≡ false) }
+{
+    Command::new(alloc, "text")
+        .arg(valued(alloc, "cols"))?
+        .arg(valued(alloc, "rows"))
+}
+
 fn generate<'a>(alloc: Global) -> Result<Command<'a>, AllocError>
     ensures app { IfOk result (λ c. app_of c ≡ gen_app) }
     ensures local { IfOk result (λ c. (out-Command c).has_globals ≡ false) }
@@ -85,7 +94,8 @@ fn answering<'a>(alloc: Global) -> Result<Command<'a>, AllocError>
 {
     bare(alloc)
         .subcommand(replay(alloc)?)?
-        .subcommand(serve(alloc)?)
+        .subcommand(serve(alloc)?)?
+        .subcommand(alone(alloc)?)
 }
 
 /// The program with its commands.
@@ -93,6 +103,6 @@ pub fn rio9<'a>(alloc: Global) -> Result<Command<'a>, AllocError>
     ensures { IfOk result (λ c. app_of c ≡ rio9_app) }
 {
     answering(alloc)?
-        .subcommand(alone(alloc)?)?
+        .subcommand(text(alloc)?)?
         .subcommand(generate(alloc)?)
 }

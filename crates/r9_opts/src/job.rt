@@ -24,6 +24,11 @@ pub enum Job {
         opening: Opening,
         session: u32,
     },
+    /// Shows a text in a window of so many columns and rows.
+    Text {
+        cols: u32,
+        rows: u32,
+    },
     /// Makes and answers a record of so many messages.
     Gen {
         number: u32,

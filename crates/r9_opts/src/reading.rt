@@ -10,7 +10,7 @@ ghost use Rattle.r9_opts.specs.declared.job.Job.{Job};
 ghost use Rattle.r9_opts.specs.declared.job.OptsFault.TheVariants as fault;
 ghost use Rattle.r9_opts.specs.Asked.{AskFor, JobOf, IfUsage, texts_of};
 ghost use Rattle.r9_opts.specs.Found.{IsFound};
-ghost use Rattle.r9_opts.specs.Rows.{IsAddressOf, IsCountOf, IsDisplay, Tells};
+ghost use Rattle.r9_opts.specs.Rows.{IsAddressOf, IsCountOf, IsDisplay, IsNumberOf, Tells};
 
 use crate::command::rio9;
 use crate::fit::are_fit;
@@ -39,6 +39,13 @@ const MOST_MESSAGES: u32 = 100_000;
 
 const MOST_SESSIONS: u32 = 4_294_967_295;
 
+/// The least columns and the least rows of a window of text.
+const LEAST_CELLS: u32 = 4;
+
+const MOST_COLUMNS: u32 = 200;
+
+const MOST_ROWS: u32 = 100;
+
 /// The value of an option, where it is given.
 fn value<'a>(given: &ArgMatches<'a>, name: &str) -> Option<&'a str>
     ensures { option_map (λ text. text.now) result ≡ first_of name.now (rows_of (found_of given.now)) }
@@ -64,6 +71,19 @@ fn count(given: &ArgMatches<'_>, name: &str, most: u32) -> Option<u32>
         return None;
     };
     counted(most, text.as_bytes())
+}
+
+/// The number that an option gives, from a least to a most one.
+fn number(given: &ArgMatches<'_>, name: &str, least: u32, most: u32) -> Option<u32>
+    ensures { IsFound (IsNumberOf (rows_of (found_of given.now)) name.now least most) result }
+{
+    let Some(number) = count(given, name, most) else {
+        return None;
+    };
+    if number < least {
+        return None;
+    }
+    Some(number)
 }
 
 /// The address that is given.
@@ -144,6 +164,18 @@ fn alone(given: &ArgMatches<'_>) -> Option<Job>
     Some(Job::Alone { opening, session })
 }
 
+fn text(given: &ArgMatches<'_>) -> Option<Job>
+    ensures { IsFound (JobOf (codes "text") (rows_of (found_of given.now))) result }
+{
+    let Some(cols) = number(given, "cols", LEAST_CELLS, MOST_COLUMNS) else {
+        return None;
+    };
+    let Some(rows) = number(given, "rows", LEAST_CELLS, MOST_ROWS) else {
+        return None;
+    };
+    Some(Job::Text { cols, rows })
+}
+
 fn generate(given: &ArgMatches<'_>) -> Option<Job>
     ensures { IsFound (JobOf (codes "gen") (rows_of (found_of given.now))) result }
 {
@@ -165,6 +197,9 @@ fn job_of(alloc: Global, command: &str, given: &ArgMatches<'_>) -> Result<Option
     }
     if command == "alone" {
         return Ok(alone(given));
+    }
+    if command == "text" {
+        return Ok(text(given));
     }
     if command == "gen" {
         return Ok(generate(given));

@@ -2,7 +2,7 @@ use r9_opts::{Job, OptsFault, read_words};
 use std::test::Fail;
 
 // Words that ask for nothing.
-const REFUSED: [&[&str]; 46] = [
+const REFUSED: [&[&str]; 61] = [
     &[],
     &["--"],
     &["--", "replay"],
@@ -49,6 +49,21 @@ const REFUSED: [&[&str]; 46] = [
     &["gen", "5", "6"],
     &["gen", "--", "--", "5"],
     &["gen", "--", "--"],
+    &["text"],
+    &["text", "--cols", "80"],
+    &["text", "--rows", "24"],
+    &["text", "--cols", "80", "--rows", "24", "--cols=80"],
+    &["text", "--cols", "3", "--rows", "24"],
+    &["text", "--cols", "201", "--rows", "24"],
+    &["text", "--cols=80", "--rows=3"],
+    &["text", "--cols=80", "--rows=101"],
+    &["text", "--cols=04", "--rows=24"],
+    &["text", "--cols=80", "--rows=+24"],
+    &["text", "--cols", "80", "--rows", "-24"],
+    &["text", "--cols=80", "--rows="],
+    &["text", "--cols=80", "--rows=24", "x"],
+    &["text", "--cols=80", "--", "--rows=24"],
+    &["text", "--cols=80", "--rows=24", "--chan=k8"],
 ];
 
 #[test]
@@ -113,6 +128,29 @@ fn options_stand_in_any_order(rt: HostRuntime) {
                 session: 4_294_967_295,
                 ..
             })
+        )
+    );
+}
+
+#[test]
+fn a_window_of_text_has_columns_and_rows(rt: HostRuntime) {
+    let windows: [&[&str]; 3] = [
+        &["text", "--cols", "200", "--rows", "4"],
+        &["text", "--rows=4", "--cols=200"],
+        &["text", "--rows", "4", "--cols=200", "--"],
+    ];
+    for words in windows {
+        assert!(rt;
+            matches!(
+                read_words(rt.alloc(), words),
+                Ok(Job::Text { cols: 200, rows: 4 })
+            )
+        );
+    }
+    assert!(rt;
+        matches!(
+            read_words(rt.alloc(), &["text", "--cols=4", "--rows=100"]),
+            Ok(Job::Text { cols: 4, rows: 100 })
         )
     );
 }
