@@ -1,4 +1,3 @@
-pub mod Taken
 pub mod Replayed
 pub mod Log
 pub mod Replays

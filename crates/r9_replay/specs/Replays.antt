@@ -1,5 +1,5 @@
 -- What a replay reads and puts out.
-use Rattle.std.specs.Prelude.{◌≡◌, ℕ, Bool, List, [], ◌++◌, codes, length, drop, Option, Some, IfSome, if◌then◌else◌}
+use Rattle.std.specs.Prelude.{◌≡◌, ℕ, Bool, List, [], ◌++◌, codes, length, Option, IfSome, if◌then◌else◌}
 use Rattle.std.specs.Fmt.{decimal}
 use Rattle.r9_event.specs.declared.event.Event.{Event}
 use Rattle.r9_event.specs.declared.event.Opening.{Opening}
@@ -7,6 +7,7 @@ use Rattle.model_draw.specs.Files.{screen_file}
 use Rattle.model_world.specs.Replay.{replay, replies}
 use Rattle.model_record.specs.Line.{line, reply_lines}
 use Rattle.model_record.specs.Record.{IsRecord, IsBadAt, IsLate, text_limit}
+use Rattle.r9_input.specs.Taken.{WasReadTo}
 
 -- how many bytes the screen's file has, and the file
 abbrev pub screen_lines : List ℕ → List ℕ
@@ -41,4 +42,4 @@ pub record AreReplyLines (opening : Opening) (screen : Bool) (left : Option (Lis
 
 -- The input, where it is told, was read to its end, or to the limit of a record.
 abbrev pub WasRead : (before after : Option (List ℕ)) → Type 0
-WasRead before after = IfSome before (λ bytes. after ≡ Some (drop text_limit bytes))
+WasRead before after = WasReadTo text_limit before after

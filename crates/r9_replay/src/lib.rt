@@ -1,7 +1,6 @@
 //! The command `replay`: a record is read, and its history runs.
 #![tactic(auto)]
 
-mod input;
 mod log;
 mod replay;
 mod screen;

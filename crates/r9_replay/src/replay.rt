@@ -11,14 +11,17 @@ ghost use Rattle.r9_hall.specs.WorldView.{IsStepped, world_in};
 ghost use Rattle.r9_replay.specs.Replays.{WasBadAt, WasLate, WasRead, AreReplyLines};
 ghost use Rattle.r9_replay.specs.Replayed.{output, AreRepliesTo};
 
-use crate::input::{InputFault, read_input};
 use crate::log::ReplyLog;
 use r9_event::{Event, Opening, Replies, Reply};
 use r9_hall::World;
+use r9_input::{InputFault, read_up_to};
 use r9_journal::{JournalFault, Record};
 use r9_memory::Memory;
 use r9_outside::Source;
 use std::alloc::Global;
+
+/// So many bytes of the input are read at most. One that has them is no record.
+const MAX_LEN: usize = 1 << 30;
 
 /// Why there are no replies.
 #[derive(Clone, Copy, Debug, PartialEq, Eq)]
@@ -134,7 +137,7 @@ pub fn replay_input<S: Source>(
     ensures read_fault { IsErrOf result ReplayFault.ReadFault → Rose (S.faults input.old) (S.faults input.new) }
     ensures steady { ¬ IsErrOf result ReplayFault.ReadFault → S.faults input.new ≡ S.faults input.old }
 {
-    let text = match read_input(alloc, input) {
+    let text = match read_up_to(alloc, MAX_LEN, input) {
         Ok(text) => text,
         Err(InputFault::Failed) => return Err(ReplayFault::ReadFault),
         Err(InputFault::Memory) => return Err(ReplayFault::Memory),

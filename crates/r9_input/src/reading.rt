@@ -1,16 +1,13 @@
-//! Reading all of the input.
+//! Reading what an input has.
 
-ghost use Rattle.std.specs.Prelude.{◌≡◌, ◌≤◌, ◌<◌, ◌+◌, ◌^◌, ◌++◌, [], length, take, drop, IfOk, IfSome, IsErrOf, Some};
+ghost use Rattle.std.specs.Prelude.{◌≡◌, ◌≤◌, ◌<◌, ◌+◌, ◌++◌, [], length, take, drop, IfOk, IfSome, IsErrOf, Some};
 ghost use Rattle.r9_outside.specs.Count.{Rose};
-ghost use Rattle.r9_replay.specs.Taken.{HasRead};
+ghost use Rattle.r9_input.specs.Taken.{HasRead};
 
 use r9_memory::Memory;
 use r9_outside::{Failed, Source};
 use r9_text::Bytes;
 use std::alloc::Global;
-
-/// So many bytes are taken at most. An input that has them is no record.
-const MAX_LEN: usize = 1 << 30;
 
 /// So many bytes are asked for at once.
 const CHUNK: usize = 4096;
@@ -26,7 +23,7 @@ pub enum InputFault {
 
 impl From<Memory> for InputFault {
     ghost use Rattle.std.specs.Prelude.{◌≡◌};
-    ghost use Rattle.r9_replay.specs.declared.input.InputFault.TheVariants as fault;
+    ghost use Rattle.r9_input.specs.declared.reading.InputFault.TheVariants as fault;
 
     ghost from_gives = { λ _ e. e ≡ fault.Memory };
 
@@ -37,7 +34,7 @@ impl From<Memory> for InputFault {
 
 impl From<Failed> for InputFault {
     ghost use Rattle.std.specs.Prelude.{◌≡◌};
-    ghost use Rattle.r9_replay.specs.declared.input.InputFault.TheVariants as fault;
+    ghost use Rattle.r9_input.specs.declared.reading.InputFault.TheVariants as fault;
 
     ghost from_gives = { λ _ e. e ≡ fault.Failed };
 
@@ -66,17 +63,22 @@ fn take_piece<S: Source>(
     Ok(count)
 }
 
-/// What the input has left up to its end, or its first 2^30 bytes.
-pub fn read_input<S: Source>(alloc: Global, input: &mut S) -> Result<Bytes, InputFault>
-    ensures read { IfOk result (λ text. HasRead (S.left input.old) text (S.left input.new)) }
+/// What the input has left up to its end, or so many of its first bytes as the limit says, where it has more. It takes memory for
+/// these bytes. Where a call of the input failed it is not asked again.
+pub fn read_up_to<S: Source>(
+    alloc: Global,
+    limit: usize,
+    input: &mut S,
+) -> Result<Bytes, InputFault>
+    ensures read { IfOk result (λ text. HasRead limit (S.left input.old) text (S.left input.new)) }
     ensures failed { IsErrOf result InputFault.Failed → Rose (S.faults input.old) (S.faults input.new) }
     ensures counted { S.faults input.old ≤ S.faults input.new }
     ensures steady { ¬ IsErrOf result InputFault.Failed → S.faults input.new ≡ S.faults input.old }
 {
     let mut text = Bytes::new(alloc);
     let mut buffer = [0u8; CHUNK];
-    'taking: while text.len() < MAX_LEN {
-        let room = (MAX_LEN - text.len()).min(CHUNK);
+    'taking: while text.len() < limit {
+        let room = (limit - text.len()).min(CHUNK);
         if take_piece(input, &mut buffer[..room], &mut text)? == 0 {
             return Ok(text);
         }

@@ -1,13 +1,13 @@
-use Rattle.std.proofs.Common.{◌≡◌, ◌≤◌, ◌^◌, ◌-◌, length}
-use Rattle.r9_replay.specs.Taken.{HasTaken}
-use Rattle.r9_replay.proofs.input.read_input.Given as goal
+use Rattle.std.proofs.Common.{◌≡◌, ◌≤◌, ◌-◌, length}
+use Rattle.r9_input.specs.Taken.{HasTaken}
+use Rattle.r9_input.proofs.reading.read_up_to.Given as goal
 
 abbrev pub invariant-taking : goal.invariant-taking
 invariant-taking g l = record {
   taken : HasTaken (g.S.Source.left l.fn.input) l.text (g.S.Source.left l.input);
-  short : length l.text ≤ 2 ^ 30;
+  short : length l.text ≤ l.limit;
   steady : g.S.Source.faults l.input ≡ g.S.Source.faults l.fn.input;
 }
 
 abbrev pub decreases-taking : goal.decreases-taking
-decreases-taking g l = 2 ^ 30 - length l.text
+decreases-taking g l = l.limit - length l.text
