@@ -1,0 +1,10 @@
+pub mod Panes
+pub mod Plain
+pub mod Passing
+pub mod Acts
+pub mod Numbers
+pub mod Events
+pub mod Commands
+pub mod Pointed
+pub mod Ordered
+pub mod Modes
