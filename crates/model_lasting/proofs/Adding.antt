@@ -59,7 +59,7 @@ window-new image s ws =
     by (Some w) = refl
     by None = ap (λ (b : Bool). is_some (option_map (λ (w : OnScreen). w.screen) (cond b (Some (record { image = image; screen = s })) None))) (same image)
 
-window-used : (image s : ℕ) (screen : Option ℕ) (ws : List OnScreen) → list_any (λ w. w.screen == s) (with_window image screen ws) ≡ true → (screen ≡ Some s) ⊎ (list_any (λ w. w.screen == s) ws ≡ true)
+pub window-used : (image s : ℕ) (screen : Option ℕ) (ws : List OnScreen) → list_any (λ w. w.screen == s) (with_window image screen ws) ≡ true → (screen ≡ Some s) ⊎ (list_any (λ w. w.screen == s) ws ≡ true)
 window-used image s None ws h = inr h
 window-used image s (Some t) ws h = elim (either_true (list_any (λ w. w.screen == s) ws) _ (sym (list_any-append (λ w. w.screen == s) ws (record { image = image; screen = t } ∷ [])) ∙ h)) [
   | inl old ↦ inr old

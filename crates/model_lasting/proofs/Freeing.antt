@@ -97,7 +97,7 @@ screen_ids_stay book (Screen s) = refl
 image-screens : (freed : Freed) (e : ImageId) → (freed_image_id freed e).book.screen_ids ≡ freed.book.screen_ids
 image-screens freed e = settled_part (λ b. b.screen_ids) screen_ids_stay (steps_for (without_image_id freed.book e.client e.id) (Image e.image ∷ [])) (record freed { book = without_image_id freed.book e.client e.id }) (Image e.image ∷ [])
 
-image-images : (freed : Freed) (e : ImageId) → (freed_image_id freed e).book.image_ids ≡ filter (λ x. not (is_image_id e.client e.id x)) freed.book.image_ids
+pub image-images : (freed : Freed) (e : ImageId) → (freed_image_id freed e).book.image_ids ≡ filter (λ x. not (is_image_id e.client e.id x)) freed.book.image_ids
 image-images freed e = settled_part (λ b. b.image_ids) image_ids_stay (steps_for (without_image_id freed.book e.client e.id) (Image e.image ∷ [])) (record freed { book = without_image_id freed.book e.client e.id }) (Image e.image ∷ [])
 
 screen-images : (freed : Freed) (e : ScreenId) → (freed_screen_id freed e).book.image_ids ≡ freed.book.image_ids
@@ -230,7 +230,7 @@ image-other freed e serial apart =
     other : (x : ImageId) → ((x.client == owner manager serial) && (x.id == serial)) ≡ true → not ((x.client == e.client) && (x.id == e.id)) ≡ true
     other x at = away (x.client == e.client) (x.id == e.id) (ap (λ (n : ℕ). n == e.id) (eqb-true x.id serial (split (x.client == owner manager serial) (x.id == serial) at).1) ∙ apart)
 
-image-freed : (book : Book) (window : ℕ) (freed : Freed) → (window == 0) ≡ false → free_id book manager window ≡ Ok freed
+pub image-freed : (book : Book) (window : ℕ) (freed : Freed) → (window == 0) ≡ false → free_id book manager window ≡ Ok freed
     → (e : ImageId) × (image_id book manager window ≡ Some e) × (with_ties_ended (is_tied_by manager window) (freed_image_id (nothing_freed book) e) ≡ freed)
 unfolding free_id
 image-freed book window freed counted e = by (image_id book manager window) refl (sym own ∙ e)

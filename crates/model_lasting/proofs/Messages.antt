@@ -78,7 +78,7 @@ stale_or : (b : Bool) (i j : ℕ) → (refuse_if b 18 >>= λ _. Ok j) ≡ Ok i �
 stale_or true i j h = absurd cc
 stale_or false i j h = cc
 
-image_used : (book : Book) (k id i : ℕ) → image book k id ≡ Ok i → is_used book (Image i) ≡ true
+pub image_used : (book : Book) (k id i : ℕ) → image book k id ≡ Ok i → is_used book (Image i) ≡ true
 unfolding image
 image_used book k id i h =
     let found = value_ok (image_id book k id) 4 _ i h in
@@ -88,13 +88,13 @@ screen_of_id : (o : Option ScreenId) (s : ℕ) → value_or_refuse (option_map (
 screen_of_id (Some e) s h = (e, refl, same_Ok e.screen s h)
 screen_of_id None s h = absurd cc
 
-screen_is_used : (book : Book) (k id s : ℕ) → screen book k id ≡ Ok s → is_used book (Screen s) ≡ true
+pub screen_is_used : (book : Book) (k id s : ℕ) → screen book k id ≡ Ok s → is_used book (Screen s) ≡ true
 unfolding screen
 screen_is_used book k id s h =
     let found = screen_of_id (screen_id book k id) s h in
     ap (λ (n : ℕ). is_used book (Screen n)) (sym found.2) ∙ screen_used book k id found.0 found.1
 
-public_used : (book : Book) (id s : ℕ) → public book id ≡ Ok s → is_used book (Screen s) ≡ true
+pub public_used : (book : Book) (id s : ℕ) → public book id ≡ Ok s → is_used book (Screen s) ≡ true
 unfolding public
 public_used book id s h =
     let found = screen_of_id (find (λ e. e.public && (e.id == id)) book.screen_ids) s h in
@@ -113,7 +113,7 @@ new_others w s r chan raw repl clipr =
     by None = (image_comes w.images (next_image w) r chan raw).others
     by (Some t) = (window_comes w.images (next_image w) (image_of w.book t) (fill_of w.book t) r raw).others
 
-named_there : (w : World) (k id : ℕ) (s : Option ℕ) → IsOrderly w → screen_named w k id ≡ Ok s → (t : ℕ) → s ≡ Some t → is_some (screen_numbered w.book t) ≡ true
+pub named_there : (w : World) (k id : ℕ) (s : Option ℕ) → IsOrderly w → screen_named w k id ≡ Ok s → (t : ℕ) → s ≡ Some t → is_some (screen_numbered w.book t) ≡ true
 named_there w k id s o e t is = by (id == 0) e
   where
     by : (b : Bool) → (if b then Ok None else screen w.book k id >>= λ s. Ok (Some s)) ≡ Ok s → is_some (screen_numbered w.book t) ≡ true

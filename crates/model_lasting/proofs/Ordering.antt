@@ -124,7 +124,7 @@ taken_follows w images o others =
 pub next_unused : (w : World) → IsOrderly w → is_used w.book (Image (next_image w)) ≡ false
 next_unused w o = not-true (is_used w.book (Image (next_image w))) (λ used. next_in w.numbers (o.images (next_image w) used))
 
-free_taken : (book : Book) (window : ℕ) → image_id book manager window ≡ None → is_image_id_taken book manager window ≡ false
+pub free_taken : (book : Book) (window : ℕ) → image_id book manager window ≡ None → is_image_id_taken book manager window ≡ false
 free_taken book window free = ap (λ (o : Option ImageId). ((window == 0) && not (manager == 0)) || is_some o) free ∙ by (window == 0)
   where
     by : (b : Bool) → ((b && not (manager == 0)) || false) ≡ false
@@ -267,7 +267,7 @@ replace_follows w window host r old name keep hidden o may shows rio =
 -- ---- a window goes
 
 -- the screen of the rio in it, where there is one
-screen_closed : (w : World) (window : ℕ) → IsOrderly w → Follows none (only window) w (after_freed w (screen_freed w.book window))
+pub screen_closed : (w : World) (window : ℕ) → IsOrderly w → Follows none (only window) w (after_freed w (screen_freed w.book window))
 screen_closed w window o = by (free_screen w.book manager window) refl
   where
     by : (f : Outcome Freed) → free_screen w.book manager window ≡ f → Follows none (only window) w (after_freed w (result_unwrap_or f (nothing_freed w.book)))
@@ -308,7 +308,7 @@ not_there book window n e = by (screen_id book manager window) e
     by (Some x) e = absurd (let f : ◌≡◌ {A = Outcome Freed} (Ok (freed_screen_id (nothing_freed book) x)) (Err n) = e in cc)
 
 -- once its screen is closed a window has none
-screen_unknown : (w : World) (window : ℕ) → screen_id (after_freed w (screen_freed w.book window)).book manager window ≡ None
+pub screen_unknown : (w : World) (window : ℕ) → screen_id (after_freed w (screen_freed w.book window)).book manager window ≡ None
 screen_unknown w window = by (free_screen w.book manager window) refl
   where
     by : (f : Outcome Freed) → free_screen w.book manager window ≡ f → screen_id (after_freed w (result_unwrap_or f (nothing_freed w.book))).book manager window ≡ None
@@ -316,7 +316,7 @@ screen_unknown w window = by (free_screen w.book manager window) refl
     by (Err n) e = not_there w.book window n e
 
 -- and its image is as before
-image_still : (w : World) (window : ℕ) → image_id (after_freed w (screen_freed w.book window)).book manager window ≡ image_id w.book manager window
+pub image_still : (w : World) (window : ℕ) → image_id (after_freed w (screen_freed w.book window)).book manager window ≡ image_id w.book manager window
 image_still w window = by (free_screen w.book manager window) refl
   where
     by : (f : Outcome Freed) → free_screen w.book manager window ≡ f → image_id (after_freed w (result_unwrap_or f (nothing_freed w.book))).book manager window ≡ image_id w.book manager window
@@ -325,7 +325,7 @@ image_still w window = by (free_screen w.book manager window) refl
         ∙ ap (λ (ids : List ImageId). find (λ x. (x.client == owner manager window) && (x.id == window)) ids) (free_screen-image_ids w.book manager window freed e)
     by (Err n) e = refl
 
-free_screens : (book : Book) (window image fill : ℕ) → screen_id book manager window ≡ None → (made : Book) × (new_screen book manager window false image fill ≡ Ok made)
+pub free_screens : (book : Book) (window image fill : ℕ) → screen_id book manager window ≡ None → (made : Book) × (new_screen book manager window false image fill ≡ Ok made)
 unfolding new_screen
 free_screens book window image fill free = by (new_screen book manager window false image fill) refl (ap (λ (o : Option ScreenId). refuse_if (is_some o || false) 7) free)
   where
