@@ -1,50 +1,85 @@
 -- Words ask for one command.
-use Rattle.std.proofs.Common.{◌≡◌, ◌∙◌, ℕ, Bool, true, false, true≢false, refl, sym, ap, List, [], ◌∷◌, codes, Bor, String, Global}
-use Rattle.std.specs.Str.{bytes_eq}
+use Rattle.std.proofs.Common.{◌≡◌, inl, inr, ℕ, ap, List, ◌∷◌, Bor, String, Global, arith}
 use Rattle.r9_event.specs.declared.event.Opening.{Opening}
 use Rattle.r9_opts.specs.declared.job.Job.{Job}
-use Rattle.r9_opts.specs.declared.job.Job.TheVariants.{Replay, Serve, Alone, Gen}
+use Rattle.r9_opts.specs.declared.job.Job.TheVariants.{Replay, Serve, Alone, Text, Gen}
 use Rattle.r9_opts.specs.Asked.{AskFor, texts_of}
-use Rattle.r9_serve.specs.Run.{Ask, AskForReplay, AskToServe}
+use Rattle.r9_serve.specs.Run.{Ask, AskForReplay, AskForText, AskToRead, AskToServe}
 
--- the first word is this one
-abbrev begins_with : List ℕ → List (List ℕ) → Bool
-begins_with name [] = false
-begins_with name (word ∷ words) = bytes_eq word name
+-- the letter with which words begin, and that of the command that does a job
+abbrev first_letter : List (List ℕ) → ℕ
+first_letter ((letter ∷ letters) ∷ words) = letter
+first_letter words = 0
 
--- words do not begin with two names
-pub apart : {A : Type 0} (one other : List ℕ) (words rest more : List (List ℕ)) → bytes_eq one other ≡ false → bytes_eq other other ≡ true → words ≡ one ∷ rest → words ≡ other ∷ more → A
-apart one other words rest more differ same is_one is_other =
-    absurd (true≢false (sym same ∙ sym (ap (begins_with other) is_other) ∙ ap (begins_with other) is_one ∙ differ))
+abbrev letter_of : Job → ℕ
+letter_of (Replay opening screen) = 114
+letter_of (Serve opening listen workers conns) = 115
+letter_of (Alone opening session) = 97
+letter_of (Text columns rows) = 116
+letter_of (Gen number) = 103
+
+asked_letter : (words : List (List ℕ)) (job : Job) → AskFor words job → first_letter words ≡ letter_of job
+asked_letter words (Replay opening screen) asked = ap first_letter asked.begins
+asked_letter words (Serve opening listen workers conns) asked = ap first_letter asked.begins
+asked_letter words (Alone opening session) asked = ap first_letter asked.begins
+asked_letter words (Text columns rows) asked = ap first_letter asked.begins
+asked_letter words (Gen number) asked = ap first_letter asked.begins
+
+replay_letter : (words : List (Bor (List ℕ))) → AskForReplay words → first_letter (texts_of words) ≡ 114
+replay_letter words (Replay opening screen, ask, is) = asked_letter (texts_of words) (Replay opening screen) ask.0
+replay_letter words (Serve opening listen workers conns, ask, is) = absurd is
+replay_letter words (Alone opening session, ask, is) = absurd is
+replay_letter words (Text columns rows, ask, is) = absurd is
+replay_letter words (Gen number, ask, is) = absurd is
+
+serve_letter : (words : List (Bor (List ℕ))) → AskToServe words → first_letter (texts_of words) ≡ 115
+serve_letter words (Replay opening screen, ask, is) = absurd is
+serve_letter words (Serve opening listen workers conns, ask, is) = asked_letter (texts_of words) (Serve opening listen workers conns) ask.0
+serve_letter words (Alone opening session, ask, is) = absurd is
+serve_letter words (Text columns rows, ask, is) = absurd is
+serve_letter words (Gen number, ask, is) = absurd is
+
+text_letter : (words : List (Bor (List ℕ))) → AskForText words → first_letter (texts_of words) ≡ 116
+text_letter words (Replay opening screen, ask, is) = absurd is
+text_letter words (Serve opening listen workers conns, ask, is) = absurd is
+text_letter words (Alone opening session, ask, is) = absurd is
+text_letter words (Text columns rows, ask, is) = asked_letter (texts_of words) (Text columns rows) ask.0
+text_letter words (Gen number, ask, is) = absurd is
 
 pub not_both : {A : Type 0} (words : List (Bor (List ℕ))) (number : ℕ) → AskForReplay words → Ask words (Gen number) → A
-not_both words number (Replay opening screen, ask, is) made = apart (codes "replay") (codes "gen") (texts_of words) _ _ refl refl ask.0.begins made.0.begins
-not_both words number (Serve opening listen workers conns, ask, is) made = absurd is
-not_both words number (Alone opening session, ask, is) made = absurd is
-not_both words number (Gen other, ask, is) made = absurd is
+not_both words number replays made = absurd (omega (arith, replay_letter words replays, asked_letter (texts_of words) (Gen number) made.0))
 
 pub serve_not_replay : {A : Type 0} (words : List (Bor (List ℕ))) → AskForReplay words → AskToServe words → A
-serve_not_replay words (Replay opening screen, ask, is) (Serve o listen workers conns, asked, serves) = apart (codes "replay") (codes "serve") (texts_of words) _ _ refl refl ask.0.begins asked.0.begins
-serve_not_replay words (Replay opening screen, ask, is) (Replay o s, asked, serves) = absurd serves
-serve_not_replay words (Replay opening screen, ask, is) (Gen number, asked, serves) = absurd serves
-serve_not_replay words (Replay opening screen, ask, is) (Alone o session, asked, serves) = absurd serves
-serve_not_replay words (Serve opening listen workers conns, ask, is) serves = absurd is
-serve_not_replay words (Alone opening session, ask, is) serves = absurd is
-serve_not_replay words (Gen other, ask, is) serves = absurd is
+serve_not_replay words replays serves = absurd (omega (arith, replay_letter words replays, serve_letter words serves))
 
 pub serve_not_gen : {A : Type 0} (words : List (Bor (List ℕ))) (number : ℕ) → Ask words (Gen number) → AskToServe words → A
-serve_not_gen words number made (Serve o listen workers conns, asked, serves) = apart (codes "gen") (codes "serve") (texts_of words) _ _ refl refl made.0.begins asked.0.begins
-serve_not_gen words number made (Replay o s, asked, serves) = absurd serves
-serve_not_gen words number made (Gen other, asked, serves) = absurd serves
-serve_not_gen words number made (Alone o session, asked, serves) = absurd serves
+serve_not_gen words number made serves = absurd (omega (arith, asked_letter (texts_of words) (Gen number) made.0, serve_letter words serves))
 
--- words that ask to serve
+pub text_not_replay : {A : Type 0} (words : List (Bor (List ℕ))) → AskForText words → AskForReplay words → A
+text_not_replay words shows replays = absurd (omega (arith, text_letter words shows, replay_letter words replays))
+
+pub text_not_serve : {A : Type 0} (words : List (Bor (List ℕ))) → AskForText words → AskToServe words → A
+text_not_serve words shows serves = absurd (omega (arith, text_letter words shows, serve_letter words serves))
+
+pub text_not_gen : {A : Type 0} (words : List (Bor (List ℕ))) (number : ℕ) → AskForText words → Ask words (Gen number) → A
+text_not_gen words number shows made = absurd (omega (arith, text_letter words shows, asked_letter (texts_of words) (Gen number) made.0))
+
+-- a made record reads no input
+pub gen_reads_not : {A : Type 0} (words : List (Bor (List ℕ))) (number : ℕ) → AskToRead words → Ask words (Gen number) → A
+gen_reads_not words number (inl replays) made = not_both words number replays made
+gen_reads_not words number (inr shows) made = text_not_gen words number shows made
+
+-- words that ask to serve, and words that ask for a text
 pub asks_to_serve : (words : List (Bor (List ℕ))) (opening : Opening) (listen : String Global) (workers conns : ℕ) → AskFor (texts_of words) (Serve opening listen workers conns) → AskToServe words
 asks_to_serve words opening listen workers conns asked = (Serve opening listen workers conns, (asked, tt), tt)
 
+pub asks_for_text : (words : List (Bor (List ℕ))) (columns rows : ℕ) → AskFor (texts_of words) (Text columns rows) → AskForText words
+asks_for_text words columns rows asked = (Text columns rows, (asked, tt), tt)
+
 -- a command that is not done asks for no job that is
 pub alone_alone : (words : List (Bor (List ℕ))) (opening : Opening) (session : ℕ) → AskFor (texts_of words) (Alone opening session) → (job : Job) → Ask words job → ⊥
-alone_alone words opening session asks (Replay shown screen) ask = apart (codes "alone") (codes "replay") (texts_of words) _ _ refl refl asks.begins ask.0.begins
-alone_alone words opening session asks (Gen number) ask = apart (codes "alone") (codes "gen") (texts_of words) _ _ refl refl asks.begins ask.0.begins
-alone_alone words opening session asks (Serve o listen workers conns) ask = apart (codes "alone") (codes "serve") (texts_of words) _ _ refl refl asks.begins ask.0.begins
 alone_alone words opening session asks (Alone o other) ask = ask.1
+alone_alone words opening session asks (Replay shown screen) ask = omega (arith, asked_letter (texts_of words) (Alone opening session) asks, asked_letter (texts_of words) (Replay shown screen) ask.0)
+alone_alone words opening session asks (Serve o listen workers conns) ask = omega (arith, asked_letter (texts_of words) (Alone opening session) asks, asked_letter (texts_of words) (Serve o listen workers conns) ask.0)
+alone_alone words opening session asks (Text columns rows) ask = omega (arith, asked_letter (texts_of words) (Alone opening session) asks, asked_letter (texts_of words) (Text columns rows) ask.0)
+alone_alone words opening session asks (Gen number) ask = omega (arith, asked_letter (texts_of words) (Alone opening session) asks, asked_letter (texts_of words) (Gen number) ask.0)

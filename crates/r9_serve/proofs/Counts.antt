@@ -10,7 +10,7 @@ use Rattle.model_text.specs.Reading.{◌>>=◌}
 use Rattle.r9_event.specs.declared.event.Opening.{Opening}
 use Rattle.model_words.specs.Options.{or, value_of}
 use Rattle.model_words.specs.Values.{counted}
-use Rattle.model_words.specs.Commands.{AsksToServe}
+use Rattle.model_words.specs.Commands.{AsksForText, AsksToServe}
 use Rattle.r9_opts.proofs.Options.{none_some, some_inj}
 
 both : (p q : Bool) → (p && q) ≡ true → (p ≡ true) × (q ≡ true)
@@ -52,3 +52,10 @@ counts most (byte ∷ bytes) n is =
 -- words that ask to serve name 1 to 16 workers
 pub workers_within : (words : List (List ℕ)) (opening : Opening) (listen : List ℕ) (workers conns : ℕ) → AsksToServe words opening listen workers conns → (1 ≤ workers) × (workers ≤ 16)
 workers_within words opening listen workers conns asked = counts 16 (or (value_of (codes "workers") asked.given) (codes "1")) workers asked.shared
+
+-- words that ask for a text name 4 to 200 columns and 4 to 100 rows
+pub columns_within : (words : List (List ℕ)) (columns rows : ℕ) → AsksForText words columns rows → (4 ≤ columns) × (columns ≤ 200)
+columns_within words columns rows asked = (asked.wide.enough, (counts 200 asked.wide.text columns asked.wide.counts).1)
+
+pub rows_within : (words : List (List ℕ)) (columns rows : ℕ) → AsksForText words columns rows → (4 ≤ rows) × (rows ≤ 100)
+rows_within words columns rows asked = (asked.high.enough, (counts 100 asked.high.text rows asked.high.counts).1)

@@ -1,6 +1,6 @@
 //! The command `gen`.
 
-ghost use Rattle.std.specs.Prelude.{◌≡◌, ◌≢◌, ◌+◌, ◌++◌, ℕ, List, Option, false, codes, length, IfOk, OnOk, IsErrOf};
+ghost use Rattle.std.specs.Prelude.{◌≡◌, ◌≢◌, ◌+◌, ◌++◌, ℕ, List, Option, false, codes, length, IfOk};
 ghost use Rattle.std.specs.Fmt.{decimal};
 ghost use Rattle.model_event.specs.Legal.{IsLegal};
 ghost use Rattle.model_gen.specs.Record.{generated};
@@ -8,16 +8,16 @@ ghost use Rattle.model_record.specs.Line.{line};
 ghost use Rattle.model_world.specs.Replay.{replies};
 ghost use Rattle.r9_opts.specs.declared.job.Job.TheVariants as job;
 ghost use Rattle.r9_outside.specs.Count.{Rose};
-ghost use Rattle.r9_outside.specs.Sink.{Appends, AppendsPart};
 ghost use Rattle.r9_serve.specs.Run.{IsDone, IsInputAfter, IsOutAfter, count_lines, generated_output, made_for};
 
+use crate::put::put_text;
 use crate::status::Status;
 use r9_chan::Chan;
 use r9_event::{Entries, Opening};
 use r9_gen::make;
 use r9_hall::World;
 use r9_memory::Memory;
-use r9_outside::{Sink, SinkFault, put_all};
+use r9_outside::{Sink, SinkFault};
 use r9_replay::make_event;
 use r9_text::{Bytes, push_decimal};
 use std::alloc::Global;
@@ -101,19 +101,6 @@ fn output(alloc: Global, number: u32) -> Result<Bytes, Memory>
 {
     let counts = run_made(alloc, number)?;
     lines_of(alloc, counts)
-}
-
-/// Puts a text, and sends it on. After an `Err` only a front of it was put, which may be empty.
-fn put_text<O: Sink>(text: &[u8], out: &mut O) -> Result<(), SinkFault>
-    ensures ok { OnOk result (Appends (O.held out.old) text.now (O.held out.new) × (O.unflushed out.new ≡ false)) }
-    ensures part { AppendsPart (O.held out.old) text.now (O.held out.new) }
-    ensures failed { IsErrOf result SinkFault.Failed → Rose (O.faults out.old) (O.faults out.new) }
-{
-    put_all(out, text)?;
-    match out.flush() {
-        Ok(()) => Ok(()),
-        Err(_) => Err(SinkFault::Failed),
-    }
 }
 
 /// Makes the record of a number and runs it, and puts out how many events it has and how many replies they get.

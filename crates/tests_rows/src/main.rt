@@ -1,9 +1,13 @@
 //! Runs the cases of standard input one after the other, and prints what `run` puts into out and err, and the exit status. A
-//! case is two equals signs and a blank, a line that says what it shows, a line with the words of the command, and the input.
+//! case is two equals signs and a blank, a line that says what it shows, a line with the words of the command, and the input. Cases
+//! of `text` have an input of their own, and print what the record that they put out shows.
 #![tactic(auto)]
+
+mod shown;
 
 use r9_outside::{MemSink, MemSource, Sink, SureDoor, SureSource, WriteSink};
 use r9_serve::{DOORS, run};
+use shown::show_case;
 use std::alloc::Global;
 use std::sync::Wait;
 use std::thread::Threads;
@@ -13,18 +17,14 @@ use std::{array, io};
 fn run_case<R: Threads + Wait + Sync, O: Sink + Send>(
     rt: &R,
     alloc: Global,
-    command: &str,
+    words: &[&str],
     input: &str,
     out: &mut O,
     err: &mut O,
 ) -> io::Result<u8> {
-    let mut words = Vec::new(alloc);
-    for word in command.split(' ') {
-        words.push(word)?;
-    }
     let mut input = SureSource::new(input.as_bytes().to_vec(alloc)?);
     let mut doors: [SureDoor<MemSource, MemSink>; DOORS] = array::from_fn(|_| SureDoor::new(alloc));
-    Ok(run(rt, alloc, &words, &mut input, out, err, &mut doors).code())
+    Ok(run(rt, alloc, words, &mut input, out, err, &mut doors).code())
 }
 
 fn main(rt: HostRuntime) -> io::Result<()> {
@@ -32,11 +32,19 @@ fn main(rt: HostRuntime) -> io::Result<()> {
     for case in cases.split("== ").skip(1) {
         let (title, lines) = case.split_once('\n').unwrap_or((case, ""));
         let (command, input) = lines.split_once('\n').unwrap_or((lines, ""));
+        let mut words = Vec::new(rt.alloc());
+        for word in command.split(' ') {
+            words.push(word)?;
+        }
         println!(rt; "== {title}")?;
         let mut out = WriteSink::new(rt.stdout());
         let mut err = WriteSink::new(rt.stdout());
-        let status = run_case(&rt, rt.alloc(), command, input, &mut out, &mut err)?;
-        println!(rt; "status {status}")?;
+        if command.starts_with("text ") {
+            print!(rt; "{}", show_case(&rt, rt.alloc(), &words, input, &mut err)?)?;
+        } else {
+            let status = run_case(&rt, rt.alloc(), &words, input, &mut out, &mut err)?;
+            println!(rt; "status {status}")?;
+        }
     }
     Ok(())
 }

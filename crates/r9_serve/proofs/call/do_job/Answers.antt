@@ -82,6 +82,13 @@ returns-in-Serve-clause-late_record g c =
     let was = served_under doors (Ask c.args.words.now) c.in-Serve.opening c.in-Serve.listen c.in-Serve.workers c.in-Serve.conns _ _ _ _ _ _ _ _ (asked, tt) (c.serve_job.ensures c.in-Serve.listen) in
     λ first is. absurd (served_other doors (Ask c.args.words.now) _ _ _ _ _ _ _ _ was (status.LateRecord first) is)
 
+pub returns-in-Serve-clause-bad_input : goal.returns-in-Serve-clause-bad_input
+returns-in-Serve-clause-bad_input g c =
+    let asked : AskFor (texts_of c.args.words.now) (Serve c.in-Serve.opening c.in-Serve.listen c.in-Serve.workers c.in-Serve.conns) = subst (AskFor (texts_of c.args.words.now)) c.in-Serve.is c.in-Ok.ensures.found in
+    let doors = told_doors g.D.Door.ended g.D.Door.over g.D.Door.faults (told_ends g.D.In.Source.left g.D.In.Source.faults g.D.Out.Sink.held g.D.Out.Sink.unflushed g.D.Out.Sink.faults) in
+    let was = served_under doors (Ask c.args.words.now) c.in-Serve.opening c.in-Serve.listen c.in-Serve.workers c.in-Serve.conns _ _ _ _ _ _ _ _ (asked, tt) (c.serve_job.ensures c.in-Serve.listen) in
+    λ place is. absurd (served_other doors (Ask c.args.words.now) _ _ _ _ _ _ _ _ was (status.BadInput place) is)
+
 pub returns-in-Serve-clause-read_fault : goal.returns-in-Serve-clause-read_fault
 returns-in-Serve-clause-read_fault g c =
     let asked : AskFor (texts_of c.args.words.now) (Serve c.in-Serve.opening c.in-Serve.listen c.in-Serve.workers c.in-Serve.conns) = subst (AskFor (texts_of c.args.words.now)) c.in-Serve.is c.in-Ok.ensures.found in
