@@ -368,7 +368,7 @@ class RoundTrip(unittest.TestCase):
         sys.stderr.write(f"{len(found)} records taken\n")
 
     def test_the_examples_are_what_their_lines_write(self):
-        for path in sorted(TOP.glob("examples/*.txt")):
+        for path in sorted(set(TOP.glob("examples/*.txt")) - {TOP / "examples/page.txt"}):  # a text to be shown
             with self.subTest(path.name):
                 written = record.write(path.read_text(encoding="utf-8"))
                 self.assertEqual(written, path.with_suffix(".record").read_bytes())
