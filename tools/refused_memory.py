@@ -3,8 +3,8 @@
 
     tools/refused_memory.py [--program PATH] [--every K] [--jobs N]
 
-The runs are `replay` of a case of crates/tests_rows in which a session has a window, draws and waits, and `gen 3`. What refuses is
-refused_memory.c, which cc builds and the program is started with. Each run has to end with status 5, its line on standard
+The runs are `replay` of a case of crates/tests_rows in which a session has a window, draws and waits, `gen 3`, and `text` with the
+font of tools/font.txt. What refuses is refused_memory.c, which cc builds and the program is started with. Each run has to end with status 5, its line on standard
 error and a front of what is printed where no request is refused, or with status 0 and all of that. With --every only each K-th request is
 refused. It prints how many requests a run makes, how many were refused, and how the runs ended. Status 1 tells that one ended
 otherwise, 2 that a word or a file is wrong.
@@ -20,6 +20,7 @@ import sys
 import tempfile
 from dataclasses import dataclass
 
+import font
 import formats
 
 HERE = os.path.dirname(os.path.abspath(__file__))
@@ -27,6 +28,7 @@ ROOT = os.path.dirname(HERE)
 PROGRAM = os.path.join(ROOT, "crates", "rio9", "out", "rio9")
 CASES = os.path.join(ROOT, "crates", "tests_rows", "stdin")
 CASE = "A window is resized: its waiting read of mouse tells so, and its old image is no longer valid"
+TEXT = b"a text that scrolls\nin its window\n"
 LINE = b"rio9: out of memory\n"
 SECONDS = 60  # that a run may take
 
@@ -61,6 +63,12 @@ def case_of(title):
                 _, words, given = case.split("\n", 2)
                 return tuple(words.split(" ")), given.encode()
     formats.stop("refused_memory.py", f"no case in {CASES}: {title}")
+
+
+def typed(text):
+    """The words and the input that show a text in a small window."""
+    with open(font.DRAWN, encoding="ascii") as file:
+        return ("text", "--cols", "4", "--rows", "4"), font.font_file(font.read_font(file.read())) + text
 
 
 def kind_of(ending, whole):
@@ -109,7 +117,7 @@ def main(words):
     options = parser.parse_args(words)
     if not (os.path.isfile(options.program) and os.access(options.program, os.X_OK)):
         formats.stop("refused_memory.py", f"no program: {options.program}")
-    runs = [Run(options.program, *case_of(CASE)), Run(options.program, ("gen", "3"), b"")]
+    runs = [Run(options.program, *case) for case in (case_of(CASE), (("gen", "3"), b""), typed(TEXT))]
     with tempfile.TemporaryDirectory() as room:
         library = built(room)
         good = [check(run, library, room, options) for run in runs]
