@@ -1,0 +1,35 @@
+-- A connection of the session ends, on devices that are the same to it.
+use Rattle.std.proofs.Common.{◌≡◌, ◌<◌, ◌^◌, ℕ, false, List, Option, arith}
+use Rattle.std.specs.Prelude.{◌==◌, All}
+use Rattle.std.proofs.lemmas.List.Elements.{All-weaker}
+use Rattle.model_draw.specs.World.{World, after_leave}
+use Rattle.model_draw.specs.Orders.{manager}
+use Rattle.model_world.specs.Whole.{client}
+use Rattle.model_likeness.specs.Likeness.{IsOfSession}
+use Rattle.model_likeness.proofs.Ids.{no_manager}
+use Rattle.model_freeing.proofs.Freeing.{not_tied}
+use Rattle.model_freeing.proofs.Leaving.{leave_like}
+use Rattle.model_holding.proofs.Rooting.{leave_rooted, leave_tied}
+use Rattle.model_assembled.specs.Assembled.{AreAlike}
+use Rattle.model_assembled.proofs.Settling.{leave_settled}
+
+module _ (c : ℕ) (window : Option (ℕ × List ℕ)) (a b : World) (alike : AreAlike c window a b) (n : ℕ) (few : n < 2 ^ 26) where
+  own : (client c n == manager) ≡ false
+  own = no_manager c n alike.is.like.counted
+
+  untied : All (λ t. (t.client == client c n) ≡ false) a.book.ties
+  untied = All-weaker (λ t. IsOfSession c t.client → ⊥) (λ t. (t.client == client c n) ≡ false) (λ t none. not_tied c n few t none) a.book.ties alike.is.like.books.untied_left
+
+  pub leave_alike : AreAlike c window (after_leave a (client c n)) (after_leave b (client 1 n))
+  leave_alike = record {
+    is =
+        leave_like c window a b alike.is alike.left.steady.whole.standing alike.right.steady.whole.standing alike.left.steady.orderly.ties alike.right.steady.orderly.ties
+        alike.left.steady.whole.listed alike.right.steady.whole.listed n few;
+    left = leave_settled (client c n) a own alike.left;
+    right = leave_settled (client 1 n) b (no_manager 1 n (omega arith)) alike.right;
+    name = alike.name;
+    holds = record {
+      tied = leave_tied window a alike.left.furnished alike.holds.tied alike.holds.rooted (client c n) own alike.left.steady.orderly untied;
+      rooted = leave_rooted window a alike.left.furnished alike.holds.tied alike.holds.rooted (client c n) own alike.left.steady.orderly untied;
+    };
+  }

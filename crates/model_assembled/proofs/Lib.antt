@@ -1,0 +1,4 @@
+pub mod Settling
+pub mod Own
+pub mod Ends
+pub mod Others

@@ -1,0 +1,26 @@
+-- Two draw devices that are the same to a session, with all that each keeps so that they stay so (draw(3)).
+use Rattle.std.specs.Prelude.{ℕ, List, Option}
+use Rattle.model_draw.specs.World.{World}
+use Rattle.model_making.specs.Likes.{IsLike}
+use Rattle.model_whole.specs.Steady.{IsSteady}
+use Rattle.model_others.specs.Others.{HasKeptName, IsFurnished}
+use Rattle.model_beside.specs.Rooted.{IsRootedWindow, IsTiedWindow}
+
+-- what a device keeps whatever is done: it is whole and orderly, and the display has its id
+pub record IsSettled (device : World) : Type 0 where
+  pub steady : IsSteady device
+  pub furnished : IsFurnished device
+
+-- the session's window stands on the root rio's screen, and its name is tied
+pub record HoldsWindow (window : Option (ℕ × List ℕ)) (device : World) : Type 0 where
+  pub tied : IsTiedWindow window device.book
+  pub rooted : IsRootedWindow window device
+
+-- `window`: the serial and the name of the session's window, where it has one. The session is session c of one device and session 1
+-- of the other.
+pub record AreAlike (c : ℕ) (window : Option (ℕ × List ℕ)) (a b : World) : Type 0 where
+  pub is : IsLike c window a b
+  pub left : IsSettled a
+  pub right : IsSettled b
+  pub name : HasKeptName window
+  pub holds : HoldsWindow window a

@@ -1,0 +1,4 @@
+pub mod Acts
+pub mod Freeing
+pub mod Messages
+pub mod Rooting
