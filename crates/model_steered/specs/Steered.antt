@@ -1,0 +1,46 @@
+-- The writes of a desk's texts, and what they do (rio(4), mouse(3)).
+use Rattle.std.specs.Prelude.{List, ◌∷◌, map}
+use Rattle.model_wire.specs.Message.{R, T}
+use Rattle.model_mouse.specs.declared.Mouse.{Mouse}
+use Rattle.model_desk.specs.declared.Text.{Text}
+use Rattle.model_desk.specs.declared.Text.TheVariants.{Mousein, Wctl}
+use Rattle.model_desk.specs.Table.{Desk, start}
+use Rattle.model_desk.specs.Pilot.{after, after_all, pilot, written}
+use Rattle.r9_event.specs.declared.event.Event.TheVariants.{Begin}
+use Rattle.r9_event.specs.declared.event.Opening.{Opening}
+use Rattle.model_world.specs.World.{World, opened}
+use Rattle.model_world.specs.Replay.{step}
+use Rattle.model_client.specs.Pointing.{point_replies, to_point}
+use Rattle.model_client.specs.Saying.{AreAnswered, hello, welcome}
+use Rattle.model_piloted.specs.Following.{HasWindows, IsDeskIn}
+use Rattle.model_piloted.specs.History.{Write, writes, written_all}
+
+-- a text goes to `mousein`, which is fid 1, or to `wctl`, which is fid 2
+abbrev pub write_of : Text → Write
+write_of (Mousein bytes) = (1, bytes)
+write_of (Wctl bytes) = (2, bytes)
+
+abbrev pub messages : List Text → List T
+messages texts = map (λ text. writes (write_of text)) texts
+
+abbrev pub replies_to : List Text → List R
+replies_to texts = map (λ text. written_all (write_of text)) texts
+
+-- What a desk writes for an event is answered, each text by the number of its bytes, and the windows are then those of its table.
+pub record IsSteered (d : Desk) (e : Mouse) (world : World) : Type 0 where
+  pub left : World
+  pub answered : AreAnswered world (messages (written d e)) left (replies_to (written d e))
+  pub at : IsDeskIn (after d e) left
+
+-- So it is with all that a desk writes for a list of events.
+pub record AreSteered (events : List Mouse) (world : World) : Type 0 where
+  pub left : World
+  pub answered : AreAnswered world (messages (pilot events)) left (replies_to (pilot events))
+  pub at : IsDeskIn (after_all events) left
+  pub windows : HasWindows (after_all events) left.desktop.table
+
+-- A client that begins and opens its files is answered without an error, and there is no window then.
+pub record IsBegun (opening : Opening) : Type 0 where
+  pub left : World
+  pub answered : AreAnswered (step (opened opening) (Begin 1)).world (hello ∷ to_point) left (welcome ∷ point_replies)
+  pub at : IsDeskIn start left
