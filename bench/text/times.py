@@ -7,10 +7,10 @@ The peer is a plain program with the same words, which is given by its path. Wan
 crates/rio9 && rt run -- replay < stdin` builds it; --program names another one). Each text has N bytes, 1,000,000 where nothing is
 said: lines of words of 0 to 120 characters, newlines alone, and one long line; the window has 64 by 20 characters of tools/font.py.
 
-It prints user seconds, the least of five runs of each program, their ratio, the most memory of each, and the length of the
-record. The records need not be equal. So the peer is asked whether the program's record shows the text as it has to: where it knows
-the words `--check RECORD` it prints `ok`, or what is otherwise. It looks at the page after each piece, and so it is asked about a
-front of the text of at most 500 lines.
+It prints processor seconds, of the user and the system, the least of nine runs of each program, their ratio, the most
+memory of each, and the length of the record. The records need not be equal. So the peer is asked whether the program's
+record shows the text as it has to: where it knows the words `--check RECORD` it prints `ok`, or what is otherwise. It
+looks at the page after each piece, and so it is asked about a front of the text of at most 500 lines.
 """
 import os
 import random
@@ -26,7 +26,7 @@ sys.path.insert(0, os.path.join(os.path.dirname(HERE), "replay"))
 from run import PROGRAM, most_memory, need_peer
 
 WORDS = ["text", "--cols", "64", "--rows", "20"]
-ROUNDS, SEED, LONGEST, LINES_CHECKED = 5, 7, 120, 500
+ROUNDS, SEED, LONGEST, LINES_CHECKED = 9, 7, 120, 500
 LETTERS = "abcdefghijklmnopqrstuvwxyz"
 
 
@@ -48,24 +48,25 @@ def texts(size):
     }
 
 
-def user_seconds():
-    """The user seconds of all runs that have ended."""
-    return resource.getrusage(resource.RUSAGE_CHILDREN).ru_utime
+def processor_seconds():
+    """The processor seconds, of the user and the system, of all runs that have ended."""
+    used = resource.getrusage(resource.RUSAGE_CHILDREN)
+    return used.ru_utime + used.ru_stime
 
 
 def run(program, given, path):
-    """The user seconds and the most memory of a run that writes its record to a file; the memory is looked at while it runs."""
+    """The processor seconds and the most memory of a run that writes its record to a file; the memory is looked at while it runs."""
     with tempfile.TemporaryFile() as source, open(path, "wb") as out:
         source.write(given)
         source.seek(0)
-        before, memory = user_seconds(), 0
+        before, memory = processor_seconds(), 0
         process = subprocess.Popen([program, *WORDS], stdin=source, stdout=out)
         while process.poll() is None:
             memory = max(memory, most_memory(process))
             time.sleep(0.001)
         if process.returncode != 0:
             sys.exit(f"times.py: status {process.returncode} of {program}")
-        return user_seconds() - before, memory
+        return processor_seconds() - before, memory
 
 
 def best(program, given, path):
