@@ -1,0 +1,2 @@
+pub mod Inked
+pub mod Carried
