@@ -7,7 +7,8 @@ use Rattle.model_pixel.specs.Channels.{colour_of, pack}
 use Rattle.model_images.specs.declared.Tie.{Tie}
 use Rattle.model_images.specs.Book.{image_id}
 use Rattle.model_draw.specs.World.{Client, World, at_number, s_over_d}
-use Rattle.model_draw.specs.Orders.{manager, white}
+use Rattle.model_draw.specs.Orders as orders
+use Rattle.model_draw.specs.Orders.{manager}
 use Rattle.model_rio.specs.Table.{Table, name_by}
 use Rattle.model_fitting.specs.Fitting.{Shows}
 use Rattle.model_likeness.specs.Likeness.{AreNumbered}
@@ -59,7 +60,7 @@ pub record IsInked (device : World) (table : Table) : Type 0 where
   pub apart : IsApart (pens (IsPen number)) device
   pub ids : (id : ℕ) → 0 < id → id < 7 → image_id device.book connection id ≡ Some (record { client = connection; id = id; image = number id; tie = None })
   pub free : image_id device.book connection 7 ≡ None
-  pub white : IsColour (at_number device (number 1)) (white rgb24)
+  pub white : IsColour (at_number device (number 1)) (orders.white rgb24)
   pub inks : (item : ℕ) → item < 5 → IsColour (at_number device (number (2 + item))) (pack rgb24 (colour_of (slice_index colours item)))
   pub client : Client
   pub connected : lookup device.clients connection ≡ Some client
