@@ -56,7 +56,7 @@ module _ (image : ℕ → Type 0) where
       let stays = ordered_stays (pens image) managed device order apart numbers orderly (λ name is. absurd is) (other_order order on) in
       record { stays = stays; apart = stays_apart (pens image) device (ordered device order) apart stays; numbers = stays.numbers numbers }
 
-  leaves_manager : (order : Order) → IsOnWindow order → LeavesManager order
+  pub leaves_manager : (order : Order) → IsOnWindow order → LeavesManager order
   leaves_manager (Make window host r name hide depth) is = tt
   leaves_manager (Place window at) is = tt
   leaves_manager (Replace window host r name keep hidden) is = tt

@@ -1,0 +1,6 @@
+pub mod Naming
+pub mod Opened
+pub mod Inks
+pub mod Shading
+pub mod Freed
+pub mod Written
