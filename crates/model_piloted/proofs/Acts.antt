@@ -121,7 +121,7 @@ command_is : (table : Table) (n : ℕ) (w : Window) (what : wctl.Wctl) → windo
 unfolding command_to
 command_is table n w what found = rw found refl
 
-no_inner : (ws : List Window) (s : ℕ) → Each (λ w. w.host ≡ 0) ws → 0 < s → filter (λ w. w.host == s) ws ≡ []
+pub no_inner : (ws : List Window) (s : ℕ) → Each (λ w. w.host ≡ 0) ws → 0 < s → filter (λ w. w.host == s) ws ≡ []
 no_inner [] s root some = refl
 no_inner (w ∷ ws) s root some = rw (ap (λ n. n == s) root.0 ∙ ne_eqb 0 s (λ same. omega (arith, some, same))) (no_inner ws s root.1 some)
 
@@ -226,7 +226,7 @@ placed_follows d table n pane keep place is e asks asked =
     is.given
     is.hold
 
-moved_to : (table : Table) (keep : Bool) (w : Window) (place : Rect) → table.root.host ≡ 0 → table.rios ≡ [] → 0 < w.serial → moved deepest keep w place (begun table) ≡ Ok (replaced keep w place (begun table))
+pub moved_to : (table : Table) (keep : Bool) (w : Window) (place : Rect) → table.root.host ≡ 0 → table.rios ≡ [] → 0 < w.serial → moved deepest keep w place (begun table) ≡ Ok (replaced keep w place (begun table))
 moved_to table keep w place root alone some =
     subst (λ (t : Table). moved deepest keep w place (begun t) ≡ Ok (replaced keep w place (begun t))) (sym (plain_is table root alone))
     (moved_is table.r table.serials table.root.next table.root.current table.root.hold table.windows keep w place some)

@@ -26,7 +26,7 @@ use Rattle.model_piloted.proofs.Events.{pointer_again, text_len}
 use Rattle.model_piloted.proofs.Passing.{passed, passed_follows}
 
 -- what the desk asks for
-passes : (d : Desk) (e : Mouse) → d.mode ≡ Idle → ((e.buttons == 4) && (d.last == 0)) ≡ false → asked d e ≡ ask (Pass (desk.raised d e)) Idle
+pub passes : (d : Desk) (e : Mouse) → d.mode ≡ Idle → ((e.buttons == 4) && (d.last == 0)) ≡ false → asked d e ≡ ask (Pass (desk.raised d e)) Idle
 unfolding asked
 passes d e idle other = ap (λ (mode : Mode). asked_in mode d e) idle ∙ rw other refl
 

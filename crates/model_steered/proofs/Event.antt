@@ -5,7 +5,16 @@ use Rattle.std.specs.Option.{option_map_or}
 use Rattle.std.proofs.lemmas.Bool.{cond_both}
 use Rattle.r9_geom.specs.declared.Point.{Point}
 use Rattle.r9_geom.specs.declared.Rect.{Rect}
+use Rattle.model_wctl.specs.declared.Choice.{Choice}
+use Rattle.model_wctl.specs.declared.Choice.TheVariants as choice
+use Rattle.model_wctl.specs.Command as wctl
 use Rattle.model_wctl.specs.Rectangle.{is_window}
+use Rattle.model_rio.specs.Act as act
+use Rattle.model_rio.specs.Routing.{moused as routed}
+use Rattle.model_rio.specs.Step.{begun}
+use Rattle.model_rio.specs.Table.{deepest}
+use Rattle.model_fitting.specs.Fitting.{IsSpelled, IsWay}
+use Rattle.model_fitting.proofs.Lists.{all_of}
 use Rattle.model_wire.specs.Message.{R, T, Rwrite}
 use Rattle.model_mouse.specs.declared.Mouse.{Mouse}
 use Rattle.model_mouse.specs.Pointer.{text}
@@ -26,7 +35,7 @@ use Rattle.model_desk.specs.Spelled.{change, id_words, rect_words, spelled}
 use Rattle.model_desk.specs.Pilot.{after, written}
 use Rattle.model_world.specs.World.{World}
 use Rattle.model_world.specs.Whole.{moused}
-use Rattle.model_world.specs.Desktop.{Desktop}
+use Rattle.model_world.specs.Desktop.{Desktop, stepped}
 use Rattle.model_world.specs.Replay.{Turn, step}
 use Rattle.model_client.specs.Pointing.{command, point, pointer}
 use Rattle.model_client.specs.Saying.{AreAnswered, answered, says, world_left}
@@ -35,14 +44,14 @@ use Rattle.model_piloted.specs.Following.{IsDeskIn, IsEvent, is_over, pane_by}
 use Rattle.model_piloted.proofs.Acts.{moves_on}
 use Rattle.model_piloted.proofs.Commands.{box}
 use Rattle.model_piloted.proofs.Ordered.{IsOrdered, delete_ordered, hide_ordered, move_ordered, new_ordered, resize_ordered}
-use Rattle.model_piloted.proofs.Pointed.{passed_on}
+use Rattle.model_piloted.proofs.Pointed.{passed_on, passes}
 use Rattle.model_shown.proofs.Tests.{find-passes}
 use Rattle.model_ready.specs.Ready.{ArePanes, IsReady, IsThere}
 use Rattle.model_ready.proofs.Lists.{one_of}
 use Rattle.model_ready.proofs.Fair.{MayDo, is_pass}
 use Rattle.model_ready.proofs.Kept.{asks_fair}
 use Rattle.model_ready.proofs.Places.{step_read, step_word}
-use Rattle.model_steered.specs.Steered.{IsSteered, messages, replies_to}
+use Rattle.model_steered.specs.Steered.{IsActOf, IsSteered, Takes, messages, replies_to, rests, takes}
 
 -- ---- what is asked for
 
@@ -51,6 +60,7 @@ record IsObeyed (d : Desk) (asks : Act) (e : Mouse) (world : World) : Type 0 whe
   left : World
   answered : AreAnswered world (messages (spelled asks e)) left (replies_to (spelled asks e))
   at : IsDeskIn (done asks d) left
+  taken : Takes asks world.desktop left.desktop
 
 -- one message that is answered
 one_said : (world : World) (m : T) (next : Desktop) (reply : R) → step world (says m) ≡ answered world (pointer, next) reply → AreAnswered world (m ∷ []) (step world (says m)).world (reply ∷ [])
@@ -59,13 +69,23 @@ one_said world m next reply is =
     (then_said world (world_left world (pointer, next)) m [] (pointer, next) reply [] is (nothing_said (world_left world (pointer, next))))
 
 -- a command
-obeyed : (d : Desk) (asks : Act) (e : Mouse) (world : World) (bytes : List ℕ) → spelled asks e ≡ Wctl bytes ∷ [] → IsOrdered d asks bytes world → IsObeyed d asks e world
-obeyed d asks e world bytes spells is =
+obeyed : (d : Desk) (asks : Act) (how : act.Act) (e : Mouse) (world : World) (bytes : List ℕ) → spelled asks e ≡ Wctl bytes ∷ [] → IsActOf asks how → IsSpelled how → IsOrdered d asks how bytes world → IsObeyed d asks e world
+unfolding stepped
+obeyed d asks how e world bytes spells acts ways is =
     let left : World = (step world (says (command bytes))).world in
     record {
       left = left;
-      answered = subst (λ (texts : List Text). AreAnswered world (messages texts) left (replies_to texts)) (sym spells) (one_said world (command bytes) is.next (Rwrite 1 (length bytes)) is.is);
+      answered = subst (λ (texts : List Text). AreAnswered world (messages texts) left (replies_to texts)) (sym spells) (one_said world (command bytes) (stepped world.desktop is.made) (Rwrite 1 (length bytes)) is.is);
       at = is.at;
+      taken = takes (record {
+        how = how;
+        is = acts;
+        spelled = ways;
+        step = is.made;
+        acted = is.acted;
+        table = ap (λ (t : Turn). t.world.desktop.table) is.is;
+        device = ap (λ (t : Turn). t.world.desktop.device) is.is;
+      });
     }
 
 -- the window with a number, which was given
@@ -93,7 +113,7 @@ module _ (d : Desk) (e : Mouse) (world : World) (at : IsDeskIn d world) (panes :
       let wide = b.wide in
       let high = b.high in
       subst (λ (place : Rect). IsObeyed d (New place) e world) (sym b.is)
-      (obeyed d (New (box b.left b.top b.right b.bottom)) e world (codes "new" ++ rect_words (box b.left b.top b.right b.bottom)) refl
+      (obeyed d (New (box b.left b.top b.right b.bottom)) (act.New 0 (choice.R (box b.left b.top b.right b.bottom) ∷ []) false) e world (codes "new" ++ rect_words (box b.left b.top b.right b.bottom)) refl refl tt
       (new_ordered d world b.left b.top b.right b.bottom at (omega (arith, far, wide)) (omega (arith, low, high)) (omega (arith, far)) (omega (arith, low))
       (subst (λ (place : Rect). is_window place ≡ true) b.is may.0.fits) may.1 (omega (arith, early))))
 
@@ -108,7 +128,8 @@ module _ (d : Desk) (e : Mouse) (world : World) (at : IsDeskIn d world) (panes :
       let one = here d window panes may.0 in
       let given = one.given in
       subst (λ (place : Rect). IsObeyed d (Resize window place) e world) (sym b.is)
-      (obeyed d (Resize window (box b.left b.top b.right b.bottom)) e world (codes "resize" ++ rect_words (box b.left b.top b.right b.bottom) ++ id_words window) refl
+      (obeyed d (Resize window (box b.left b.top b.right b.bottom)) (act.Command window (wctl.Resize (choice.R (box b.left b.top b.right b.bottom) ∷ []))) e world
+      (codes "resize" ++ rect_words (box b.left b.top b.right b.bottom) ++ id_words window) refl refl tt
       (resize_ordered d world at b.left b.top b.right b.bottom window one.pane one.is (omega (arith, far, wide)) (omega (arith, low, high)) (omega (arith, far)) (omega (arith, low))
       (omega (arith, given, early)) (subst (λ (place : Rect). is_window place ≡ true) b.is may.1.fits)))
 
@@ -116,25 +137,29 @@ module _ (d : Desk) (e : Mouse) (world : World) (at : IsDeskIn d world) (panes :
   unfolding spelled
   move_obeyed pane by may =
       let given = (one_of d.next (λ p. p.number == pane.number) d.visible pane panes may.here).given in
-      obeyed d (Move pane by) e world (codes "move -minx " ++ change by.x ++ codes " -miny " ++ change by.y ++ id_words pane.number) refl
-      (move_ordered d world at pane by (step_read by.x may.across) (step_read by.y may.down) may.here (step_word by.x may.across) (step_word by.y may.down) (omega (arith, given, early)) may.fits)
+      let x = step_read by.x may.across in
+      let y = step_read by.y may.down in
+      let options : List Choice = choice.Minx x.by ∷ choice.Miny y.by ∷ [] in
+      obeyed d (Move pane by) (act.Command pane.number (wctl.Move options)) e world (codes "move -minx " ++ change by.x ++ codes " -miny " ++ change by.y ++ id_words pane.number) refl (options, refl)
+      (all_of IsWay options (tt, (tt, tt)))
+      (move_ordered d world at pane by x y may.here (step_word by.x may.across) (step_word by.y may.down) (omega (arith, given, early)) may.fits)
 
   delete_obeyed : (window : ℕ) → MayDo (is_over d.mode d.last) d (Delete window) → IsObeyed d (Delete window) e world
   unfolding spelled
   delete_obeyed window may =
       let one = here d window panes may.0 in
       let given = one.given in
-      obeyed d (Delete window) e world (codes "delete" ++ id_words window) refl (delete_ordered d world at window one.pane one.is may.1 (omega (arith, given, early)))
+      obeyed d (Delete window) (act.Command window wctl.Delete) e world (codes "delete" ++ id_words window) refl refl tt (delete_ordered d world at window one.pane one.is may.1 (omega (arith, given, early)))
 
   hide_obeyed : (pane : Pane) → MayDo (is_over d.mode d.last) d (Hide pane) → IsObeyed d (Hide pane) e world
   unfolding spelled
   hide_obeyed pane may =
       let given = may.0.given in
-      obeyed d (Hide pane) e world (codes "hide" ++ id_words pane.number) refl (hide_ordered d world at pane may.0.own may.1 (omega (arith, given, early)))
+      obeyed d (Hide pane) (act.Command pane.number wctl.Hide) e world (codes "hide" ++ id_words pane.number) refl refl tt (hide_ordered d world at pane may.0.own may.1 (omega (arith, given, early)))
 
   nothing_obeyed : IsObeyed d Nothing e world
   unfolding spelled done
-  nothing_obeyed = record { left = world; answered = nothing_said world; at = at }
+  nothing_obeyed = record { left = world; answered = nothing_said world; at = at; taken = rests refl refl }
 
   -- all but what goes to the windows
   act_obeyed : (asks : Act) → MayDo (is_over d.mode d.last) d asks → is_pass asks ≡ false → IsObeyed d asks e world
@@ -188,6 +213,7 @@ done_over d (Hide pane) = refl
 module _ (k : ℕ) (d : Desk) (e : Mouse) (world : World) (at : IsDeskIn d world) (ready : IsReady k d) (event : IsEvent e) (early : k < 10 ^ 8) where
   -- it goes to the windows
   passed_steered : d.mode ≡ Idle → (e.buttons == 4 && d.last == 0) ≡ false → IsSteered d e world
+  unfolding moused stepped
   passed_steered idle other =
       let turn = passed_on d e world at event idle other in
       let left : World = (step world (says (point (text 109 e)))).world in
@@ -196,6 +222,15 @@ module _ (k : ℕ) (d : Desk) (e : Mouse) (world : World) (at : IsDeskIn d world
         answered = subst (λ (texts : List Text). AreAnswered world (messages texts) left (replies_to texts)) (sym turn.texts)
             (one_said world (point (text 109 e)) (moused world.desktop e) (Rwrite 1 (length (text 109 e))) turn.is);
         at = turn.at;
+        taken = takes (record {
+          how = act.Mouse e;
+          is = subst (λ (a : Ask). IsActOf a.act (act.Mouse e)) (sym (passes d e idle other)) (e, refl);
+          spelled = tt;
+          step = routed deepest e 0 (begun world.desktop.table);
+          acted = refl;
+          table = ap (λ (t : Turn). t.world.desktop.table) turn.is;
+          device = ap (λ (t : Turn). t.world.desktop.device) turn.is;
+        });
       }
 
   -- it does not
@@ -212,6 +247,7 @@ module _ (k : ℕ) (d : Desk) (e : Mouse) (world : World) (at : IsDeskIn d world
           alone = done_so.at.alone;
           follows = moves_on (done (asked d e).act d) done_so.left.desktop.table (asked d e).mode e.buttons done_so.at.follows (fair.goes_on other ∙ sym (done_over d (asked d e).act));
         };
+        taken = done_so.taken;
       }
 
   idle_steered : (b : Bool) → (e.buttons == 4 && d.last == 0) ≡ b → d.mode ≡ Idle → IsSteered d e world

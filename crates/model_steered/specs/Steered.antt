@@ -1,13 +1,25 @@
 -- The writes of a desk's texts, and what they do (rio(4), mouse(3)).
-use Rattle.std.specs.Prelude.{List, ◌∷◌, map}
+use Rattle.std.specs.Prelude.{◌≡◌, List, [], ◌∷◌, map, false, Ok}
 use Rattle.model_wire.specs.Message.{R, T}
+use Rattle.model_wctl.specs.declared.Choice.{Choice}
+use Rattle.model_wctl.specs.declared.Choice.TheVariants as choice
+use Rattle.model_wctl.specs.Command as wctl
 use Rattle.model_mouse.specs.declared.Mouse.{Mouse}
+use Rattle.model_rio.specs.Act as act
+use Rattle.model_rio.specs.Rio.{rio}
+use Rattle.model_rio.specs.Step.{Step}
+use Rattle.model_draw.specs.Orders.{carried_out}
+use Rattle.model_fitting.specs.Fitting.{IsSpelled}
+use Rattle.model_desk.specs.declared.Act.{Act}
+use Rattle.model_desk.specs.declared.Act.TheVariants.{Delete, Hide, Move, New, Nothing, Pass, Resize}
 use Rattle.model_desk.specs.declared.Text.{Text}
 use Rattle.model_desk.specs.declared.Text.TheVariants.{Mousein, Wctl}
 use Rattle.model_desk.specs.Table.{Desk, start}
+use Rattle.model_desk.specs.Asked.{asked}
 use Rattle.model_desk.specs.Pilot.{after, after_all, pilot, written}
 use Rattle.r9_event.specs.declared.event.Event.TheVariants.{Begin}
 use Rattle.r9_event.specs.declared.event.Opening.{Opening}
+use Rattle.model_world.specs.Desktop.{Desktop}
 use Rattle.model_world.specs.World.{World, opened}
 use Rattle.model_world.specs.Replay.{step}
 use Rattle.model_client.specs.Pointing.{point_replies, to_point}
@@ -26,11 +38,38 @@ messages texts = map (λ text. writes (write_of text)) texts
 abbrev pub replies_to : List Text → List R
 replies_to texts = map (λ text. written_all (write_of text)) texts
 
--- What a desk writes for an event is answered, each text by the number of its bytes, and the windows are then those of its table.
+-- an act of rio's that does what a desk asks
+abbrev pub IsActOf : Act → act.Act → Type 0
+IsActOf Nothing how = ⊥
+IsActOf (Pass raised) how = (e : Mouse) × (how ≡ act.Mouse e)
+IsActOf (New r) how = how ≡ act.New 0 (choice.R r ∷ []) false
+IsActOf (Resize window r) how = how ≡ act.Command window (wctl.Resize (choice.R r ∷ []))
+IsActOf (Move pane by) how = (options : List Choice) × (how ≡ act.Command pane.number (wctl.Move options))
+IsActOf (Delete window) how = how ≡ act.Command window wctl.Delete
+IsActOf (Hide pane) how = how ≡ act.Command pane.number wctl.Hide
+
+-- An act did what is asked, and was not refused: the windows are those that it left, and the draw device has its orders.
+pub record IsTaken (asks : Act) (old new : Desktop) : Type 0 where
+  pub how : act.Act
+  pub is : IsActOf asks how
+  pub spelled : IsSpelled how
+  pub step : Step
+  pub acted : rio old.table how ≡ Ok step
+  pub table : new.table ≡ step.table
+  pub device : new.device ≡ carried_out old.device step.orders
+
+-- What a desk asks is done by an act, or it asks nothing.
+pub data Takes (asks : Act) (old new : Desktop) : Type 0 where
+  rests : asks ≡ Nothing → new ≡ old → Takes asks old new
+  takes : IsTaken asks old new → Takes asks old new
+
+-- What a desk writes for an event is answered, each text by the number of its bytes, and the windows are then those of its table, by an
+-- act of rio's at most.
 pub record IsSteered (d : Desk) (e : Mouse) (world : World) : Type 0 where
   pub left : World
   pub answered : AreAnswered world (messages (written d e)) left (replies_to (written d e))
   pub at : IsDeskIn (after d e) left
+  pub taken : Takes (asked d e).act world.desktop left.desktop
 
 -- So it is with all that a desk writes for a list of events.
 pub record AreSteered (events : List Mouse) (world : World) : Type 0 where

@@ -1,0 +1,56 @@
+-- What a desk writes for an event is answered, and has the draw device carry out orders on windows.
+use Rattle.std.proofs.Common.{◌≡◌, ◌∙◌, ◌<◌, ◌^◌, ℕ, false, [], ◌∷◌, sym, ap, subst}
+use Rattle.model_wctl.specs.declared.Choice.TheVariants.{R}
+use Rattle.model_mouse.specs.declared.Mouse.{Mouse}
+use Rattle.model_rio.specs.Act as act
+use Rattle.model_rio.specs.Rio.{rio}
+use Rattle.model_draw.specs.Orders.{carried_out}
+use Rattle.model_fitting.specs.Fitting.{Shows}
+use Rattle.model_fitting.proofs.Acts.{act_fits}
+use Rattle.model_desk.specs.declared.Act.{Act}
+use Rattle.model_desk.specs.declared.Act.TheVariants.{New, Nothing}
+use Rattle.model_desk.specs.Table.{Desk}
+use Rattle.model_desk.specs.Asked.{asked}
+use Rattle.model_draw.specs.World as draw
+use Rattle.model_world.specs.Desktop.{Desktop}
+use Rattle.model_world.specs.World.{World}
+use Rattle.model_piloted.specs.Following.{IsDeskIn, IsEvent}
+use Rattle.model_ready.specs.Ready.{IsReady}
+use Rattle.model_steered.specs.Steered.{IsActOf, IsSteered, Takes, rests, takes}
+use Rattle.model_steered.proofs.Event.{steered}
+use Rattle.model_inked.specs.Carried.{IsCarried}
+use Rattle.model_done.proofs.Fine.{none_fine}
+use Rattle.model_done.proofs.Orders.{acts_fine, new_orders}
+
+carries : (d : Desk) (e : Mouse) (world : World) → IsDeskIn d world → (is : IsSteered d e world) → Takes (asked d e).act world.desktop is.left.desktop → IsCarried d e world
+carries d e world at is (rests none same) = record {
+  left = is.left;
+  answered = is.answered;
+  at = is.at;
+  orders = [];
+  device = ap (λ (desktop : Desktop). desktop.device) same;
+  on = none_fine.on;
+  named = none_fine.named;
+  shows = λ orderly shown. subst (λ (desktop : Desktop). Shows desktop.device desktop.table) (sym same) shown;
+  made = λ r new. absurd (let both : ◌≡◌ {A = Act} Nothing (New r) = sym none ∙ new in cc both);
+}
+carries d e world at is (takes taken) =
+    let fine = acts_fine d world.desktop.table (asked d e).act taken.how taken.step at.follows taken.is taken.acted in
+    record {
+      left = is.left;
+      answered = is.answered;
+      at = is.at;
+      orders = taken.step.orders;
+      device = taken.device;
+      on = fine.on;
+      named = fine.named;
+      shows = λ orderly shown.
+          let fits = act_fits world.desktop.device world.desktop.table taken.how taken.step at.follows.sound orderly shown taken.spelled taken.acted in
+          subst (λ (device : draw.World). Shows device is.left.desktop.table) (sym taken.device) (subst (Shows (carried_out world.desktop.device taken.step.orders)) (sym taken.table) fits.shows);
+      made = λ r new.
+          let how : taken.how ≡ act.New 0 (R r ∷ []) false = subst (λ (asks : Act). IsActOf asks taken.how) new taken.is in
+          new_orders d world.desktop.table r taken.step at.follows (ap (rio world.desktop.table) (sym how) ∙ taken.acted);
+    }
+
+pub carried : (k : ℕ) (d : Desk) (e : Mouse) (world : World) → IsDeskIn d world → IsReady k d → IsEvent e → k < 10 ^ 8 → IsCarried d e world
+carried k d e world at ready event early = let is = steered k d e world at ready event early in carries d e world at is is.taken

@@ -1,0 +1,3 @@
+mod Fine
+mod Orders
+pub mod Carried
