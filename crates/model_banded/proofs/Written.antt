@@ -1,5 +1,5 @@
 -- The bands of a menu are written, and its window then shows them.
-use Rattle.std.proofs.Common.{◌≡◌, ◌∙◌, ◌<◌, ◌+◌, ◌*◌, ◌^◌, ℕ, ◌==◌, Bool, true, false, List, [], ◌∷◌, ◌++◌, length, Option, Some, None, Ok, refl, sym, ap, subst, append_assoc, arith, eqb-true}
+use Rattle.std.proofs.Common.{◌≡◌, ◌∙◌, ◌<◌, ◌≤◌, ◌+◌, ◌*◌, ◌^◌, ℕ, ◌==◌, Bool, true, false, List, [], ◌∷◌, ◌++◌, length, Option, Some, None, Ok, refl, sym, ap, subst, append_assoc, arith, eqb-true}
 use Rattle.std.specs.Prelude.{codes, option_map, unwrap_or}
 use Rattle.std.specs.Fmt.{decimal}
 use Rattle.std.specs.List.{flat_map}
@@ -32,7 +32,7 @@ use Rattle.model_apart.specs.Apart.{IsApart}
 use Rattle.model_making.proofs.Entries.{all_found}
 use Rattle.model_whole.specs.Steady.{IsSteady}
 use Rattle.model_whole.proofs.Messages.{written_steady}
-use Rattle.model_client.specs.Messages.{named}
+use Rattle.model_client.specs.Messages.{drawing, named}
 use Rattle.model_client.proofs.Messages.{named_first}
 use Rattle.model_client.proofs.Writes.{Leads, leads_message, leads_nowhere, leads_then, leads_written}
 use Rattle.model_bands.specs.Bands.{band, bands, freed}
@@ -78,12 +78,44 @@ name_is window =
     sym (append_assoc (codes "window." ++ decimal window) (codes ".") (codes "1"))
     ∙ ap (λ (generation : List ℕ). codes "window." ++ decimal window ++ codes "." ++ generation) (sym (decimal_digit 1 (omega arith))) ∙ sym (name_plain window 1)
 
+name_few : (window : ℕ) → window < 10 ^ 9 → length (codes "window." ++ decimal window ++ codes ".1") ≤ 18
+name_few window early =
+    let few = length-decimal-le 9 window (omega arith) early (omega (arith, early)) in
+    omega (arith, few, length-append (codes "window." ++ decimal window) (codes ".1"), length-append (codes "window.") (decimal window))
+
+bands_len : (x y : ℕ) → length (flat_map (band x y) (0 ∷ 1 ∷ 2 ∷ 3 ∷ 4 ∷ [])) ≡ 225
+unfolding drawing
+bands_len x y = refl
+
+named_len : (id : ℕ) (name : List ℕ) → length (named id name) ≡ 6 + length name
+unfolding named
+named_len id name = omega arith
+
+freed_len : (id : ℕ) → length (freed id) ≡ 5
+unfolding freed
+freed_len id = refl
+
+bands_short : (window x y : ℕ) → window < 10 ^ 9 → length (bands window x y) ≤ 65537
+unfolding bands
+bands_short window x y early =
+    let name : List ℕ = codes "window." ++ decimal window ++ codes ".1" in
+    omega (
+      arith,
+      name_few window early,
+      named_len 7 name,
+      bands_len x y,
+      freed_len 7,
+      length-append (named 7 name ++ flat_map (band x y) (0 ∷ 1 ∷ 2 ∷ 3 ∷ 4 ∷ [])) (freed 7),
+      length-append (named 7 name) (flat_map (band x y) (0 ∷ 1 ∷ 2 ∷ 3 ∷ 4 ∷ [])),
+    )
+
 -- ---- all of it
 
 -- what the bands of a menu lead to
 pub record IsBandedAll (device : World) (table : Table) (window x y : ℕ) : Type 0 where
   pub after : World
   pub leads : Leads connection device after (bands window x y)
+  pub short : length (bands window x y) ≤ 65537
   pub inked : IsInked after table
   pub viewed : (item : ℕ) (p : Point) → item < 5 → holds (band_box x y item) p ≡ true → view after.images (image_shown after window) p ≡ ink item
 
@@ -109,14 +141,9 @@ module _ (device : World) (table : Table) (inked : IsInked device table) (window
 
   to_named : Leads connection device named_device (named 7 name)
   to_named = leads_message connection device named_device (LowN 7 name) (named 7 name)
-      (λ rest. named_first 7 name rest (omega arith) name_short)
+      (λ rest. named_first 7 name rest (omega arith) (let few = name_few window early in omega (arith, few)))
       (λ rest. uses_name device name rest book (name_adds device.book name has.tie (ap (λ (n : List ℕ). tie_of device.book n) (name_is window) ∙ has.named) inked.free))
       (λ rest. behind_n connection device 7 name rest)
-    where
-      name_short : length name < 2 ^ 8
-      name_short =
-          let few = length-decimal-le 9 window (omega arith) early (omega (arith, early)) in
-          omega (arith, few, length-append (codes "window." ++ decimal window) (codes ".1"), length-append (codes "window.") (decimal window))
 
   first : IsShaded device book i x y 0 named_device
   first = record {
@@ -248,6 +275,7 @@ module _ (device : World) (table : Table) (inked : IsInked device table) (window
       record {
         after = end;
         leads = leads;
+        short = bands_short window x y early;
         inked = still_inked b4.after b4.shaded (subst IsSteady left_world (written_steady connection device bytes None refl inked.steady))
             (subst (λ (w : World). Shows w table) left_world (shows_follow device (written connection device bytes None).world table (written_still connection device bytes None refl inked.steady.orderly) inked.shows));
         viewed = all_viewed b4.after b4.shaded;

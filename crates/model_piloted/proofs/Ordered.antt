@@ -72,7 +72,7 @@ named_in : (ws : List Window) (n : ℕ) → Each (λ w. w.host ≡ 0) ws → Eac
 named_in [] n root own = refl
 named_in (w ∷ ws) n root own = rw (eq-eqb w.host 0 root.0, ap (λ m. m == n) own.0) (ap (λ (o : Option Window). cond (w.serial == n) (Some w) o) (named_in ws n root.1 own.1))
 
-found_here : (d : Desk) (table : Table) (n : ℕ) (pane : Pane) → Follows d table → pane_by n d.visible ≡ Some pane → found table (n ∷ []) ≡ Some n
+pub found_here : (d : Desk) (table : Table) (n : ℕ) (pane : Pane) → Follows d table → pane_by n d.visible ≡ Some pane → found table (n ∷ []) ≡ Some n
 unfolding found
 found_here d table n pane is e =
     let own = are_own d table is in
