@@ -35,4 +35,6 @@ begun opening =
           hold = refl;
         };
       };
+      table = refl;
+      device = refl;
     }

@@ -8,6 +8,7 @@ use Rattle.model_mouse.specs.declared.Mouse.{Mouse}
 use Rattle.model_rio.specs.Act as act
 use Rattle.model_rio.specs.Rio.{rio}
 use Rattle.model_rio.specs.Step.{Step}
+use Rattle.model_draw.specs.World.{after_connect}
 use Rattle.model_draw.specs.Orders.{carried_out}
 use Rattle.model_fitting.specs.Fitting.{IsSpelled}
 use Rattle.model_desk.specs.declared.Act.{Act}
@@ -19,8 +20,9 @@ use Rattle.model_desk.specs.Asked.{asked}
 use Rattle.model_desk.specs.Pilot.{after, after_all, pilot, written}
 use Rattle.r9_event.specs.declared.event.Event.TheVariants.{Begin}
 use Rattle.r9_event.specs.declared.event.Opening.{Opening}
-use Rattle.model_world.specs.Desktop.{Desktop}
-use Rattle.model_world.specs.World.{World, opened}
+use Rattle.model_world.specs.Desktop.{Desktop, first_desktop}
+use Rattle.model_world.specs.Whole.{client}
+use Rattle.model_world.specs.World.{World, display_of, opened}
 use Rattle.model_world.specs.Replay.{step}
 use Rattle.model_client.specs.Pointing.{point_replies, to_point}
 use Rattle.model_client.specs.Saying.{AreAnswered, hello, welcome}
@@ -78,8 +80,11 @@ pub record AreSteered (events : List Mouse) (world : World) : Type 0 where
   pub at : IsDeskIn (after_all events) left
   pub windows : HasWindows (after_all events) left.desktop.table
 
--- A client that begins and opens its files is answered without an error, and there is no window then.
+-- A client that begins and opens its files is answered without an error, and there is no window then; the draw device has its
+-- connection.
 pub record IsBegun (opening : Opening) : Type 0 where
   pub left : World
   pub answered : AreAnswered (step (opened opening) (Begin 1)).world (hello ∷ to_point) left (welcome ∷ point_replies)
   pub at : IsDeskIn start left
+  pub table : left.desktop.table ≡ (first_desktop (display_of opening)).table
+  pub device : left.desktop.device ≡ after_connect (first_desktop (display_of opening)).device (client 1 1)

@@ -1,0 +1,3 @@
+mod Making
+mod Inks
+pub mod Opened
