@@ -20,11 +20,11 @@ use Rattle.model_piloted.specs.Following.{IsDeskIn}
 use Rattle.model_piloted.specs.History.{display, opening, opening_replies}
 use Rattle.model_inked.specs.Inked.{IsInked, connection}
 
--- the client's id of an image of its own: those of the display and of the root rio's fill have the first numbers
+-- An id of the client's, of an image that it made. The display and the root rio's fill are images 0 and 1.
 abbrev pub own_id : ℕ → ImageId
 own_id id = record { client = connection; id = id; image = id + 1; tie = None }
 
--- the client has these ids
+-- the ids of the display and of the root rio's screen, and these of the client's
 abbrev pub book : List ℕ → Book
 book ids = record {
   image_ids = display_id ∷ map own_id ids;
@@ -36,6 +36,7 @@ book ids = record {
   next_tie = 0;
 }
 
+-- the device when it has made images with these ids
 abbrev pub device : Images → (ids : List ℕ) → draw.World
 device images ids = record {
   opening = display_of display;
