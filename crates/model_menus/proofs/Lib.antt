@@ -1,0 +1,4 @@
+pub mod Modes
+pub mod Opening
+pub mod Event
+pub mod All

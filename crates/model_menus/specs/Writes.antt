@@ -1,8 +1,9 @@
 -- What a desk writes for each event of the mouse, and the history in which it does (rio(4), draw(3)).
-use Rattle.std.specs.Prelude.{ℕ, List, [], ◌∷◌, ◌++◌, map}
+use Rattle.std.specs.Prelude.{List, [], ◌∷◌, ◌++◌, map}
 use Rattle.std.specs.List.{flat_map}
 use Rattle.r9_geom.specs.Geometry.{natural}
 use Rattle.r9_event.specs.declared.event.Event.{Event}
+use Rattle.model_wire.specs.Message.{T}
 use Rattle.r9_event.specs.declared.event.Event.TheVariants.{Begin}
 use Rattle.model_mouse.specs.declared.Mouse.{Mouse}
 use Rattle.model_desk.specs.declared.Mode.{Mode}
@@ -43,6 +44,10 @@ abbrev pub writes_from : Desk → List Mouse → List (List Write)
 writes_from d [] = []
 writes_from d (e ∷ events) = writes_for d e ∷ writes_from (after d e) events
 
--- the history of a desk: its session begins, opens its files and makes the colours of the bands, and then writes for each event
+-- what a desk says: it opens its files and makes the colours of the bands, and then writes for each event
+abbrev pub desk_messages : List Mouse → List T
+desk_messages events = opening ++ map writes (flat_map (λ some. some) (writes_from start events))
+
+-- the history of a desk, whose session begins and says so
 unfoldable pub desk_history : List Mouse → List Event
-desk_history events = Begin 1 ∷ map says (opening ++ map writes (flat_map (λ some. some) (writes_from start events)))
+desk_history events = Begin 1 ∷ map says (desk_messages events)
