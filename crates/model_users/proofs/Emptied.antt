@@ -43,7 +43,7 @@ some_with (e ∷ es) key value some none = by (is_key key e.0) none
     by true none = cc none
     by false none = cc none
 
-some_and : {A : Type 0} (es : List (ℕ × A)) (key : ℕ) (value : A) → and es key value ≡ [] → ⊥
+pub some_and : {A : Type 0} (es : List (ℕ × A)) (key : ℕ) (value : A) → and es key value ≡ [] → ⊥
 some_and [] key value none = cc none
 some_and {A = A} (e ∷ es) key value none = by (nat_cmp key e.0) none
   where

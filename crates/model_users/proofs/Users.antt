@@ -85,7 +85,7 @@ one_unused users (at, note.Current current) window none = none
 one_unused users (at, note.Mouse x y buttons msec) window none = none
 one_unused users (at, note.Key bytes) window none = none
 
-all_unused : (notes : List (ℕ × Note)) (users : List (ℕ × List ℕ)) (window : ℕ) → lookup users window ≡ None → lookup (fold users_told users notes) window ≡ None
+pub all_unused : (notes : List (ℕ × Note)) (users : List (ℕ × List ℕ)) (window : ℕ) → lookup users window ≡ None → lookup (fold users_told users notes) window ≡ None
 all_unused [] users window none = none
 all_unused (told ∷ notes) users window none = all_unused notes (users_told users told) window (one_unused users told window none)
 
