@@ -183,10 +183,10 @@ module _ (c : ℕ) (begin : 0 < c) (Like : Option (ℕ × List ℕ) → draw.Wor
       answered : attached ≡ left (and_fid lone.session fid (fid_at (root_of root.1)), root.0) (Rattach tag (qid (root_of root.1)))
       answered = attach_answered (desktop_for c) lone.session world.desktop bytes mark tag fid afid uname aname attach root given
 
-      serial : root.1 ≡ world.desktop.table.serials + 1
+      pub serial : root.1 ≡ world.desktop.table.serials + 1
       serial = ap (λ (r : Desktop × ℕ). r.1) fresh.left_so ∙ (new_made world.desktop.table fresh.host fresh.options fresh.hide fresh.step fresh.done).serials
 
-      counted : (root.1 == 0) ≡ false
+      pub counted : (root.1 == 0) ≡ false
       counted = ne_eqb root.1 0 (λ zero. absurd (omega (arith, zero, serial)))
 
       module _ (home : fresh.host ≡ 0) where

@@ -276,35 +276,40 @@ module _ (c window : ℕ) (counted : (window == 0) ≡ false) where
       to_leaves mark (Tstat tag fid) fresh = beside_leaves (stat_answer (desktop_for c) session s tag fid) (stat_stays tag fid)
       to_leaves mark (Twstat tag fid stat) fresh = beside_leaves (denied session fid) (denied_stays fid)
 
-      or_leaves : (mark : Option ℕ) (o : Option T) → ((m : T) → o ≡ Some m → IsNoAttach m) → Leaves (read_or_not (desktop_for c) session s mark o)
+      -- what is known of a message that is read: no attach of it is looked at
+      abbrev pub AttachesNone : Option T → Type 0
+      AttachesNone o = (m : T) → o ≡ Some m → (not (is_version m) && (tag_of_t m == no_tag)) ≡ false → (not (is_version m) && not session.agreed) ≡ false → IsNoAttach m
+
+      or_leaves : (mark : Option ℕ) (o : Option T) → AttachesNone o → Leaves (read_or_not (desktop_for c) session s mark o)
       unfolding answer_read
       or_leaves mark None fresh = tt
       or_leaves mark (Some m) fresh =
-          after_step (λ l. LostIfEmpty l.session l.rest) (refuse_if (not (is_version m) && (tag_of_t m == no_tag)) 30) _ (λ _ _.
-          after_step (λ l. LostIfEmpty l.session l.rest) (refuse_if (not (is_version m) && not session.agreed) 31) _ (λ _ _. to_leaves mark m (fresh m refl)))
+          after_step (λ l. LostIfEmpty l.session l.rest) (refuse_if (not (is_version m) && (tag_of_t m == no_tag)) 30) _ (λ u tagged.
+          after_step (λ l. LostIfEmpty l.session l.rest) (refuse_if (not (is_version m) && not session.agreed) 31) _ (λ v agreed.
+          to_leaves mark m (fresh m refl (not_refused (not (is_version m) && (tag_of_t m == no_tag)) 30 u tagged) (not_refused (not (is_version m) && not session.agreed) 31 v agreed))))
 
       replied_leaves : (tag : ℕ) (o : Outcome (Left Desktop)) → Leaves o → LostIfEmpty (replied session s tag o).session (replied session s tag o).rest
       replied_leaves tag (Ok l) leaves = leaves
       replied_leaves tag (Err n) leaves = λ none. absurd (some none)
 
-      pub some_answer : (bytes : List ℕ) (mark : Option ℕ) → ((m : T) → message_of bytes ≡ Some m → IsNoAttach m) → LostIfEmpty (answer (desktop_for c) session s bytes mark).session (answer (desktop_for c) session s bytes mark).rest
+      pub some_answer : (bytes : List ℕ) (mark : Option ℕ) → (taking session bytes ≡ Reads → AttachesNone (message_of bytes)) → LostIfEmpty (answer (desktop_for c) session s bytes mark).session (answer (desktop_for c) session s bytes mark).rest
       unfolding answer
-      some_answer bytes mark fresh = by (taking session bytes)
+      some_answer bytes mark fresh = by (taking session bytes) fresh
         where
-          by : (how : Taking) → LostIfEmpty (taken (desktop_for c) session s bytes mark how).session (taken (desktop_for c) session s bytes mark how).rest
-          by Ignored = λ none. absurd (some none)
-          by TooLong = λ none. absurd (some none)
-          by Closes = λ none. cleared_lost some
-          by Reads = replied_leaves (tag_of bytes) (read_or_not (desktop_for c) session s mark (message_of bytes)) (or_leaves mark (message_of bytes) fresh)
+          by : (how : Taking) → (how ≡ Reads → AttachesNone (message_of bytes)) → LostIfEmpty (taken (desktop_for c) session s bytes mark how).session (taken (desktop_for c) session s bytes mark how).rest
+          by Ignored fresh = λ none. absurd (some none)
+          by TooLong fresh = λ none. absurd (some none)
+          by Closes fresh = λ none. cleared_lost some
+          by Reads fresh = replied_leaves (tag_of bytes) (read_or_not (desktop_for c) session s mark (message_of bytes)) (or_leaves mark (message_of bytes) (fresh refl))
 
     -- Where the session has no fid any more after a message, the window is gone.
-    pub answer_empties : LostIfEmpty session s → (bytes : List ℕ) (mark : Option ℕ) → ((m : T) → message_of bytes ≡ Some m → (some : session.fids ≡ [] → ⊥) → IsNoAttach some m)
+    pub answer_empties : LostIfEmpty session s → (bytes : List ℕ) (mark : Option ℕ) → (taking session bytes ≡ Reads → (some : session.fids ≡ [] → ⊥) → AttachesNone some (message_of bytes))
         → LostIfEmpty (answer (desktop_for c) session s bytes mark).session (answer (desktop_for c) session s bytes mark).rest
     answer_empties before bytes mark fresh = by session.fids refl
       where
         by : (fids : List (ℕ × Fid)) → session.fids ≡ fids → LostIfEmpty (answer (desktop_for c) session s bytes mark).session (answer (desktop_for c) session s bytes mark).rest
         by [] none = λ _. each_answer_keeps (desktop_for c) (IsLost window) (lost_all c window) (lost_attached c window) session s bytes mark (before none)
-        by (entry ∷ fids) at = (let some : session.fids ≡ [] → ⊥ = λ none. absurd (let two : ◌≡◌ {A = List (ℕ × Fid)} (entry ∷ fids) [] = sym at ∙ none in cc) in some_answer some bytes mark (λ m spelled. fresh m spelled some))
+        by (entry ∷ fids) at = (let some : session.fids ≡ [] → ⊥ = λ none. absurd (let two : ◌≡◌ {A = List (ℕ × Fid)} (entry ∷ fids) [] = sym at ∙ none in cc) in some_answer some bytes mark (λ reads. fresh reads some))
 
 -- ---- late answers
 
