@@ -1,8 +1,8 @@
 -- Each event that gives no reason is answered alike: before a session begins, while it lives, and after it ended.
-use Rattle.std.proofs.Common.{◌≡◌, ◌∙◌, ℕ, eqb, ◌==◌, ◌+◌, ◌<◌, ◌≤◌, Bool, true, false, List, [], ◌∷◌, ◌++◌, ◌⊎◌, inl, inr, Option, Some, None, refl, sym, ap, subst, arith}
-use Rattle.std.specs.Prelude.{Contains, not}
+use Rattle.std.proofs.Common.{◌≡◌, ◌∙◌, ℕ, eqb, ◌==◌, ◌+◌, ◌<◌, ◌≤◌, Bool, true, false, List, [], ◌++◌, ◌⊎◌, inl, inr, Option, Some, None, refl, sym, ap, subst, arith}
+use Rattle.std.specs.Prelude.{Contains}
 use Rattle.std.proofs.lemmas.Bool.{eqb-false, eqb-true}
-use Rattle.std.proofs.lemmas.List.Elements.{All-contains, All-nil}
+use Rattle.std.proofs.lemmas.List.Elements.{All-nil}
 use Rattle.r9_event.specs.declared.event.Event.{Event}
 use Rattle.r9_event.specs.declared.event.Event.TheVariants.{Begin, Msg, Take, End, Stop}
 use Rattle.r9_event.specs.declared.event.Opening.{Opening}
@@ -17,7 +17,6 @@ use Rattle.model_rio.specs.Table.{Table}
 use Rattle.model_draw.specs.World as draw
 use Rattle.model_world.specs.Session.{Fid, Session, fresh}
 use Rattle.model_world.specs.Fids.{cleared}
-use Rattle.model_fitting.proofs.Lists.{Each, all_of, each_append, each_filter}
 use Rattle.model_world.specs.Whole.{desktop_for}
 use Rattle.model_world.specs.World.{World, opened}
 use Rattle.model_world.specs.Standing.{AreInOrder}
@@ -40,7 +39,7 @@ use Rattle.model_unnoticed.proofs.Messages.{IsAlive, counted, leads, others_mess
 use Rattle.model_elsewhere.proofs.Walks.{ctl_away}
 use Rattle.model_users.proofs.Users.{IsLost}
 use Rattle.model_users.proofs.Worlds.{IsServed, opened_served, step_served}
-use Rattle.model_phases.proofs.Absent.{IsOff, absent_step, absent_within, judged_others, noted_none, off_after, off_ended, off_lives}
+use Rattle.model_phases.proofs.Absent.{AreCounted, IsOff, absent_step, absent_within, counted_after, judged_others, live_first, noted_none, off_after, off_ended, off_lives}
 use Rattle.model_phases.proofs.Unbegun.{before_step, none_away}
 use Rattle.model_phases.proofs.Ended.{IsWindowLost, lost_step, settled_lost}
 use Rattle.model_phases.proofs.Living.{IsUsed, other_begins, other_end, other_message, own_end, turned_used}
@@ -75,27 +74,16 @@ module _ (c : ℕ) (begin : 0 < c) (Like : Option (ℕ × List ℕ) → draw.Wor
   -- What is known of the server, and of the session in it and in its own world.
   record Holds (roll : Roll) (world : World) (lone : LoneWorld) (seen : Watched) : Type 0 where
     served : IsServed roll.begun world
-    counted : Each (λ d. 0 < d) roll.live
+    counted : AreCounted roll
     phase : Phase roll world lone seen
 
-  module _ (roll : Roll) (world : World) (lone : LoneWorld) (seen : Watched) (served_so : IsServed roll.begun world) (counted_so : Each (λ d. 0 < d) roll.live) where
+  module _ (roll : Roll) (world : World) (lone : LoneWorld) (seen : Watched) (served_so : IsServed roll.begun world) (counted_so : AreCounted roll) where
     abbrev Followed : Event → Type 0
     Followed event = IsFollowed c Holds roll world lone seen event
 
     -- what the server keeps
     served_after : (event : Event) → Allowed roll event → IsServed (roll_after roll event).begun (step world event).world
     served_after event allowed = subst (λ (n : ℕ). IsServed n (step world event).world) (sym (begun_rolled roll event)) (step_served world roll.begun event (next_of roll event allowed.1) served_so)
-
-    -- sessions are counted from 1
-    counted_after : (event : Event) → Allowed roll event → Each (λ d. 0 < d) (roll_after roll event).live
-    counted_after (Begin d) allowed = each_append (λ e. 0 < e) roll.live (d ∷ []) counted_so (let next = allowed.1.0 in omega (arith, next), tt)
-    counted_after (Msg d bytes mark) allowed = counted_so
-    counted_after (Take d) allowed = counted_so
-    counted_after (End d) allowed = each_filter (λ e. 0 < e) (λ e. 0 < e) (λ e. not (e == d)) (λ e _ is. is) roll.live counted_so
-    counted_after Stop allowed = counted_so
-
-    live_first : (d : ℕ) → Contains roll.live d → 1 ≤ d
-    live_first d live = let more = All-contains (λ e. 0 < e) roll.live d (all_of (λ e. 0 < e) roll.live counted_so) live in omega (arith, more)
 
     -- what an event shows is what is followed
     followed_as : (event : Event) → Allowed roll event → (items : List Item) (known : Watched) → (judged c world seen event).items ≡ items → (judged c world seen event).seen ≡ known
@@ -104,7 +92,7 @@ module _ (c : ℕ) (begin : 0 < c) (Like : Option (ℕ × List ℕ) → draw.Wor
       replies = replies ∙ sym (ap (λ (its : List Item). (lone_after lone its).1) items_so);
       rest = record {
         served = served_after event allowed;
-        counted = counted_after event allowed;
+        counted = counted_after roll event allowed.1 counted_so;
         phase = subst (λ (w : Watched). Phase (roll_after roll event) (step world event).world (lone_after lone (judged c world seen event).items).0 w) (sym known_so)
             (subst (λ (its : List Item). Phase (roll_after roll event) (step world event).world (lone_after lone its).0 known) (sym items_so) phase);
       };
@@ -241,7 +229,7 @@ module _ (c : ℕ) (begin : 0 < c) (Like : Option (ℕ × List ℕ) → draw.Wor
         replies = alike.turn.replies;
         rest = record {
           served = served_after event allowed;
-          counted = counted_after event allowed;
+          counted = counted_after roll event allowed.1 counted_so;
           phase = inr (inl (record {
             begun = begun_more event allowed is.begun;
             living = subst (IsLiving c begin Like Named laws names (step world event).world (lone_after lone (judged c world seen event).items).0) (sym alike.seen_so) (record { with = alike.turn.rest; unattached = is.living.unattached; used = used });
@@ -252,7 +240,7 @@ module _ (c : ℕ) (begin : 0 < c) (Like : Option (ℕ × List ℕ) → draw.Wor
       -- a message of another session
       module _ (d : ℕ) (other : d ≡ c → ⊥) (bytes : List ℕ) (mark : Option ℕ) (allowed : Allowed roll (Msg d bytes mark)) (fine : (judged c world seen (Msg d bytes mark)).reasons ≡ []) where
         first : 1 ≤ d
-        first = live_first d allowed.1.0
+        first = live_first roll counted_so d allowed.1.0
 
         Fine : Option Session → Type 0
         Fine o = reasons_from false seen (session_used d world (served world d bytes mark o).world bytes mark o ++ new_hosts world.desktop.table (served world d bytes mark o).world.desktop.table) ≡ []
@@ -329,7 +317,7 @@ module _ (c : ℕ) (begin : 0 < c) (Like : Option (ℕ × List ℕ) → draw.Wor
           by true at = let same : d ≡ c = eqb-true d c at in subst Followed (sym (ap End same)) (ends_own (subst (Allowed roll) (ap End same) allowed))
           by false at =
               let other = eqb-false d c at in
-              alike_followed (End d) allowed (ended_alike c begin Like Named laws names seen world lone with_so served_so.quiet d (live_first d allowed.1) other served_so.waits)
+              alike_followed (End d) allowed (ended_alike c begin Like Named laws names seen world lone with_so served_so.quiet d (live_first roll counted_so d allowed.1) other served_so.waits)
               (λ window its. other_end c window (counted_window window its) world served_so.well.order (is.living.used window its) d other (lookup world.sessions d) refl)
       begun_followed Stop allowed fine = alike_followed Stop allowed (stopped_alike c begin Like Named laws names seen world lone with_so served_so.quiet) (λ window its. turned_used c window world (is.living.used window its))
 

@@ -1,5 +1,5 @@
 -- A session that does not live gets no reply, and what another session's event shows of it.
-use Rattle.std.proofs.Common.{◌≡◌, ◌≢◌, ◌∙◌, ℕ, zero, suc, ◌==◌, Bool, true, false, List, [], ◌∷◌, ◌++◌, fold, Option, Some, None, refl, sym, ap}
+use Rattle.std.proofs.Common.{◌≡◌, ◌≢◌, ◌∙◌, ℕ, zero, suc, ◌==◌, Bool, true, false, List, [], ◌∷◌, ◌++◌, fold, Option, Some, None, refl, sym, ap, ◌<◌, ◌≤◌, arith}
 use Rattle.std.specs.Prelude.{Contains, IfSome, ◌||◌, not, if◌then◌else◌}
 use Rattle.std.specs.List.{cons_option}
 use Rattle.std.specs.Option.{option_map_or}
@@ -15,7 +15,7 @@ use Rattle.model_text.specs.Map.{lookup, without}
 use Rattle.model_map.proofs.Ascending.{ascend-with, ascend-without}
 use Rattle.model_map.proofs.Keys.{not_key}
 use Rattle.model_map.proofs.Maps.{and-others, with-others, without-others}
-use Rattle.model_event.specs.Legal.{Roll, roll_after}
+use Rattle.model_event.specs.Legal.{AllowedTo, Roll, roll_after}
 use Rattle.model_rio.specs.Notes.{is_told}
 use Rattle.model_world.specs.Session.{Session, fresh}
 use Rattle.model_world.specs.Fids.{cleared}
@@ -162,3 +162,17 @@ off_ended c roll = each_filter (λ (n : ℕ). Unit {0}) (λ d. d ≢ c) (λ e. n
     off : (b : Bool) → not b ≡ true → b ≡ false
     off true is = absurd cc
     off false is = refl
+
+-- sessions are counted from 1
+abbrev pub AreCounted : Roll → Type 0
+AreCounted roll = Each (λ d. 0 < d) roll.live
+
+pub counted_after : (roll : Roll) (event : Event) → AllowedTo roll event → AreCounted roll → AreCounted (roll_after roll event)
+counted_after roll (Begin d) allowed are = each_append (λ e. 0 < e) roll.live (d ∷ []) are (let next = allowed.0 in omega (arith, next), tt)
+counted_after roll (Msg d bytes mark) allowed are = are
+counted_after roll (Take d) allowed are = are
+counted_after roll (End d) allowed are = each_filter (λ e. 0 < e) (λ e. 0 < e) (λ e. not (e == d)) (λ e _ is. is) roll.live are
+counted_after roll Stop allowed are = are
+
+pub live_first : (roll : Roll) → AreCounted roll → (d : ℕ) → Contains roll.live d → 1 ≤ d
+live_first roll are d live = let more = All-contains (λ e. 0 < e) roll.live d (all_of (λ e. 0 < e) roll.live are) live in omega (arith, more)
