@@ -46,6 +46,7 @@ module _ (c : ℕ) (window : Option (ℕ × List ℕ)) (a b : World) (alike : Ar
     left = settled;
     right = alike.right;
     name = alike.name;
+    alone = alike.alone;
     holds = record {
       tied = name_still S T c window a b alike.is.like alike.left.furnished.bare alike.holds.rooted next stays alike.holds.tied;
       rooted = rooted_still S T c window a b alike.is.like alike.left.furnished.bare alike.holds.rooted next stays;
