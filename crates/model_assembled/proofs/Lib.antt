@@ -5,3 +5,4 @@ pub mod Ends
 pub mod Others
 mod Spelled
 pub mod Writing
+pub mod Starting
