@@ -1,0 +1,4 @@
+pub mod Standing
+pub mod Renewing
+pub mod Replacing
+pub mod Coming
