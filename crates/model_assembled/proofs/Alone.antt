@@ -23,6 +23,7 @@ use Rattle.model_others.specs.Others.{IsFurnished}
 use Rattle.model_others.proofs.Messages.{act_stays, connect_stays, leave_stays, read_data_stays, write_ctl_stays}
 use Rattle.model_others.proofs.Display.{act_furnished}
 use Rattle.model_whole.proofs.Messages.{act_steady}
+use Rattle.model_grounded.proofs.Keeping.{act_grounded}
 use Rattle.model_assembled.specs.Assembled.{IsAlone, IsSettled}
 use Rattle.model_assembled.proofs.Settling.{if_ok}
 
@@ -129,6 +130,7 @@ module _ (k : ℕ) (other : (k == manager) ≡ false) where
       settled = record {
         steady = act_steady k w next m rest other settled.steady is;
         furnished = if_ok _ (act k w m rest) next (act_furnished w settled.furnished k other settled.steady.orderly m rest) is;
+        grounded = act_grounded k other w settled.steady.orderly settled.furnished settled.grounded m rest next is;
       };
     }
 

@@ -27,6 +27,7 @@ use Rattle.model_renamed.proofs.Views.{paint_same}
 use Rattle.model_making.specs.Likes.{Matched}
 use Rattle.model_making.specs.Standing.{IsWhole}
 use Rattle.model_managed.proofs.Starting.{first_whole}
+use Rattle.model_grounded.proofs.Keeping.{first_grounded}
 use Rattle.model_assembled.specs.Assembled.{AreAlike, IsAlone, IsSettled}
 use Rattle.model_assembled.proofs.Writing.{holds_nothing}
 
@@ -73,6 +74,7 @@ module _ (opening : Opening) where
   settled = record {
     steady = record { whole = first_whole opening; orderly = first_orderly opening };
     furnished = record { named = refl; out = (first_orderly opening).images 0 refl; bare = refl; numbers = numbered };
+    grounded = first_grounded opening;
   }
 
   alone : IsAlone None (first opening)

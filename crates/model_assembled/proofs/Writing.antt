@@ -22,6 +22,7 @@ use Rattle.model_holding.proofs.Acts.{act_rooted, act_tied, act_untied}
 use Rattle.model_devices.proofs.Owning.{Own, own_first, own_next}
 use Rattle.model_written.proofs.Writing.{write_like}
 use Rattle.model_followed.specs.Devices.{KeepsWithin, told_mark}
+use Rattle.model_grounded.proofs.Keeping.{act_grounded}
 use Rattle.model_assembled.specs.Assembled.{AreAlike, HoldsWindow, IsSettled}
 use Rattle.model_assembled.proofs.Alone.{alone_still, written_leaves}
 use Rattle.model_assembled.proofs.Settling.{if_ok, written_settled}
@@ -72,6 +73,7 @@ module _ (window : Option (ℕ × List ℕ)) (serial : ℕ) (name : List ℕ) (h
         settled = record {
           steady = act_steady k w next m rest other ready.settled.steady acted;
           furnished = if_ok _ (act k w m rest) next (act_furnished w furnished k other orderly m rest) acted;
+          grounded = act_grounded k other w orderly furnished ready.settled.grounded m rest next acted;
         };
         untied = act_untied window w furnished ready.holds.tied ready.holds.rooted k other orderly ready.untied m rest own near next acted serial name has;
         holds = record {

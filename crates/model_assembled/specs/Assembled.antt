@@ -6,12 +6,14 @@ use Rattle.model_draw.specs.Orders.{manager}
 use Rattle.model_making.specs.Likes.{IsLike}
 use Rattle.model_whole.specs.Steady.{IsSteady}
 use Rattle.model_others.specs.Others.{HasKeptName, IsFurnished}
+use Rattle.model_grounded.specs.Grounded.{IsGrounded}
 use Rattle.model_beside.specs.Rooted.{IsRootedWindow, IsTiedWindow}
 
--- what a device keeps whatever is done: it is whole and orderly, and the display has its id
+-- what a device keeps whatever is done: it is whole and orderly, the display has its id, and the root rio's screen is on it
 pub record IsSettled (device : World) : Type 0 where
   pub steady : IsSteady device
   pub furnished : IsFurnished device
+  pub grounded : IsGrounded device
 
 -- the session's window stands on the root rio's screen, and its name is tied
 pub record HoldsWindow (window : Option (ℕ × List ℕ)) (device : World) : Type 0 where

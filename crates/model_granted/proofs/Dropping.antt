@@ -10,12 +10,13 @@ use Rattle.model_forest.specs.Steps.{after_origin, outside}
 use Rattle.model_images.specs.declared.ScreenId.{ScreenId}
 use Rattle.model_images.specs.Book.{image_id, screen_id, screen_of}
 use Rattle.model_images.specs.Release.{Freed, free_screen, freed_screen_id, nothing_freed}
-use Rattle.model_draw.specs.World.{World, after_freed, at_number}
+use Rattle.model_draw.specs.World.{World, after_freed, at_number, with_book}
 use Rattle.model_draw.specs.Making.{is_window}
 use Rattle.model_draw.specs.Orders.{drop_window, has_window, image_freed, image_shown, manager, place_window, screen_freed}
 use Rattle.model_renamed.specs.Renamed.{AreRenamed}
 use Rattle.model_renamed.proofs.Lists.{renamed_origin}
 use Rattle.model_shown.specs.Showing.{IsOrderly}
+use Rattle.model_shown.proofs.Numbers.{gone-book}
 use Rattle.model_shown.proofs.Tests.{both, not-true, split}
 use Rattle.model_lasting.proofs.Ordering.{image_still, place_follows, screen_closed}
 use Rattle.model_likeness.specs.Likeness.{AreLike, IsOfSession}
@@ -39,6 +40,14 @@ pub no_screen_freed : (w : World) (serial : ℕ) → screen_id w.book manager se
 unfolding free_screen
 no_screen_freed w serial none =
     ap (λ (o : Option ScreenId). after_freed w (result_unwrap_or (value_or_refuse o 5 >>= λ e. Ok (freed_screen_id (nothing_freed w.book) e)) (nothing_freed w.book))) none
+
+-- and then only the window's image id goes
+pub dropped_book : (w : World) (serial : ℕ) → screen_id w.book manager serial ≡ None → (drop_window w serial).book ≡ (image_freed w.book serial).book
+unfolding drop_window place_window
+dropped_book w serial none =
+    let placed : World = place_window w serial outside in
+    let freed : Freed = image_freed w.book serial in
+    ap (λ (v : World). (after_freed v (image_freed v.book serial)).book) (no_screen_freed placed serial none) ∙ gone-book freed.gone (with_book placed freed.book)
 
 module _ (c serial : ℕ) (name : List ℕ) (a b : World) (is : IsLike c (Some (serial, name)) a b) where
   abbrev S : ℕ → ℕ → Type 0

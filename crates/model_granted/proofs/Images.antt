@@ -81,7 +81,7 @@ module _ (a : Images) (m old : ℕ) (apart : old ≢ m) (r : Rect) (raw : ℕ) (
   put_parent : parent_of put old ≡ parent_of a old
   put_parent = ap (λ (u : ImageState). option_map (λ s. s.parent) u.standing) (at_others a m old (Some replacement) apart)
 
-  replaced_at : (corner : Point) (k : ℕ) → IsBelow a old k → after_replace a m old r corner raw keep k ≡ put k
+  pub replaced_at : (corner : Point) (k : ℕ) → IsBelow a old k → after_replace a m old r corner raw keep k ≡ put k
   unfolding after_replace
   replaced_at corner k below =
       let first : Window = record { image = m; place = carried_rect r r.min corner } in
@@ -135,7 +135,7 @@ module _ (a : Images) (m p fill : ℕ) (r : Rect) (raw : ℕ) (near : clamped_re
   unfolding after_window
   at_window q k other = with_image-other (with_image a m (Some (new_window a p fill q raw))) p k _ other
 
-  new_at : (q : Rect) → after_window a m p fill q raw m ≡ Some (new_window a p fill q raw)
+  pub new_at : (q : Rect) → after_window a m p fill q raw m ≡ Some (new_window a p fill q raw)
   new_at q = at_window q m apart ∙ with_image-at a m (Some (new_window a p fill q raw))
 
   image_is : image_at hidden m ≡ new_window a p fill far raw

@@ -1,6 +1,6 @@
 -- The session's window comes on two devices that are like.
 use Rattle.std.proofs.Common.{◌≡◌, ◌≢◌, ◌&&◌, ℕ, Bool, true, false, List, ◌∷◌, Option, Some, None, inl, inr, refl, sym, ap, subst, ◌∙◌, eq-eqb}
-use Rattle.std.specs.Prelude.{◌==◌, All, get_or, is_none, is_some, option_map}
+use Rattle.std.specs.Prelude.{◌==◌, All, get_or, is_none, is_some, option_map, unwrap_or}
 use Rattle.std.specs.Option.{option_map_or}
 use Rattle.std.specs.Str.{bytes_eq}
 use Rattle.std.proofs.lemmas.Bool.{eqb-true, false_from_ne_true}
@@ -8,7 +8,7 @@ use Rattle.r9_geom.specs.declared.Rect.{Rect}
 use Rattle.r9_geom.specs.Geometry.{at_min}
 use Rattle.r9_event.specs.declared.rio.Order.TheVariants.{Make}
 use Rattle.model_text.specs.Map.{lookup}
-use Rattle.model_forest.specs.World.{World as Images, IsLive, image_at}
+use Rattle.model_forest.specs.World.{Image as ImageState, World as Images, IsLive, image_at, no_image}
 use Rattle.model_forest.specs.Stack.{after_window}
 use Rattle.model_forest.specs.Steps.{clamped_rect, outside}
 use Rattle.model_forest.proofs.Changes.{live-apart}
@@ -33,12 +33,14 @@ use Rattle.model_making.specs.Likes.{Came, IsLike, Matched}
 use Rattle.model_making.proofs.Fresh.{IsFresh, fresh_next}
 use Rattle.model_freeing.proofs.Pairs.{none_found}
 use Rattle.model_whole.specs.Steady.{IsSteady}
+use Rattle.model_beside.specs.Rooted.{IsRootedWindow, IsTiedWindow}
 use Rattle.model_grounded.specs.Grounded.{IsGrounded}
 use Rattle.model_granted.proofs.Granting.{granted, granted_like, nowhere}
-use Rattle.model_granted.proofs.Images.{hidden_alike, near_rect}
+use Rattle.model_granted.proofs.Images.{hidden_alike, near_rect, new_at}
 use Rattle.model_granted.proofs.Naming.{named_given}
 use Rattle.model_renewed.proofs.Standing.{stands_live}
-use Rattle.model_renewed.proofs.Renewing.{Becomes, bordered_keeps, next_other}
+use Rattle.model_renewed.proofs.Holding.{granted_rooted, granted_tied}
+use Rattle.model_renewed.proofs.Renewing.{Becomes, bordered_clip, bordered_keeps, next_other}
 
 -- ---- one book
 
@@ -117,10 +119,26 @@ module _ (w : World) (steady : IsSteady w) (ground : IsGrounded w) (live : IsLiv
           keeps_then w.images (after_window w.images m p f (at_min r outside) raw) _ 0 (keeps_window w.images m p f (at_min r outside) raw 0 display_other)
           (keeps_origin (after_window w.images m p f (at_min r outside) raw) m r.min outside 0 display_other)
 
+  new_clip : (image_at (bordered new m) m).clipr ≡ r
+  new_clip =
+      bordered_clip new m
+      ∙ ap (λ (o : Option ImageState). (unwrap_or o no_image).clipr) (new_alike m new_apart ∙ new_at w.images m p f r raw near new_apart r)
+
   pub fresh : IsFresh nowhere w.book m
   fresh =
       let old = fresh_next w steady.whole steady.orderly in
       record { free = refl; unused = old.unused; nowhere = old.nowhere }
+
+  -- ---- what it has then
+
+  clip_near : clamped_rect (at_number (make_window w serial 0 r name hide) m).clipr ≡ (at_number (make_window w serial 0 r name hide) m).clipr
+  clip_near = subst (λ (q : Rect). clamped_rect q ≡ q) (sym (ap (λ (z : Images). (image_at z m).clipr) becomes.images_are ∙ new_clip)) near
+
+  pub made_tied : IsTiedWindow (Some (serial, name)) (make_window w serial 0 r name hide).book
+  made_tied = granted_tied (make_window w serial 0 r name hide) w.book serial m s name becomes.book_is none plain fresh (root_is w ground.rio) clip_near
+
+  pub made_rooted : IsRootedWindow (Some (serial, name)) (make_window w serial 0 r name hide)
+  made_rooted = granted_rooted (make_window w serial 0 r name hide) w.book serial m s name becomes.book_is none plain fresh (root_is w ground.rio) clip_near
 
 -- ---- both devices
 
@@ -136,19 +154,19 @@ module _ (c serial : ℕ) (a b : World) (is : IsLike c None a b) (steady_a : IsS
   fit_parts : ((has_rio a 0 && is_none (image_id a.book manager serial)) ≡ true) × (is_window_rect r ≡ true)
   fit_parts = split (has_rio a 0 && is_none (image_id a.book manager serial)) (is_window_rect r) fit
 
-  none_left : image_id a.book manager serial ≡ None
+  pub none_left : image_id a.book manager serial ≡ None
   none_left = none_is (image_id a.book manager serial) (split (has_rio a 0) (is_none (image_id a.book manager serial)) fit_parts.0).1
 
-  near : clamped_rect r ≡ r
+  pub near : clamped_rect r ≡ r
   near = near_rect r (split (is_near_rect farthest r) _ fit_parts.1).0
 
   untied_left : All (λ u. is_tied_by manager serial u ≡ false) a.book.ties
   untied_left = none_tied a.book serial steady_a.orderly.ties none_left
 
-  plain_left : tie_of a.book name ≡ None
+  pub plain_left : tie_of a.book name ≡ None
   plain_left = none_named a.book serial name untied_left free_a
 
-  plain_right : tie_of b.book name ≡ None
+  pub plain_right : tie_of b.book name ≡ None
   plain_right = none_named b.book serial name untied_right free_b
 
   pub fits_right : fits b (Make serial 0 r name false depth) ≡ true

@@ -26,7 +26,7 @@ use Rattle.model_renamed.specs.Renamed.{IsLoose}
 use Rattle.model_shown.specs.Showing.{IsOrderly}
 use Rattle.model_shown.proofs.Tests.{find-filter, not_both}
 use Rattle.model_likeness.specs.Likeness.{is_root}
-use Rattle.model_likeness.proofs.Shapes.{Keeps, keeps_list, keeps_other, keeps_then}
+use Rattle.model_likeness.proofs.Shapes.{Keeps, keeps_list, keeps_other, keeps_put, keeps_then}
 use Rattle.model_making.specs.Standing.{IsStanding, IsWhole}
 use Rattle.model_making.proofs.Fresh.{IsFresh, fresh_next}
 use Rattle.model_making.proofs.Standing.{fill_used, parent_lives}
@@ -71,6 +71,11 @@ replace_keeps images m old r at raw keep other =
 pub bordered_keeps : (images : Images) (m : ℕ) → 0 ≢ m → Keeps images (bordered images m) 0
 unfolding bordered
 bordered_keeps images m other = keeps_other images m 0 _ other
+
+-- a border leaves the clip rectangle
+pub bordered_clip : (images : Images) (m : ℕ) → (forest.image_at (bordered images m) m).clipr ≡ (forest.image_at images m).clipr
+unfolding bordered
+bordered_clip images m = (let keeps : Keeps images (bordered images m) m = keeps_put images m m _ (record { r = refl; clipr = refl; repl = refl; chan = refl }) in keeps.shape.clipr)
 
 -- ---- a window gets another image
 

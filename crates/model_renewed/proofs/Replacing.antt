@@ -1,22 +1,24 @@
 -- The session's window gets another image on two devices that are like.
 use Rattle.std.proofs.Common.{◌≡◌, ◌≢◌, ◌<◌, ◌^◌, ◌||◌, ◌&&◌, ℕ, Bool, true, false, List, ◌∷◌, Option, Some, None, inl, inr, refl, sym, ap, subst, ◌∙◌}
-use Rattle.std.specs.Prelude.{◌==◌, ◌-ℤ◌, All, not, if◌then◌else◌}
+use Rattle.std.specs.Prelude.{◌==◌, ◌-ℤ◌, unwrap_or, All, not, if◌then◌else◌}
 use Rattle.std.specs.Ordering.{int_eq}
 use Rattle.std.specs.Option.{option_map_or}
 use Rattle.std.specs.Str.{bytes_eq}
 use Rattle.std.proofs.lemmas.Bool.{eqb-true, false_from_ne_true}
 use Rattle.r9_geom.specs.declared.Rect.{Rect}
+use Rattle.r9_geom.specs.Geometry.{is_empty}
 use Rattle.r9_event.specs.declared.rio.Order.TheVariants.{Replace}
 use Rattle.model_text.specs.Map.{lookup}
-use Rattle.model_forest.specs.World.{World as Images, IsLive, image_at}
-use Rattle.model_forest.specs.Steps.{after_release, after_replace}
-use Rattle.model_forest.proofs.Changes.{live-apart}
+use Rattle.model_forest.specs.World.{Image as ImageState, World as Images, IsLive, image_at, no_image}
+use Rattle.model_forest.specs.Steps.{after_release, after_replace, clamped_rect}
+use Rattle.model_forest.proofs.Changes.{live-apart, with_image-at}
 use Rattle.model_images.specs.declared.ImageId.{ImageId}
 use Rattle.model_images.specs.declared.Thing.TheVariants.{Image}
 use Rattle.model_images.specs.Book.{Book, image_of, screen_of}
 use Rattle.model_images.specs.Release.{is_tied_by, is_used, without}
 use Rattle.model_draw.specs.World.{Client, World, at_number, next_image, with_book}
-use Rattle.model_draw.specs.Orders.{border_pixel, bordered, can_keep, corner, fits, has_rio, has_window, image_shown, is_window_rect, manager, on_border, ordered, replace_window, rio_screen, white}
+use Rattle.model_draw.specs.Making.{farthest, is_near_rect}
+use Rattle.model_draw.specs.Orders.{border_pixel, bordered, can_keep, inside_border, corner, fits, has_rio, has_window, image_shown, is_window_rect, manager, on_border, ordered, replace_window, rio_screen, white}
 use Rattle.model_world.specs.Whole.{client}
 use Rattle.model_renamed.specs.Renamed.{And, AreRenamed, But, IsApartLeft, IsApartRight, IsLoose}
 use Rattle.model_renamed.proofs.Changes.{renamed_kept}
@@ -31,18 +33,19 @@ use Rattle.model_making.proofs.Fresh.{fresh_next}
 use Rattle.model_losing.proofs.Losing.{image_lost}
 use Rattle.model_losing.proofs.Used.{used_same}
 use Rattle.model_whole.specs.Steady.{IsSteady}
-use Rattle.model_beside.specs.Rooted.{IsRooted, IsRootedWindow}
+use Rattle.model_beside.specs.Rooted.{IsRooted, IsRootedWindow, IsTiedWindow}
 use Rattle.model_managed.proofs.Ordering.{IsThere, window_there}
 use Rattle.model_managed.proofs.Carrying.{ordered_steady}
 use Rattle.model_grounded.specs.Grounded.{IsGrounded}
 use Rattle.model_granted.proofs.Untying.{bereft, kept_display, none_bereft, ties_bereft, window_lost}
 use Rattle.model_granted.proofs.Freed.{AreKnown, standing_bereft}
 use Rattle.model_granted.proofs.Dropping.{has_right, known}
-use Rattle.model_granted.proofs.Granting.{granted_like}
+use Rattle.model_granted.proofs.Granting.{granted, granted_like}
 use Rattle.model_granted.proofs.Naming.{none_named, root_there}
-use Rattle.model_granted.proofs.Images.{IsBelow, renamed_alike, replaced_alike}
+use Rattle.model_granted.proofs.Images.{IsBelow, near_rect, renamed_alike, replaced_alike, replaced_at}
 use Rattle.model_renewed.proofs.Standing.{OnRoot, on_root_too, stands_live, window_apart_left, window_apart_right}
-use Rattle.model_renewed.proofs.Renewing.{bordered_keeps, fresh_gone, fresh_left, images, loose_gone, new_is, next_other, others_tied, released_gone, replace_keeps, unused_becomes, used_becomes}
+use Rattle.model_renewed.proofs.Holding.{granted_rooted, granted_tied}
+use Rattle.model_renewed.proofs.Renewing.{bordered_keeps, fresh_gone, fresh_left, images, loose_gone, new_is, next_other, others_tied, released_gone, replace_keeps, unused_becomes, used_becomes, bordered_clip}
 
 module _ (c serial : ℕ) (old : List ℕ) (a b : World) (is : IsLike c (Some (serial, old)) a b) (steady_a : IsSteady a) (steady_b : IsSteady b) (rooted : IsRootedWindow (Some (serial, old)) a)
     (r : Rect) (name : List ℕ) (keep hidden : Bool) (fit : fits a (Replace serial 0 r name keep hidden) ≡ true)
@@ -340,3 +343,56 @@ module _ (c serial : ℕ) (old : List ℕ) (a b : World) (is : IsLike c (Some (s
       by : (used : Bool) → is_used x (Image i) ≡ used → IsLike c (Some (serial, name)) after_left after_right
       by true at = still_used at (sym used_alike ∙ at)
       by false at = unused at (sym used_alike ∙ at)
+
+  -- ---- what it has then
+
+  near : clamped_rect r ≡ r
+  near = near_rect r (split (is_near_rect farthest r) (not (is_empty (inside_border r))) has_both.1).0
+
+  first_clip : (image_at first_left m).clipr ≡ r
+  first_clip =
+      let apart = live-apart a.images m i free_left live_left in
+      ap (λ (o : Option ImageState). (unwrap_or o no_image).clipr) (replaced_at a.images m i apart r raw_left keep (corner r hidden) m (below m n (inr (refl, refl))) ∙ with_image-at a.images m _)
+
+  border_clip : (kept : Bool) (z : Images) → (image_at (if kept then z else bordered z m) m).clipr ≡ (image_at z m).clipr
+  border_clip true z = refl
+  border_clip false z = bordered_clip z m
+
+  new_clip : (image_at new_left m).clipr ≡ r
+  new_clip =
+      ap (λ (z : Images). (image_at (if keep then z else bordered z m) m).clipr) (new_is a steady_a serial there.counted ids.left ids.found s on_left place.root r name free_a keep hidden)
+      ∙ border_clip keep first_left ∙ first_clip
+
+  clip_near : (z : Images) → (image_at z m).clipr ≡ r → after_left.images ≡ z → clamped_rect (at_number after_left m).clipr ≡ (at_number after_left m).clipr
+  clip_near z clip is = subst (λ (q : Rect). clamped_rect q ≡ q) (sym (ap (λ (x : Images). (image_at x m).clipr) is ∙ clip)) near
+
+  pub replaced_holds : IsTiedWindow (Some (serial, name)) after_left.book × IsRootedWindow (Some (serial, name)) after_left
+  replaced_holds = by (is_used x (Image i)) refl
+    where
+      by : (used : Bool) → is_used x (Image i) ≡ used → IsTiedWindow (Some (serial, name)) after_left.book × IsRootedWindow (Some (serial, name)) after_left
+      by true at =
+          let one = used_becomes a steady_a serial there.counted ids.left ids.found s on_left place.root r name free_a keep hidden at in
+          let fresh = fresh_left a steady_a serial there.counted ids.left ids.found s on_left place.root r name free_a keep hidden in
+          let none = none_bereft a.book serial there.counted in
+          let plain = none_named a serial there.counted ids.left ids.found name free_a in
+          let clip = clip_near new_left new_clip one.images_are in
+          (granted_tied after_left x serial m s name one.book_is none plain fresh place.root clip, granted_rooted after_left x serial m s name one.book_is none plain fresh place.root clip)
+      by false at =
+          let one = unused_becomes a steady_a serial there.counted ids.left ids.found s on_left place.root r name free_a keep hidden at in
+          let fresh = fresh_gone a steady_a serial there.counted ids.left ids.found s on_left place.root r name free_a keep hidden m_other in
+          let none = none_bereft a.book serial there.counted in
+          let plain = none_named a serial there.counted ids.left ids.found name free_a in
+          let kept : Keeps new_left (after_release new_left i) m = keeps_release new_left i m m_other in
+          let clip = clip_near (after_release new_left i) (kept.shape.clipr ∙ new_clip) one.images_are in
+          (
+            granted_tied after_left (without x (Image i)) serial m s name one.book_is none plain fresh place.root clip,
+            granted_rooted after_left (without x (Image i)) serial m s name one.book_is none plain fresh place.root clip,
+          )
+
+  -- the other device's book, which has lost the old id, and perhaps the old image
+  pub right_book : (P : Book → Type 0) → ((k t : ℕ) → P (granted (bereft b.book serial) serial k t name)) → ((k l t : ℕ) → P (granted (without (bereft b.book serial) (Image l)) serial k t name)) → P after_right.book
+  right_book P stays goes = by (is_used y (Image j)) refl
+    where
+      by : (used : Bool) → is_used y (Image j) ≡ used → P after_right.book
+      by true at = (let two = used_becomes b steady_b serial there.counted ids.right ids.there right.screen right.on right.root r name free_b keep false at in subst P (sym two.book_is) (stays n right.screen))
+      by false at = (let two = unused_becomes b steady_b serial there.counted ids.right ids.there right.screen right.on right.root r name free_b keep false at in subst P (sym two.book_is) (goes n j right.screen))
