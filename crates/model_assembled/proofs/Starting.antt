@@ -1,7 +1,6 @@
 -- Both devices when they start, and what a session's window looks like on both.
-use Rattle.std.proofs.Common.{◌≡◌, ◌<◌, ◌≤◌, ◌&&◌, ℕ, Bool, true, false, cond, List, [], Option, Some, None, refl, sym, ap, ◌∙◌, arith}
-use Rattle.std.specs.Prelude.{◌==◌, All}
-use Rattle.std.specs.Option.{option_map_or}
+use Rattle.std.proofs.Common.{◌≡◌, ◌<◌, ◌≤◌, ◌&&◌, ℕ, Bool, true, false, cond, List, [], Option, Some, None, refl, ap, ◌∙◌, arith}
+use Rattle.std.specs.Prelude.{◌==◌, All, is_some}
 use Rattle.std.proofs.lemmas.List.Elements.{All-cons, All-nil}
 use Rattle.r9_geom.specs.declared.Point.{Point}
 use Rattle.model_pixel.specs.Channels.{depth}
@@ -12,7 +11,7 @@ use Rattle.model_forest.specs.World.{IsLive}
 use Rattle.model_images.specs.declared.ImageId.{ImageId}
 use Rattle.model_images.specs.declared.Tie.{Tie}
 use Rattle.model_text.specs.Map.{lookup}
-use Rattle.model_images.specs.Book.{add_id, image_id, new_screen, owner, screen_id, screen_of}
+use Rattle.model_images.specs.Book.{add_id, image_id, new_screen, owner, screen_id}
 use Rattle.model_draw.specs.World.{Opening, World, started}
 use Rattle.model_draw.specs.Orders.{image_shown, manager, picture_of, with_root_rio}
 use Rattle.model_world.specs.Whole.{client}
@@ -20,7 +19,7 @@ use Rattle.model_shown.proofs.Tests.{turned}
 use Rattle.model_fitting.proofs.Opening.{first_orderly}
 use Rattle.model_agreement.specs.Agreement.{SameOption}
 use Rattle.model_alone.specs.Lone.{started_alone}
-use Rattle.model_likeness.specs.Likeness.{AreLike, AreLikeBooks, AreNumbered, IsNamed, IsOfSession, SameId, display_id}
+use Rattle.model_likeness.specs.Likeness.{AreLike, AreLikeBooks, AreNumbered, IsNamed, IsOfSession, display_id}
 use Rattle.model_likeness.proofs.Ids.{no_manager}
 use Rattle.model_renamed.specs.Renamed.{AreRenamed}
 use Rattle.model_renamed.proofs.Views.{paint_same}
@@ -28,6 +27,8 @@ use Rattle.model_making.specs.Likes.{Matched}
 use Rattle.model_making.specs.Standing.{IsWhole}
 use Rattle.model_managed.proofs.Starting.{first_whole}
 use Rattle.model_grounded.proofs.Keeping.{first_grounded}
+use Rattle.model_holding.proofs.Rooting.{window_known}
+use Rattle.model_granted.proofs.Freed.{are_known, both_shown}
 use Rattle.model_assembled.specs.Assembled.{AreAlike, IsAlone, IsSettled}
 use Rattle.model_assembled.proofs.Writing.{holds_nothing}
 
@@ -174,21 +175,16 @@ module _ (c serial : ℕ) (name : List ℕ) (a b : World) (alike : AreAlike c (S
   S i j = Matched alike.is.images i j
 
   -- the window's image is the same
-  pub both_shown : S (image_shown a serial) (image_shown b serial)
-  both_shown =
-      by (image_id a.book manager serial) (image_id b.book manager serial) (alike.is.like.books.hold serial name refl).id (alike.holds.rooted serial name refl).screen (alike.holds.rooted serial name refl).on
-    where
-      by : (o q : Option ImageId) → SameOption (SameId S a.book b.book) o q → (s : ℕ) → screen_of a.book (option_map_or (λ (e : ImageId). e.image) o 0) ≡ Some s
-          → S (option_map_or (λ (e : ImageId). e.image) o 0) (option_map_or (λ (e : ImageId). e.image) q 0)
-      by (Some e) (Some f) one s on = one.image
-      by (Some e) None one s on = absurd one
-      by None q one s on = absurd (let no : ◌≡◌ {A = Option ℕ} None (Some s) = sym alike.left.furnished.bare ∙ on in cc)
+  same : S (image_shown a serial) (image_shown b serial)
+  same =
+      let mine = window_known (Some (serial, name)) a alike.left.furnished alike.holds.tied alike.holds.rooted serial name refl in
+      both_shown S a b serial (are_known S a.book b.book serial name (alike.is.like.books.hold serial name refl) (ap is_some mine.1))
 
   pub picture_alike : picture_of a serial ≡ picture_of b serial
   unfolding picture_of
   picture_alike =
       let i = image_shown a serial in
       let j = image_shown b serial in
-      let face = alike.is.like.images.faces i j both_shown in
-      let painted : ◌≡◌ {A = Point → ℕ} (paint a.images i) (paint b.images j) = (λ k p. paint_same S a.images b.images alike.is.like.images i j p both_shown k) in
+      let face = alike.is.like.images.faces i j same in
+      let painted : ◌≡◌ {A = Point → ℕ} (paint a.images i) (paint b.images j) = (λ k p. paint_same S a.images b.images alike.is.like.images i j p same k) in
       λ k. image_file (face.chan k) (face.r k) (rows_of (face.r k) (depth (face.chan k)) (painted k))

@@ -54,7 +54,7 @@ pub record Rests (old new : World) : Type 0 where
 abbrev pub KeepsRoot : (old new : World) → Type 0
 KeepsRoot old new = screen_id new.book manager 0 ≡ screen_id old.book manager 0
 
-root_is : (w : World) → has_rio w 0 ≡ true → is_root w.book (rio_screen w 0) ≡ true
+pub root_is : (w : World) → has_rio w 0 ≡ true → is_root w.book (rio_screen w 0) ≡ true
 root_is w some = by (screen_id w.book manager 0) some
   where
     itself : (n : ℕ) → (n == n) ≡ true

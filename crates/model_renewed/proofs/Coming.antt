@@ -1,7 +1,6 @@
 -- The session's window comes on two devices that are like.
-use Rattle.std.proofs.Common.{◌≡◌, ◌≢◌, ◌&&◌, ℕ, Bool, true, false, List, ◌∷◌, Option, Some, None, inl, inr, refl, sym, ap, subst, ◌∙◌, eq-eqb}
-use Rattle.std.specs.Prelude.{◌==◌, All, get_or, is_none, is_some, option_map, unwrap_or}
-use Rattle.std.specs.Option.{option_map_or}
+use Rattle.std.proofs.Common.{◌≡◌, ◌≢◌, ◌&&◌, ℕ, Bool, true, false, List, ◌∷◌, Option, Some, None, inl, inr, refl, sym, ap, subst, ◌∙◌}
+use Rattle.std.specs.Prelude.{◌==◌, All, get_or, is_none, option_map, unwrap_or}
 use Rattle.std.specs.Str.{bytes_eq}
 use Rattle.std.proofs.lemmas.Bool.{eqb-true, false_from_ne_true}
 use Rattle.r9_geom.specs.declared.Rect.{Rect}
@@ -13,9 +12,8 @@ use Rattle.model_forest.specs.Stack.{after_window}
 use Rattle.model_forest.specs.Steps.{clamped_rect, outside}
 use Rattle.model_forest.proofs.Changes.{live-apart}
 use Rattle.model_images.specs.declared.ImageId.{ImageId}
-use Rattle.model_images.specs.declared.ScreenId.{ScreenId}
 use Rattle.model_images.specs.declared.Tie.{Tie}
-use Rattle.model_images.specs.Book.{Book, fill_of, image_id, image_of, screen_id, tie_of}
+use Rattle.model_images.specs.Book.{Book, fill_of, image_id, image_of, tie_of}
 use Rattle.model_images.specs.Release.{is_tied_by}
 use Rattle.model_images.specs.Ties.{HasTies, shown_by}
 use Rattle.model_draw.specs.World.{Client, World, at_number, next_image}
@@ -27,7 +25,6 @@ use Rattle.model_renamed.proofs.Changes.{renamed_kept}
 use Rattle.model_renamed.proofs.Drawing.{renamed_canvas}
 use Rattle.model_renamed.proofs.Making.{renamed_outer_window}
 use Rattle.model_shown.proofs.Tests.{both, not-true, not_both, split}
-use Rattle.model_likeness.specs.Likeness.{is_root}
 use Rattle.model_likeness.proofs.Shapes.{Keeps, keeps_origin, keeps_then, keeps_window, shape_then, shape_turned}
 use Rattle.model_making.specs.Likes.{Came, IsLike, Matched}
 use Rattle.model_making.proofs.Fresh.{IsFresh, fresh_next}
@@ -35,6 +32,7 @@ use Rattle.model_freeing.proofs.Pairs.{none_found}
 use Rattle.model_whole.specs.Steady.{IsSteady}
 use Rattle.model_beside.specs.Rooted.{IsRootedWindow, IsTiedWindow}
 use Rattle.model_grounded.specs.Grounded.{IsGrounded}
+use Rattle.model_grounded.proofs.Messages.{root_is}
 use Rattle.model_granted.proofs.Granting.{granted, granted_like, nowhere}
 use Rattle.model_granted.proofs.Images.{hidden_alike, near_rect, new_at}
 use Rattle.model_granted.proofs.Naming.{named_given}
@@ -43,13 +41,6 @@ use Rattle.model_renewed.proofs.Holding.{granted_rooted, granted_tied}
 use Rattle.model_renewed.proofs.Renewing.{Becomes, bordered_clip, bordered_keeps, next_other}
 
 -- ---- one book
-
-pub root_is : (w : World) → has_rio w 0 ≡ true → is_root w.book (rio_screen w 0) ≡ true
-root_is w some = by (screen_id w.book manager 0) some
-  where
-    by : (o : Option ScreenId) → is_some o ≡ true → option_map_or (λ (e : ScreenId). e.screen == option_map_or (λ (z : ScreenId). z.screen) o 0) o false ≡ true
-    by None has = absurd cc
-    by (Some e) has = eq-eqb e.screen e.screen refl
 
 -- an id that is not there made no tie
 pub none_tied : (book : Book) (serial : ℕ) → HasTies book → image_id book manager serial ≡ None → All (λ u. is_tied_by manager serial u ≡ false) book.ties

@@ -383,8 +383,7 @@ module _ (c serial : ℕ) (old : List ℕ) (a b : World) (is : IsLike c (Some (s
           let none = none_bereft a.book serial there.counted in
           let plain = none_named a serial there.counted ids.left ids.found name free_a in
           let kept : Keeps new_left (after_release new_left i) m = keeps_release new_left i m m_other in
-          let clip = clip_near (after_release new_left i) (kept.shape.clipr ∙ new_clip) one.images_are in
-          (
+          let clip = clip_near (after_release new_left i) (kept.shape.clipr ∙ new_clip) one.images_are in (
             granted_tied after_left (without x (Image i)) serial m s name one.book_is none plain fresh place.root clip,
             granted_rooted after_left (without x (Image i)) serial m s name one.book_is none plain fresh place.root clip,
           )
