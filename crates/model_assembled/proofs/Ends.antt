@@ -7,10 +7,12 @@ use Rattle.model_draw.specs.Orders.{manager}
 use Rattle.model_world.specs.Whole.{client}
 use Rattle.model_likeness.specs.Likeness.{IsOfSession}
 use Rattle.model_likeness.proofs.Ids.{no_manager}
+use Rattle.model_making.specs.Likes.{IsLike}
 use Rattle.model_freeing.proofs.Freeing.{not_tied}
 use Rattle.model_freeing.proofs.Leaving.{leave_like}
 use Rattle.model_holding.proofs.Rooting.{leave_rooted, leave_tied}
-use Rattle.model_assembled.specs.Assembled.{AreAlike}
+use Rattle.model_assembled.specs.Assembled.{AreAlike, IsSettled}
+use Rattle.model_assembled.proofs.Alone.{alone_still, leave_leaves}
 use Rattle.model_assembled.proofs.Settling.{leave_settled}
 
 module _ (c : ℕ) (window : Option (ℕ × List ℕ)) (a b : World) (alike : AreAlike c window a b) (n : ℕ) (few : n < 2 ^ 26) where
@@ -20,16 +22,27 @@ module _ (c : ℕ) (window : Option (ℕ × List ℕ)) (a b : World) (alike : Ar
   untied : All (λ t. (t.client == client c n) ≡ false) a.book.ties
   untied = All-weaker (λ t. IsOfSession c t.client → ⊥) (λ t. (t.client == client c n) ≡ false) (λ t none. not_tied c n few t none) a.book.ties alike.is.like.books.untied_left
 
+  lone : (client 1 n == manager) ≡ false
+  lone = no_manager 1 n (omega arith)
+
+  ended : IsLike c window (after_leave a (client c n)) (after_leave b (client 1 n))
+  ended =
+      leave_like c window a b alike.is alike.left.steady.whole.standing alike.right.steady.whole.standing alike.left.steady.orderly.ties alike.right.steady.orderly.ties
+      alike.left.steady.whole.listed alike.right.steady.whole.listed n few
+
+  right : IsSettled (after_leave b (client 1 n))
+  right = leave_settled (client 1 n) b lone alike.right
+
   pub leave_alike : AreAlike c window (after_leave a (client c n)) (after_leave b (client 1 n))
   leave_alike = record {
-    is =
-        leave_like c window a b alike.is alike.left.steady.whole.standing alike.right.steady.whole.standing alike.left.steady.orderly.ties alike.right.steady.orderly.ties
-        alike.left.steady.whole.listed alike.right.steady.whole.listed n few;
+    is = ended;
     left = leave_settled (client c n) a own alike.left;
-    right = leave_settled (client 1 n) b (no_manager 1 n (omega arith)) alike.right;
+    right = right;
     name = alike.name;
     holds = record {
       tied = leave_tied window a alike.left.furnished alike.holds.tied alike.holds.rooted (client c n) own alike.left.steady.orderly untied;
       rooted = leave_rooted window a alike.left.furnished alike.holds.tied alike.holds.rooted (client c n) own alike.left.steady.orderly untied;
     };
+    alone = alone_still (client 1 n) lone window b (after_leave b (client 1 n)) (leave_leaves (client 1 n) lone b alike.right right)
+        (λ m d lt at. ended.like.books.untied_right m d lt (record { number = n; few = few; is = at })) alike.alone;
   }

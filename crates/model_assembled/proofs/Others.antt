@@ -18,16 +18,15 @@ use Rattle.model_told.specs.Telling.{IsBeside}
 use Rattle.model_followed.specs.Devices.{LeavesName, serial_in}
 use Rattle.model_apart.specs.Apart.{IsApart, IsOutside, LooksBeside, Part, Stays}
 use Rattle.model_others.specs.Others.{part_of}
-use Rattle.model_others.proofs.Display.{IsCounted, ordered_furnished}
+use Rattle.model_others.proofs.Display.{IsCounted}
 use Rattle.model_others.proofs.Likeness.{like_apart, like_still, others_outside}
 use Rattle.model_others.proofs.Messages.{connect_stays, leave_stays, read_data_stays, write_ctl_stays}
 use Rattle.model_others.proofs.Writes.{written_stays}
 use Rattle.model_managed.specs.Ending.{LeavesManager}
-use Rattle.model_managed.proofs.Carrying.{ordered_steady}
 use Rattle.model_beside.proofs.Ordering.{has_counted, new_counted, ordered_beside}
 use Rattle.model_beside.proofs.Rooting.{name_still, rooted_still}
 use Rattle.model_assembled.specs.Assembled.{AreAlike, IsSettled}
-use Rattle.model_assembled.proofs.Settling.{choose_settled, connect_settled, if_ok, leave_settled, read_settled, written_settled}
+use Rattle.model_assembled.proofs.Settling.{choose_settled, connect_settled, if_ok, leave_settled, ordered_settled, read_settled, written_settled}
 
 module _ (c : ℕ) (window : Option (ℕ × List ℕ)) (a b : World) (alike : AreAlike c window a b) where
   abbrev S : ℕ → ℕ → Type 0
@@ -46,6 +45,7 @@ module _ (c : ℕ) (window : Option (ℕ × List ℕ)) (a b : World) (alike : Ar
     left = settled;
     right = alike.right;
     name = alike.name;
+    alone = alike.alone;
     holds = record {
       tied = name_still S T c window a b alike.is.like alike.left.furnished.bare alike.holds.rooted next stays alike.holds.tied;
       rooted = rooted_still S T c window a b alike.is.like alike.left.furnished.bare alike.holds.rooted next stays;
@@ -78,10 +78,7 @@ module _ (c : ℕ) (window : Option (ℕ × List ℕ)) (a b : World) (alike : Ar
   beside_alike order may beside =
       still (ordered a order)
       (ordered_beside S T c window a b alike.is.like alike.left.steady.whole alike.left.steady.orderly alike.left.furnished.bare alike.holds.tied alike.holds.rooted order may beside)
-      (record {
-        steady = ordered_steady a order (on_manager order beside) alike.left.steady;
-        furnished = ordered_furnished a alike.left.furnished alike.left.steady.orderly order (counted order may beside);
-      })
+      (ordered_settled a order alike.left (on_manager order beside) (counted order may beside))
 
   -- ---- other sessions
 

@@ -1,7 +1,8 @@
 -- What the session's own connections do beside writes, on devices that are the same to it.
-use Rattle.std.proofs.Common.{◌≡◌, ◌<◌, ◌^◌, ℕ, Bool, true, false, List, Option, None, Ok, refl, sym, ◌∙◌, arith}
-use Rattle.std.specs.Prelude.{◌==◌}
+use Rattle.std.proofs.Common.{◌≡◌, ◌≢◌, ◌<◌, ◌^◌, ℕ, Bool, true, false, List, Option, None, Ok, refl, sym, ◌∙◌, arith}
+use Rattle.std.specs.Prelude.{◌==◌, All}
 use Rattle.std.proofs.lemmas.Bool.{eqb-true}
+use Rattle.model_images.specs.declared.Tie.{Tie}
 use Rattle.model_images.specs.Book.{image}
 use Rattle.model_draw.specs.World.{World, after_connect, at_number, client_of}
 use Rattle.model_draw.specs.Files.{description, read_ctl, read_data, write_ctl}
@@ -9,13 +10,14 @@ use Rattle.model_draw.specs.Orders.{manager}
 use Rattle.model_world.specs.Whole.{client}
 use Rattle.model_agreement.specs.Agreement.{SameOutcome}
 use Rattle.model_alone.specs.Lone.{lone_desktop}
-use Rattle.model_likeness.specs.Likeness.{AreLike}
+use Rattle.model_likeness.specs.Likeness.{AreLike, IsOfSession}
 use Rattle.model_likeness.proofs.Acts.{read_data_like}
 use Rattle.model_likeness.proofs.Ids.{no_manager}
 use Rattle.model_likeness.proofs.Strings.{connect_like, write_ctl_like}
 use Rattle.model_making.specs.Likes.{IsLike, Matched}
 use Rattle.model_making.proofs.Naming.{display_told, read_ctl_same}
 use Rattle.model_assembled.specs.Assembled.{AreAlike}
+use Rattle.model_assembled.proofs.Alone.{alone_still, choose_leaves, connect_leaves, read_leaves}
 use Rattle.model_assembled.proofs.Settling.{choose_holds, choose_settled, clients_hold, connect_settled, if_ok, read_holds, read_settled, stronger}
 
 module _ (c : ℕ) (window : Option (ℕ × List ℕ)) (a b : World) (alike : AreAlike c window a b) (n : ℕ) (few : n < 2 ^ 26) where
@@ -34,17 +36,24 @@ module _ (c : ℕ) (window : Option (ℕ × List ℕ)) (a b : World) (alike : Ar
   lone : (client 1 n == manager) ≡ false
   lone = no_manager 1 n (omega arith)
 
+  -- the session ties no names in its own world
+  untied : (ties : List Tie) → All (λ t. IsOfSession 1 t.client → ⊥) ties → All (λ t. t.client ≢ client 1 n) ties
+  untied ties none m d lt at = none m d lt (record { number = n; few = few; is = at })
+
   changed : (x y : World) → Like x y → IsLike c window x y
   changed x y like = record { images = alike.is.images; screens = alike.is.screens; like = like }
 
   pub connect_alike : AreAlike c window (after_connect a (client c n)) (after_connect b (client 1 n))
-  connect_alike = record {
-    is = changed _ _ (connect_like S T c window a b alike.is.like n few);
-    left = connect_settled (client c n) a own alike.left;
-    right = connect_settled (client 1 n) b lone alike.right;
-    name = alike.name;
-    holds = clients_hold window a alike.holds _;
-  }
+  connect_alike =
+      let right = connect_settled (client 1 n) b lone alike.right in
+      record {
+        is = changed _ _ (connect_like S T c window a b alike.is.like n few);
+        left = connect_settled (client c n) a own alike.left;
+        right = right;
+        name = alike.name;
+        holds = clients_hold window a alike.holds _;
+        alone = alone_still (client 1 n) lone window b (after_connect b (client 1 n)) (connect_leaves (client 1 n) lone b alike.right right) (untied _ alike.is.like.books.untied_right) alike.alone;
+      }
 
   pub read_alike : (most : ℕ) → SameOutcome (λ x y. (x.0 ≡ y.0) × AreAlike c window x.1 y.1) (read_data (client c n) a most) (read_data (client 1 n) b most)
   read_alike most =
@@ -57,6 +66,7 @@ module _ (c : ℕ) (window : Option (ℕ × List ℕ)) (a b : World) (alike : Ar
           right = read_settled (client 1 n) b lone alike.right most y other;
           name = alike.name;
           holds = if_ok _ (read_data (client c n) a most) x (read_holds window a alike.holds (client c n) most) one;
+          alone = alone_still (client 1 n) lone window b y.1 (read_leaves (client 1 n) lone b alike.right most y other (read_settled (client 1 n) b lone alike.right most y other)) (untied _ same.1.books.untied_right) alike.alone;
         },
       ))
 
@@ -69,6 +79,7 @@ module _ (c : ℕ) (window : Option (ℕ × List ℕ)) (a b : World) (alike : Ar
         right = choose_settled (client 1 n) b lone alike.right bytes y other;
         name = alike.name;
         holds = if_ok _ (write_ctl (client c n) a bytes) x (choose_holds window a alike.holds (client c n) bytes) one;
+        alone = alone_still (client 1 n) lone window b y (choose_leaves (client 1 n) lone b alike.right bytes y other (choose_settled (client 1 n) b lone alike.right bytes y other)) (untied _ same.books.untied_right) alike.alone;
       })
 
   -- of image id 0 the other device tells of its display too

@@ -6,13 +6,18 @@ use Rattle.model_text.specs.Outcome.{Outcome, refuse_if}
 use Rattle.model_draw.specs.World.{Client, World, after_connect, after_leave, client_of}
 use Rattle.model_draw.specs.Act.{written}
 use Rattle.model_draw.specs.Files.{is_known, read_data, write_ctl}
-use Rattle.model_draw.specs.Orders.{manager}
+use Rattle.r9_event.specs.declared.rio.Order.{Order}
+use Rattle.model_draw.specs.Orders.{manager, ordered}
 use Rattle.model_shown.proofs.Tests.{after_step, same_Ok}
 use Rattle.model_lasting.proofs.Messages.{connect_still, leave_still, read_data_still, write_ctl_still}
 use Rattle.model_whole.proofs.Freeing.{leave_whole}
 use Rattle.model_whole.proofs.Messages.{connect_whole, read_data_whole, write_ctl_whole, written_steady}
 use Rattle.model_agreement.specs.Agreement.{SameOutcome}
-use Rattle.model_others.proofs.Display.{connect_furnished, leave_furnished, read_data_furnished, write_ctl_furnished, written_furnished}
+use Rattle.model_others.proofs.Display.{IsCounted, connect_furnished, leave_furnished, ordered_furnished, read_data_furnished, write_ctl_furnished, written_furnished}
+use Rattle.model_managed.specs.Ending.{LeavesManager}
+use Rattle.model_managed.proofs.Carrying.{ordered_steady}
+use Rattle.model_grounded.proofs.Orders.{ordered_grounded}
+use Rattle.model_grounded.proofs.Keeping.{choose_grounded, connect_grounded, leave_grounded, read_grounded, written_grounded}
 use Rattle.model_assembled.specs.Assembled.{HoldsWindow, IsSettled}
 
 -- what holds of all that is not refused
@@ -37,6 +42,7 @@ module _ (k : ℕ) (w : World) (other : (k == manager) ≡ false) (settled : IsS
       orderly = (let follows = connect_still w k settled.steady.orderly in follows.orderly);
     };
     furnished = connect_furnished w settled.furnished k other;
+    grounded = connect_grounded w k settled.grounded;
   }
 
   pub leave_settled : IsSettled (after_leave w k)
@@ -46,12 +52,14 @@ module _ (k : ℕ) (w : World) (other : (k == manager) ≡ false) (settled : IsS
       orderly = (let follows = leave_still w k other settled.steady.orderly in follows.orderly);
     };
     furnished = leave_furnished w settled.furnished k other;
+    grounded = leave_grounded k other w settled.steady.orderly settled.furnished settled.grounded;
   }
 
   pub written_settled : (bytes : List ℕ) (mark : Option ℕ) → IsSettled (written k w bytes mark).world
   written_settled bytes mark = record {
     steady = written_steady k w bytes mark other settled.steady;
     furnished = written_furnished w settled.furnished k other settled.steady.orderly bytes mark;
+    grounded = written_grounded k other w settled.steady settled.furnished settled.grounded bytes mark;
   }
 
   pub read_settled : (most : ℕ) (got : List ℕ × World) → read_data k w most ≡ Ok got → IsSettled got.1
@@ -61,6 +69,7 @@ module _ (k : ℕ) (w : World) (other : (k == manager) ≡ false) (settled : IsS
       orderly = (let follows = if_ok _ (read_data k w most) got (read_data_still k w most settled.steady.orderly) is in follows.orderly);
     };
     furnished = if_ok _ (read_data k w most) got (read_data_furnished w settled.furnished k other most) is;
+    grounded = if_ok _ (read_data k w most) got (read_grounded w k most settled.grounded) is;
   }
 
   pub choose_settled : (bytes : List ℕ) (next : World) → write_ctl k w bytes ≡ Ok next → IsSettled next
@@ -70,7 +79,16 @@ module _ (k : ℕ) (w : World) (other : (k == manager) ≡ false) (settled : IsS
       orderly = (let follows = if_ok _ (write_ctl k w bytes) next (write_ctl_still k w bytes settled.steady.orderly) is in follows.orderly);
     };
     furnished = if_ok _ (write_ctl k w bytes) next (write_ctl_furnished w settled.furnished k other bytes) is;
+    grounded = if_ok _ (write_ctl k w bytes) next (choose_grounded w k bytes settled.grounded) is;
   }
+
+-- what the window manager orders, too
+pub ordered_settled : (w : World) (order : Order) (settled : IsSettled w) → LeavesManager order → IsCounted w settled.furnished order → IsSettled (ordered w order)
+ordered_settled w order settled leaves counted = record {
+  steady = ordered_steady w order leaves settled.steady;
+  furnished = ordered_furnished w settled.furnished settled.steady.orderly order counted;
+  grounded = ordered_grounded w settled.steady settled.furnished order leaves settled.grounded;
+}
 
 -- ---- the session's window
 

@@ -1,26 +1,37 @@
 -- Two draw devices that are the same to a session, with all that each keeps so that they stay so (draw(3)).
-use Rattle.std.specs.Prelude.{ℕ, List, Option}
+use Rattle.std.specs.Prelude.{◌≡◌, ◌==◌, ℕ, false, All, List, Option, Some, None}
+use Rattle.model_images.specs.Book.{image_id, screen_id}
 use Rattle.model_draw.specs.World.{World}
+use Rattle.model_draw.specs.Orders.{manager}
 use Rattle.model_making.specs.Likes.{IsLike}
 use Rattle.model_whole.specs.Steady.{IsSteady}
 use Rattle.model_others.specs.Others.{HasKeptName, IsFurnished}
+use Rattle.model_grounded.specs.Grounded.{IsGrounded}
 use Rattle.model_beside.specs.Rooted.{IsRootedWindow, IsTiedWindow}
 
--- what a device keeps whatever is done: it is whole and orderly, and the display has its id
+-- what a device keeps whatever is done: it is whole and orderly, the display has its id, and the root rio's screen is on it
 pub record IsSettled (device : World) : Type 0 where
   pub steady : IsSteady device
   pub furnished : IsFurnished device
+  pub grounded : IsGrounded device
 
 -- the session's window stands on the root rio's screen, and its name is tied
 pub record HoldsWindow (window : Option (ℕ × List ℕ)) (device : World) : Type 0 where
   pub tied : IsTiedWindow window device.book
   pub rooted : IsRootedWindow window device
 
+-- The window manager has no image but the display and the session's window, no rio but the root's, and names are tied to the window alone.
+pub record IsAlone (window : Option (ℕ × List ℕ)) (device : World) : Type 0 where
+  pub ids : (id : ℕ) → (id == 0) ≡ false → ((name : List ℕ) → window ≡ Some (id, name) → ⊥) → image_id device.book manager id ≡ None
+  pub screens : (id : ℕ) → (id == 0) ≡ false → screen_id device.book manager id ≡ None
+  pub ties : All (λ t. (t.client ≡ manager) × ((name : List ℕ) × (window ≡ Some (t.id, name)))) device.book.ties
+
 -- `window`: the serial and the name of the session's window, where it has one. The session is session c of one device and session 1
--- of the other.
+-- of the other, which is a world of its own.
 pub record AreAlike (c : ℕ) (window : Option (ℕ × List ℕ)) (a b : World) : Type 0 where
   pub is : IsLike c window a b
   pub left : IsSettled a
   pub right : IsSettled b
   pub name : HasKeptName window
   pub holds : HoldsWindow window a
+  pub alone : IsAlone window b

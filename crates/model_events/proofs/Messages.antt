@@ -1,6 +1,6 @@
 -- A message of the session itself, once it has its window or before it asks for one.
 use Rattle.std.proofs.Common.{◌≡◌, ◌∙◌, ℕ, eqb, ◌==◌, ◌<◌, Bool, true, false, List, [], ◌∷◌, ◌++◌, fold, length, Option, Some, None, refl, sym, ap, subst}
-use Rattle.std.specs.Prelude.{if◌then◌else◌}
+use Rattle.std.specs.Prelude.{not, ◌==◌, ◌&&◌, if◌then◌else◌}
 use Rattle.std.specs.List.{cons_option, filter_map}
 use Rattle.std.specs.Option.{option_map_or}
 use Rattle.std.proofs.lemmas.Bool.{eqb-false, eqb-true}
@@ -12,13 +12,13 @@ use Rattle.model_text.specs.Map.{lookup}
 use Rattle.model_map.proofs.Ascending.{ascend-with}
 use Rattle.model_map.proofs.Maps.{with-here, with-others}
 use Rattle.model_window.specs.Pane.{Pane}
-use Rattle.model_wire.specs.Message.{T}
+use Rattle.model_wire.specs.Message.{T, no_tag, tag_of_t}
 use Rattle.model_wire.specs.Reading.{message_of}
 use Rattle.model_rio.specs.Table.{Table}
 use Rattle.model_draw.specs.World as draw
 use Rattle.model_world.specs.Session.{Session}
 use Rattle.model_world.specs.Fids.{Left}
-use Rattle.model_world.specs.Answer.{answer, taking}
+use Rattle.model_world.specs.Answer.{Reads, answer, is_version, taking}
 use Rattle.model_world.specs.Desktop.{Desktop}
 use Rattle.model_world.specs.Whole.{desktop_for}
 use Rattle.model_world.specs.World.{World}
@@ -127,7 +127,9 @@ module _ (c : ℕ) (begin : 0 < c) (Like : Option (ℕ × List ℕ) → draw.Wor
     items = Sent bytes (told_of c begin Like Named laws names seen lone.session world.desktop bytes mark (settled next).1) ∷ noted seen (settled next).0.desktop.notes
 
     -- A message that gives no reason, and is no attach that is looked at, is answered alike with all that comes after it.
-    pub own_message : (left : Session) (table : Table) → ((m : T) → message_of bytes ≡ Some m → IsNoFreshAttach c begin Like Named laws names seen lone.session m)
+    pub own_message : (left : Session) (table : Table)
+        → (taking lone.session bytes ≡ Reads → (m : T) → message_of bytes ≡ Some m → (not (is_version m) && (tag_of_t m == no_tag)) ≡ false → (not (is_version m) && not lone.session.agreed) ≡ false
+        → IsNoFreshAttach c begin Like Named laws names seen lone.session m)
         → reasons_from true seen (bytes_used c lone.session world.desktop left table mark bytes (taking lone.session bytes)) ≡ []
         → (replies_to c (reply_to c after.reply ++ (settled next).1) ≡ (lone_step lone items).1) × IsWith (settled next).0 (lone_step lone items).0
     unfolding lone_step

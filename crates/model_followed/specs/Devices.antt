@@ -1,8 +1,9 @@
 -- What draw devices keep for a session to be isolated: the laws of a relation between the server's device and that of a world of its
 -- own, under which both are the same to the session (draw(3)).
-use Rattle.std.specs.Prelude.{◌≡◌, ◌<◌, ◌≤◌, ◌^◌, ◌==◌, ℕ, Bool, true, false, All, IfSome, List, [], ◌∷◌, Option, Some, None, Ok, if◌then◌else◌}
-use Rattle.std.specs.List.{fold, list_any}
+use Rattle.std.specs.Prelude.{◌≡◌, ◌<◌, ◌≤◌, ◌^◌, ◌==◌, ℕ, Bool, true, false, All, codes, List, [], ◌∷◌, Option, Some, None, Ok, if◌then◌else◌}
+use Rattle.std.specs.List.{fold, list_any, starts_with}
 use Rattle.std.specs.Map.{keys_of}
+use Rattle.std.specs.Str.{bytes_eq}
 use Rattle.std.specs.Option.{option_map}
 use Rattle.r9_geom.specs.declared.Rect.{Rect}
 use Rattle.r9_event.specs.declared.rio.Order.{Order}
@@ -12,7 +13,7 @@ use Rattle.model_text.specs.Map.{lookup}
 use Rattle.model_map.specs.Ascending.{Ascend}
 use Rattle.model_window.specs.Heard.{Heard}
 use Rattle.model_window.specs.Pane.{Pane}
-use Rattle.model_images.specs.Book.{Book, tie_of}
+use Rattle.model_images.specs.Book.{Book}
 use Rattle.model_images.specs.Release.{is_tied_by}
 use Rattle.model_draw.specs.World.{Opening, World, after_connect, after_leave, started}
 use Rattle.model_draw.specs.Making.{flag}
@@ -63,11 +64,12 @@ told_mark mark (Some n) = if n == no_memory then mark else None
 
 -- ---- names
 
--- no image but the window's has the name
-abbrev pub IsFree : Book → (serial : ℕ) → (name : List ℕ) → Type 0
-IsFree book serial name = IfSome (tie_of book name) (λ t. is_tied_by manager serial t ≡ true)
+-- no image but the window's has the name, and no session may make it
+pub record IsFree (book : Book) (serial : ℕ) (name : List ℕ) : Type 0 where
+  pub free : All (λ t. bytes_eq t.name name ≡ true → is_tied_by manager serial t ≡ true) book.ties
+  pub kept : starts_with ◌==◌ name (codes "window.") ≡ true
 
--- an order about a window gives it a name that is free
+-- an order about a window gives it such a name
 abbrev pub NamesFree : (window : ℕ) → Book → Order → Type 0
 NamesFree window book (order.Make at host r name hide depth) = at ≡ window → IsFree book window name
 NamesFree window book (order.Replace at host r name keep hidden) = at ≡ window → IsFree book window name
@@ -144,7 +146,8 @@ pub record IsDeviceLike (c : ℕ) (Like : Option (ℕ × List ℕ) → World →
       → (next : World) → write_ctl (client d n) a bytes ≡ Ok next → Like window next b
 
 -- What keeps the names of windows free and apart: something that holds of the server's device, its windows and what their files have,
--- from which follows that each order gives a window a name that no other image has, and that no two windows have one name.
+-- from which follows that each order gives a window a name that no other image has and no session may make, and that no two windows
+-- have one name.
 pub record AreNamesFree (Named : World → Table → List (ℕ × Pane) → Type 0) : Type 0 where
   pub start : (opening : Opening) → Named (with_root_rio (started opening)) (opened opening.r) []
   pub acts :

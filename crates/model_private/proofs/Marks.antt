@@ -146,7 +146,8 @@ module _ (c : ℕ) (begin : 0 < c) (Like : Option (ℕ × List ℕ) → draw.Wor
 
   -- What is known of bytes that give no reason.
   pub bytes_quiet : (session : Session) (s : Desktop) (after : Session) (table : Table) (bytes : List ℕ) (mark : Option ℕ) (late : List Reply)
-      → ((m : T) → message_of bytes ≡ Some m → IsNoFreshAttach c begin Like Named laws names seen session m)
+      → (taking session bytes ≡ Reads → (m : T) → message_of bytes ≡ Some m → (not (is_version m) && (tag_of_t m == no_tag)) ≡ false → (not (is_version m) && not session.agreed) ≡ false
+      → IsNoFreshAttach c begin Like Named laws names seen session m)
       → reasons_from true seen (bytes_used c session s after table mark bytes (taking session bytes)) ≡ [] → taking session bytes ≡ Reads
       → AreQuiet c begin Like Named laws names seen session s after table mark (told_of session s bytes mark late) (message_of bytes)
   bytes_quiet session s after table bytes mark late fresh fine reads =
@@ -157,5 +158,5 @@ module _ (c : ℕ) (begin : 0 < c) (Like : Option (ℕ × List ℕ) → draw.Wor
       by (Some m) spells fine = λ tagged agreed. record {
         fine = fine_of session s after table mark m tagged agreed fine;
         marked = marks session s bytes mark late m reads spells tagged agreed;
-        fresh = fresh m spells;
+        fresh = fresh reads m spells tagged agreed;
       }

@@ -105,7 +105,7 @@ module _ (d : ℕ) (s : Desktop) where
       again None is = tt
       again (Some left) is = record { table = is.table; windows = is.windows }
 
-  one_same : (session : Session) (left : Left Desktop) → one_answered (desktop_for d) session s ≡ Some left → LeavesWindows s session left
+  pub one_same : (session : Session) (left : Left Desktop) → one_answered (desktop_for d) session s ≡ Some left → LeavesWindows s session left
   one_same session left e = subst (λ (o : Option (Left Desktop)). IfSome o (LeavesWindows s session)) e (first_same session [] session.waiting)
 
 -- ---- until none can be answered any more

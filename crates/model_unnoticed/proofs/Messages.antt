@@ -98,7 +98,7 @@ module _ (c : ℕ) (begin : 0 < c) (Like : Option (ℕ × List ℕ) → draw.Wor
         let it : n ≡ 0 = cc in
         let two : (0 == 0) ≡ false = subst (λ (k : ℕ). (k == 0) ≡ false) it same.counted in cc two
 
-    counted : seen.window ≡ Some 0 → ⊥
+    pub counted : seen.window ≡ Some 0 → ⊥
     counted = counted_in lone.desktop seen.window is.with.same.window
 
     bare : (window : ℕ) → seen.window ≡ Some window → is_host world.desktop.table window ≡ false
@@ -174,7 +174,8 @@ module _ (c : ℕ) (begin : 0 < c) (Like : Option (ℕ × List ℕ) → draw.Wor
         attach_known (Tstat tag fid) spelled reads tagged agreed = tt
         attach_known (Twstat tag fid stat) spelled reads tagged agreed = tt
 
-        leads : taking session bytes ≡ Reads → LeadsIf (desktop_for d) (IsAway seen.window) (ctl_away seen.window counted) session world.desktop (message_of bytes)
+        -- Its attaches and walks lead to no file of the session's window.
+        pub leads : taking session bytes ≡ Reads → LeadsIf (desktop_for d) (IsAway seen.window) (ctl_away seen.window counted) session world.desktop (message_of bytes)
         leads reads = by (message_of bytes) refl (subst (λ (how : Taking). reasons_from false seen (bytes_used d session world.desktop (unwrap_or (lookup final.sessions d) session) final.desktop.table mark bytes how) ≡ []) reads parts.0)
           where
             by : (o : Option T) → message_of bytes ≡ o → reasons_from false seen (read_used d session world.desktop (unwrap_or (lookup final.sessions d) session) final.desktop.table mark o) ≡ []

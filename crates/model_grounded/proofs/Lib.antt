@@ -1,0 +1,4 @@
+pub mod Depths
+pub mod Messages
+pub mod Orders
+pub mod Keeping

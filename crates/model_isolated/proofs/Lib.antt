@@ -1,0 +1,3 @@
+pub mod Own
+pub mod Following
+pub mod Uncounted

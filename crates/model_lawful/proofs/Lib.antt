@@ -1,0 +1,5 @@
+mod Lone
+mod Coming
+mod Replacing
+mod Dropping
+pub mod Laws

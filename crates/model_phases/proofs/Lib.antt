@@ -1,0 +1,4 @@
+pub mod Absent
+pub mod Unbegun
+pub mod Ended
+pub mod Living

@@ -1,0 +1,5 @@
+pub mod Standing
+pub mod Renewing
+pub mod Holding
+pub mod Replacing
+pub mod Coming

@@ -1,0 +1,4 @@
+pub mod Users
+pub mod Bounds
+pub mod Worlds
+pub mod Emptied
