@@ -2,6 +2,7 @@ pub mod Changed
 pub mod Counted
 pub mod Covering
 pub mod Listed
+pub mod Parts
 pub mod Pixels
 pub mod Places
 pub mod Remade

@@ -4,12 +4,12 @@ ghost use Rattle.std.specs.Prelude.{◌≡◌, ◌≢◌, ◌+◌, ◌<◌, ◌�
 ghost use Rattle.r9_geom.specs.declared.Point.{Point as Spot};
 ghost use Rattle.r9_geom.specs.Geometry.{IsRectNear};
 ghost use Rattle.r9_store.specs.Tiles.{spare};
-ghost use Rattle.model_kept.specs.Cells.{cell_count};
+ghost use Rattle.model_kept.specs.Cells.{cell_count, hides_under};
 ghost use Rattle.r9_cells.specs.Rows.{cell_at, row_at};
 ghost use Rattle.r9_cells.specs.Fitting as spec;
 ghost use Rattle.r9_cells.specs.Fitting.{hides_cell, IsCelled};
 
-use super::hiding::{cell_part, hides};
+use super::hiding::{hides, hides_part};
 use super::table::Cells;
 use model_forest::Window;
 use r9_geom::Rect;
@@ -47,6 +47,7 @@ impl Cells {
         requires image { i < length (all_rows self.old) }
         requires cell { k < length (row_at (all_rows self.old) i) }
         ensures pixels { (j l : ℕ) (p : Spot) → cell_pixel self.new j l p ≡ (if is_some (cell_at (all_rows self.new) j l) then cell_pixel self.old j l p else 0) }
+        ensures spare { spare (tiles_in self.old) ≤ spare (tiles_in self.new) }
         ensures given { (j l : ℕ) → is_some (cell_at (all_rows self.new) j l) ≡ (not (((j == i) && (l == k)) && not is) && is_some (cell_at (all_rows self.old) j l)) }
         ensures rows { length (all_rows self.new) ≡ length (all_rows self.old) }
         ensures lengths { (j : ℕ) → length (row_at (all_rows self.new) j) ≡ length (row_at (all_rows self.old) j) }
@@ -57,13 +58,14 @@ impl Cells {
     }
 
     // Whether a cell of a window is hidden and has no tile.
-    fn wants(&self, below: &Rect, windows: &[Window], i: u32, r: &Rect, k: usize) -> bool
+    fn wants(&self, any: bool, below: &Rect, windows: &[Window], i: u32, r: &Rect, k: usize) -> bool
+        requires any { any ≡ hides_under below.now windows.now i r.now r.now }
         requires celled { IsCelled (all_rows self.now) i r.now }
         requires places { All (λ w. IsRectNear w.place) windows.now }
         requires cell { k < cell_count r.now }
         ensures { result ≡ spec.wants (all_rows self.now) below.now windows.now i r.now k }
     {
-        hides(below, windows, i, r, &cell_part(r, k)) && !self.has(i as usize, k)
+        hides_part(any, below, windows, i, r, k) && !self.has(i as usize, k)
     }
 
     // How many cells of a window are hidden and have no tile.
@@ -72,9 +74,10 @@ impl Cells {
         requires places { All (λ w. IsRectNear w.place) windows.now }
         ensures { result ≡ spec.wanted (all_rows self.now) below.now windows.now i r.now }
     {
+        let any = hides(below, windows, i, r, r);
         let mut count = 0;
         for k in 0..self.rows[i as usize].cells.len() {
-            count += usize::from(self.wants(below, windows, i, r, k));
+            count += usize::from(self.wants(any, below, windows, i, r, k));
         }
         count
     }
@@ -90,9 +93,10 @@ impl Cells {
         ensures rows { length (all_rows self.new) ≡ length (all_rows self.old) }
         ensures lengths { (j : ℕ) → length (row_at (all_rows self.new) j) ≡ length (row_at (all_rows self.old) j) }
     {
+        let any = hides(below, windows, i, r, r);
         let cells = self.rows[i as usize].cells.len();
         for k in 0..cells {
-            let is = hides(below, windows, i, r, &cell_part(r, k));
+            let is = hides_part(any, below, windows, i, r, k);
             self.take_for(i as usize, k, is);
         }
     }
@@ -102,13 +106,15 @@ impl Cells {
         requires celled { IsCelled (all_rows self.old) i r.now }
         requires places { All (λ w. IsRectNear w.place) windows.now }
         ensures pixels { (j l : ℕ) (p : Spot) → cell_pixel self.new j l p ≡ (if is_some (cell_at (all_rows self.new) j l) then cell_pixel self.old j l p else 0) }
+        ensures spare { spare (tiles_in self.old) ≤ spare (tiles_in self.new) }
         ensures given { (j l : ℕ) → is_some (cell_at (all_rows self.new) j l) ≡ (not ((j == i) && (nat_lt l (cell_count r.now) && not (hides_cell below.now windows.now i r.now l))) && is_some (cell_at (all_rows self.old) j l)) }
         ensures rows { length (all_rows self.new) ≡ length (all_rows self.old) }
         ensures lengths { (j : ℕ) → length (row_at (all_rows self.new) j) ≡ length (row_at (all_rows self.old) j) }
     {
+        let any = hides(below, windows, i, r, r);
         let cells = self.rows[i as usize].cells.len();
         for k in 0..cells {
-            let is = hides(below, windows, i, r, &cell_part(r, k));
+            let is = hides_part(any, below, windows, i, r, k);
             self.give_unless(i as usize, k, is);
         }
     }

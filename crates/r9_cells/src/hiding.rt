@@ -5,6 +5,7 @@ ghost use Rattle.std.specs.List.{list_any};
 ghost use Rattle.r9_geom.specs.Geometry.{height, is_empty, meet, width, IsNearBy, IsOrdered, IsRectNear};
 ghost use Rattle.model_kept.specs.Cells as cells;
 ghost use Rattle.model_kept.specs.Cells.{above, cells_across, hides_under};
+ghost use Rattle.r9_cells.specs.Fitting.{hides_cell};
 
 use model_forest::Window;
 use r9_geom::{Point, Rect};
@@ -88,4 +89,24 @@ pub(crate) fn hides(below: &Rect, windows: &[Window], i: u32, r: &Rect, part: &R
         max: part.max.carried(r.min, to),
     };
     !out.inside(below) || is_covered(windows, i, &out)
+}
+
+/// Whether an image of rectangle `below` with these windows hides a cell of its window i. `any` tells whether it hides anything
+/// of that: where it does not, no cell is looked at.
+pub(crate) fn hides_part(
+    any: bool,
+    below: &Rect,
+    windows: &[Window],
+    i: u32,
+    r: &Rect,
+    k: usize,
+) -> bool
+    requires any { any ≡ hides_under below.now windows.now i r.now r.now }
+    requires near { IsRectNear r.now }
+    requires ordered { IsOrdered r.now }
+    requires places { All (λ w. IsRectNear w.place) windows.now }
+    requires cell { k < cells.cell_count r.now }
+    ensures { result ≡ hides_cell below.now windows.now i r.now k }
+{
+    any && hides(below, windows, i, r, &cell_part(r, k))
 }

@@ -1,6 +1,6 @@
 //! Tiles for the hidden cells of all windows of an image.
 
-ghost use Rattle.std.specs.Prelude.{◌≡◌, ◌≤◌, ◌&&◌, ◌||◌, ℕ, not, is_some, length, All, IfOk, OnErr, OnOk, if◌then◌else◌};
+ghost use Rattle.std.specs.Prelude.{◌≡◌, ◌+◌, ◌≤◌, ◌&&◌, ◌||◌, ℕ, not, is_some, length, All, IfOk, OnErr, OnOk, if◌then◌else◌};
 ghost use Rattle.std.specs.List.{list_any};
 ghost use Rattle.r9_geom.specs.declared.Point.{Point as Spot};
 ghost use Rattle.r9_store.specs.Tiles.{spare};
@@ -63,12 +63,39 @@ impl Cells {
         self.reserve(count)
     }
 
+    /// Makes room for the tiles of all cells that two images hide with their windows and that have none, one after the other.
+    pub fn reserve_both(
+        &mut self,
+        lists: &Lists,
+        p: u32,
+        windows: &[Window],
+        q: u32,
+        others: &[Window],
+    ) -> Result<(), Memory>
+        requires live { IsLive (shape lists.now) p }
+        requires windows { All (IsWindowed (all_rows self.old) (shape lists.now)) windows.now }
+        requires also { IsLive (shape lists.now) q }
+        requires others { All (IsWindowed (all_rows self.old) (shape lists.now)) others.now }
+        ensures room { OnOk result (wanted_all (all_rows self.new) (shape lists.now) p windows.now windows.now + wanted_all (all_rows self.new) (shape lists.now) q others.now others.now ≤ spare (tiles_in self.new)) }
+        ensures rows { all_rows self.new ≡ all_rows self.old }
+        ensures pixels { (j l : ℕ) (x : Spot) → cell_pixel self.new j l x ≡ cell_pixel self.old j l x }
+        ensures err { OnErr result (tiles_in self.new ≡ tiles_in self.old) }
+    {
+        let first = self.wanted_all(lists, p, windows)?;
+        let second = self.wanted_all(lists, q, others)?;
+        match first.checked_add(second) {
+            Some(count) => self.reserve(count),
+            None => Err(Memory),
+        }
+    }
+
     /// Takes tiles for all cells that image p hides with these windows. It takes no memory, and no pixel changes.
     pub fn take_hidden(&mut self, lists: &Lists, p: u32, windows: &[Window])
         requires live { IsLive (shape lists.now) p }
         requires windows { All (IsWindowed (all_rows self.old) (shape lists.now)) windows.now }
         requires room { wanted_all (all_rows self.old) (shape lists.now) p windows.now windows.now ≤ spare (tiles_in self.old) }
         ensures pixels { (j l : ℕ) (x : Spot) → cell_pixel self.new j l x ≡ cell_pixel self.old j l x }
+        ensures spare { spare (tiles_in self.old) ≤ spare (tiles_in self.new) + wanted_all (all_rows self.old) (shape lists.now) p windows.now windows.now }
         ensures taken { (j l : ℕ) → is_some (cell_at (all_rows self.new) j l) ≡ (is_some (cell_at (all_rows self.old) j l) || list_any (hides_of (shape lists.now) p windows.now j l) windows.now) }
         ensures rows { length (all_rows self.new) ≡ length (all_rows self.old) }
         ensures lengths { (j : ℕ) → length (row_at (all_rows self.new) j) ≡ length (row_at (all_rows self.old) j) }
@@ -85,6 +112,7 @@ impl Cells {
         requires live { IsLive (shape lists.now) p }
         requires windows { All (IsWindowed (all_rows self.old) (shape lists.now)) windows.now }
         ensures pixels { (j l : ℕ) (x : Spot) → cell_pixel self.new j l x ≡ (if is_some (cell_at (all_rows self.new) j l) then cell_pixel self.old j l x else 0) }
+        ensures spare { spare (tiles_in self.old) ≤ spare (tiles_in self.new) }
         ensures given { (j l : ℕ) → is_some (cell_at (all_rows self.new) j l) ≡ (not (list_any (shows_of (shape lists.now) p windows.now j l) windows.now) && is_some (cell_at (all_rows self.old) j l)) }
         ensures rows { length (all_rows self.new) ≡ length (all_rows self.old) }
         ensures lengths { (j : ℕ) → length (row_at (all_rows self.new) j) ≡ length (row_at (all_rows self.old) j) }

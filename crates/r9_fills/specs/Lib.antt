@@ -1,2 +1,3 @@
+pub mod Content
 pub mod Fills
 pub mod Gathered

@@ -96,3 +96,29 @@ impl Source for Gathered<'_> {
         self.fill.row(q, raws);
     }
 }
+
+/// The pixels of a window that comes, where nothing becomes bare: those of a picture, or one raw pixel everywhere.
+#[derive(Clone, Copy)]
+pub enum Content<'a> {
+    Shown(Picture<'a>),
+    Plain(u32),
+}
+
+impl Source for Content<'_> {
+    ghost use Rattle.r9_fills.specs.Content.{content};
+
+    ghost given = { content };
+
+    ghost fill = { λ _. λ _. 0 };
+
+    fn give(&self, x: Point, raws: &mut [u32]) {
+        match self {
+            Content::Shown(picture) => picture.row(x, raws),
+            Content::Plain(raw) => raws.fill(*raw),
+        }
+    }
+
+    fn fills(&self, _q: Point, raws: &mut [u32]) {
+        raws.fill(0);
+    }
+}

@@ -6,5 +6,5 @@ mod gathered;
 mod reaching;
 
 pub use converting::convert;
-pub use gathered::{Gathered, Picture};
+pub use gathered::{Content, Gathered, Picture};
 pub use reaching::{Columns, columns_in, reached, strip};

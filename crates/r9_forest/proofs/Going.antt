@@ -15,16 +15,16 @@ use Rattle.model_forest.specs.declared.Window.{Window}
 use Rattle.model_forest.specs.Draw.{reaches}
 use Rattle.model_forest.specs.Stack.{filled, with_windows, without}
 use Rattle.model_forest.specs.Steps.{after_release}
-use Rattle.model_forest.specs.View.{at, top_window}
+use Rattle.model_forest.specs.View.{at, is_bare, top_window}
 use Rattle.model_forest.specs.World.{World, fill_of, image_at, parent_of, with_image, CanGo, IsForest, IsLive, SameSize}
 use Rattle.model_forest.proofs.Changes.{live-apart, live-standing, with_image-at, with_image-other}
 use Rattle.model_forest.proofs.Listed.{All-listed, window_of}
 use Rattle.model_forest.proofs.Raws.{converted_below}
 use Rattle.model_forest.proofs.Steps.{IsForest-after_release}
-use Rattle.model_forest.proofs.Uncovers.{Uncovers-without}
+use Rattle.model_forest.proofs.Uncovers.{Uncovers, Uncovers-without}
 use Rattle.model_forest.proofs.Views.{All-top_window, holds-top_window}
 use Rattle.model_kept.specs.Keeping.{place_among, with_kept, HasOnePlaces, Place}
-use Rattle.model_kept.specs.Restack.{with_list}
+use Rattle.model_kept.specs.Restack.{fill_of_top, with_list}
 use Rattle.model_kept.proofs.Once.{places-forest}
 use Rattle.r9_locate.specs.declared.lists.Lists.{Lists}
 use Rattle.r9_locate.specs.Forms.{forms_of}
@@ -38,7 +38,7 @@ use Rattle.r9_relist.proofs.Near.{nearby}
 use Rattle.r9_forest.specs.Numbered.{IsNumbered}
 use Rattle.r9_forest.specs.Sound.{IsSound}
 use Rattle.r9_forest.proofs.Backs.{back_numbered, IsBack}
-use Rattle.r9_forest.proofs.Canvases.{bare_canvas}
+use Rattle.r9_arrive.proofs.Canvases.{bare_canvas}
 
 module _ (bare : World) (kept : Place → ℕ) where
   abbrev shown : World
@@ -64,9 +64,9 @@ module _ (bare : World) (kept : Place → ℕ) where
   pub going_shape : (i p : ℕ) → IsForest bare → CanGo shown i → parent_of shown i ≡ Some p → IsGoing bare p i
   going_shape i p ok can stands = record { before = ok; stands = parent_is i ∙ stands; can = can_shape i can }
 
-  -- pixels that fill it are what becomes bare is to get
-  pub fill_right : (i p : ℕ) (area : Rect) (fills : Point → ℕ) → HasOnePlaces bare → IsLive bare p → HasPlaceOf bare p i area → ((z : Point) → holds area z ≡ true → fills z ≡ fill_at shown (image_at shown p).chan (fill_of shown i) z) → HasFill bare p i kept fills
-  fill_right i p area fills places live covers right q inside covered clear = by_top (top_window ws q) refl
+  -- pixels that fill it are what becomes bare is to get, where it goes or moves
+  pub fill_left : (i p : ℕ) (area : Rect) (fills : Point → ℕ) (after : List Window) → Uncovers i (image_at bare p).windows after → HasOnePlaces bare → IsLive bare p → HasPlaceOf bare p i area → ((z : Point) → holds area z ≡ true → fills z ≡ fill_at shown (image_at shown p).chan (fill_of shown i) z) → (q : Point) → holds (image_at bare p).r q ≡ true → is_bare (image_at bare p).windows q ≡ false → is_bare after q ≡ true → fills q ≡ fill_of_top shown p q
+  fill_left i p area fills after left places live covers right q inside covered clear = by_top (top_window ws q) refl
     where
       ws : List Window
       ws = (image_at bare p).windows
@@ -74,12 +74,16 @@ module _ (bare : World) (kept : Place → ℕ) where
       by_top : (o : Option Window) → top_window ws q ≡ o → fills q ≡ option_map_or (λ w. filled shown (image_at shown p).chan w q) (top_window (image_at shown p).windows q) 0
       by_top None e = absurd (true≢false (sym (ap is_none e) ∙ covered))
       by_top (Some v) e =
-          let is : v.image ≡ i = (Uncovers-without i ws).only q v clear e in
+          let is : v.image ≡ i = left.only q v clear e in
           let place : place_among ws v.image ≡ v.place = All-top_window (λ u. place_among ws u.image ≡ u.place) ws q v (places p live) e in
           let there : holds (place_among ws i) q ≡ true = ap (λ n. holds (place_among ws n) q) (sym is) ∙ ap (λ r. holds r q) place ∙ holds-top_window ws q v e in
           right q (covers q inside there)
           ∙ ap (λ n. fill_at shown (image_at shown p).chan (fill_of shown n) q) (sym is)
           ∙ sym (ap (λ l. option_map_or (λ w. filled shown (image_at shown p).chan w q) (top_window l q) 0) (sym ((bare_canvas bare kept).windows p)) ∙ ap (λ o. option_map_or (λ w. filled shown (image_at shown p).chan w q) o 0) e)
+
+  pub fill_right : (i p : ℕ) (area : Rect) (fills : Point → ℕ) → HasOnePlaces bare → IsLive bare p → HasPlaceOf bare p i area → ((z : Point) → holds area z ≡ true → fills z ≡ fill_at shown (image_at shown p).chan (fill_of shown i) z) → HasFill bare p i kept fills
+  fill_right i p area fills places live covers right =
+      fill_left i p area fills (others bare p i) (Uncovers-without i (image_at bare p).windows) places live covers right
 
   -- the world after it went
   pub released_from : (i p : ℕ) → parent_of shown i ≡ Some p → with_image (with_windows shown p (others bare p i)) i None ≡ after_release shown i

@@ -23,7 +23,7 @@ use Rattle.r9_forest.specs.declared.images.Images.{Images}
 use Rattle.r9_forest.specs.declared.keeping.Kept.TheVariants.{Plane, Tile}
 use Rattle.r9_forest.specs.Images.{world}
 use Rattle.r9_forest.specs.Keeping.{kept_itself, kept_of}
-use Rattle.r9_forest.proofs.Canvases.{bare_canvas, parent_same, SameButCanvas}
+use Rattle.r9_arrive.proofs.Canvases.{bare_canvas, parent_same, SameButCanvas}
 use Rattle.r9_forest.proofs.Showing.{form_live, keeping_seen, point_has}
 
 -- what has a place is an image

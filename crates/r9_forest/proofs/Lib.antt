@@ -1,13 +1,12 @@
 pub mod Backs
-pub mod Bare
-pub mod Canvases
-pub mod Entering
+pub mod Exchanged
 pub mod Gathering
 pub mod Going
 pub mod Grids
 pub mod Groups
 pub mod Keepers
 pub mod Making
+pub mod Moves
 pub mod Numbers
 pub mod Putting
 pub mod Raws
@@ -16,6 +15,6 @@ pub mod Roomy
 pub mod Rows
 pub mod Setting
 pub mod Showing
+pub mod Sized
 pub mod Sounding
 pub mod Wholes
-pub mod Windows

@@ -1,8 +1,8 @@
 -- An image that stands nowhere comes under a number that has none.
-use Rattle.std.proofs.Common.{◌≡◌, ◌≢◌, ◌∙◌, ℕ, ◌<◌, ◌^◌, Bool, true, false, Option, Some, None, refl, sym, ap, subst, ⊎_elim, eq-eqb}
+use Rattle.std.proofs.Common.{◌≡◌, ◌≢◌, ◌∙◌, ℕ, ◌<◌, ◌^◌, Bool, true, false, Option, Some, None, refl, sym, ap, subst}
 use Rattle.std.specs.Prelude.{◌&&◌, option_map, unwrap_or, if◌then◌else◌}
 use Rattle.std.specs.Option.{option_map_or}
-use Rattle.std.proofs.lemmas.Bool.{cases_eq, ne_eqb}
+use Rattle.std.proofs.lemmas.Bool.{ne_eqb}
 use Rattle.r9_geom.specs.declared.Point.{Point}
 use Rattle.r9_geom.specs.declared.Rect.{Rect}
 use Rattle.r9_geom.specs.Geometry.{holds, IsOrdered, IsRectNearBy}
@@ -18,11 +18,12 @@ use Rattle.model_kept.proofs.Coming.{come-world}
 use Rattle.model_kept.proofs.Worlds.{pictured}
 use Rattle.r9_plane.specs.declared.plane.Plane.{Plane}
 use Rattle.r9_plane.specs.Pixels.{chan_of, pixel_at, rect_of}
-use Rattle.r9_locate.specs.Forms.{form_of, forms_of, Form}
+use Rattle.r9_locate.specs.Forms.{forms_of, Form}
 use Rattle.r9_pixels.specs.Owns.{plane_form}
 use Rattle.r9_pixels.specs.Places.{with_form, with_places, HasCells}
 use Rattle.r9_forest.specs.Numbered.{bare_image}
-use Rattle.r9_forest.proofs.Canvases.{alone}
+use Rattle.r9_arrive.proofs.Canvases.{alone}
+use Rattle.r9_arrive.proofs.Entering.{put_forms}
 
 -- the plane of the new image
 pub record IsPlane (plane : Plane) (r : Rect) (chan raw : ℕ) : Type 0 where
@@ -49,23 +50,6 @@ pub made_forest : (shape : World) (kept : Place → ℕ) (plane : Plane) (i : �
 made_forest shape kept plane i r chan raw free lawful fits near ordered ok is =
     subst IsForest (sym (made_world shape kept plane i r chan raw free ok is))
     (IsForest-after_image (with_kept shape kept) i r chan raw (ap (option_map {T = Image} (pictured shape kept i)) free) lawful fits near ordered ok)
-
--- what the images have for their pixels
-pub put_forms : (shape : World) (forms : ℕ → Option Form) (form : Form) (i : ℕ) (image : Image) → forms ≡ forms_of shape → form ≡ form_of image → with_form i (Some form) forms ≡ forms_of (with_image shape i (Some image))
-put_forms shape forms form i image same is = λ j n. at n j
-  where
-    at : (n : ℕ) → with_form i (Some form) forms n ≡ forms_of (with_image shape i (Some image)) n
-    at n =
-        ⊎_elim
-        (λ (here : n ≡ i).
-        ap (λ b. if b then Some form else forms n) (eq-eqb n i here)
-        ∙ ap (λ f. Some f) is
-        ∙ sym (ap (λ b. option_map form_of (if b then Some image else shape n)) (eq-eqb n i here)))
-        (λ (other : n ≢ i).
-        ap (λ b. if b then Some form else forms n) (ne_eqb n i other)
-        ∙ ap (λ (fs : ℕ → Option Form). fs n) same
-        ∙ sym (ap (λ b. option_map form_of (if b then Some image else shape n)) (ne_eqb n i other)))
-        (cases_eq n i)
 
 pub made_forms : (shape : World) (forms : ℕ → Option Form) (plane : Plane) (i : ℕ) (r : Rect) (chan raw : ℕ) → forms ≡ forms_of shape → IsPlane plane r chan raw → with_form i (Some (plane_form plane)) forms ≡ forms_of (with_made shape i r chan)
 made_forms shape forms plane i r chan raw same is =

@@ -120,9 +120,9 @@ put_numbered world made i rest image most few apart is = record {
   beyond = λ n past. with_image-other world i n (Some image) (λ same. omega (arith, past, same)) ∙ is.beyond n (omega (arith, past));
 }
 
--- an image gets another list
-pub list_numbered : (world : World) (made p : ℕ) (spare : List ℕ) (ws : List Window) → IsLive world p → IsNumbered world made spare → IsNumbered (with_list world p ws) made spare
-list_numbered world made p spare ws live is = record {
+-- an image becomes another one
+pub stay_numbered : (world : World) (made i : ℕ) (spare : List ℕ) (image : Image) → IsLive world i → IsNumbered world made spare → IsNumbered (with_image world i (Some image)) made spare
+stay_numbered world made i spare image live is = record {
   few = is.few;
   below = is.below;
   free = λ k l. stays (get_or spare k 0) (is.free k l);
@@ -130,5 +130,9 @@ list_numbered world made p spare ws live is = record {
   beyond = λ n past. stays n (is.beyond n past);
 }
   where
-    stays : (n : ℕ) → world n ≡ None → with_list world p ws n ≡ None
-    stays n none = with_image-other world p n (Some (record (image_at world p) { windows = ws })) (λ e. live-apart world n p none live (sym e)) ∙ none
+    stays : (n : ℕ) → world n ≡ None → with_image world i (Some image) n ≡ None
+    stays n none = with_image-other world i n (Some image) (λ e. live-apart world n i none live (sym e)) ∙ none
+
+-- or gets another list
+pub list_numbered : (world : World) (made p : ℕ) (spare : List ℕ) (ws : List Window) → IsLive world p → IsNumbered world made spare → IsNumbered (with_list world p ws) made spare
+list_numbered world made p spare ws live is = stay_numbered world made p spare (record (image_at world p) { windows = ws }) live is

@@ -31,7 +31,7 @@ use Rattle.r9_pixels.specs.Kept.{kept_at}
 use Rattle.r9_pixels.specs.Places.{HasCells}
 use Rattle.r9_forest.specs.Sound.{IsSound}
 use Rattle.r9_forest.specs.Written.{IsStored, IsWritten}
-use Rattle.r9_forest.proofs.Canvases.{bare_canvas}
+use Rattle.r9_arrive.proofs.Canvases.{bare_canvas}
 use Rattle.r9_forest.proofs.Showing.{bits_sound, image_near, point_has, shape_forest}
 
 -- two parts are put as one

@@ -1,17 +1,17 @@
 -- The room for what windows uncover stays enough.
-use Rattle.std.proofs.Common.{◌≡◌, ◌∙◌, ℕ, ◌≤◌, Bool, Option, Some, None, refl, sym, subst, arith}
+use Rattle.std.proofs.Common.{◌≡◌, ◌∙◌, ℕ, ◌≤◌, Bool, List, Option, Some, None, refl, sym, subst, arith}
 use Rattle.std.specs.Prelude.{option_map, unwrap_or}
 use Rattle.r9_geom.specs.declared.Rect.{Rect}
 use Rattle.r9_geom.specs.Geometry.{area_of}
 use Rattle.model_forest.specs.declared.Standing.{Standing}
+use Rattle.model_forest.specs.declared.Window.{Window}
 use Rattle.model_forest.specs.Steps.{after_set}
 use Rattle.model_forest.specs.World.{Image, World, image_at, no_image, with_image}
 use Rattle.model_forest.proofs.Changes.{with_image-each}
 use Rattle.model_kept.specs.Restack.{with_list}
 use Rattle.r9_relist.specs.Leaving.{gone, others}
-use Rattle.r9_forest.specs.Numbered.{bare_window}
+use Rattle.r9_arrive.specs.Arriving.{bare_window, listed, with_coming}
 use Rattle.r9_forest.specs.Room.{HasFillRoom}
-use Rattle.r9_forest.proofs.Windows.{topmost, with_coming}
 
 -- what is asked for an image
 abbrev pub NeedsMost : ℕ → Option Image → Type 0
@@ -38,11 +38,11 @@ unfolding after_set
 fills_set world n i repl clipr is = fills_put world n i (Some (record (image_at world i) { repl = repl; clipr = clipr })) (is i) is
 
 -- a window comes
-pub fills_window : (world : World) (n i parent fill : ℕ) (r : Rect) → area_of r ≤ n → HasFillRoom world n → HasFillRoom (with_list (with_coming world i parent fill r) parent (topmost world i parent r)) n
-fills_window world n i parent fill r most is =
+pub fills_window : (world : World) (n i parent fill : ℕ) (r : Rect) (ws : List Window) → area_of r ≤ n → HasFillRoom world n → HasFillRoom (listed world i parent fill r ws) n
+fills_window world n i parent fill r ws most is =
     let more : World = with_coming world i parent fill r in
     let with_it : HasFillRoom more n = fills_put world n i (Some (bare_window world parent fill r)) (λ p stands. most) is in
-    fills_put more n parent (Some (record (image_at more parent) { windows = topmost world i parent r })) (with_it parent) with_it
+    fills_put more n parent (Some (record (image_at more parent) { windows = ws })) (with_it parent) with_it
 
 -- a window goes
 pub fills_gone : (world : World) (n p i : ℕ) → HasFillRoom world n → HasFillRoom (gone world p i) n

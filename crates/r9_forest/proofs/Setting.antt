@@ -25,7 +25,7 @@ use Rattle.r9_pixels.specs.Places.{HasCells}
 use Rattle.r9_forest.specs.Numbered.{IsNumbered}
 use Rattle.r9_forest.specs.Sound.{IsSound}
 use Rattle.r9_forest.specs.Told.{info_of}
-use Rattle.r9_forest.proofs.Canvases.{bare_canvas, SameButCanvas}
+use Rattle.r9_arrive.proofs.Canvases.{bare_canvas, SameButCanvas}
 use Rattle.r9_forest.proofs.Showing.{keeping_alike}
 
 -- an image with the pixels that it keeps

@@ -28,7 +28,7 @@ use Rattle.r9_locate.specs.Table.{shape}
 use Rattle.r9_pixels.specs.declared.keeping.KeptPixels.{KeptPixels}
 use Rattle.r9_pixels.specs.Kept.{form_at, has_place, kept_at}
 use Rattle.r9_forest.specs.Sound.{IsSound}
-use Rattle.r9_forest.proofs.Canvases.{bare_canvas, IsForest-canvas}
+use Rattle.r9_arrive.proofs.Canvases.{bare_canvas, IsForest-canvas}
 use Rattle.r9_forest.proofs.Sounding.{shape_bare}
 use Rattle.r9_relist.proofs.Surfaces.{surface_has}
 

@@ -24,13 +24,13 @@ use Rattle.r9_pixels.specs.declared.keeping.KeptPixels.{KeptPixels}
 use Rattle.r9_pixels.specs.Kept.{form_at, has_place, kept_at, IsUnchanged}
 use Rattle.r9_pixels.specs.Owns.{plane_form}
 use Rattle.r9_pixels.specs.Places.{with_form, with_places, HasCells}
-use Rattle.r9_forest.specs.Numbered.{bare_image, bare_window, IsNumbered}
+use Rattle.r9_arrive.specs.Arriving.{bare_window, listed, with_coming}
+use Rattle.r9_forest.specs.Numbered.{bare_image, IsNumbered}
 use Rattle.r9_forest.specs.Sound.{IsSound}
-use Rattle.r9_forest.proofs.Bare.{bared_forest, bared_whole, bared_windows}
-use Rattle.r9_forest.proofs.Canvases.{bare_canvas, IsForest-canvas}
+use Rattle.r9_arrive.proofs.Bare.{bared_forest, bared_whole, bared_windows}
+use Rattle.r9_arrive.proofs.Canvases.{bare_canvas, IsForest-canvas}
 use Rattle.r9_forest.proofs.Making.{made_cells, made_forest, made_forms, with_made, IsPlane}
 use Rattle.r9_forest.proofs.Numbers.{list_numbered, put_numbered, IsNext}
-use Rattle.r9_forest.proofs.Windows.{topmost, with_coming}
 
 -- where all is the same
 pub sound_same : (lists more : Lists) (pixels new : KeptPixels) (spare : List ℕ) → shape more ≡ shape lists → made more ≡ made lists → IsUnchanged pixels new → IsSound lists pixels spare → IsSound more new spare
@@ -106,15 +106,15 @@ coming_sound lists more pixels new plane spare rest i r chan raw sound is next w
 }
 
 -- and where a window comes
-pub window_sound : (lists more : Lists) (pixels new : KeptPixels) (spare rest : List ℕ) (i parent fill : ℕ) (r : Rect) → IsSound lists pixels spare → IsLive (with_coming (shape lists) i parent fill r) parent → IsNext (shape lists) (made lists) spare rest i → shape more ≡ with_list (with_coming (shape lists) i parent fill r) parent (topmost (shape lists) i parent r) → made more ≡ max (made lists) (i + 1) → made lists + 1 < 2 ^ 32 → IsForest (with_kept (shape more) (kept_at new)) → HasCells (shape more) (has_place new) → form_at new ≡ forms_of (shape more) → IsSound more new rest
-window_sound lists more pixels new spare rest i parent fill r sound live next world count few forest cells forms = record {
+pub window_sound : (lists more : Lists) (pixels new : KeptPixels) (spare rest : List ℕ) (i parent fill : ℕ) (r : Rect) (ws : List Window) → IsSound lists pixels spare → IsLive (with_coming (shape lists) i parent fill r) parent → IsNext (shape lists) (made lists) spare rest i → shape more ≡ listed (shape lists) i parent fill r ws → made more ≡ max (made lists) (i + 1) → made lists + 1 < 2 ^ 32 → IsForest (with_kept (shape more) (kept_at new)) → HasCells (shape more) (has_place new) → form_at new ≡ forms_of (shape more) → IsSound more new rest
+window_sound lists more pixels new spare rest i parent fill r ws sound live next world count few forest cells forms = record {
   forest = forest;
   forms = forms;
   cells = cells;
   numbers =
       subst (λ (w : World). IsNumbered w (made more) rest) (sym world)
-      (subst (λ (n : ℕ). IsNumbered (with_list (with_coming (shape lists) i parent fill r) parent (topmost (shape lists) i parent r)) n rest) (sym count)
-      (list_numbered (with_coming (shape lists) i parent fill r) (max (made lists) (i + 1)) parent rest (topmost (shape lists) i parent r) live
+      (subst (λ (n : ℕ). IsNumbered (listed (shape lists) i parent fill r ws) n rest) (sym count)
+      (list_numbered (with_coming (shape lists) i parent fill r) (max (made lists) (i + 1)) parent rest ws live
       (put_numbered (shape lists) (made lists) i rest (bare_window (shape lists) parent fill r) next.most few next.apart next.others)));
 }
 

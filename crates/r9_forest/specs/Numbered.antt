@@ -1,8 +1,8 @@
 -- The numbers that were given out.
-use Rattle.std.specs.Prelude.{◌≡◌, ◌≢◌, ◌⊎◌, ℕ, ◌^◌, ◌<◌, ◌≤◌, false, List, [], ◌∷◌, ◌++◌, ◌+◌, None, Some, length, reverse, slice_index}
+use Rattle.std.specs.Prelude.{◌≡◌, ◌≢◌, ◌⊎◌, ℕ, ◌^◌, ◌<◌, ◌≤◌, false, List, [], ◌∷◌, ◌++◌, None, length, reverse, slice_index}
 use Rattle.r9_geom.specs.declared.Rect.{Rect}
 use Rattle.model_forest.specs.Numbers.{Numbers}
-use Rattle.model_forest.specs.World.{Image, World, image_at}
+use Rattle.model_forest.specs.World.{Image, World}
 
 -- those that came back stand in their order, the last one at the end
 abbrev pub numbers_of : ℕ → List ℕ → Numbers
@@ -29,19 +29,6 @@ bare_image r chan = record {
   chan = chan;
   standing = None;
   depth = 0;
-  canvas = λ _. 0;
-  windows = [];
-}
-
--- and a window on another, of its channels and one level above it
-abbrev pub bare_window : World → ℕ → ℕ → Rect → Image
-bare_window world parent fill r = record {
-  r = r;
-  clipr = r;
-  repl = false;
-  chan = (image_at world parent).chan;
-  standing = Some (record { parent = parent; fill = fill });
-  depth = (image_at world parent).depth + 1;
   canvas = λ _. 0;
   windows = [];
 }

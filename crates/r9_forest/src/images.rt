@@ -116,8 +116,8 @@ impl Images {
     }
 }
 
-// So many pixels that are 0.
-fn zeros(alloc: Global, count: usize) -> Result<Vec<u32>, Memory>
+/// So many pixels that are 0.
+pub(crate) fn zeros(alloc: Global, count: usize) -> Result<Vec<u32>, Memory>
     ensures { IfOk result (λ room. vec_len room ≡ count) }
 {
     Ok(vec![in alloc; 0; count]?)

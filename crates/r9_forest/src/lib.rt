@@ -6,8 +6,11 @@ mod filling;
 mod images;
 mod keeping;
 mod leaving;
+mod moving;
 mod ordering;
 mod reading;
+mod replacing;
+mod resizing;
 mod telling;
 mod writing;
 

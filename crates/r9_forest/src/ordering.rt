@@ -1,18 +1,24 @@
 //! Windows that change their order.
 
-ghost use Rattle.std.specs.Prelude.{◌≡◌, ◌*◌, ◌+◌, ◌<◌, ◌≤◌, [], map, All, IfNone, IfSome, IsSome, OnErr, OnOk};
-ghost use Rattle.r9_geom.specs.Geometry.{area_of};
-ghost use Rattle.model_forest.specs.World.{image_at, parent_of, IsForest};
+ghost use Rattle.std.specs.Prelude.{◌≡◌, ◌*◌, ◌+◌, ◌<◌, ◌≤◌, [], map, All, IfNone, IfSome, IsSome, IsTrue, IfOk, OnErr, OnOk, ◌&&◌, false, sum_by};
+ghost use Rattle.r9_geom.specs.declared.Point.{Point as Spot};
+ghost use Rattle.r9_geom.specs.Geometry.{area_of, holds};
+ghost use Rattle.model_forest.specs.World.{image_at, parent_of, IsForest, IsLive};
 ghost use Rattle.model_forest.specs.Stack.{after_lower, after_raise, with_windows};
-ghost use Rattle.r9_forest.specs.Groups.{group_area, IsGroupOn};
+ghost use Rattle.r9_forest.specs.Groups.{group_area, places_of, IsGroupOn};
+ghost use Rattle.r9_region.specs.Region.{covers};
+ghost use Rattle.r9_restack.specs.Areas.{AreApartIn};
 ghost use Rattle.r9_locate.specs.Table.{shape};
-ghost use Rattle.r9_restack.specs.Moving.{IsReordering};
+ghost use Rattle.r9_restack.specs.Moving.{IsReordering, IsSameTop};
 
 use super::images::Images;
 use model_forest::Window;
+use r9_geom::Rect;
 use r9_info::ImageNo;
 use r9_lists::{lowered, raised};
+use r9_locate::place_among;
 use r9_memory::Memory;
+use r9_region::Region;
 use r9_relist::reorder_windows;
 use r9_steps::Steps;
 use std::sync::ledger::Ledger;
@@ -20,8 +26,8 @@ use std::sync::ledger::Ledger;
 impl Images {
     ghost use Rattle.r9_forest.specs.Images.{numbers, world};
 
-    /// Raises windows of one image above its others, in their order. At most two pixels are written for each point of that
-    /// image.
+    /// Raises windows of one image above its others, in their order. At most two pixels are written for each point of
+    /// these windows.
     pub fn raise<L: Ledger>(
         &mut self,
         group: &[ImageNo],
@@ -37,11 +43,12 @@ impl Images {
             return Ok(());
         };
         let list = raised(self.alloc, &self.lists.get(parent).windows, group)?;
-        self.set_order(parent, list, steps)
+        let places = self.places_of(parent, group)?;
+        self.set_order(parent, list, places.parts(), steps)
     }
 
-    /// Lowers windows of one image below its others, in their order. At most two pixels are written for each point of that
-    /// image.
+    /// Lowers windows of one image below its others, in their order. At most two pixels are written for each point of
+    /// these windows.
     pub fn lower<L: Ledger>(
         &mut self,
         group: &[ImageNo],
@@ -57,7 +64,8 @@ impl Images {
             return Ok(());
         };
         let list = lowered(self.alloc, &self.lists.get(parent).windows, group)?;
-        self.set_order(parent, list, steps)
+        let places = self.places_of(parent, group)?;
+        self.set_order(parent, list, places.parts(), steps)
     }
 
     // The image on which the first of a group stands, if there is a first.
@@ -71,22 +79,51 @@ impl Images {
         Some(standing.parent)
     }
 
-    // Gives an image its windows in another order.
+    // The points of an image where windows of a group of its windows stand.
+    fn places_of(&self, parent: u32, group: &[ImageNo]) -> Result<Region, Memory>
+        requires { IsLive (shape self.now.lists) parent }
+        ensures { IfOk result (λ places. (z : Spot) → covers places z ≡ (covers (places_of (shape self.now.lists) parent (map (λ i. i.0) group.now)) z && holds (image_at (shape self.now.lists) parent).r z)) }
+    {
+        let below = self.lists.get(parent);
+        let corner = below.r.min;
+        let none = Rect {
+            min: corner,
+            max: corner,
+        };
+        let mut places = Region::of(self.alloc, none)?;
+        for i in group {
+            places.add(place_among(&below.windows, i.0))?;
+        }
+        places.within(below.r);
+        Ok(places)
+    }
+
+    // Gives an image its windows in another order, by which the topmost one changes in these areas alone.
     fn set_order<L: Ledger>(
         &mut self,
         parent: u32,
         list: Vec<Window>,
+        areas: &[Rect],
         steps: &mut Steps<L>,
     ) -> Result<(), Memory>
         requires order { IsReordering (shape self.old.lists) parent list.items }
+        requires areas { AreApartIn (image_at (shape self.old.lists) parent).r areas.now }
+        requires outside { (z : Spot) → IsTrue (holds (image_at (shape self.old.lists) parent).r z) → covers areas.now z ≡ false → IsSameTop (shape self.old.lists) parent list.items z }
         requires forest { IsForest (with_windows (world self.old) parent list.items) }
         ensures world { OnOk result (world self.new ≡ with_windows (world self.old) parent list.items) }
         ensures numbers { numbers self.new ≡ numbers self.old }
         ensures err { OnErr result (world self.new ≡ world self.old) }
-        ensures steps { steps.new ≤ steps.old + 2 * area_of (image_at (world self.old) parent).r }
+        ensures steps { steps.new ≤ steps.old + 2 * sum_by area_of areas.now }
     {
         self.pixels.reserve_hidden(&self.lists, parent, &list)?;
-        reorder_windows(&mut self.lists, &mut self.pixels, parent, list, steps);
+        reorder_windows(
+            &mut self.lists,
+            &mut self.pixels,
+            parent,
+            list,
+            areas,
+            steps,
+        );
         Ok(())
     }
 }

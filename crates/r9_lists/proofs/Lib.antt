@@ -1,2 +1,3 @@
+mod Along
 mod Groups
 mod Ordered

@@ -1,13 +1,14 @@
 //! Lists of windows, topmost first, and how they change.
 #![tactic(auto)]
 
-ghost use Rattle.std.specs.Prelude.{◌≡◌, ◌+◌, ◌<◌, ◌≤◌, ◌∷◌, [], length, map, vec_len, vec_capacity, IfOk};
+ghost use Rattle.std.specs.Prelude.{◌≡◌, ◌+◌, ◌<◌, ◌≤◌, ◌^◌, ◌∷◌, [], length, map, vec_len, vec_capacity, All, IfOk};
 ghost use Rattle.std.specs.List.Sorted.{IsNonDecreasing};
+ghost use Rattle.r9_geom.specs.Geometry.{IsNearBy, IsRectNear};
 ghost use Rattle.model_forest.specs.Stack as stack;
 ghost use Rattle.model_forest.specs.Steps as steps;
 
 use model_forest::Window;
-use r9_geom::Rect;
+use r9_geom::{Point, Rect};
 use r9_info::ImageNo;
 use r9_memory::Memory;
 use std::alloc::Global;
@@ -100,6 +101,45 @@ fn moved_window(i: u32, place: Rect, w: Window) -> Window
         Window { image: i, place }
     } else {
         w
+    }
+}
+
+/// The rectangle that stands to `to` as r stands to `from`.
+pub fn carried_rect(r: &Rect, from: Point, to: Point) -> Rect
+    requires rect { IsRectNear r.now }
+    requires from { IsNearBy (2 ^ 40) from }
+    requires to { IsNearBy (2 ^ 40) to }
+    ensures { result ≡ steps.carried_rect r.now from to }
+{
+    Rect {
+        min: r.min.carried(from, to),
+        max: r.max.carried(from, to),
+    }
+}
+
+/// Moves all windows along with a point of the image on which they stand.
+pub fn carried(windows: &mut Vec<Window>, from: Point, to: Point)
+    requires places { All (λ w. IsRectNear w.place) windows.old.items }
+    requires from { IsNearBy (2 ^ 40) from }
+    requires to { IsNearBy (2 ^ 40) to }
+    ensures items { windows.new.items ≡ map (λ w. record { image = w.image; place = steps.carried_rect w.place from to }) windows.old.items }
+    ensures len { vec_len windows.new ≡ vec_len windows.old }
+{
+    carry_each(windows, from, to);
+}
+
+fn carry_each(windows: &mut [Window], from: Point, to: Point)
+    requires places { All (λ w. IsRectNear w.place) windows.old }
+    requires from { IsNearBy (2 ^ 40) from }
+    requires to { IsNearBy (2 ^ 40) to }
+    ensures { windows.new ≡ map (λ w. record { image = w.image; place = steps.carried_rect w.place from to }) windows.old }
+{
+    for k in 0..windows.len() {
+        let Window { image, place } = windows[k];
+        windows[k] = Window {
+            image,
+            place: carried_rect(&place, from, to),
+        };
     }
 }
 

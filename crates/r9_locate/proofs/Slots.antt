@@ -42,7 +42,7 @@ pub world_kept : (old new : Numbered Frame) → ((n : ℕ) → value_at new n �
 world_kept old new kept = World-same (shape_of new) (shape_of old) (λ n. ap (option_map frame_image) (kept n))
 
 -- and where an image was taken out and put back
-world_again : (old mid new : Numbered Frame) (i : ℕ) (now : Frame) → ((n : ℕ) → value_at mid n ≡ (if n == i then None else value_at old n)) → ((n : ℕ) → value_at new n ≡ (if n == i then Some now else value_at mid n)) → shape_of new ≡ with_image (shape_of old) i (Some (frame_image now))
+pub world_again : (old mid new : Numbered Frame) (i : ℕ) (now : Frame) → ((n : ℕ) → value_at mid n ≡ (if n == i then None else value_at old n)) → ((n : ℕ) → value_at new n ≡ (if n == i then Some now else value_at mid n)) → shape_of new ≡ with_image (shape_of old) i (Some (frame_image now))
 world_again old mid new i now removed put =
     world_put old new i (Some now) (λ n. put n ∙ ap (λ o. if n == i then Some now else o) (removed n) ∙ once (n == i) (value_at old n))
   where

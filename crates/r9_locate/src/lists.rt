@@ -151,6 +151,21 @@ impl Lists {
         had
     }
 
+    /// Gives an image another frame, for the one that it had. It takes no memory.
+    pub fn replace(&mut self, i: u32, frame: Frame) -> Frame
+        requires live { IsLive (shape self.old) i }
+        requires standing { IsStanding (with_image (shape self.old) i (Some (frame_image frame))) }
+        requires places { HasOnePlaces (with_image (shape self.old) i (Some (frame_image frame))) }
+        requires near { IsNearby (with_image (shape self.old) i (Some (frame_image frame))) }
+        ensures had { image_at (shape self.old) i ≡ frame_image result }
+        ensures world { shape self.new ≡ with_image (shape self.old) i (Some (frame_image frame)) }
+        ensures made { made self.new ≡ made self.old }
+    {
+        let had = self.frames.remove(i);
+        self.frames.insert(i, frame);
+        had
+    }
+
     /// Makes an image repeat or not, and gives it another clip rectangle. It takes no memory.
     pub fn set(&mut self, i: u32, repl: bool, clipr: Rect)
         requires { IsLive (shape self.old) i }

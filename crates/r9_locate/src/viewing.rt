@@ -25,6 +25,8 @@ pub trait Pixels {
     ghost has: { Self → Place → Bool };
     // What each image has for its pixels.
     ghost forms: { Self → ℕ → Option Form };
+    // How much room is spare for places.
+    ghost spare: { Self → ℕ };
 
     /// Reads pixels that an image keeps side by side.
     fn read(&self, i: u32, from: Point, raws: &mut [u32])
@@ -40,6 +42,7 @@ pub trait Pixels {
         ensures others { (place : Place) → ((k : ℕ) → k < length raws.now → place ≢ own i (along at k)) → kept self.new place ≡ kept self.old place }
         ensures has { has self.new ≡ has self.old }
         ensures forms { forms self.new ≡ forms self.old }
+        ensures spare { spare self.new ≡ spare self.old }
         ensures steps { steps.new ≡ steps.old + length raws.now };
 }
 
@@ -92,6 +95,7 @@ pub fn write_view<P: Pixels, L: Ledger>(
     ensures others { (place : Place) → ((k : ℕ) → k < length raws.now → place ≢ keeping (shape lists.now) i (along at k)) → P.kept pixels.new place ≡ P.kept pixels.old place }
     ensures has { P.has pixels.new ≡ P.has pixels.old }
     ensures forms { P.forms pixels.new ≡ P.forms pixels.old }
+    ensures spare { P.spare pixels.new ≡ P.spare pixels.old }
     ensures steps { steps.new ≡ steps.old + length raws.now }
 {
     let mut done = 0;

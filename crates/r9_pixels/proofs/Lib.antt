@@ -1,6 +1,7 @@
 pub mod Coming
 pub mod Owning
 pub mod Points
+pub mod Shifted
 pub mod Standing
 pub mod Taking
 pub mod Telling

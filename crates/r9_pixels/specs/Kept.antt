@@ -1,8 +1,9 @@
 -- The pixels of a table of images.
 use Rattle.std.specs.Prelude.{◌≡◌, ℕ, Bool, false, List, None, Option, length, option_map}
 use Rattle.std.specs.Option.{option_map_or}
+use Rattle.r9_geom.specs.declared.Rect.{Rect}
 use Rattle.model_forest.specs.declared.Window.{Window}
-use Rattle.model_forest.specs.World.{World}
+use Rattle.model_forest.specs.World.{World, no_rect}
 use Rattle.model_kept.specs.Keeping.{Place}
 use Rattle.r9_store.specs.Tiles.{Tiles, spare}
 use Rattle.r9_locate.specs.Forms.{Form}
@@ -29,6 +30,10 @@ store_of pixels = tiles_in pixels.cells
 -- what an image has for its pixels
 abbrev pub form_at : KeptPixels → ℕ → Option Form
 form_at pixels i = option_map form_in (own_at pixels.owns.items i)
+
+-- the rectangle of an image
+abbrev pub rect_at : KeptPixels → ℕ → Rect
+rect_at pixels i = option_map_or (λ form. form.r) (form_at pixels i) no_rect
 
 -- the numbers below this one have room for an image
 abbrev pub room_of : KeptPixels → ℕ

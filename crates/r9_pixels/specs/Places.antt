@@ -2,7 +2,7 @@
 use Rattle.std.specs.Prelude.{◌≡◌, ℕ, Bool, true, Option, Some, List, ◌==◌, ◌&&◌, if◌then◌else◌}
 use Rattle.std.specs.List.{list_any}
 use Rattle.r9_geom.specs.declared.Point.{Point}
-use Rattle.r9_geom.specs.Geometry.{holds, IsRectNear}
+use Rattle.r9_geom.specs.Geometry.{at_min, holds, IsRectNear}
 use Rattle.model_forest.specs.declared.Window.{Window}
 use Rattle.model_forest.specs.World.{World, image_at, parent_of}
 use Rattle.model_kept.specs.Cells.{cell_of, cell_part, hides}
@@ -17,6 +17,10 @@ with_places i places has place = if place.image == i then places place.at else h
 -- one image has another form, or none
 abbrev pub with_form : ℕ → Option Form → (ℕ → Option Form) → ℕ → Option Form
 with_form i form forms n = if n == i then form else forms n
+
+-- the form of an image that gets another min
+abbrev pub shifted_form : Point → Form → Form
+shifted_form min form = record form { r = at_min form.r min }
 
 -- the windows have places just in their cells that have a hidden point
 abbrev pub HasCells : World → (Place → Bool) → Type 0

@@ -27,7 +27,7 @@ pub struct KeptPixels {
 }
 
 impl KeptPixels {
-    ghost use Rattle.r9_pixels.specs.Kept.{form_at, has_place, kept_at, room_of};
+    ghost use Rattle.r9_pixels.specs.Kept.{form_at, has_place, kept_at, room_of, spare_in};
 
     /// No image, and room for none.
     pub fn new(alloc: Global) -> Self
@@ -76,6 +76,7 @@ impl KeptPixels {
         ensures others { (place : Place) → ((k : ℕ) → k < length raws.now → place ≢ own i (along at k)) → kept_at self.new place ≡ kept_at self.old place }
         ensures has { has_place self.new ≡ has_place self.old }
         ensures forms { form_at self.new ≡ form_at self.old }
+        ensures spare { spare_in self.new ≡ spare_in self.old }
     {
         if let Some(Own::Whole(plane)) = &mut self.owns[i as usize] {
             plane.put_row(at, raws);
@@ -91,6 +92,7 @@ impl KeptPixels {
         ensures others { (place : Place) → ((k : ℕ) → k < length raws.now → place ≢ own i (along at k)) → kept_at self.new place ≡ kept_at self.old place }
         ensures has { has_place self.new ≡ has_place self.old }
         ensures forms { form_at self.new ≡ form_at self.old }
+        ensures spare { spare_in self.new ≡ spare_in self.old }
     {
         self.cells.write(i as usize, &extent.r, at, raws);
     }
@@ -104,6 +106,7 @@ impl KeptPixels {
         ensures others { (place : Place) → ((k : ℕ) → k < length raws.now → place ≢ own i (along at k)) → kept_at self.new place ≡ kept_at self.old place }
         ensures has { has_place self.new ≡ has_place self.old }
         ensures forms { form_at self.new ≡ form_at self.old }
+        ensures spare { spare_in self.new ≡ spare_in self.old }
     {
         match self.extent(i) {
             Some(extent) => self.put_hidden(i, extent, at, raws),
@@ -113,13 +116,15 @@ impl KeptPixels {
 }
 
 impl Pixels for KeptPixels {
-    ghost use Rattle.r9_pixels.specs.Kept.{form_at, has_place, kept_at};
+    ghost use Rattle.r9_pixels.specs.Kept.{form_at, has_place, kept_at, spare_in};
 
     ghost kept = { kept_at };
 
     ghost has = { has_place };
 
     ghost forms = { form_at };
+
+    ghost spare = { spare_in };
 
     fn read(&self, i: u32, from: Point, raws: &mut [u32]) {
         if raws.is_empty() {

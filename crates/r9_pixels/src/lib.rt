@@ -11,6 +11,7 @@ ghost use Rattle.r9_pixels.specs.Places.{HasCells};
 mod keeping;
 mod making;
 mod own;
+mod shifting;
 mod sizing;
 mod tiling;
 mod whole;

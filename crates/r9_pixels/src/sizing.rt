@@ -1,6 +1,6 @@
 //! Tiles for the hidden cells of the windows of an image, when that gets another list of them.
 
-ghost use Rattle.std.specs.Prelude.{◌≡◌, ◌≤◌, ◌&&◌, ◌||◌, not, All, OnErr, OnOk, if◌then◌else◌};
+ghost use Rattle.std.specs.Prelude.{◌≡◌, ◌+◌, ◌≤◌, ◌&&◌, ◌||◌, not, All, OnErr, OnOk, if◌then◌else◌};
 ghost use Rattle.model_forest.specs.World.{IsLive};
 ghost use Rattle.model_kept.specs.Keeping.{Place};
 ghost use Rattle.r9_locate.specs.Forms.{forms_of};
@@ -33,6 +33,28 @@ impl KeptPixels {
         self.cells.reserve_hidden(lists, p, windows)
     }
 
+    /// Makes room for the tiles of all cells that two images hide with these windows and that have none, one after the other.
+    pub fn reserve_both(
+        &mut self,
+        lists: &Lists,
+        p: u32,
+        windows: &[Window],
+        q: u32,
+        others: &[Window],
+    ) -> Result<(), Memory>
+        requires live { IsLive (shape lists.now) p }
+        requires forms { form_at self.old ≡ forms_of (shape lists.now) }
+        requires windows { All (StandsOn (shape lists.now) p) windows.now }
+        requires also { IsLive (shape lists.now) q }
+        requires others { All (StandsOn (shape lists.now) q) others.now }
+        ensures spare { OnOk result (wanted_in self.new (shape lists.now) p windows.now + wanted_in self.new (shape lists.now) q others.now ≤ spare_in self.new) }
+        ensures kept { IsUnchanged self.old self.new }
+        ensures room { room_of self.new ≡ room_of self.old }
+        ensures err { OnErr result (spare_in self.new ≡ spare_in self.old) }
+    {
+        self.cells.reserve_both(lists, p, windows, q, others)
+    }
+
     /// Takes tiles for all cells that image p hides with these windows. No pixel changes, and it takes no memory.
     pub fn take_hidden(&mut self, lists: &Lists, p: u32, windows: &[Window])
         requires live { IsLive (shape lists.now) p }
@@ -40,6 +62,7 @@ impl KeptPixels {
         requires windows { All (StandsOn (shape lists.now) p) windows.now }
         requires spare { wanted_in self.old (shape lists.now) p windows.now ≤ spare_in self.old }
         ensures kept { kept_at self.new ≡ kept_at self.old }
+        ensures spare { spare_in self.old ≤ spare_in self.new + wanted_in self.old (shape lists.now) p windows.now }
         ensures has { (place : Place) → has_place self.new place ≡ (has_place self.old place || in_hidden (shape lists.now) p windows.now place) }
         ensures forms { form_at self.new ≡ form_at self.old }
         ensures room { room_of self.new ≡ room_of self.old }
@@ -53,6 +76,7 @@ impl KeptPixels {
         requires forms { form_at self.old ≡ forms_of (shape lists.now) }
         requires windows { All (StandsOn (shape lists.now) p) windows.now }
         ensures kept { (place : Place) → kept_at self.new place ≡ (if has_place self.new place then kept_at self.old place else 0) }
+        ensures spare { spare_in self.old ≤ spare_in self.new }
         ensures has { (place : Place) → has_place self.new place ≡ (not (in_shown (shape lists.now) p windows.now place) && has_place self.old place) }
         ensures forms { form_at self.new ≡ form_at self.old }
         ensures room { room_of self.new ≡ room_of self.old }

@@ -4,18 +4,21 @@ ghost use Rattle.std.specs.Prelude.{◌≡◌, ◌≢◌, ◌+◌, ◌*◌, ◌^
 ghost use Rattle.r9_geom.specs.declared.Point.{Point as Spot};
 ghost use Rattle.r9_geom.specs.Geometry.{area_of, height, holds, IsOrdered, IsRectNear};
 ghost use Rattle.model_pixel.specs.Rows.{row_bytes, row_pixel};
-ghost use Rattle.r9_plane.specs.Pixels.{pixel_at};
+ghost use Rattle.r9_plane.specs.Pixels.{chan_of, pixel_at, rect_of};
 ghost use Rattle.model_kept.specs.Keeping.{own, Place};
+ghost use Rattle.model_kept.specs.Restack.{with_own};
 ghost use Rattle.r9_locate.specs.Forms.{bits_in};
 ghost use Rattle.r9_pixels.specs.declared.own.Extent.{Extent as Size};
 ghost use Rattle.r9_pixels.specs.declared.own.Own.TheVariants.{Hidden};
 ghost use Rattle.r9_pixels.specs.Owns.{own_at, plane_form};
+ghost use Rattle.r9_pixels.specs.Places.{with_form, with_places};
 
 use super::keeping::KeptPixels;
 use super::own::Own;
 use r9_geom::Rect;
 use r9_plane::Plane;
 use r9_steps::Steps;
+use std::mem;
 use std::sync::ledger::Ledger;
 
 // Takes a step for each point of a rectangle.
@@ -31,7 +34,7 @@ fn count_points<L: Ledger>(r: &Rect, steps: &mut Steps<L>)
 }
 
 impl KeptPixels {
-    ghost use Rattle.r9_pixels.specs.Kept.{form_at, has_place, kept_at};
+    ghost use Rattle.r9_pixels.specs.Kept.{form_at, has_place, kept_at, spare_in};
 
     /// The plane of an image that stands nowhere.
     pub fn plane(&self, i: u32) -> &Plane
@@ -112,6 +115,60 @@ impl KeptPixels {
         ensures steps { steps.new ≡ steps.old + area_of r }
     {
         self.load_plane(i, r, rows);
+        count_points(&r, steps);
+    }
+
+    /// Gives an image that stands nowhere another plane, for the one that it had. It takes no memory.
+    pub fn replace_whole(&mut self, i: u32, plane: Plane) -> Plane
+        requires { option_map (λ form. form.is_window) (form_at self.old i) ≡ Some false }
+        ensures form { form_at self.old i ≡ Some (plane_form result) }
+        ensures pixels { (p : Spot) → kept_at self.old (own i p) ≡ pixel_at result p }
+        ensures kept { kept_at self.new ≡ with_own i (pixel_at plane) (kept_at self.old) }
+        ensures has { has_place self.new ≡ with_places i (holds (rect_of plane)) (has_place self.old) }
+        ensures forms { form_at self.new ≡ with_form i (Some (plane_form plane)) (form_at self.old) }
+        ensures spare { spare_in self.new ≡ spare_in self.old }
+    {
+        match mem::replace(&mut self.owns[i as usize], Some(Own::Whole(plane))) {
+            Some(Own::Whole(had)) => had,
+            _ => unreachable!(),
+        }
+    }
+
+    // Takes the pixels of a rectangle of the plane of an image from another plane.
+    fn copy_plane(&mut self, i: u32, r: Rect, other: &Plane)
+        requires live { i < vec_len self.old.owns }
+        requires whole { (extent : Size) → own_at self.old.owns.items i ≢ Some (Hidden extent) }
+        requires near { IsRectNear r }
+        requires ordered { IsOrdered r }
+        requires has { (p : Spot) → IsTrue (holds r p) → has_place self.old (own i p) ≡ true }
+        requires other { (p : Spot) → IsTrue (holds r p) → IsTrue (holds (rect_of other.now) p) }
+        requires chan { option_map (λ form. form.chan) (form_at self.old i) ≡ Some (chan_of other.now) }
+        ensures at { (p : Spot) → IsTrue (holds r p) → kept_at self.new (own i p) ≡ pixel_at other.now p }
+        ensures others { (place : Place) → ((p : Spot) → IsTrue (holds r p) → place ≢ own i p) → kept_at self.new place ≡ kept_at self.old place }
+        ensures has { has_place self.new ≡ has_place self.old }
+        ensures forms { form_at self.new ≡ form_at self.old }
+    {
+        if let Some(Own::Whole(plane)) = &mut self.owns[i as usize] {
+            plane.copy(r, other, r.min);
+        }
+    }
+
+    /// Takes the pixels of a rectangle of an image that stands nowhere from those of another plane at the same points, a step for
+    /// each.
+    pub fn copy_whole<L: Ledger>(&mut self, i: u32, r: Rect, other: &Plane, steps: &mut Steps<L>)
+        requires whole { option_map (λ form. form.is_window) (form_at self.old i) ≡ Some false }
+        requires near { IsRectNear r }
+        requires ordered { IsOrdered r }
+        requires has { (p : Spot) → IsTrue (holds r p) → has_place self.old (own i p) ≡ true }
+        requires other { (p : Spot) → IsTrue (holds r p) → IsTrue (holds (rect_of other.now) p) }
+        requires chan { option_map (λ form. form.chan) (form_at self.old i) ≡ Some (chan_of other.now) }
+        ensures at { (p : Spot) → IsTrue (holds r p) → kept_at self.new (own i p) ≡ pixel_at other.now p }
+        ensures others { (place : Place) → ((p : Spot) → IsTrue (holds r p) → place ≢ own i p) → kept_at self.new place ≡ kept_at self.old place }
+        ensures has { has_place self.new ≡ has_place self.old }
+        ensures forms { form_at self.new ≡ form_at self.old }
+        ensures steps { steps.new ≡ steps.old + area_of r }
+    {
+        self.copy_plane(i, r, other);
         count_points(&r, steps);
     }
 }

@@ -1,2 +1,3 @@
 pub mod Narrowed
 pub mod Points
+pub mod Counted

@@ -7,3 +7,4 @@ pub mod Relisted
 pub mod Surfaces
 pub mod Without
 pub mod Uncovering
+pub mod Tops

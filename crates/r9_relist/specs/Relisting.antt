@@ -3,17 +3,18 @@ use Rattle.std.specs.Prelude.{◌≡◌, ◌≢◌, ℕ, Bool, true, false, List
 use Rattle.r9_geom.specs.declared.Point.{Point}
 use Rattle.r9_geom.specs.Geometry.{holds}
 use Rattle.model_forest.specs.declared.Window.{Window}
+use Rattle.model_forest.specs.Stack.{without}
 use Rattle.model_forest.specs.View.{is_bare}
 use Rattle.model_forest.specs.World.{World, image_at, parent_of, IsForest, IsLive}
 use Rattle.model_kept.specs.Cells.{cell_of, cell_part, hides}
-use Rattle.model_kept.specs.Keeping.{is_top, keeping, outward, own, place_among, with_kept, Place}
+use Rattle.model_kept.specs.Keeping.{is_top, keeping, outward, own, with_kept, Place}
 use Rattle.model_kept.specs.Restack.{fill_of_top, with_list}
 
--- the others keep their places, and with that list it is a world of images
+-- the others stay as they are, and with that list it is a world of images
 pub record IsRelisting (world : World) (p w : ℕ) (ws : List Window) : Type 0 where
   pub live : IsLive world p
   pub stands : parent_of world w ≡ Some p
-  pub places : (i : ℕ) → i ≢ w → place_among ws i ≡ place_among (image_at world p).windows i
+  pub others : without w ws ≡ without w (image_at world p).windows
   pub forest : IsForest (with_list world p ws)
 
 -- the windows of other images have places just in their cells that have a hidden point

@@ -1,6 +1,6 @@
 //! Another list of the windows of an image: tiles are taken, pixels are moved to where they are kept then, and tiles given back.
 
-ghost use Rattle.std.specs.Prelude.{◌≡◌, ◌^◌, ◌≢◌, ◌+◌, ◌*◌, ◌<◌, ◌≤◌, ◌&&◌, ℕ, false, true, IsTrue, Some};
+ghost use Rattle.std.specs.Prelude.{◌≡◌, ◌^◌, ◌≢◌, ◌+◌, ◌*◌, ◌<◌, ◌≤◌, ◌&&◌, ℕ, false, true, IsTrue, Some, sum_by};
 ghost use Rattle.r9_geom.specs.declared.Point.{Point as Spot};
 ghost use Rattle.r9_geom.specs.Geometry.{area_of, holds, IsOrdered, IsRectNear};
 ghost use Rattle.model_forest.specs.Stack.{with_windows};
@@ -11,8 +11,10 @@ ghost use Rattle.r9_locate.specs.Forms.{bits_in, forms_of};
 ghost use Rattle.r9_locate.specs.Table.{made, shape};
 ghost use Rattle.r9_pixels.specs.Kept.{form_at, has_place, kept_at, spare_in, wanted_in};
 ghost use Rattle.r9_pixels.specs.Places.{in_hidden, HasCells};
-ghost use Rattle.r9_restack.specs.Changing.{StaysTop};
-ghost use Rattle.r9_restack.specs.Moving.{IsReordering};
+ghost use Rattle.r9_region.specs.Region.{covers};
+ghost use Rattle.r9_restack.specs.Areas.{AreApartIn};
+ghost use Rattle.r9_restack.specs.Moving.{IsReordering, IsSameTop};
+ghost use Rattle.r9_relist.specs.Leaving.{HasPlaceOf};
 ghost use Rattle.r9_relist.specs.Relisting.{HasOtherCells, HasPlacesBefore, IsAsBefore, IsRelisting};
 
 use model_forest::Window;
@@ -52,6 +54,7 @@ pub fn settle(lists: &mut Lists, pixels: &mut KeptPixels, p: u32, list: Vec<Wind
     ensures lists { shape lists.new ≡ with_list (shape lists.old) p list.items }
     ensures made { made lists.new ≡ made lists.old }
     ensures kept { with_kept (shape lists.new) (kept_at pixels.new) ≡ with_kept (shape lists.new) (kept_at pixels.old) }
+    ensures spare { spare_in pixels.old ≤ spare_in pixels.new }
     ensures cells { HasCells (shape lists.new) (has_place pixels.new) }
     ensures forms { form_at pixels.new ≡ forms_of (shape lists.new) }
 {
@@ -77,21 +80,23 @@ fn move_pixels<S: Source, L: Ledger>(
     requires near { IsRectNear area.now }
     requires ordered { IsOrdered area.now }
     requires inside { (z : Spot) → IsTrue (holds area.now z) → IsTrue (holds (image_at (shape lists.now) p).r z) }
-    requires outside { (z : Spot) → IsTrue (holds (image_at (shape lists.now) p).r z) → holds area.now z ≡ false → StaysTop (shape lists.now) p new.now w z }
+    requires place { HasPlaceOf (shape lists.now) p w area.now }
     requires given { (x : Spot) → S.given source.now x < 2 ^ bits_in (form_at pixels.old) p }
     requires fill { (z : Spot) → S.fill source.now z < 2 ^ bits_in (form_at pixels.old) p }
     ensures moved { (before : Place → ℕ) → IsAsBefore (shape lists.now) p w new.now (S.given source.now) (S.fill source.now) (kept_at pixels.old) before → with_kept (with_list (shape lists.now) p new.now) (kept_at pixels.new) ≡ with_windows (with_kept (shape lists.now) before) p new.now }
+    ensures spare { spare_in pixels.old ≤ spare_in pixels.new + wanted_in pixels.old (shape lists.now) p new.now }
     ensures others { HasOtherCells (shape lists.now) p (has_place pixels.new) }
     ensures hidden { (place : Place) → in_hidden (shape lists.now) p new.now place ≡ true → has_place pixels.new place ≡ true }
     ensures forms { form_at pixels.new ≡ forms_of (shape lists.now) }
-    ensures steps { steps.new ≤ steps.old + 2 * area_of area.now + area_of (image_at (shape lists.now) w).r }
+    ensures steps { steps.new ≤ steps.old + 2 * area_of area.now + 2 * area_of (image_at (shape lists.now) w).r }
 {
     pixels.take_hidden(lists, p, new);
     restack(lists, pixels, source, p, w, new, area, steps);
 }
 
 /// Gives an image another list of windows, in which one of them comes or moves, whose pixels are given, as are those that fill
-/// what becomes bare. Tiles for all cells that are hidden then are spare. It takes no memory.
+/// what becomes bare. The area is that where it stood: at most two pixels are written for each point of it, and two for each of
+/// the window. Tiles for all cells that are hidden then are spare. It takes no memory.
 pub fn relist<S: Source, L: Ledger>(
     lists: &mut Lists,
     pixels: &mut KeptPixels,
@@ -109,15 +114,16 @@ pub fn relist<S: Source, L: Ledger>(
     requires near { IsRectNear area.now }
     requires ordered { IsOrdered area.now }
     requires inside { (z : Spot) → IsTrue (holds area.now z) → IsTrue (holds (image_at (shape lists.old) p).r z) }
-    requires outside { (z : Spot) → IsTrue (holds (image_at (shape lists.old) p).r z) → holds area.now z ≡ false → StaysTop (shape lists.old) p list.items w z }
+    requires place { HasPlaceOf (shape lists.old) p w area.now }
     requires given { (x : Spot) → S.given source.now x < 2 ^ bits_in (form_at pixels.old) p }
     requires fill { (z : Spot) → S.fill source.now z < 2 ^ bits_in (form_at pixels.old) p }
     ensures lists { shape lists.new ≡ with_list (shape lists.old) p list.items }
     ensures made { made lists.new ≡ made lists.old }
     ensures world { (before : Place → ℕ) → IsAsBefore (shape lists.old) p w list.items (S.given source.now) (S.fill source.now) (kept_at pixels.old) before → with_kept (shape lists.new) (kept_at pixels.new) ≡ with_windows (with_kept (shape lists.old) before) p list.items }
+    ensures spare { spare_in pixels.old ≤ spare_in pixels.new + wanted_in pixels.old (shape lists.old) p list.items }
     ensures cells { HasCells (shape lists.new) (has_place pixels.new) }
     ensures forms { form_at pixels.new ≡ forms_of (shape lists.new) }
-    ensures steps { steps.new ≤ steps.old + 2 * area_of area.now + area_of (image_at (shape lists.old) w).r }
+    ensures steps { steps.new ≤ steps.old + 2 * area_of area.now + 2 * area_of (image_at (shape lists.old) w).r }
 {
     move_pixels(lists, pixels, source, p, w, &list, area, steps);
     settle(lists, pixels, p, list);
@@ -129,9 +135,12 @@ fn order_pixels<L: Ledger>(
     pixels: &mut KeptPixels,
     p: u32,
     new: &[Window],
+    areas: &[Rect],
     steps: &mut Steps<L>,
 )
     requires order { IsReordering (shape lists.now) p new.now }
+    requires areas { AreApartIn (image_at (shape lists.now) p).r areas.now }
+    requires outside { (z : Spot) → IsTrue (holds (image_at (shape lists.now) p).r z) → covers areas.now z ≡ false → IsSameTop (shape lists.now) p new.now z }
     requires before { IsForest (shape lists.now) }
     requires forest { IsForest (with_list (shape lists.now) p new.now) }
     requires forms { form_at pixels.old ≡ forms_of (shape lists.now) }
@@ -141,11 +150,10 @@ fn order_pixels<L: Ledger>(
     ensures others { HasOtherCells (shape lists.now) p (has_place pixels.new) }
     ensures hidden { (place : Place) → in_hidden (shape lists.now) p new.now place ≡ true → has_place pixels.new place ≡ true }
     ensures forms { form_at pixels.new ≡ forms_of (shape lists.now) }
-    ensures steps { steps.new ≤ steps.old + 2 * area_of (image_at (shape lists.now) p).r }
+    ensures steps { steps.new ≤ steps.old + 2 * sum_by area_of areas.now }
 {
     pixels.take_hidden(lists, p, new);
-    let area = lists.get(p).r;
-    reorder(lists, pixels, p, new, &area, steps);
+    reorder(lists, pixels, p, new, areas, steps);
 }
 
 /// Gives an image its windows in another order, at the same places. Tiles for all cells that are hidden then are spare. It
@@ -155,9 +163,12 @@ pub fn reorder_windows<L: Ledger>(
     pixels: &mut KeptPixels,
     p: u32,
     list: Vec<Window>,
+    areas: &[Rect],
     steps: &mut Steps<L>,
 )
     requires order { IsReordering (shape lists.old) p list.items }
+    requires areas { AreApartIn (image_at (shape lists.old) p).r areas.now }
+    requires outside { (z : Spot) → IsTrue (holds (image_at (shape lists.old) p).r z) → covers areas.now z ≡ false → IsSameTop (shape lists.old) p list.items z }
     requires before { IsForest (shape lists.old) }
     requires forest { IsForest (with_list (shape lists.old) p list.items) }
     requires forms { form_at pixels.old ≡ forms_of (shape lists.old) }
@@ -168,8 +179,8 @@ pub fn reorder_windows<L: Ledger>(
     ensures world { with_kept (shape lists.new) (kept_at pixels.new) ≡ with_windows (with_kept (shape lists.old) (kept_at pixels.old)) p list.items }
     ensures cells { HasCells (shape lists.new) (has_place pixels.new) }
     ensures forms { form_at pixels.new ≡ forms_of (shape lists.new) }
-    ensures steps { steps.new ≤ steps.old + 2 * area_of (image_at (shape lists.old) p).r }
+    ensures steps { steps.new ≤ steps.old + 2 * sum_by area_of areas.now }
 {
-    order_pixels(lists, pixels, p, &list, steps);
+    order_pixels(lists, pixels, p, &list, areas, steps);
     settle(lists, pixels, p, list);
 }

@@ -2,4 +2,5 @@ pub mod Orders
 pub mod Parting
 pub mod Changes
 pub mod Raised
-pub mod Shown
+pub mod Placed
+pub mod Areas

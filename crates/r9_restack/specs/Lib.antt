@@ -1,2 +1,4 @@
+pub mod Areas
 pub mod Moving
 pub mod Changing
+pub mod Placing

@@ -1,6 +1,6 @@
 //! Pixels moved when one of the windows of an image comes, goes or moves.
 
-ghost use Rattle.std.specs.Prelude.{◌≡◌, ◌≢◌, ◌+◌, ◌++◌, ◌*◌, ◌^◌, ◌<◌, ◌≤◌, ℕ, Bool, false, true, length, slice_index, Some, None, IsTrue, All, Option};
+ghost use Rattle.std.specs.Prelude.{◌≡◌, ◌≢◌, ◌+◌, ◌++◌, ◌*◌, ◌^◌, ◌<◌, ◌≤◌, ℕ, Bool, false, true, length, slice_index, Some, None, IsTrue, All, Option, sum_by, ◌||◌};
 ghost use Rattle.r9_geom.specs.declared.Point.{Point as Spot};
 ghost use Rattle.r9_geom.specs.Geometry.{area_of, holds, strip, IsNear, IsOrdered, IsRectNear};
 ghost use Rattle.r9_plane.specs.Pixels.{along};
@@ -11,6 +11,8 @@ ghost use Rattle.model_forest.specs.View.{top_window};
 ghost use Rattle.model_kept.specs.Keeping.{is_top, keeping, outward, own, Place};
 ghost use Rattle.r9_locate.specs.Forms.{bits_in, HasBits};
 ghost use Rattle.r9_locate.specs.Table.{shape};
+ghost use Rattle.r9_region.specs.Region.{covers};
+ghost use Rattle.r9_restack.specs.Areas.{AreApartIn};
 ghost use Rattle.model_kept.specs.Restack.{with_list, IsRestacked};
 ghost use Rattle.r9_restack.specs.Moving.{more, IsFresh};
 ghost use Rattle.r9_restack.specs.Changing.{HasPlacesBut, IsChange, IsChanged, IsGiven, IsOther, IsShownAnew, StaysAs, StaysTop};
@@ -58,6 +60,7 @@ fn save<P: Pixels, L: Ledger>(
     ensures others { (place : Place) → ((v : Stood) → a ≡ Some v → v.image ≢ w → (k : ℕ) → k < length raws.now → place ≢ own v.image (along (view.inward (shape lists.now) v q) k)) → P.kept pixels.new place ≡ P.kept pixels.old place }
     ensures has { P.has pixels.new ≡ P.has pixels.old }
     ensures forms { P.forms pixels.new ≡ P.forms pixels.old }
+    ensures spare { P.spare pixels.new ≡ P.spare pixels.old }
     ensures steps { steps.new ≤ steps.old + length raws.now }
 {
     if let Some(v) = a {
@@ -132,6 +135,7 @@ fn show<P: Pixels, S: Source, L: Ledger>(
     ensures shown { IsShownAnew (shape lists.now) p w a b (S.given source.now) (S.fill source.now) q (length raws.old) (P.kept pixels.old) (P.kept pixels.new) }
     ensures has { P.has pixels.new ≡ P.has pixels.old }
     ensures forms { P.forms pixels.new ≡ P.forms pixels.old }
+    ensures spare { P.spare pixels.new ≡ P.spare pixels.old }
     ensures steps { steps.new ≤ steps.old + 2 * length raws.old }
 {
     read_view(lists, pixels, p, q, raws);
@@ -173,7 +177,7 @@ fn steady_top_of(upper: &[Window], lower: &[Window], q: Point, n: usize) -> usiz
 
 // Moves the pixels of points side by side over which the topmost window, before and then, is the same one. The list of then
 // is in two parts, the upper windows first.
-fn change_part<P: Pixels, S: Source, L: Ledger>(
+pub(crate) fn change_part<P: Pixels, S: Source, L: Ledger>(
     lists: &Lists,
     pixels: &mut P,
     source: &S,
@@ -200,6 +204,7 @@ fn change_part<P: Pixels, S: Source, L: Ledger>(
     ensures moved { (before : Place → ℕ) (done : Spot → Bool) → IsFresh q (length raws.old) done → IsChanged (shape lists.now) p (upper.now ++ lower.now) w (S.given source.now) (S.fill source.now) before (P.kept pixels.old) done → IsChanged (shape lists.now) p (upper.now ++ lower.now) w (S.given source.now) (S.fill source.now) before (P.kept pixels.new) (more q (length raws.old) done) }
     ensures has { P.has pixels.new ≡ P.has pixels.old }
     ensures forms { P.forms pixels.new ≡ P.forms pixels.old }
+    ensures spare { P.spare pixels.new ≡ P.spare pixels.old }
     ensures steps { steps.new ≤ steps.old + 2 * length raws.old }
 {
     let old = &lists.get(p).windows;
@@ -235,6 +240,7 @@ fn change_row<P: Pixels, S: Source, L: Ledger>(
     ensures moved { (before : Place → ℕ) (done : Spot → Bool) → IsFresh at n done → IsChanged (shape lists.now) p (upper.now ++ lower.now) w (S.given source.now) (S.fill source.now) before (P.kept pixels.old) done → IsChanged (shape lists.now) p (upper.now ++ lower.now) w (S.given source.now) (S.fill source.now) before (P.kept pixels.new) (more at n done) }
     ensures has { P.has pixels.new ≡ P.has pixels.old }
     ensures forms { P.forms pixels.new ≡ P.forms pixels.old }
+    ensures spare { P.spare pixels.new ≡ P.spare pixels.old }
     ensures steps { steps.new ≤ steps.old + 2 * n }
 {
     let mut block = [0; BLOCK];
@@ -259,7 +265,51 @@ fn change_row<P: Pixels, S: Source, L: Ledger>(
     }
 }
 
-// The same of the rows of an area.
+// The same of the rows of an area, of which nothing is done yet.
+fn change_within<P: Pixels, S: Source, L: Ledger>(
+    lists: &Lists,
+    pixels: &mut P,
+    source: &S,
+    p: u32,
+    w: u32,
+    upper: &[Window],
+    lower: &[Window],
+    area: &Rect,
+    steps: &mut Steps<L>,
+)
+    requires change { IsChange (shape lists.now) p (upper.now ++ lower.now) w }
+    requires near { IsRectNear area.now }
+    requires ordered { IsOrdered area.now }
+    requires inside { (z : Spot) → IsTrue (holds area.now z) → IsTrue (holds (image_at (shape lists.now) p).r z) }
+    requires near_new { All (λ v. IsNear v.place.min) (upper.now ++ lower.now) }
+    requires places { HasPlacesBut (shape lists.now) p (upper.now ++ lower.now) w (P.has pixels.old) }
+    requires bits { HasBits (shape lists.now) (P.forms pixels.old) }
+    requires given { (x : Spot) → S.given source.now x < 2 ^ bits_in (P.forms pixels.old) p }
+    requires fill { (z : Spot) → S.fill source.now z < 2 ^ bits_in (P.forms pixels.old) p }
+    ensures moved { (before : Place → ℕ) (done : Spot → Bool) → ((z : Spot) → IsTrue (holds area.now z) → done z ≡ false) → IsChanged (shape lists.now) p (upper.now ++ lower.now) w (S.given source.now) (S.fill source.now) before (P.kept pixels.old) done → IsChanged (shape lists.now) p (upper.now ++ lower.now) w (S.given source.now) (S.fill source.now) before (P.kept pixels.new) (λ z. holds area.now z || done z) }
+    ensures has { P.has pixels.new ≡ P.has pixels.old }
+    ensures forms { P.forms pixels.new ≡ P.forms pixels.old }
+    ensures spare { P.spare pixels.new ≡ P.spare pixels.old }
+    ensures steps { steps.new ≤ steps.old + 2 * area_of area.now }
+{
+    let width = area.width() as usize;
+    for row in 0..area.height() {
+        change_row(
+            lists,
+            pixels,
+            source,
+            p,
+            w,
+            upper,
+            lower,
+            area.point_at(0, row),
+            width,
+            steps,
+        );
+    }
+}
+
+// The same, where nothing else is done.
 pub(crate) fn change_area<P: Pixels, S: Source, L: Ledger>(
     lists: &Lists,
     pixels: &mut P,
@@ -283,22 +333,39 @@ pub(crate) fn change_area<P: Pixels, S: Source, L: Ledger>(
     ensures moved { IsChanged (shape lists.now) p (upper.now ++ lower.now) w (S.given source.now) (S.fill source.now) (P.kept pixels.old) (P.kept pixels.new) (holds area.now) }
     ensures has { P.has pixels.new ≡ P.has pixels.old }
     ensures forms { P.forms pixels.new ≡ P.forms pixels.old }
+    ensures spare { P.spare pixels.new ≡ P.spare pixels.old }
     ensures steps { steps.new ≤ steps.old + 2 * area_of area.now }
 {
-    let width = area.width() as usize;
-    for row in 0..area.height() {
-        change_row(
-            lists,
-            pixels,
-            source,
-            p,
-            w,
-            upper,
-            lower,
-            area.point_at(0, row),
-            width,
-            steps,
-        );
+    change_within(lists, pixels, source, p, w, upper, lower, area, steps);
+}
+
+// The same of the rows of areas of which no two have a point in common.
+pub(crate) fn change_areas<P: Pixels, S: Source, L: Ledger>(
+    lists: &Lists,
+    pixels: &mut P,
+    source: &S,
+    p: u32,
+    w: u32,
+    upper: &[Window],
+    lower: &[Window],
+    areas: &[Rect],
+    steps: &mut Steps<L>,
+)
+    requires change { IsChange (shape lists.now) p (upper.now ++ lower.now) w }
+    requires areas { AreApartIn (image_at (shape lists.now) p).r areas.now }
+    requires near_new { All (λ v. IsNear v.place.min) (upper.now ++ lower.now) }
+    requires places { HasPlacesBut (shape lists.now) p (upper.now ++ lower.now) w (P.has pixels.old) }
+    requires bits { HasBits (shape lists.now) (P.forms pixels.old) }
+    requires given { (x : Spot) → S.given source.now x < 2 ^ bits_in (P.forms pixels.old) p }
+    requires fill { (z : Spot) → S.fill source.now z < 2 ^ bits_in (P.forms pixels.old) p }
+    ensures moved { IsChanged (shape lists.now) p (upper.now ++ lower.now) w (S.given source.now) (S.fill source.now) (P.kept pixels.old) (P.kept pixels.new) (covers areas.now) }
+    ensures has { P.has pixels.new ≡ P.has pixels.old }
+    ensures forms { P.forms pixels.new ≡ P.forms pixels.old }
+    ensures spare { P.spare pixels.new ≡ P.spare pixels.old }
+    ensures steps { steps.new ≤ steps.old + 2 * sum_by area_of areas.now }
+{
+    for area in areas {
+        change_within(lists, pixels, source, p, w, upper, lower, area, steps);
     }
 }
 
@@ -330,6 +397,7 @@ pub fn change<P: Pixels, S: Source, L: Ledger>(
     ensures moved { (as_before as_after : Place → ℕ) → IsGiven (shape lists.now) p (upper.now ++ lower.now) w (S.given source.now) (P.kept pixels.old) (P.kept pixels.new) as_before as_after → IsRestacked (shape lists.now) (with_list (shape lists.now) p (upper.now ++ lower.now)) p as_before as_after (S.fill source.now) }
     ensures has { P.has pixels.new ≡ P.has pixels.old }
     ensures forms { P.forms pixels.new ≡ P.forms pixels.old }
+    ensures spare { P.spare pixels.new ≡ P.spare pixels.old }
     ensures steps { steps.new ≤ steps.old + 2 * area_of area.now }
 {
     change_area(lists, pixels, source, p, w, upper, lower, area, steps);

@@ -2,11 +2,10 @@
 #![tactic(auto)]
 
 mod changing;
-mod hiding;
 mod ordering;
+mod placing;
 mod restacking;
 
 pub use changing::{Source, change};
-pub use hiding::keep_hidden;
 pub use ordering::{groups_are_orders, reorder};
 pub use restacking::{leave, restack};

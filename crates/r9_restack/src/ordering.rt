@@ -1,6 +1,6 @@
 //! Pixels moved when the windows of an image get another order: none of them comes or goes, and nothing becomes bare.
 
-ghost use Rattle.std.specs.Prelude.{◌≡◌, ◌^◌, ◌+◌, ◌*◌, ◌<◌, ◌≤◌, ℕ, false, length, slice_index, IsTrue, List};
+ghost use Rattle.std.specs.Prelude.{◌≡◌, ◌^◌, ◌+◌, ◌*◌, ◌<◌, ◌≤◌, ℕ, false, length, slice_index, IsTrue, List, sum_by};
 ghost use Rattle.r9_geom.specs.declared.Point.{Point as Spot};
 ghost use Rattle.r9_geom.specs.Geometry.{area_of, holds, IsOrdered, IsRectNear};
 ghost use Rattle.model_forest.specs.World.{image_at, IsForest, IsLive, World};
@@ -8,9 +8,11 @@ ghost use Rattle.model_forest.specs.Stack.{lowered, raised};
 ghost use Rattle.model_kept.specs.Restack.{with_list, IsRestacked};
 ghost use Rattle.r9_locate.specs.Forms.{HasBits};
 ghost use Rattle.r9_locate.specs.Table.{shape};
+ghost use Rattle.r9_region.specs.Region.{covers};
+ghost use Rattle.r9_restack.specs.Areas.{AreApartIn};
 ghost use Rattle.r9_restack.specs.Moving.{HasPlaces, IsReordering, IsSameTop};
 
-use super::changing::{Source, change_area};
+use super::changing::{Source, change_areas};
 use model_forest::Window;
 use r9_geom::{Point, Rect};
 use r9_locate::{Lists, Pixels};
@@ -42,22 +44,21 @@ pub fn reorder<P: Pixels, L: Ledger>(
     pixels: &mut P,
     p: u32,
     new: &[Window],
-    area: &Rect,
+    areas: &[Rect],
     steps: &mut Steps<L>,
 )
     requires order { IsReordering (shape lists.now) p new.now }
-    requires near { IsRectNear area.now }
-    requires ordered { IsOrdered area.now }
-    requires inside { (z : Spot) → IsTrue (holds area.now z) → IsTrue (holds (image_at (shape lists.now) p).r z) }
-    requires outside { (z : Spot) → IsTrue (holds (image_at (shape lists.now) p).r z) → holds area.now z ≡ false → IsSameTop (shape lists.now) p new.now z }
+    requires areas { AreApartIn (image_at (shape lists.now) p).r areas.now }
+    requires outside { (z : Spot) → IsTrue (holds (image_at (shape lists.now) p).r z) → covers areas.now z ≡ false → IsSameTop (shape lists.now) p new.now z }
     requires places { HasPlaces (shape lists.now) p new.now (P.has pixels.old) }
     requires bits { HasBits (shape lists.now) (P.forms pixels.old) }
     ensures moved { (fill : Spot → ℕ) → IsRestacked (shape lists.now) (with_list (shape lists.now) p new.now) p (P.kept pixels.old) (P.kept pixels.new) fill }
     ensures has { P.has pixels.new ≡ P.has pixels.old }
     ensures forms { P.forms pixels.new ≡ P.forms pixels.old }
-    ensures steps { steps.new ≤ steps.old + 2 * area_of area.now }
+    ensures spare { P.spare pixels.new ≡ P.spare pixels.old }
+    ensures steps { steps.new ≤ steps.old + 2 * sum_by area_of areas.now }
 {
-    change_area(lists, pixels, &Nothing, p, p, new, &[], area, steps);
+    change_areas(lists, pixels, &Nothing, p, p, new, &[], areas, steps);
 }
 
 /// A group of windows that is raised, or lowered, is another order at the same places.

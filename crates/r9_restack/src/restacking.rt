@@ -2,7 +2,6 @@
 
 ghost use Rattle.std.specs.Prelude.{◌≡◌, ◌^◌, ◌≢◌, ◌+◌, ◌++◌, ◌*◌, ◌<◌, ◌≤◌, ◌&&◌, ℕ, Bool, false, true, All, IsTrue, Some};
 ghost use Rattle.r9_geom.specs.declared.Point.{Point as Spot};
-ghost use Rattle.r9_geom.specs.declared.Rect.{Rect as Part};
 ghost use Rattle.r9_geom.specs.Geometry.{area_of, carried, holds, IsNear, IsOrdered, IsRectNear};
 ghost use Rattle.model_forest.specs.declared.Window.{Window as Stood};
 ghost use Rattle.model_forest.specs.View.{top_window};
@@ -13,16 +12,18 @@ ghost use Rattle.model_kept.specs.Restack.{with_list, with_own, IsRestacked};
 ghost use Rattle.r9_locate.specs.Forms.{bits_in, HasBits};
 ghost use Rattle.r9_locate.specs.Table.{shape};
 ghost use Rattle.r9_restack.specs.Changing.{HasPlacesBut, IsChange, StaysTop};
+ghost use Rattle.r9_restack.specs.Placing.{shows};
 
-use super::changing::{Source, change};
-use super::hiding::keep_hidden;
+use super::changing::{Source, change, change_area};
+use super::placing::place;
 use model_forest::Window;
 use r9_geom::Rect;
 use r9_locate::{Lists, Pixels, place_among};
 use r9_steps::Steps;
 use std::sync::ledger::Ledger;
 
-/// Moves all pixels to where they are kept when window w comes or moves: its own are given.
+/// Moves all pixels to where they are kept when window w comes or moves: its own are given. The area has all points where it
+/// stood.
 pub fn restack<P: Pixels, S: Source, L: Ledger>(
     lists: &Lists,
     pixels: &mut P,
@@ -38,7 +39,7 @@ pub fn restack<P: Pixels, S: Source, L: Ledger>(
     requires near { IsRectNear area.now }
     requires ordered { IsOrdered area.now }
     requires inside { (z : Spot) → IsTrue (holds area.now z) → IsTrue (holds (image_at (shape lists.now) p).r z) }
-    requires outside { (z : Spot) → IsTrue (holds (image_at (shape lists.now) p).r z) → holds area.now z ≡ false → StaysTop (shape lists.now) p new.now w z }
+    requires outside { (z : Spot) → IsTrue (holds (image_at (shape lists.now) p).r z) → holds area.now z ≡ false → is_top new.now w z ≡ false → StaysTop (shape lists.now) p new.now w z }
     requires near_new { All (λ v. IsNear v.place.min) new.now }
     requires places { HasPlacesBut (shape lists.now) p new.now w (P.has pixels.old) }
     requires bits { HasBits (shape lists.now) (P.forms pixels.old) }
@@ -48,17 +49,17 @@ pub fn restack<P: Pixels, S: Source, L: Ledger>(
     requires own_ordered { IsOrdered (image_at (shape lists.now) w).r }
     requires corner { IsNear (kept.place_among new.now w).min }
     requires stands { (z : Spot) → IsTrue (holds (image_at (shape lists.now) w).r z) → IsNear (carried z (image_at (shape lists.now) w).r.min (kept.place_among new.now w).min) }
-    requires own_places { (z : Spot) → IsTrue (holds (image_at (shape lists.now) w).r z) → (holds (image_at (shape lists.now) p).r (carried z (image_at (shape lists.now) w).r.min (kept.place_among new.now w).min) && is_top new.now w (carried z (image_at (shape lists.now) w).r.min (kept.place_among new.now w).min)) ≡ false → P.has pixels.old (own w z) ≡ true }
+    requires own_places { (z : Spot) → IsTrue (holds (image_at (shape lists.now) w).r z) → shows (image_at (shape lists.now) p).r new.now w (carried z (image_at (shape lists.now) w).r.min (kept.place_among new.now w).min) ≡ false → P.has pixels.old (own w z) ≡ true }
     ensures moved { (as_before : Place → ℕ) → ((place : Place) → place.image ≢ w → as_before place ≡ P.kept pixels.old place) → ((x : Spot) → holds (image_at (shape lists.now) w).r x ≡ true → as_before (keeping (shape lists.now) w x) ≡ S.given source.now x) → IsRestacked (shape lists.now) (with_list (shape lists.now) p new.now) p as_before (P.kept pixels.new) (S.fill source.now) }
     ensures has { P.has pixels.new ≡ P.has pixels.old }
     ensures forms { P.forms pixels.new ≡ P.forms pixels.old }
-    ensures steps { steps.new ≤ steps.old + 2 * area_of area.now + area_of (image_at (shape lists.now) w).r }
-    ensures shown { (s : Part) → ((z : Spot) → IsTrue (holds s z) → IsTrue (holds (image_at (shape lists.now) w).r z) × ((holds (image_at (shape lists.now) p).r (carried z (image_at (shape lists.now) w).r.min (kept.place_among new.now w).min) && is_top new.now w (carried z (image_at (shape lists.now) w).r.min (kept.place_among new.now w).min)) ≡ true)) → steps.new + area_of s ≤ steps.old + 2 * area_of area.now + area_of (image_at (shape lists.now) w).r }
+    ensures spare { P.spare pixels.new ≡ P.spare pixels.old }
+    ensures steps { steps.new ≤ steps.old + 2 * area_of area.now + 2 * area_of (image_at (shape lists.now) w).r }
 {
-    change(lists, pixels, source, p, w, new, &[], area, steps);
+    change_area(lists, pixels, source, p, w, &[], new, area, steps);
     let r = lists.get(w).r;
     let corner = place_among(new, w).min;
-    keep_hidden(pixels, source, w, &r, corner, &lists.get(p).r, new, steps);
+    place(lists, pixels, source, p, w, new, area, &r, corner, steps);
 }
 
 /// Moves all pixels to where they are kept when window w leaves the list, which leaves two parts of it: its own are asked for
@@ -89,6 +90,7 @@ pub fn leave<P: Pixels, S: Source, L: Ledger>(
     ensures moved { IsRestacked (shape lists.now) (with_list (shape lists.now) p (upper.now ++ lower.now)) p (P.kept pixels.old) (with_own w (λ x. P.kept pixels.old (keeping (shape lists.now) w x)) (P.kept pixels.new)) (S.fill source.now) }
     ensures has { P.has pixels.new ≡ P.has pixels.old }
     ensures forms { P.forms pixels.new ≡ P.forms pixels.old }
+    ensures spare { P.spare pixels.new ≡ P.spare pixels.old }
     ensures steps { steps.new ≤ steps.old + 2 * area_of area.now }
 {
     change(lists, pixels, source, p, w, upper, lower, area, steps);

@@ -1,9 +1,10 @@
-use Rattle.std.proofs.Common.{◌≡◌, ◌∙◌, ◌<◌, length, ⊎_elim, sym, ap, arith}
+use Rattle.std.proofs.Common.{◌≡◌, ◌∙◌, ◌<◌, get_or, length, ⊎_elim, sym, subst, ap, arith}
 use Rattle.std.proofs.lemmas.Bool.{cases_lt}
 use Rattle.r9_geom.specs.Geometry.{holds}
 use Rattle.r9_plane.specs.Pixels.{along}
 use Rattle.model_forest.specs.declared.Window.{Window}
-use Rattle.r9_locate.proofs.Rowed.{here_is, top_window-same}
+use Rattle.model_forest.specs.World.{no_rect}
+use Rattle.r9_locate.proofs.Rowed.{here_is, top_window-same, top_window-to}
 use Rattle.r9_locate.proofs.runs.steady_top.Goals as goal
 
 pub loop-w-preserved : goal.loop-w-preserved
@@ -27,3 +28,18 @@ pub returns-clause-same : goal.returns-clause-same
 returns-clause-same c k below =
     top_window-same c.args.windows.now (along c.args.q k) c.args.q
     (λ j d lt. c.loop-w.invariant.same j k d (omega (arith, lt, c.loop-w-test.false, c.loop-w.auto.w-index-end)) below)
+
+pub returns-then-holds-clause-same : goal.returns-then-holds-clause-same
+returns-then-holds-clause-same c k below =
+    let ws = c.args.windows.now in
+    let i = c.loop-w.w-index in
+    let d : Window = record { image = 0; place = no_rect } in
+    top_window-to ws (along c.args.q k) c.args.q i d c.loop-w-test.true
+    (λ j upto.
+    ⊎_elim
+    (λ (early : j < i). c.loop-w.invariant.same j k d early (omega (arith, below, c.steady-len.ensures.most)))
+    (λ late.
+    let now : i ≡ j = omega (arith, upto, late) in
+    subst (λ n. holds (get_or ws n d).place (along c.args.q k) ≡ holds (get_or ws n d).place c.args.q) now (c.steady-len.ensures.same k below))
+    (cases_lt j i))
+    (sym c.if-holds.ensures)

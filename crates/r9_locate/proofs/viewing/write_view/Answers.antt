@@ -80,5 +80,6 @@ loop-done-preserved g c =
           ∙ c.loop-done.invariant.others place (λ k lower. apart k (omega (arith, lower)));
       has = c.write.ensures.has ∙ c.loop-done.invariant.has;
       forms = c.write.ensures.forms ∙ c.loop-done.invariant.forms;
+      spare = c.write.ensures.spare ∙ c.loop-done.invariant.spare;
       steps = omega (arith, c.write.ensures.steps, c.loop-done.invariant.steps, long);
     }

@@ -7,6 +7,7 @@ use Rattle.r9_locate.specs.Table.{shape}
 use Rattle.r9_pixels.specs.Kept.{has_place, kept_at}
 use Rattle.r9_pixels.specs.Places.{in_hidden}
 use Rattle.r9_relist.proofs.Relisted.{relist_bits, relist_corners, relist_hidden, relist_on, relist_one, relist_ordered, relist_others, relist_places, relist_rect, relist_stand, relist_stands, relisted_world}
+use Rattle.r9_relist.proofs.Tops.{others_places, others_top}
 use Rattle.r9_relist.proofs.relisting.move_pixels.Goals as goal
 
 pub take_hidden-requires-clause-live : goal.take_hidden-requires-clause-live
@@ -20,7 +21,7 @@ restack-requires-clause-change g c =
     let is = c.requires.change in
     record {
       live = is.live;
-      places = is.places;
+      places = others_places c.args.lists.now c.args.p c.args.w c.args.new.now is.live is.others;
       stand = relist_stand (shape c.args.lists.now) c.args.p c.args.new.now is.live is.forest;
       one = relist_one (shape c.args.lists.now) c.args.p c.args.new.now is.live is.forest;
     }
@@ -28,12 +29,15 @@ restack-requires-clause-change g c =
 pub restack-requires-clause-above : goal.restack-requires-clause-above
 restack-requires-clause-above g c = c.requires.change.stands
 
+pub restack-requires-clause-outside : goal.restack-requires-clause-outside
+restack-requires-clause-outside g c = λ z inside away none. others_top c.args.lists.now c.args.p c.args.w c.args.new.now c.requires.change.live c.requires.change.others c.args.area.now c.requires.place z inside away none
+
 pub restack-requires-clause-near_new : goal.restack-requires-clause-near_new
 restack-requires-clause-near_new g c = relist_corners (shape c.args.lists.now) c.args.p c.args.new.now c.requires.change.live c.requires.change.forest
 
 pub restack-requires-clause-places : goal.restack-requires-clause-places
 restack-requires-clause-places g c =
-    relist_places (shape c.args.lists.now) c.args.p c.args.new.now c.requires.change.live c.requires.change.forest c.args.w (has_place c.args.pixels.now) (has_place c.take_hidden.new.self) c.requires.change.places c.requires.places c.take_hidden.ensures.has
+    relist_places (shape c.args.lists.now) c.args.p c.args.new.now c.requires.change.live c.requires.change.forest c.args.w (has_place c.args.pixels.now) (has_place c.take_hidden.new.self) (others_places c.args.lists.now c.args.p c.args.w c.args.new.now c.requires.change.live c.requires.change.others) c.requires.places c.take_hidden.ensures.has
 
 pub restack-requires-clause-bits : goal.restack-requires-clause-bits
 restack-requires-clause-bits g c =

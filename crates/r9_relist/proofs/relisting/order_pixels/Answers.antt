@@ -22,21 +22,6 @@ take_hidden-requires-clause-live g c = c.requires.order.live
 pub take_hidden-requires-clause-windows : goal.take_hidden-requires-clause-windows
 take_hidden-requires-clause-windows g c = relist_on (shape c.args.lists.now) c.args.p c.args.new.now c.requires.order.live c.requires.forest
 
-pub get-requires : goal.get-requires
-get-requires g c = c.requires.order.live
-
-pub reorder-requires-clause-near : goal.reorder-requires-clause-near
-reorder-requires-clause-near g c = subst (λ (im : Image). IsRectNear im.r) c.get.ensures (lists_near c.args.lists.now c.args.p c.requires.order.live).0
-
-pub reorder-requires-clause-ordered : goal.reorder-requires-clause-ordered
-reorder-requires-clause-ordered g c = subst (λ (im : Image). IsOrdered im.r) c.get.ensures (c.requires.before.images c.args.p c.requires.order.live).ordered
-
-pub reorder-requires-clause-inside : goal.reorder-requires-clause-inside
-reorder-requires-clause-inside g c = λ z inside. ap (λ (im : Image). holds im.r z) c.get.ensures ∙ inside
-
-pub reorder-requires-clause-outside : goal.reorder-requires-clause-outside
-reorder-requires-clause-outside g c = λ z inside none. absurd (true≢false (sym inside ∙ ap (λ (im : Image). holds im.r z) c.get.ensures ∙ none))
-
 pub reorder-requires-clause-places : goal.reorder-requires-clause-places
 reorder-requires-clause-places g c =
     let world = shape c.args.lists.now in
@@ -69,8 +54,3 @@ returns-clause-moved g c =
     restacked-world world c.args.p c.args.new.now (kept_at c.take_hidden.new.self) (kept_at c.reorder.new.pixels) c.requires.order.live (standing-forest new c.requires.forest) (places-forest new c.requires.forest)
     (c.reorder.ensures.moved (fill_of_top (with_kept world (kept_at c.take_hidden.new.self)) c.args.p))
     ∙ ap (λ (kept : Place → ℕ). with_windows (with_kept world kept) c.args.p c.args.new.now) c.take_hidden.ensures.kept
-
-pub returns-clause-steps : goal.returns-clause-steps
-returns-clause-steps g c =
-    let same = ap (λ (im : Image). area_of im.r) c.get.ensures in
-    omega (arith, same, c.reorder.ensures.steps)

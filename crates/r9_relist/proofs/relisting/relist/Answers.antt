@@ -1,4 +1,4 @@
-use Rattle.std.proofs.Common.{◌≡◌, ◌∙◌, ◌≤◌, List, sym, subst, ap}
+use Rattle.std.proofs.Common.{◌≡◌, ◌∙◌, ◌≤◌, List, sym, subst, ap, arith}
 use Rattle.model_forest.specs.declared.Window.{Window}
 use Rattle.model_forest.specs.Stack.{with_windows}
 use Rattle.model_forest.specs.World.{World}
@@ -7,7 +7,6 @@ use Rattle.model_kept.specs.Restack.{with_list}
 use Rattle.r9_locate.specs.Table.{shape}
 use Rattle.r9_pixels.specs.Kept.{kept_at, spare_in, wanted_in}
 use Rattle.r9_pixels.specs.Places.{in_hidden}
-use Rattle.r9_restack.specs.Changing.{StaysTop}
 use Rattle.r9_relist.specs.Relisting.{IsAsBefore, IsRelisting}
 use Rattle.r9_relist.proofs.relisting.relist.Goals as goal
 
@@ -17,9 +16,6 @@ move_pixels-requires-clause-change g c = subst (IsRelisting (shape c.args.lists.
 pub move_pixels-requires-clause-spare : goal.move_pixels-requires-clause-spare
 move_pixels-requires-clause-spare g c =
     subst (λ (ws : List Window). wanted_in c.args.pixels.now (shape c.args.lists.now) c.args.p ws ≤ spare_in c.args.pixels.now) (sym c.deref.ensures.value) c.requires.spare
-
-pub move_pixels-requires-clause-outside : goal.move_pixels-requires-clause-outside
-move_pixels-requires-clause-outside g c = λ z inside away. subst (λ (ws : List Window). StaysTop (shape c.args.lists.now) c.args.p ws c.args.w z) (sym c.deref.ensures.value) (c.requires.outside z inside away)
 
 pub settle-requires-clause-live : goal.settle-requires-clause-live
 settle-requires-clause-live g c = c.requires.change.live
@@ -40,3 +36,8 @@ returns-clause-world g c before was =
     ∙ subst (λ (ws : List Window). with_kept (with_list old c.args.p ws) kept ≡ with_windows (with_kept old before) c.args.p ws) c.deref.ensures.value
     (c.move_pixels.ensures.moved before
     (subst (λ (ws : List Window). IsAsBefore old c.args.p c.args.w ws (g.S.Source.given c.args.source.now) (g.S.Source.fill c.args.source.now) (kept_at c.args.pixels.now) before) (sym c.deref.ensures.value) was))
+
+pub returns-clause-spare : goal.returns-clause-spare
+returns-clause-spare g c =
+    let same = ap (λ (ws : List Window). wanted_in c.args.pixels.now (shape c.args.lists.now) c.args.p ws) c.deref.ensures.value in
+    omega (arith, same, c.settle.ensures.spare, c.move_pixels.ensures.spare)

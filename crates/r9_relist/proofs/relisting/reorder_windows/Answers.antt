@@ -7,7 +7,7 @@ use Rattle.model_kept.specs.Restack.{with_list}
 use Rattle.r9_locate.specs.Table.{shape}
 use Rattle.r9_pixels.specs.Kept.{kept_at, spare_in, wanted_in}
 use Rattle.r9_pixels.specs.Places.{in_hidden}
-use Rattle.r9_restack.specs.Moving.{IsReordering}
+use Rattle.r9_restack.specs.Moving.{IsReordering, IsSameTop}
 use Rattle.r9_relist.proofs.relisting.reorder_windows.Goals as goal
 
 pub order_pixels-requires-clause-order : goal.order_pixels-requires-clause-order
@@ -15,6 +15,10 @@ order_pixels-requires-clause-order g c = subst (IsReordering (shape c.args.lists
 
 pub order_pixels-requires-clause-forest : goal.order_pixels-requires-clause-forest
 order_pixels-requires-clause-forest g c = subst (λ (ws : List Window). IsForest (with_list (shape c.args.lists.now) c.args.p ws)) (sym c.deref.ensures.value) c.requires.forest
+
+pub order_pixels-requires-clause-outside : goal.order_pixels-requires-clause-outside
+order_pixels-requires-clause-outside g c = λ z inside none.
+    subst (λ (ws : List Window). IsSameTop (shape c.args.lists.now) c.args.p ws z) (sym c.deref.ensures.value) (c.requires.outside z inside none)
 
 pub order_pixels-requires-clause-spare : goal.order_pixels-requires-clause-spare
 order_pixels-requires-clause-spare g c =

@@ -21,6 +21,7 @@ loop-done-init g c = record {
   long = refl;
   has = refl;
   forms = refl;
+  spare = refl;
   steps = omega arith;
 }
 
@@ -60,6 +61,7 @@ loop-done-preserved g c =
       long = omega (arith, length-append c.change_part.new.raws (drop len c.loop-done.block), length-drop len c.loop-done.block, c.change_part.auto.raws, long, c.loop-done.invariant.long, c.steady_top_of-len.ensures.most, c.steady_top.ensures.most, c.min.ensures);
       has = c.change_part.ensures.has ∙ c.loop-done.invariant.has;
       forms = c.change_part.ensures.forms ∙ c.loop-done.invariant.forms;
+      spare = c.change_part.ensures.spare ∙ c.loop-done.invariant.spare;
       steps = omega (arith, c.change_part.ensures.steps, c.loop-done.invariant.steps, long);
     }
 

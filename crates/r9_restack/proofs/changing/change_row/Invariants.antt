@@ -13,6 +13,7 @@ invariant-loop-done g l = record {
   long : length l.block ≡ 256;
   has : g.P.Pixels.has l.pixels ≡ g.P.Pixels.has l.fn.pixels;
   forms : g.P.Pixels.forms l.pixels ≡ g.P.Pixels.forms l.fn.pixels;
+  spare : g.P.Pixels.spare l.pixels ≡ g.P.Pixels.spare l.fn.pixels;
   steps : l.steps ≤ l.fn.steps + 2 * l.done;
 }
 

@@ -1,7 +1,8 @@
 use Rattle.std.proofs.Common.{All, List, append-nil, sym, subst}
 use Rattle.std.proofs.lemmas.Nat.{pow_pos}
 use Rattle.r9_geom.specs.declared.Point.{Point}
-use Rattle.r9_geom.specs.Geometry.{holds, IsNear}
+use Rattle.r9_geom.specs.Geometry.{IsNear}
+use Rattle.r9_region.specs.Region.{covers}
 use Rattle.model_forest.specs.declared.Window.{Window}
 use Rattle.r9_locate.specs.Forms.{bits_in}
 use Rattle.r9_locate.specs.Table.{shape}
@@ -10,8 +11,8 @@ use Rattle.r9_restack.proofs.Orders.{moved-all, moved-changed}
 use Rattle.r9_restack.proofs.Parting.{near_all, nearby, setting}
 use Rattle.r9_restack.proofs.ordering.reorder.Goals as goal
 
-pub change_area-requires-clause-change : goal.change_area-requires-clause-change
-change_area-requires-clause-change g c =
+pub change_areas-requires-clause-change : goal.change_areas-requires-clause-change
+change_areas-requires-clause-change g c =
     subst (λ (ws : List Window). IsChange (shape c.args.lists.now) c.args.p ws c.args.p) (sym (append-nil c.args.new.now))
     (record {
       live = c.requires.order.live;
@@ -20,12 +21,12 @@ change_area-requires-clause-change g c =
       one = c.requires.order.one;
     })
 
-pub change_area-requires-clause-near_new : goal.change_area-requires-clause-near_new
-change_area-requires-clause-near_new g c =
+pub change_areas-requires-clause-near_new : goal.change_areas-requires-clause-near_new
+change_areas-requires-clause-near_new g c =
     subst (All (λ v. IsNear v.place.min)) (sym (append-nil c.args.new.now)) (near_all (shape c.args.lists.now) c.args.p c.args.new.now c.requires.order (nearby c.args.lists.now))
 
-pub change_area-requires-clause-places : goal.change_area-requires-clause-places
-change_area-requires-clause-places g c =
+pub change_areas-requires-clause-places : goal.change_areas-requires-clause-places
+change_areas-requires-clause-places g c =
     subst (λ (ws : List Window). HasPlacesBut (shape c.args.lists.now) c.args.p ws c.args.p (g.P.Pixels.has c.args.pixels.now)) (sym (append-nil c.args.new.now))
     (record {
       surface = c.requires.places.surface;
@@ -33,18 +34,18 @@ change_area-requires-clause-places g c =
       new_own = λ i x other. c.requires.places.new_own i x;
     })
 
-pub change_area-requires-clause-given : goal.change_area-requires-clause-given
-change_area-requires-clause-given g c x = pow_pos (bits_in (g.P.Pixels.forms c.args.pixels.now) c.args.p)
+pub change_areas-requires-clause-given : goal.change_areas-requires-clause-given
+change_areas-requires-clause-given g c x = pow_pos (bits_in (g.P.Pixels.forms c.args.pixels.now) c.args.p)
 
-pub change_area-requires-clause-fill : goal.change_area-requires-clause-fill
-change_area-requires-clause-fill g c z = pow_pos (bits_in (g.P.Pixels.forms c.args.pixels.now) c.args.p)
+pub change_areas-requires-clause-fill : goal.change_areas-requires-clause-fill
+change_areas-requires-clause-fill g c z = pow_pos (bits_in (g.P.Pixels.forms c.args.pixels.now) c.args.p)
 
 pub returns-clause-moved : goal.returns-clause-moved
 returns-clause-moved g c fill =
     let world = shape c.args.lists.now in
     let kept = g.P.Pixels.kept in
     let ok = setting c.args.lists.now c.args.p c.args.new.now c.requires.order in
-    moved-all world c.args.p c.args.new.now (kept c.args.pixels.now) (kept c.change_area.new.pixels) (holds c.args.area.now) fill ok
-    c.requires.inside c.requires.outside
-    (moved-changed world c.args.p c.args.new.now (kept c.args.pixels.now) (kept c.change_area.new.pixels) (holds c.args.area.now) ok
-    (subst (λ (ws : List Window). IsChanged world c.args.p ws c.args.p (λ (x : Point). 0) (λ (z : Point). 0) (kept c.args.pixels.now) (kept c.change_area.new.pixels) (holds c.args.area.now)) (append-nil c.args.new.now) c.change_area.ensures.moved))
+    moved-all world c.args.p c.args.new.now (kept c.args.pixels.now) (kept c.change_areas.new.pixels) (covers c.args.areas.now) fill ok
+    c.requires.areas.inside c.requires.outside
+    (moved-changed world c.args.p c.args.new.now (kept c.args.pixels.now) (kept c.change_areas.new.pixels) (covers c.args.areas.now) ok
+    (subst (λ (ws : List Window). IsChanged world c.args.p ws c.args.p (λ (x : Point). 0) (λ (z : Point). 0) (kept c.args.pixels.now) (kept c.change_areas.new.pixels) (covers c.args.areas.now)) (append-nil c.args.new.now) c.change_areas.ensures.moved))

@@ -1,74 +1,60 @@
-use Rattle.std.proofs.Common.{◌≡◌, ◌∙◌, ◌^◌, false, All, List, append-nil, sym, subst, ap, arith}
-use Rattle.std.specs.Prelude.{◌&&◌}
+use Rattle.std.proofs.Common.{◌≡◌, ◌∙◌, ◌<◌, ◌^◌, ℕ, Option, sym, subst, ap}
 use Rattle.r9_geom.specs.declared.Rect.{Rect}
-use Rattle.r9_geom.specs.Geometry.{area_of, carried, holds, IsNear, IsOrdered, IsRectNear}
-use Rattle.model_forest.specs.declared.Window.{Window}
+use Rattle.r9_geom.specs.Geometry.{carried, holds, IsRectNear}
 use Rattle.model_forest.specs.World.{Image, image_at}
-use Rattle.model_kept.specs.Keeping.{is_top}
-use Rattle.model_kept.specs.Restack.{with_list, IsRestacked}
-use Rattle.r9_locate.specs.Forms.{bits_in}
+use Rattle.model_kept.specs.Keeping.{own}
+use Rattle.model_kept.specs.Restack.{with_own}
+use Rattle.r9_locate.specs.Forms.{bits_in, Form, HasBits}
 use Rattle.r9_locate.specs.Table.{shape}
-use Rattle.r9_restack.specs.Changing.{HasPlacesBut, IsChange, IsGiven, StaysTop}
-use Rattle.r9_restack.proofs.Changes.{inside_w, shown_then}
+use Rattle.r9_restack.specs.Changing.{IsGiven}
+use Rattle.r9_restack.specs.Placing.{shows}
+use Rattle.r9_restack.proofs.Changes.{changed-all, changing, inside_w, shown_then}
 use Rattle.r9_restack.proofs.Parting.{nearby}
-use Rattle.r9_restack.proofs.Shown.{less_shown}
+use Rattle.r9_restack.proofs.Placed.{done_inside, done_last, done_outside, own_under, placed_from}
 use Rattle.r9_restack.proofs.restacking.restack.Goals as goal
 
--- the list of then is in one part
-pub change-requires-clause-change : goal.change-requires-clause-change
-change-requires-clause-change g c = subst (λ (ws : List Window). IsChange (shape c.args.lists.now) c.args.p ws c.args.w) (sym (append-nil c.args.new.now)) c.requires.change
+pub place-requires-clause-near : goal.place-requires-clause-near
+place-requires-clause-near g c = subst (λ (im : Image). IsRectNear im.r) c.get.ensures (nearby c.args.lists.now c.args.w c.requires.live).0
 
-pub change-requires-clause-outside : goal.change-requires-clause-outside
-change-requires-clause-outside g c z inside out = subst (λ (ws : List Window). StaysTop (shape c.args.lists.now) c.args.p ws c.args.w z) (sym (append-nil c.args.new.now)) (c.requires.outside z inside out)
+pub place-requires-clause-bits : goal.place-requires-clause-bits
+place-requires-clause-bits g c = subst (HasBits (shape c.args.lists.now)) (sym c.change_area.ensures.forms) c.requires.bits
 
-pub change-requires-clause-near_new : goal.change-requires-clause-near_new
-change-requires-clause-near_new g c = subst (All (λ v. IsNear v.place.min)) (sym (append-nil c.args.new.now)) c.requires.near_new
+pub place-requires-clause-given : goal.place-requires-clause-given
+place-requires-clause-given g c z = subst (λ (forms : ℕ → Option Form). g.S.Source.given c.args.source.now z < 2 ^ bits_in forms c.args.p) (sym c.change_area.ensures.forms) (c.requires.given z)
 
-pub change-requires-clause-places : goal.change-requires-clause-places
-change-requires-clause-places g c = subst (λ (ws : List Window). HasPlacesBut (shape c.args.lists.now) c.args.p ws c.args.w (g.P.Pixels.has c.args.pixels.now)) (sym (append-nil c.args.new.now)) c.requires.places
-
-pub keep_hidden-requires-clause-near : goal.keep_hidden-requires-clause-near
-keep_hidden-requires-clause-near g c = subst (λ (im : Image). IsRectNear im.r) c.get.ensures (nearby c.args.lists.now c.args.w c.requires.live).0
-
-pub keep_hidden-requires-clause-given : goal.keep_hidden-requires-clause-given
-keep_hidden-requires-clause-given g c z =
-    let same = ap (λ n. 2 ^ n) (c.requires.bits c.args.w c.args.p c.requires.live c.requires.above) in
-    let still = ap (λ forms. 2 ^ bits_in forms c.args.w) c.change.ensures.forms in
-    omega (arith, same, still, c.requires.given z)
-
-pub returns-clause-shown : goal.returns-clause-shown
-returns-clause-shown g c s all =
-    let world = shape c.args.lists.now in
-    let r = c.get.result.now.r in
-    let corner = c.place_among.result.min in
-    let own : (image_at world c.args.w).r ≡ r = ap (λ (im : Image). im.r) c.get.ensures in
-    let below : (image_at world c.args.p).r ≡ c.get-2.result.now.r = ap (λ (im : Image). im.r) c.get-2.ensures in
-    let fewer =
-    less_shown r s (λ z. holds c.get-2.result.now.r (carried z r.min corner) && is_top c.args.new.now c.args.w (carried z r.min corner)) c.change.new.steps c.keep_hidden.new.steps
-    (subst IsOrdered own c.requires.own_ordered)
-    (λ z h.
-    (ap (λ (q : Rect). holds q z) (sym own) ∙ (all z h).0, (λ j. holds (sym below j) (carried z (sym own j).min (c.place_among.ensures j).min) && is_top c.args.new.now c.args.w (carried z (sym own j).min (c.place_among.ensures j).min)) ∙ (all z h).1))
-    c.keep_hidden.ensures.steps c.keep_hidden.ensures.shown in
-    omega (arith, fewer, c.change.ensures.steps, ap area_of own)
+pub place-requires-clause-fill : goal.place-requires-clause-fill
+place-requires-clause-fill g c z = subst (λ (forms : ℕ → Option Form). g.S.Source.fill c.args.source.now z < 2 ^ bits_in forms c.args.p) (sym c.change_area.ensures.forms) (c.requires.fill z)
 
 pub returns-clause-moved : goal.returns-clause-moved
-returns-clause-moved g c as_before was given =
+returns-clause-moved g c as_before was given_is =
     let world = shape c.args.lists.now in
-    let own : (image_at world c.args.w).r ≡ c.get.result.now.r = ap (λ (im : Image). im.r) c.get.ensures in
-    let below : (image_at world c.args.p).r ≡ c.get-2.result.now.r = ap (λ (im : Image). im.r) c.get-2.ensures in
-    let kept = g.P.Pixels.kept in
+    let p = c.args.p in
+    let w = c.args.w in
     let new = c.args.new.now in
-    let with_w : IsGiven world c.args.p new c.args.w (g.S.Source.given c.args.source.now) (kept c.args.pixels.now) (kept c.change.new.pixels) as_before (kept c.keep_hidden.new.pixels) =
+    let area = c.args.area.now in
+    let r = c.get.result.now.r in
+    let corner = c.place_among.result.min in
+    let given = g.S.Source.given c.args.source.now in
+    let fill = g.S.Source.fill c.args.source.now in
+    let kept = g.P.Pixels.kept in
+    let old = kept c.args.pixels.now in
+    let last = kept c.place.new.pixels in
+    let besides = with_own w (λ x. last (own w x)) old in
+    let own_r : (image_at world w).r ≡ r = ap (λ (im : Image). im.r) c.get.ensures in
+    let at = ap (λ (place : Rect). place.min) c.place_among.ensures in
+    let s = changing c.args.lists.now p new w c.requires.change in
+    let with_w : IsGiven world p new w given besides last as_before last =
     record {
-      was_same = was;
-      pixels = λ q v h top is_w. given _ (inside_w world c.args.p c.args.new.now c.args.w c.requires.change q v top is_w);
-      now_same = λ place apart. c.keep_hidden.ensures.others place apart;
+      was_same = λ place other. was place other ∙ sym (own_under w (λ x. last (own w x)) old place other);
+      pixels = λ q v h top is_w. given_is _ (inside_w world p new w c.requires.change q v top is_w);
+      now_same = λ place apart. λ j. last place;
       hidden = λ x h none.
-          c.keep_hidden.ensures.kept x (ap (λ (r : Rect). holds r x) (sym own) ∙ h)
-          ((λ j. holds (sym below j) (carried x (sym own j).min (c.place_among.ensures j).min) && is_top c.args.new.now c.args.w (carried x (sym own j).min (c.place_among.ensures j).min))
-          ∙ sym (shown_then world c.args.p c.args.new.now c.args.w x c.requires.change.live) ∙ none)
-          ∙ sym (given x h);
+          c.place.ensures.kept x (ap (λ (q : Rect). holds q x) (sym own_r) ∙ h)
+          ((λ j. shows (image_at world p).r new w (carried x (sym own_r j).min (at j))) ∙ sym (shown_then world p new w x c.requires.change.live) ∙ none)
+          ∙ sym (given_is x h);
     } in
-    subst (λ (ws : List Window). IsRestacked world (with_list world c.args.p ws) c.args.p as_before (kept c.keep_hidden.new.pixels) (g.S.Source.fill c.args.source.now)) (append-nil new)
-    (c.change.ensures.moved as_before (kept c.keep_hidden.new.pixels)
-    (subst (λ (ws : List Window). IsGiven world c.args.p ws c.args.w (g.S.Source.given c.args.source.now) (kept c.args.pixels.now) (kept c.change.new.pixels) as_before (kept c.keep_hidden.new.pixels)) (sym (append-nil new)) with_w))
+    changed-all world p new w given fill besides last as_before last (done_last world p new w c.requires.change area r corner (sym own_r) at) s c.requires.above
+    (done_inside world p new w c.requires.change area r corner (sym own_r) at c.requires.inside)
+    (λ q h none. let where_not = done_outside world p new w c.requires.change area r corner (sym own_r) at q h none in c.requires.outside q h where_not.0 where_not.1)
+    (c.place.ensures.moved old (placed_from world p new w given fill s c.requires.above old (kept c.change_area.new.pixels) (holds area) c.change_area.ensures.moved))
+    with_w

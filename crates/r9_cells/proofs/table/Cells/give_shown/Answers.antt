@@ -1,4 +1,4 @@
-use Rattle.std.proofs.Common.{◌≡◌, ◌∙◌, ◌+◌, ℕ, get_or, drop, sym, ap}
+use Rattle.std.proofs.Common.{◌≡◌, ◌∙◌, ◌+◌, ℕ, get_or, drop, sym, ap, arith}
 use Rattle.std.specs.Prelude.{◌==◌, ◌&&◌, not, nat_lt, is_some, if◌then◌else◌}
 use Rattle.std.specs.List.{list_any}
 use Rattle.model_kept.specs.Cells.{cell_count}
@@ -35,6 +35,7 @@ loop-w-preserved c =
           ∙ ap (λ b. if b then (if mid then y else 0) else 0) given
           ∙ kept_twice _ mid y
           ∙ sym (ap (λ b. if b then y else 0) given);
+      more = omega (arith, c.loop-w.invariant.more, c.give_window.ensures.spare);
       given = λ j n.
           let left = list_any (test j n) (drop (c.loop-w.w-index + 1) ws) in
           let mid = is_some (cell_at (all_rows c.loop-w.self) j n) in

@@ -1,7 +1,7 @@
 use Rattle.std.proofs.Common.{◌≡◌, ◌∙◌, sym, ap, arith}
 use Rattle.std.specs.Prelude.{◌==◌, ◌&&◌, not, nat_lt, is_some, if◌then◌else◌}
 use Rattle.std.proofs.lemmas.Bool.Decides.{Decides-eqb}
-use Rattle.model_kept.specs.Cells.{cell_count, hides_under}
+use Rattle.model_kept.specs.Cells.{cell_count}
 use Rattle.r9_cells.specs.Rows.{cell_at}
 use Rattle.r9_cells.specs.Cells.{all_rows, cell_pixel}
 use Rattle.r9_cells.specs.Fitting.{hides_cell}
@@ -14,8 +14,8 @@ loop-k-preserved c =
     let rows = all_rows c.args.self.now in
     let h = hides_cell c.args.below.now c.args.windows.now c.args.i c.args.r.now in
     let k = c.loop-k.k in
-    let is = c.hides-is.result in
-    let hid : is ≡ h k = c.hides-is.ensures ∙ ap (hides_under c.args.below.now c.args.windows.now c.args.i c.args.r.now) c.cell_part.ensures.value in
+    let is = c.hides_part-is.result in
+    let hid : is ≡ h k = c.hides_part-is.ensures in
     record {
       pixels = λ j n p.
           let now = is_some (cell_at (all_rows c.give_unless.new.self) j n) in
@@ -27,6 +27,7 @@ loop-k-preserved c =
           ∙ ap (λ b. if b then (if mid then x else 0) else 0) given
           ∙ kept_twice (not (((j == c.args.i) && (n == k)) && not is)) mid x
           ∙ sym (ap (λ b. if b then x else 0) given);
+      more = omega (arith, c.loop-k.invariant.more, c.give_unless.ensures.spare);
       given = λ j n.
           c.give_unless.ensures.given j n
           ∙ ap (λ b. not (((j == c.args.i) && (n == k)) && not is) && b) (c.loop-k.invariant.given j n)

@@ -1,7 +1,8 @@
 use Rattle.std.proofs.Common.{◌≡◌, ◌∙◌, ◌+◌, ◌≤◌, ℕ, get_or, drop, sym, ap, arith}
 use Rattle.std.specs.Prelude.{◌==◌, ◌||◌, ◌&&◌, nat_lt, is_some}
-use Rattle.std.specs.List.{list_any}
+use Rattle.std.specs.List.{list_any, sum_by}
 use Rattle.std.proofs.lemmas.Bool.{or_right}
+use Rattle.std.proofs.lemmas.List.{at_drop_all}
 use Rattle.model_forest.specs.declared.Window.{Window}
 use Rattle.model_forest.specs.World.{image_at}
 use Rattle.model_kept.specs.Cells.{cell_count}
@@ -53,6 +54,7 @@ loop-w-preserved c =
     let sum = sum_next (λ (v : Window). wanted (all_rows c.args.self.now) (image_at world c.args.p).r ws v.image (image_at world v.image).r) ws c.loop-w.w-index c.loop-w-test.true in
     record {
       room = omega (arith, less now, sum, c.loop-w.invariant.room, c.take_window.ensures.spare);
+      spent = omega (arith, less now, sum, c.loop-w.invariant.spent, c.take_window.ensures.spare);
       pixels = λ j n x. c.take_window.ensures.pixels j n x ∙ c.loop-w.invariant.pixels j n x;
       grows = λ j n e. c.take_window.ensures.taken j n ∙ or_right _ _ (c.loop-w.invariant.grows j n e);
       taken = λ j n.
@@ -72,3 +74,10 @@ returns-clause-taken c j n =
     let now = is_some (cell_at (all_rows c.loop-w.self) j n) in
     let none = any_done (hides_of (shape c.args.lists.now) c.args.p c.args.windows.now j n) c.args.windows.now c.loop-w.w-index c.loop-w-test.false in
     sym (or_none now) ∙ ap (λ b. now || b) (sym none) ∙ c.loop-w.invariant.taken j n
+
+pub returns-clause-spare : goal.returns-clause-spare
+returns-clause-spare c =
+    let world = shape c.args.lists.now in
+    let ws = c.args.windows.now in
+    let none = at_drop_all (sum_by (λ (w : Window). wanted (all_rows c.args.self.now) (image_at world c.args.p).r ws w.image (image_at world w.image).r)) ws c.loop-w.w-index c.loop-w-test.false in
+    omega (arith, none, c.loop-w.invariant.spent)

@@ -7,7 +7,7 @@ use Rattle.model_forest.specs.World.{image_at}
 use Rattle.r9_locate.specs.Table.{shape}
 use Rattle.r9_pixels.specs.Kept.{kept_at}
 use Rattle.r9_forest.specs.Images.{numbers, world}
-use Rattle.r9_forest.proofs.Canvases.{bare_canvas}
+use Rattle.r9_arrive.proofs.Canvases.{bare_canvas}
 use Rattle.r9_forest.proofs.Putting.{put_shown, put_sound, stored_sound, written_same}
 use Rattle.r9_forest.proofs.Raws.{row_pixel_below}
 use Rattle.r9_forest.proofs.Showing.{bits_of}

@@ -6,7 +6,7 @@ use Rattle.model_forest.specs.World.{Image, image_at, parent_of}
 use Rattle.r9_locate.specs.Table.{shape}
 use Rattle.r9_pixels.specs.Kept.{kept_at}
 use Rattle.r9_forest.specs.Images.{world}
-use Rattle.r9_forest.proofs.Canvases.{bare_canvas}
+use Rattle.r9_arrive.proofs.Canvases.{bare_canvas}
 use Rattle.r9_forest.proofs.Groups.{group_on, of_first, stands-live}
 use Rattle.r9_forest.proofs.Sounding.{sound_live}
 use Rattle.r9_forest.proofs.images.Images.parent_of_first.Goals as goal

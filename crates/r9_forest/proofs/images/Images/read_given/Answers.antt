@@ -18,7 +18,7 @@ use Rattle.r9_locate.proofs.Parts.{length-part}
 use Rattle.r9_fills.proofs.Runs.{fails, fill_fails, fill_passes, passes, run_strip, run_written}
 use Rattle.r9_locate.specs.Table.{shape}
 use Rattle.r9_pixels.specs.Kept.{kept_at}
-use Rattle.r9_forest.proofs.Canvases.{bare_canvas}
+use Rattle.r9_arrive.proofs.Canvases.{bare_canvas}
 use Rattle.r9_forest.proofs.Going.{reach_is}
 use Rattle.r9_forest.proofs.images.Images.read_given.Goals as goal
 use Rattle.r9_forest.proofs.images.Images.read_given.Goals.{After-get-frame}

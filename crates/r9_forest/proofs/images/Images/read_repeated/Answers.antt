@@ -12,7 +12,7 @@ use Rattle.r9_locate.specs.Table.{shape}
 use Rattle.r9_locate.proofs.Parts.{length-part, length-put_mid, put_mid_before, put_mid_inside}
 use Rattle.r9_pixels.specs.Kept.{kept_at}
 use Rattle.r9_forest.specs.Images.{world}
-use Rattle.r9_forest.proofs.Canvases.{bare_canvas}
+use Rattle.r9_arrive.proofs.Canvases.{bare_canvas}
 use Rattle.r9_forest.proofs.Repeats.{reduced_run, run_inside}
 use Rattle.r9_forest.proofs.Showing.{image_near}
 use borrow.Rule.Slice.PartMut.{put_mid}

@@ -10,7 +10,7 @@ use Rattle.model_forest.proofs.Sound.{view-below}
 use Rattle.r9_locate.specs.Table.{shape}
 use Rattle.r9_pixels.specs.Kept.{kept_at}
 use Rattle.r9_forest.specs.Images.{world}
-use Rattle.r9_forest.proofs.Canvases.{bare_canvas}
+use Rattle.r9_arrive.proofs.Canvases.{bare_canvas}
 use Rattle.r9_forest.proofs.images.Images.read_row.Goals as goal
 use Rattle.r9_forest.proofs.images.Images.read_row.Goals.{After-get}
 

@@ -7,7 +7,7 @@ use Rattle.r9_plane.proofs.PlaneLemmas.{along_holds, some_of, start_in}
 use Rattle.r9_locate.specs.Table.{shape}
 use Rattle.r9_pixels.specs.Kept.{kept_at}
 use Rattle.r9_forest.specs.Images.{world}
-use Rattle.r9_forest.proofs.Canvases.{bare_canvas}
+use Rattle.r9_arrive.proofs.Canvases.{bare_canvas}
 use Rattle.r9_forest.proofs.Showing.{bits_sound, image_near, point_has, row_width, shown_kept}
 use Rattle.r9_forest.proofs.images.Images.read_view.Goals as goal
 

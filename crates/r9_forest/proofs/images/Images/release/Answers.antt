@@ -5,7 +5,7 @@ use Rattle.model_forest.specs.World.{Image}
 use Rattle.r9_locate.specs.Table.{shape}
 use Rattle.r9_pixels.specs.Kept.{kept_at}
 use Rattle.r9_forest.specs.Images.{world}
-use Rattle.r9_forest.proofs.Canvases.{bare_canvas}
+use Rattle.r9_arrive.proofs.Canvases.{bare_canvas}
 use Rattle.r9_forest.proofs.images.Images.release.Goals as goal
 
 pub get-requires : goal.get-requires

@@ -1,7 +1,7 @@
 use Rattle.std.proofs.Common.{◌≡◌, ◌∙◌, ◌≤◌, ℕ, All, List, Some, refl, sym, subst, ap, arith}
 use Rattle.r9_geom.specs.Geometry.{area_of}
-use Rattle.r9_forest.proofs.Canvases.{bare_canvas}
-use Rattle.r9_forest.proofs.Entering.{on_err}
+use Rattle.r9_arrive.proofs.Canvases.{bare_canvas}
+use Rattle.r9_arrive.proofs.Entering.{on_err}
 use Rattle.model_forest.specs.declared.Window.{Window}
 use Rattle.model_forest.specs.Stack.{with_windows}
 use Rattle.model_forest.specs.World.{image_at, IsForest}

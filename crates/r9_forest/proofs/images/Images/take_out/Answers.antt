@@ -26,7 +26,7 @@ use Rattle.r9_forest.specs.Images.{numbers, world}
 use Rattle.r9_forest.specs.Numbered.{numbers_of}
 use Rattle.r9_forest.specs.Sound.{IsSound}
 use Rattle.r9_forest.proofs.Backs.{back_numbers, back_room, pushed, IsBack}
-use Rattle.r9_forest.proofs.Canvases.{bare_canvas}
+use Rattle.r9_arrive.proofs.Canvases.{bare_canvas}
 use Rattle.r9_forest.proofs.Going.{back_gone, fill_below, fill_right, fill_stands, going_shape, gone_sound, parent_is, released_from, window_placed, IsPlaced}
 use Rattle.r9_forest.proofs.Roomy.{fills_gone, fills_same}
 use Rattle.r9_forest.proofs.Showing.{bits_of}

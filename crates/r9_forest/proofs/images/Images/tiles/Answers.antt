@@ -7,7 +7,7 @@ use Rattle.r9_locate.specs.Table.{made, shape}
 use Rattle.r9_pixels.specs.Kept.{kept_at}
 use Rattle.r9_forest.specs.Images.{numbers, world}
 use Rattle.r9_forest.specs.Keeping.{tiles_of}
-use Rattle.r9_forest.proofs.Canvases.{bare_canvas}
+use Rattle.r9_arrive.proofs.Canvases.{bare_canvas}
 use Rattle.r9_forest.proofs.Keepers.{cells_same}
 use Rattle.r9_forest.proofs.images.Images.tiles.Goals as goal
 

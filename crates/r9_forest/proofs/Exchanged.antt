@@ -1,0 +1,318 @@
+-- A window comes with what another shows, and the other moves far outside.
+use Rattle.std.proofs.Common.{◌≡◌, ◌≢◌, ◌∙◌, ℕ, ◌+◌, ◌*◌, ◌<◌, ◌^◌, ◌+ℤ◌, ◌-ℤ◌, Bool, true, false, List, [], Option, Some, None, Result, Ok, Err, get_or, length, refl, sym, ap, subst, arith, ⊎_elim, eq-eqb}
+use Rattle.std.specs.Prelude.{◌==◌, is_some, IfOk, option_map, unwrap_or, if◌then◌else◌}
+use Rattle.std.specs.Option.{option_map_or}
+use Rattle.std.proofs.lemmas.Bool.{cases_eq, ne_eqb}
+use Rattle.std.proofs.lemmas.Int.{ints}
+use Rattle.std.proofs.lemmas.Nat.{pow_pos}
+use Rattle.r9_geom.specs.declared.Point.{Point}
+use Rattle.r9_geom.specs.declared.Rect.{Rect}
+use Rattle.r9_geom.specs.Geometry.{carried, holds, natural, IsNearBy}
+use Rattle.r9_geom.proofs.GeometryLemmas.{bounds_of, holds_from}
+use Rattle.model_pixel.specs.Channels as channels
+use Rattle.model_forest.specs.declared.Standing.{Standing}
+use Rattle.model_forest.specs.declared.Window.{Window}
+use Rattle.model_forest.specs.Stack.{moved, seen, with_windows}
+use Rattle.model_forest.specs.Steps.{after_list, after_replace, after_replace_on, carried_rect, outside, put_above}
+use Rattle.model_forest.specs.View.{view}
+use Rattle.model_forest.specs.World.{Image, World, image_at, no_image, parent_of, with_image, IsForest, IsLive, SameSize}
+use Rattle.model_forest.proofs.Changes.{live-standing, with_image-free}
+use Rattle.model_forest.proofs.Listed.{window_of}
+use Rattle.model_forest.proofs.Sound.{view-below}
+use Rattle.model_forest.proofs.Steps.{replacement, IsForest-carried_over, IsForest-moved_to, IsForest-replacement}
+use Rattle.model_forest.proofs.Uncovers.{seen-same}
+use Rattle.model_forest.proofs.Windows.{rect-with_windows, windows-with_windows, with_windows-other, IsStill-with_windows}
+use Rattle.model_kept.specs.Keeping.{with_kept, Place}
+use Rattle.r9_plane.specs.Pixels.{number_of}
+use Rattle.r9_arrive.specs.Arriving.{after_coming, bare_window, coming_window, IsComing}
+use Rattle.r9_arrive.proofs.Canvases.{bare_canvas}
+use Rattle.r9_arrive.proofs.Coming.{on_top_comes, put_above_comes}
+use Rattle.r9_forest.specs.Groups.{IsMoved}
+use Rattle.r9_forest.specs.Replaced.{moved_out, put_in, replaced, taken_over, IsLater, IsReplacing}
+
+-- ---- pixels of one rectangle as those of another of its size
+
+number_carried : (r own : Rect) (p : Point) → SameSize r own → number_of own (carried p r.min own.min) ≡ number_of r p
+number_carried r own p size =
+    let across : (p.x -ℤ r.min.x +ℤ own.min.x) -ℤ own.min.x ≡ p.x -ℤ r.min.x = omega (arith, ints) in
+    let down : (p.y -ℤ r.min.y +ℤ own.min.y) -ℤ own.min.y ≡ p.y -ℤ r.min.y = omega (arith, ints) in
+    λ j. natural (down j) * natural (sym size.width j) + natural (across j)
+
+holds_carried : (r own : Rect) (p : Point) → SameSize r own → holds r p ≡ true → holds own (carried p r.min own.min) ≡ true
+holds_carried r own p size h =
+    let b = bounds_of r p h in
+    holds_from own (carried p r.min own.min) (record {
+      left = omega (arith, ints, b.left);
+      right = omega (arith, ints, b.right, size.width);
+      top = omega (arith, ints, b.top);
+      bottom = omega (arith, ints, b.bottom, size.height);
+    })
+
+-- what a window comes with is what the other shows, or one raw pixel
+module _ (world : World) (old : ℕ) (r : Rect) (raw : ℕ) (keep : Bool) (items : List ℕ) (given : Point → ℕ) (told : (p : Point) → given p ≡ (if keep then (if holds r p then get_or items (number_of r p) 0 else 0) else raw)) (size : keep ≡ true → SameSize r (image_at world old).r) (shown : keep ≡ true → (p : Point) → holds (image_at world old).r p ≡ true → get_or items (number_of (image_at world old).r p) 0 ≡ view world old p) where
+  given_is : (p : Point) → holds r p ≡ true → given p ≡ taken_over world old r raw keep p
+  given_is p h = told p ∙ by_keep keep refl
+    where
+      own : Rect
+      own = (image_at world old).r
+
+      by_keep : (b : Bool) → keep ≡ b → (if b then (if holds r p then get_or items (number_of r p) 0 else 0) else raw) ≡ (if b then view world old (carried p r.min own.min) else raw)
+      by_keep false e = refl
+      by_keep true e =
+          ap (λ b. if b then get_or items (number_of r p) 0 else 0) h
+          ∙ ap (λ n. get_or items n 0) (sym (number_carried r own p (size e)))
+          ∙ shown e (carried p r.min own.min) (holds_carried r own p (size e) h)
+
+  pub given_comes : (i parent fill : ℕ) (ws : List Window) → after_coming world i parent fill r given ws ≡ after_coming world i parent fill r (taken_over world old r raw keep) ws
+  given_comes i parent fill ws =
+      ap (λ (canvas : Point → ℕ). with_windows (with_image world i (Some (record (bare_window world parent fill r) { canvas = canvas }))) parent ws)
+      (seen-same r [] (taken_over world old r raw keep) given (λ q inside bare. given_is q inside))
+
+  pub given_fits : (chan : ℕ) → IsForest world → IsLive world old → (keep ≡ true → chan ≡ (image_at world old).chan) → raw < 2 ^ channels.depth chan → (p : Point) → given p < 2 ^ channels.depth chan
+  given_fits chan ok live same fits p = subst (λ (n : ℕ). n < 2 ^ channels.depth chan) (sym (told p)) (by_keep keep refl)
+    where
+      by_inside : (b : Bool) → holds r p ≡ b → keep ≡ true → (if b then get_or items (number_of r p) 0 else 0) < 2 ^ channels.depth chan
+      by_inside false h e = pow_pos (channels.depth chan)
+      by_inside true h e =
+          let own = (image_at world old).r in
+          let from = carried p r.min own.min in
+          let is : get_or items (number_of r p) 0 ≡ view world old from = ap (λ n. get_or items n 0) (sym (number_carried r own p (size e))) ∙ shown e from (holds_carried r own p (size e) h) in
+          subst (λ (n : ℕ). n < 2 ^ channels.depth chan) (sym is) (subst (λ (c : ℕ). view world old from < 2 ^ channels.depth c) (sym (same e)) (view-below world ok old from live))
+
+      by_keep : (b : Bool) → keep ≡ b → (if b then (if holds r p then get_or items (number_of r p) 0 else 0) else raw) < 2 ^ channels.depth chan
+      by_keep false e = fits
+      by_keep true e = by_inside (holds r p) refl e
+
+-- ---- the world when the window came
+
+pub stands_at : (world : World) (i : ℕ) (s : Standing) → (image_at world i).standing ≡ Some s → parent_of world i ≡ Some s.parent
+stands_at world i s stands = ap (option_map (λ (t : Standing). t.parent)) stands
+
+-- what was there stands as it stood, in the rectangle that it had
+module _ (world : World) (i parent fill : ℕ) (r : Rect) (pixels : Point → ℕ) (ws : List Window) (free : world i ≡ None) (live : IsLive world parent) where
+  abbrev fresh : Image
+  fresh = coming_window world parent fill r pixels
+
+  abbrev one : World
+  one = with_image world i (Some fresh)
+
+  abbrev two : World
+  two = after_coming world i parent fill r pixels ws
+
+  one_at : (n : ℕ) → IsLive world n → one n ≡ world n
+  one_at n alive = with_image-free world i n (Some fresh) free alive
+
+  live_one : IsLive one parent
+  live_one = ap is_some (one_at parent live) ∙ live
+
+  pub standing_still : (n : ℕ) → IsLive world n → (image_at two n).standing ≡ (image_at world n).standing
+  standing_still n alive =
+      ((IsStill-with_windows one parent ws live_one).same n).standing ∙ ap (λ (o : Option Image). (unwrap_or o no_image).standing) (one_at n alive)
+
+  pub rect_still : (n : ℕ) → IsLive world n → (image_at two n).r ≡ (image_at world n).r
+  rect_still n alive = rect-with_windows one parent ws n ∙ ap (λ (o : Option Image). (unwrap_or o no_image).r) (one_at n alive)
+
+  pub live_still : (n : ℕ) → IsLive world n → IsLive two n
+  live_still n alive = (IsStill-with_windows one parent ws live_one).live n ∙ ap is_some (one_at n alive) ∙ alive
+
+  pub windows_still : (n : ℕ) → IsLive world n → n ≢ parent → (image_at two n).windows ≡ (image_at world n).windows
+  windows_still n alive other =
+      ap (λ (o : Option Image). (unwrap_or o no_image).windows) (with_windows-other one parent ws n other ∙ one_at n alive)
+
+  pub windows_then : (image_at two parent).windows ≡ ws
+  windows_then = windows-with_windows one parent ws
+
+-- the channels of a window are those of the image on which it stands
+pub left_chan : (world : World) (old : ℕ) (left : Standing) → IsForest world → (image_at world old).standing ≡ Some left → (image_at world old).chan ≡ (image_at world left.parent).chan
+left_chan world old left ok stands =
+    let found = window_of world ok old left.parent (stands_at world old left stands) in
+    ap (λ n. (image_at world n).chan) (sym found.1) ∙ found.2.chan
+
+-- directly above another it has what that has
+replacement_is : (world : World) (old : ℕ) (left : Standing) (r : Rect) (raw : ℕ) (keep : Bool) → IsForest world → (image_at world old).standing ≡ Some left → replacement world old r raw keep ≡ coming_window world left.parent left.fill r (taken_over world old r raw keep)
+replacement_is world old left r raw keep ok stands =
+    let found = window_of world ok old left.parent (stands_at world old left stands) in
+    let chan = left_chan world old left ok stands in
+    let deep : (image_at world old).depth ≡ (image_at world left.parent).depth + 1 = ap (λ n. (image_at world n).depth) (sym found.1) ∙ found.2.above in
+    λ j. record {
+      r = r;
+      clipr = r;
+      repl = false;
+      chan = chan j;
+      standing = stands j;
+      depth = deep j;
+      canvas = seen r [] (taken_over world old r raw keep);
+      windows = [];
+    }
+
+module _ (world : World) (i old : ℕ) (left standing : Standing) (over : Option ℕ) (r : Rect) (corner : Point) (raw : ℕ) (keep : Bool) (ok : IsForest world) (is : IsReplacing world i old left standing over r corner raw keep) where
+  abbrev when_come : World
+  when_come = replaced world i old standing over r corner raw keep
+
+  abbrev own : Rect
+  own = (image_at world old).r
+
+  pub old_live : IsLive world old
+  old_live = live-standing world old left.parent (stands_at world old left is.left_at)
+
+  pub left_live : IsLive world left.parent
+  left_live = ok.parents old left.parent old_live (stands_at world old left is.left_at)
+
+  -- it is a world of images
+  on_top_forest : IsForest (replaced world i old standing None r corner raw keep)
+  on_top_forest =
+      IsForest-carried_over world i old standing.parent standing.fill r corner raw keep is.free
+      (record {
+        live = old_live;
+        parent_live = is.parent_live;
+        fill_live = is.fill_live;
+        shallow = is.shallow;
+        few = is.few;
+        near = is.near;
+        ordered = is.ordered;
+        near_corner = is.near_corner;
+        fits = is.fits;
+        chan = is.chan;
+      })
+      ok
+
+  above_forest : standing ≡ left → IsForest (replaced world i old standing (Some old) r corner raw keep)
+  above_forest same =
+      let p = left.parent in
+      let first : Window = record { image = i; place = carried_rect r r.min corner } in
+      let image = replacement_is world old left r raw keep ok is.left_at in
+      let at_p : (image_at (with_image world i (Some (replacement world old r raw keep))) p).windows ≡ (image_at world p).windows =
+      ap (λ (o : Option Image). (unwrap_or o no_image).windows) (with_image-free world i p (Some (replacement world old r raw keep)) is.free left_live) in
+      let room : length (image_at world p).windows + 1 < 2 ^ 32 = subst (λ (s : Standing). length (image_at world s.parent).windows + 1 < 2 ^ 32) same is.few in
+      let fits : raw < 2 ^ channels.depth (image_at world old).chan = subst (λ (c : ℕ). raw < 2 ^ channels.depth c) (ap (λ (s : Standing). (image_at world s.parent).chan) same ∙ sym (left_chan world old left ok is.left_at)) is.fits in
+      subst (λ (s : Standing). IsForest (replaced world i old s (Some old) r corner raw keep)) (sym same)
+      (subst (λ (im : Image). IsForest (with_windows (with_image world i (Some im)) p (put_above first old (image_at world p).windows))) image
+      (subst (λ (us : List Window). IsForest (with_windows (with_image world i (Some (replacement world old r raw keep))) p (put_above first old us))) at_p
+      (IsForest-replacement world i old p r corner raw keep is.free (stands_at world old left is.left_at) room is.near is.ordered is.near_corner fits ok)))
+
+  pub replaced_forest : IsForest when_come
+  replaced_forest = by_over over refl
+    where
+      by_over : (o : Option ℕ) → over ≡ o → IsForest (replaced world i old standing o r corner raw keep)
+      by_over None e = on_top_forest
+      by_over (Some n) e =
+          let both = is.beside n e in
+          subst (λ (m : ℕ). IsForest (replaced world i old standing (Some m) r corner raw keep)) (sym both.0) (above_forest both.1)
+
+  abbrev ws : List Window
+  ws = put_in over (record { image = i; place = carried_rect r r.min corner }) (image_at world standing.parent).windows
+
+  pub old_stands : (image_at when_come old).standing ≡ Some left
+  old_stands = standing_still world i standing.parent standing.fill r (taken_over world old r raw keep) ws is.free is.parent_live old old_live ∙ is.left_at
+
+  pub old_rect : (image_at when_come old).r ≡ own
+  old_rect = rect_still world i standing.parent standing.fill r (taken_over world old r raw keep) ws is.free is.parent_live old old_live
+
+  pub left_then : IsLive when_come left.parent
+  left_then = live_still world i standing.parent standing.fill r (taken_over world old r raw keep) ws is.free is.parent_live left.parent left_live
+
+  -- the list of the image on which the other stands
+  pub list_then : (list windows : List Window) → list ≡ ws → windows ≡ (image_at world left.parent).windows → (left.parent ≡ standing.parent → (image_at when_come left.parent).windows ≡ list) × (left.parent ≢ standing.parent → (image_at when_come left.parent).windows ≡ windows)
+  list_then list windows list_is windows_is = (
+    λ same. ap (λ n. (image_at when_come n).windows) same ∙ windows_then world i standing.parent standing.fill r (taken_over world old r raw keep) ws is.free is.parent_live ∙ sym list_is,
+    λ other. windows_still world i standing.parent standing.fill r (taken_over world old r raw keep) ws is.free is.parent_live left.parent left_live other ∙ sym windows_is,
+  )
+
+  -- and once the other moved it is one still
+  pub moved_forest : IsForest (moved_out when_come left.parent old own)
+  moved_forest =
+      let near : IsNearBy (2 ^ 34) outside = record { left = omega (arith, ints); right = omega (arith, ints); top = omega (arith, ints); bottom = omega (arith, ints) } in
+      subst (λ (s : Rect). IsForest (moved_out when_come left.parent old s)) old_rect
+      (IsForest-moved_to when_come replaced_forest old left.parent outside left_then near)
+
+-- ---- the world once the other moved
+
+listed_at : (world : World) (i : ℕ) (s : Standing) (change : List Window → List Window) → (image_at world i).standing ≡ Some s → after_list world i change ≡ with_windows world s.parent (change (image_at world s.parent).windows)
+listed_at world i s change stands =
+    ap (λ (o : Option ℕ). option_map_or (λ parent. with_windows world parent (change (image_at world parent).windows)) o world) (stands_at world i s stands)
+
+pub replace_world : (world : World) (i old : ℕ) (left : Standing) (r : Rect) (corner : Point) (raw : ℕ) (keep : Bool) → IsForest world → IsReplacing world i old left left (Some old) r corner raw keep → moved_out (replaced world i old left (Some old) r corner raw keep) left.parent old (image_at world old).r ≡ after_replace world i old r corner raw keep
+unfolding after_replace
+replace_world world i old left r corner raw keep ok is =
+    let p = left.parent in
+    let first : Window = record { image = i; place = carried_rect r r.min corner } in
+    let change = moved old (carried_rect (image_at world old).r (image_at world old).r.min outside) in
+    let image = replacement_is world old left r raw keep ok is.left_at in
+    let live = old_live world i old left left (Some old) r corner raw keep ok is in
+    let below = left_live world i old left left (Some old) r corner raw keep ok is in
+    let one = with_image world i (Some (replacement world old r raw keep)) in
+    let stands_one : (image_at one old).standing ≡ Some left = ap (λ (o : Option Image). (unwrap_or o no_image).standing) (with_image-free world i old (Some (replacement world old r raw keep)) is.free live) ∙ is.left_at in
+    let at_p : (image_at one p).windows ≡ (image_at world p).windows = ap (λ (o : Option Image). (unwrap_or o no_image).windows) (with_image-free world i p (Some (replacement world old r raw keep)) is.free below) in
+    let two : after_list one old (put_above first old) ≡ replaced world i old left (Some old) r corner raw keep =
+    listed_at one old left (put_above first old) stands_one
+    ∙ ap (λ (us : List Window). with_windows one p (put_above first old us)) at_p
+    ∙ ap (λ (im : Image). with_windows (with_image world i (Some im)) p (put_above first old (image_at world p).windows)) image in
+    sym
+    (ap (λ (v : World). after_list v old change) two
+    ∙ listed_at (replaced world i old left (Some old) r corner raw keep) old left change (old_stands world i old left left (Some old) r corner raw keep ok is))
+
+pub replace_on_world : (world : World) (i old : ℕ) (left standing : Standing) (r : Rect) (corner : Point) (raw : ℕ) (keep : Bool) → IsForest world → IsReplacing world i old left standing None r corner raw keep → moved_out (replaced world i old standing None r corner raw keep) left.parent old (image_at world old).r ≡ after_replace_on world i old standing.parent standing.fill r corner raw keep
+unfolding after_replace_on
+replace_on_world world i old left standing r corner raw keep ok is =
+    sym
+    (listed_at (replaced world i old standing None r corner raw keep) old left (moved old (carried_rect (image_at world old).r (image_at world old).r.min outside))
+    (old_stands world i old left standing None r corner raw keep ok is))
+
+-- what follows from two facts of what a call gives
+pub if_ok_both : {T E : Type 0} (P Q R : T → Type 0) (r : Result T E) → IfOk r P → IfOk r Q → ((x : T) → P x → Q x → R x) → IfOk r R
+if_ok_both P Q R (Ok x) p q follows = follows x p q
+if_ok_both P Q R (Err e) p q follows = tt
+
+-- ---- over lists and kept pixels
+
+module _ (shape : World) (kept : Place → ℕ) (w : Window) (old : ℕ) (left standing : Standing) (over : Option ℕ) (r : Rect) (corner : Point) (raw : ℕ) (keep : Bool) (ok : IsForest (with_kept shape kept)) (is : IsReplacing (with_kept shape kept) w.image old left standing over r corner raw keep) (placed : w.place ≡ carried_rect r r.min corner) (list : List Window) (listed : list ≡ put_in over w (image_at shape standing.parent).windows) where
+  abbrev shown_world : World
+  shown_world = with_kept shape kept
+
+  abbrev comes_then : World
+  comes_then = replaced shown_world w.image old standing over r corner raw keep
+
+  list_is : list ≡ put_in over (record { image = w.image; place = carried_rect r r.min corner }) (image_at shown_world standing.parent).windows
+  list_is = listed ∙ (λ j. put_in over (record { image = w.image; place = placed j }) ((bare_canvas shape kept).windows standing.parent j))
+
+  -- the list with the window is one in which it comes
+  pub list_comes : IsComing shape standing.parent w list
+  list_comes = subst (IsComing shape standing.parent w) (sym listed) (by_over over)
+    where
+      by_over : (o : Option ℕ) → IsComing shape standing.parent w (put_in o w (image_at shape standing.parent).windows)
+      by_over None = on_top_comes shape standing.parent w
+      by_over (Some n) = put_above_comes shape standing.parent w n
+
+  -- the list in which the other moves
+  pub later_is : (later : List Window) → IsLater shape old left.parent standing.parent list later → later ≡ moved old (carried_rect (image_at shown_world old).r (image_at shown_world old).r.min outside) (image_at comes_then left.parent).windows
+  later_is later told =
+      let same = bare_canvas shape kept in
+      let found = list_then shown_world w.image old left standing over r corner raw keep ok is list (image_at shape left.parent).windows list_is (same.windows left.parent) in
+      told
+      ∙ ap (λ (own : Rect). moved old (carried_rect own own.min outside) (if left.parent == standing.parent then list else (image_at shape left.parent).windows)) (same.r old)
+      ∙ ap (moved old (carried_rect (image_at shown_world old).r (image_at shown_world old).r.min outside))
+      (⊎_elim
+      (λ (here : left.parent ≡ standing.parent). ap (λ b. if b then list else (image_at shape left.parent).windows) (eq-eqb left.parent standing.parent here) ∙ sym (found.0 here))
+      (λ (other : left.parent ≢ standing.parent). ap (λ b. if b then list else (image_at shape left.parent).windows) (ne_eqb left.parent standing.parent other) ∙ sym (found.1 other))
+      (cases_eq left.parent standing.parent))
+
+  -- the world with what the window comes with
+  pub came : (given : Point → ℕ) → after_coming shown_world w.image standing.parent standing.fill r given list ≡ after_coming shown_world w.image standing.parent standing.fill r (taken_over shown_world old r raw keep) list → after_coming shown_world w.image standing.parent standing.fill r given list ≡ comes_then
+  came given same = same ∙ ap (after_coming shown_world w.image standing.parent standing.fill r (taken_over shown_world old r raw keep)) list_is
+
+  pub came_forest : (given : Point → ℕ) → after_coming shown_world w.image standing.parent standing.fill r given list ≡ comes_then → IsForest (after_coming shown_world w.image standing.parent standing.fill r given list)
+  came_forest given same = subst IsForest (sym same) (replaced_forest shown_world w.image old left standing over r corner raw keep ok is)
+
+  -- and once the other moved
+  pub left_forest : (world : World) (later : List Window) → world ≡ comes_then → IsLater shape old left.parent standing.parent list later → IsForest (with_windows world left.parent later)
+  left_forest world later same told =
+      subst IsForest (sym (λ j. with_windows (same j) left.parent (later_is later told j))) (moved_forest shown_world w.image old left standing over r corner raw keep ok is)
+
+  pub left_world : (world : World) (later : List Window) → world ≡ comes_then → IsLater shape old left.parent standing.parent list later → with_windows world left.parent later ≡ moved_out comes_then left.parent old (image_at shown_world old).r
+  left_world world later same told = λ j. with_windows (same j) left.parent (later_is later told j)
+
+  pub left_moved : (world : World) (later : List Window) → world ≡ comes_then → IsLater shape old left.parent standing.parent list later → IsMoved world left.parent old later
+  left_moved world later same told = (
+    carried_rect (image_at shown_world old).r (image_at shown_world old).r.min outside,
+    later_is later told ∙ ap (λ (v : World). moved old (carried_rect (image_at shown_world old).r (image_at shown_world old).r.min outside) (image_at v left.parent).windows) (sym same),
+  )

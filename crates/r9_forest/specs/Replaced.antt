@@ -1,0 +1,60 @@
+-- A window that comes with what another shows, and the other, which moves far outside.
+use Rattle.std.specs.Prelude.{◌≡◌, ◌+◌, ◌==◌, ◌<◌, ◌^◌, ℕ, Bool, true, List, ◌∷◌, Option, Some, None, length, slice_index, if◌then◌else◌}
+use Rattle.r9_geom.specs.declared.Point.{Point}
+use Rattle.r9_geom.specs.declared.Rect.{Rect}
+use Rattle.r9_geom.specs.Geometry.{carried, holds, IsNearBy, IsOrdered, IsRectNearBy}
+use Rattle.r9_plane.specs.Pixels.{number_of}
+use Rattle.model_pixel.specs.Channels.{depth}
+use Rattle.model_forest.specs.declared.Standing.{Standing}
+use Rattle.model_forest.specs.declared.Window.{Window}
+use Rattle.model_forest.specs.Stack.{moved, with_windows}
+use Rattle.model_forest.specs.Steps.{carried_rect, outside, put_above}
+use Rattle.model_forest.specs.View.{view}
+use Rattle.model_forest.specs.World.{World, image_at, IsLive}
+use Rattle.r9_arrive.specs.Arriving.{after_coming}
+
+-- a window comes directly above another of a list, or on top
+abbrev pub put_in : Option ℕ → Window → List Window → List Window
+put_in None w ws = w ∷ ws
+put_in (Some old) w ws = put_above w old ws
+
+-- what an image shows, counted from both mins, or one raw pixel
+abbrev pub taken_over : World → ℕ → Rect → ℕ → Bool → Point → ℕ
+taken_over world old r raw keep = λ p. if keep then view world old (carried p r.min (image_at world old).r.min) else raw
+
+-- the world when the window came
+abbrev pub replaced : World → (i old : ℕ) → Standing → Option ℕ → Rect → Point → ℕ → Bool → World
+replaced world i old standing over r corner raw keep =
+    after_coming world i standing.parent standing.fill r (taken_over world old r raw keep)
+    (put_in over (record { image = i; place = carried_rect r r.min corner }) (image_at world standing.parent).windows)
+
+-- and when a window of image p, with this rectangle, moved far outside
+abbrev pub moved_out : World → ℕ → ℕ → Rect → World
+moved_out world p old own = with_windows world p (moved old (carried_rect own own.min outside) (image_at world p).windows)
+
+-- the list in which a window of image q moves far outside, once image p has a list
+abbrev pub IsLater : World → ℕ → (q p : ℕ) → (list later : List Window) → Type 0
+IsLater world old q p list later =
+    let own = (image_at world old).r in
+    later ≡ moved old (carried_rect own own.min outside) (if q == p then list else (image_at world q).windows)
+
+-- pixels row by row are what an image shows
+abbrev pub IsShown : World → ℕ → List ℕ → Type 0
+IsShown world i raws =
+    let r = (image_at world i).r in
+    (p : Point) → holds r p ≡ true → slice_index raws (number_of r p) ≡ view world i p
+
+-- what is known of a window that comes so
+pub record IsReplacing (world : World) (i old : ℕ) (left standing : Standing) (over : Option ℕ) (r : Rect) (corner : Point) (raw : ℕ) (keep : Bool) : Type 0 where
+  pub free : world i ≡ None
+  pub left_at : (image_at world old).standing ≡ Some left
+  pub beside : (n : ℕ) → over ≡ Some n → (n ≡ old) × (standing ≡ left)
+  pub parent_live : IsLive world standing.parent
+  pub fill_live : IsLive world standing.fill
+  pub shallow : (image_at world standing.parent).depth + 1 < 2 ^ 32
+  pub few : length (image_at world standing.parent).windows + 1 < 2 ^ 32
+  pub near : IsRectNearBy (2 ^ 34) r
+  pub ordered : IsOrdered r
+  pub near_corner : IsNearBy (2 ^ 34) corner
+  pub fits : raw < 2 ^ depth (image_at world standing.parent).chan
+  pub chan : keep ≡ true → (image_at world standing.parent).chan ≡ (image_at world old).chan

@@ -1,0 +1,282 @@
+//! A window that takes the place of another, or comes with what another shows.
+
+ghost use Rattle.std.specs.Prelude.{◌≡◌, ◌+◌, ◌*◌, ◌^◌, ◌<◌, ◌≤◌, ℕ, None, Some, true, length, slice_index, vec_len, IfOk, IsSome, IsTrue, OnErr, OnOk, if◌then◌else◌};
+ghost use Rattle.r9_geom.specs.declared.Point.{Point as Spot};
+ghost use Rattle.r9_geom.specs.Geometry.{area_of, holds, IsNearBy, IsOrdered, IsRectNearBy};
+ghost use Rattle.r9_plane.specs.Pixels.{number_of};
+ghost use Rattle.model_pixel.specs.Channels as channels;
+ghost use Rattle.model_forest.specs.Numbers.{next_number, taken};
+ghost use Rattle.model_forest.specs.Steps as steps;
+ghost use Rattle.model_forest.specs.Steps.{after_replace, after_replace_on};
+ghost use Rattle.model_forest.specs.View as model;
+ghost use Rattle.model_forest.specs.World.{image_at, parent_of, IsLive, SameSize};
+ghost use Rattle.r9_locate.specs.Table.{shape};
+ghost use Rattle.r9_fills.specs.Content as fills;
+ghost use Rattle.r9_forest.specs.Replaced.{moved_out, put_in, replaced, IsLater, IsReplacing, IsShown};
+
+use super::coming::{is_full, peek_number};
+use super::images::{Images, zeros};
+use super::moving::moved_list;
+use model_forest::{Standing, Window};
+use r9_fills::{Content, Picture};
+use r9_geom::{Point, Rect};
+use r9_lists::{above, carried_rect, on_top};
+use r9_memory::Memory;
+use r9_steps::Steps;
+use std::alloc::Global;
+use std::sync::ledger::Ledger;
+
+// Far outside of every image.
+const OUTSIDE: Point = Point {
+    x: 1 << 20,
+    y: 1 << 20,
+};
+
+// What a replacement takes before anything changes: the new window, the list with it, the list in which the other then moves,
+// and room for what that shows.
+struct Exchange {
+    window: Window,
+    list: Vec<Window>,
+    later: Vec<Window>,
+    shown: Vec<u32>,
+}
+
+// The list with a window more, directly above another or on top.
+fn with_window(
+    alloc: Global,
+    windows: &[Window],
+    w: Window,
+    over: Option<u32>,
+) -> Result<Vec<Window>, Memory>
+    ensures { IfOk result (λ list. list.items ≡ put_in over w windows.now) }
+{
+    let mut list = Vec::with_capacity(alloc, windows.len() + 1)?;
+    match over {
+        Some(old) => above(&mut list, w, old, windows),
+        None => on_top(&mut list, w, windows),
+    }
+    Ok(list)
+}
+
+// What a window comes with: what was gathered of its size, or one raw pixel.
+fn content(keep: bool, raw: u32, r: Rect, shown: &[u32]) -> Content<'_>
+    requires near { IsRectNearBy (2 ^ 34) r }
+    requires ordered { IsOrdered r }
+    requires room { keep ≡ true → area_of r ≤ length shown.now }
+    ensures { (p : Spot) → fills.content result p ≡ (if keep then (if holds r p then slice_index shown.now (number_of r p) else 0) else raw) }
+{
+    if keep {
+        Content::Shown(Picture::new(r, shown))
+    } else {
+        Content::Plain(raw)
+    }
+}
+
+impl Images {
+    ghost use Rattle.r9_forest.specs.Images.{numbers, world, IsUnchanged};
+
+    /// Makes a window directly above another, with its parent, its fill and its depth, at the place of r's size whose min is
+    /// `corner`. It shows what the other shows, counted from both mins, or one raw pixel. The other moves far outside. At most
+    /// two pixels are written for each point of r, and four for each point of the other.
+    pub fn replace<L: Ledger>(
+        &mut self,
+        old: u32,
+        r: Rect,
+        corner: Point,
+        raw: u32,
+        keep: bool,
+        steps: &mut Steps<L>,
+    ) -> Result<u32, Memory>
+        requires window { IsSome (parent_of (world self.old) old) }
+        requires near { IsRectNearBy (2 ^ 34) r }
+        requires ordered { IsOrdered r }
+        requires corner { IsNearBy (2 ^ 34) corner }
+        requires raw { raw < 2 ^ channels.depth (image_at (world self.old) old).chan }
+        requires size { keep ≡ true → SameSize r (image_at (world self.old) old).r }
+        ensures number { IfOk result (λ i. i ≡ next_number (numbers self.old)) }
+        ensures free { IfOk result (λ i. world self.old i ≡ None) }
+        ensures made { IfOk result (λ i. world self.new ≡ after_replace (world self.old) i old r corner raw keep) }
+        ensures taken { OnOk result (numbers self.new ≡ taken (numbers self.old)) }
+        ensures err { OnErr result (IsUnchanged self.old self.new) }
+        ensures steps { steps.new ≤ steps.old + 2 * area_of r + 4 * area_of (image_at (world self.old) old).r }
+    {
+        let Some(left) = self.lists.get(old).standing else {
+            return Err(Memory);
+        };
+        self.exchange(old, left, left, Some(old), r, corner, raw, keep, steps)
+    }
+
+    /// Makes a window that shows what another shows, counted from both mins, or one raw pixel, topmost on any image, with the
+    /// channels of that image and an image that fills what it uncovers, at the place of r's size whose min is `corner`. The
+    /// other moves far outside. At most two pixels are written for each point of r, and four for each point of the other.
+    pub fn replace_on<L: Ledger>(
+        &mut self,
+        old: u32,
+        parent: u32,
+        fill: u32,
+        r: Rect,
+        corner: Point,
+        raw: u32,
+        keep: bool,
+        steps: &mut Steps<L>,
+    ) -> Result<u32, Memory>
+        requires window { IsSome (parent_of (world self.old) old) }
+        requires parent { IsLive (world self.old) parent }
+        requires fill { IsLive (world self.old) fill }
+        requires near { IsRectNearBy (2 ^ 34) r }
+        requires ordered { IsOrdered r }
+        requires corner { IsNearBy (2 ^ 34) corner }
+        requires raw { raw < 2 ^ channels.depth (image_at (world self.old) parent).chan }
+        requires size { keep ≡ true → SameSize r (image_at (world self.old) old).r }
+        requires chan { keep ≡ true → (image_at (world self.old) parent).chan ≡ (image_at (world self.old) old).chan }
+        ensures number { IfOk result (λ i. i ≡ next_number (numbers self.old)) }
+        ensures free { IfOk result (λ i. world self.old i ≡ None) }
+        ensures made { IfOk result (λ i. world self.new ≡ after_replace_on (world self.old) i old parent fill r corner raw keep) }
+        ensures taken { OnOk result (numbers self.new ≡ taken (numbers self.old)) }
+        ensures err { OnErr result (IsUnchanged self.old self.new) }
+        ensures steps { steps.new ≤ steps.old + 2 * area_of r + 4 * area_of (image_at (world self.old) old).r }
+    {
+        let Some(left) = self.lists.get(old).standing else {
+            return Err(Memory);
+        };
+        let standing = Standing { parent, fill };
+        self.exchange(old, left, standing, None, r, corner, raw, keep, steps)
+    }
+
+    // Makes a window with what another shows, or one raw pixel, and moves the other far outside. All memory is taken before
+    // the first pixel is written.
+    fn exchange<L: Ledger>(
+        &mut self,
+        old: u32,
+        left: Standing,
+        standing: Standing,
+        over: Option<u32>,
+        r: Rect,
+        corner: Point,
+        raw: u32,
+        keep: bool,
+        steps: &mut Steps<L>,
+    ) -> Result<u32, Memory>
+        requires left { (image_at (world self.old) old).standing ≡ Some left }
+        requires beside { (n : ℕ) → over ≡ Some n → (n ≡ old) × (standing ≡ left) }
+        requires parent { IsLive (world self.old) standing.parent }
+        requires fill { IsLive (world self.old) standing.fill }
+        requires near { IsRectNearBy (2 ^ 34) r }
+        requires ordered { IsOrdered r }
+        requires corner { IsNearBy (2 ^ 34) corner }
+        requires raw { raw < 2 ^ channels.depth (image_at (world self.old) standing.parent).chan }
+        requires size { keep ≡ true → SameSize r (image_at (world self.old) old).r }
+        requires chan { keep ≡ true → (image_at (world self.old) standing.parent).chan ≡ (image_at (world self.old) old).chan }
+        ensures needs { IfOk result (λ i. IsReplacing (world self.old) i old left standing over r corner raw keep) }
+        ensures number { IfOk result (λ i. i ≡ next_number (numbers self.old)) }
+        ensures made { IfOk result (λ i. world self.new ≡ moved_out (replaced (world self.old) i old standing over r corner raw keep) left.parent old (image_at (world self.old) old).r) }
+        ensures taken { OnOk result (numbers self.new ≡ taken (numbers self.old)) }
+        ensures err { OnErr result (IsUnchanged self.old self.new) }
+        ensures steps { steps.new ≤ steps.old + 2 * area_of r + 4 * area_of (image_at (world self.old) old).r }
+    {
+        self.reserve_window(&r)?;
+        let exchange = self.prepare(old, left, standing.parent, over, &r, corner, keep)?;
+        let Exchange {
+            window,
+            list,
+            later,
+            shown,
+        } = exchange;
+        let content = content(keep, raw, r, &shown);
+        self.come(
+            window,
+            standing,
+            r,
+            list,
+            &content,
+            left.parent,
+            &later,
+            steps,
+        )?;
+        let shown = self.show(old, shown);
+        self.take_place(old, left, &shown, later, steps);
+        Ok(window.image)
+    }
+
+    // What a replacement takes before anything changes, where more can stand on the image on which the window comes.
+    fn prepare(
+        &self,
+        old: u32,
+        left: Standing,
+        parent: u32,
+        over: Option<u32>,
+        r: &Rect,
+        corner: Point,
+        keep: bool,
+    ) -> Result<Exchange, Memory>
+        requires left { (image_at (world self.now) old).standing ≡ Some left }
+        requires parent { IsLive (world self.now) parent }
+        requires near { IsRectNearBy (2 ^ 34) r.now }
+        requires corner { IsNearBy (2 ^ 34) corner }
+        ensures number { IfOk result (λ exchange. exchange.window.image ≡ next_number (numbers self.now)) }
+        ensures place { IfOk result (λ exchange. exchange.window.place ≡ steps.carried_rect r.now r.now.min corner) }
+        ensures few { OnOk result (((image_at (shape self.now.lists) parent).depth + 1 < 2 ^ 32) × (length (image_at (shape self.now.lists) parent).windows + 1 < 2 ^ 32)) }
+        ensures list { IfOk result (λ exchange. exchange.list.items ≡ put_in over exchange.window (image_at (shape self.now.lists) parent).windows) }
+        ensures later { IfOk result (λ exchange. IsLater (shape self.now.lists) old left.parent parent exchange.list.items exchange.later.items) }
+        ensures room { IfOk result (λ exchange. area_of (image_at (world self.now) old).r ≤ vec_len exchange.shown) }
+        ensures shown { IfOk result (λ exchange. keep ≡ true → IsShown (world self.now) old exchange.shown.items) }
+    {
+        let below = self.lists.get(parent);
+        if is_full(below) {
+            return Err(Memory);
+        }
+        let shown = self.room_for(old, left.parent, keep)?;
+        let made = self.lists.len();
+        let image = peek_number(made, &self.spare);
+        let place = carried_rect(r, r.min, corner);
+        let window = Window { image, place };
+        let list = with_window(self.alloc, &below.windows, window, over)?;
+        let later = self.later(old, left.parent, parent, &list)?;
+        Ok(Exchange {
+            window,
+            list,
+            later,
+            shown,
+        })
+    }
+
+    // Room for what a window shows, with that in it where it is kept.
+    fn room_for(&self, old: u32, p: u32, keep: bool) -> Result<Vec<u32>, Memory>
+        requires { parent_of (world self.now) old ≡ Some p }
+        ensures room { IfOk result (λ shown. area_of (image_at (world self.now) old).r ≤ vec_len shown) }
+        ensures shown { IfOk result (λ shown. keep ≡ true → IsShown (world self.now) old shown.items) }
+    {
+        // As many as fill what any window uncovers are enough for what this one shows.
+        let shown = zeros(self.alloc, self.room.len())?;
+        if keep {
+            Ok(self.show(old, shown))
+        } else {
+            Ok(shown)
+        }
+    }
+
+    // Reads what an image shows into room for it.
+    fn show(&self, i: u32, mut raws: Vec<u32>) -> Vec<u32>
+        requires live { IsLive (world self.now) i }
+        requires room { area_of (image_at (world self.now) i).r ≤ vec_len raws }
+        ensures len { vec_len result ≡ vec_len raws }
+        ensures shown { IsShown (world self.now) i result.items }
+    {
+        self.read_shown(i, &mut raws);
+        raws
+    }
+
+    // The list in which a window of image q moves far outside, once image p got another list.
+    fn later(&self, old: u32, q: u32, p: u32, list: &[Window]) -> Result<Vec<Window>, Memory>
+        requires { parent_of (world self.now) old ≡ Some q }
+        ensures { IfOk result (λ later. IsLater (shape self.now.lists) old q p list.now later.items) }
+    {
+        let own = self.lists.get(old).r;
+        let far = carried_rect(&own, own.min, OUTSIDE);
+        if q == p {
+            moved_list(self.alloc, list, old, far)
+        } else {
+            moved_list(self.alloc, &self.lists.get(q).windows, old, far)
+        }
+    }
+}

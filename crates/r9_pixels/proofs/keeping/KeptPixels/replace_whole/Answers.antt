@@ -1,0 +1,49 @@
+use Rattle.std.proofs.Common.{◌≡◌, ◌∙◌, ℕ, ◌<◌, false, length, List, Option, Some, sym, ap, subst, arith}
+use Rattle.std.specs.Prelude.{option_map, slice_set}
+use Rattle.r9_cells.specs.Cells.{all_rows}
+use Rattle.r9_locate.specs.Forms.{Form}
+use Rattle.r9_pixels.specs.declared.own.Own.{Own}
+use Rattle.r9_pixels.specs.declared.own.Own.TheVariants.{Whole}
+use Rattle.r9_pixels.specs.Owns.{form_in, own_at, IsTabled, IsWithinBits}
+use Rattle.r9_pixels.proofs.Owning.{hidden_set, no_window, own_there, set_each, tabled_set, whole_of, IsNoWindow}
+use Rattle.r9_pixels.proofs.Telling.{kept_of, place_of}
+use Rattle.r9_pixels.proofs.keeping.KeptPixels.replace_whole.Goals as goal
+
+-- an image with a plane is one of the table, and no window
+there : (owns : List (Option Own)) (i : ℕ) → option_map (λ (form : Form). form.is_window) (option_map form_in (own_at owns i)) ≡ Some false → i < length owns
+there owns i whole = let found = whole_of (own_at owns i) whole in own_there owns i (Whole found.0) found.1
+
+none : (owns : List (Option Own)) (i : ℕ) → option_map (λ (form : Form). form.is_window) (option_map form_in (own_at owns i)) ≡ Some false → IsNoWindow (own_at owns i)
+none owns i whole = let found = whole_of (own_at owns i) whole in subst IsNoWindow (sym found.1) (no_window found.0)
+
+pub invariant_of-self : goal.invariant_of-self
+invariant_of-self c =
+    let owns = c.args.self.now.owns.items in
+    let new : Option Own = Some (Whole c.args.plane) in
+    let below = there owns c.args.i c.requires in
+    record {
+      tabled =
+          subst (λ (slot : Option Own). IsTabled (slice_set owns c.args.i slot) (all_rows c.args.self.now.cells)) (sym c.replace.ensures.after)
+          (tabled_set owns c.args.i new (all_rows c.args.self.now.cells) below (none owns c.args.i c.requires) (no_window c.args.plane) c.args.self.now.tabled);
+      bounded =
+          subst (λ (slot : Option Own). IsWithinBits (slice_set owns c.args.i slot) c.args.self.now.cells) (sym c.replace.ensures.after)
+          (λ j l q extent is. c.args.self.now.bounded j l q extent (hidden_set owns c.args.i j new extent below (no_window c.args.plane) is).1);
+    }
+
+pub returns-clause-kept : goal.returns-clause-kept
+returns-clause-kept c =
+    let owns = c.args.self.now.owns.items in
+    (λ j place. kept_of c.args.self.now.cells place.image place.at (own_at (slice_set owns c.args.i (c.replace.ensures.after j)) place.image))
+    ∙ (λ j place. set_each owns c.args.i (Some (Whole c.args.plane)) (kept_of c.args.self.now.cells place.image place.at) (there owns c.args.i c.requires) place.image j)
+
+pub returns-clause-has : goal.returns-clause-has
+returns-clause-has c =
+    let owns = c.args.self.now.owns.items in
+    (λ j place. place_of c.args.self.now.cells place.image place.at (own_at (slice_set owns c.args.i (c.replace.ensures.after j)) place.image))
+    ∙ (λ j place. set_each owns c.args.i (Some (Whole c.args.plane)) (place_of c.args.self.now.cells place.image place.at) (there owns c.args.i c.requires) place.image j)
+
+pub returns-clause-forms : goal.returns-clause-forms
+returns-clause-forms c =
+    let owns = c.args.self.now.owns.items in
+    (λ j n. option_map form_in (own_at (slice_set owns c.args.i (c.replace.ensures.after j)) n))
+    ∙ (λ j n. set_each owns c.args.i (Some (Whole c.args.plane)) (option_map form_in) (there owns c.args.i c.requires) n j)

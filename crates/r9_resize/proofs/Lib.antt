@@ -1,0 +1,6 @@
+pub mod Alike
+pub mod Celled
+pub mod Lost
+pub mod Moved
+pub mod Resized
+pub mod Shapes
