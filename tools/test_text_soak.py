@@ -7,6 +7,7 @@ import pathlib
 import tempfile
 import unittest
 
+import cases
 import font
 import formats
 import text_model
@@ -40,11 +41,11 @@ PLACES = [
     (DOTS[:59], 48),
     (DOTS[:60], 60),
     (DOTS[:154], 60),
-    (DOTS + bytes(text_model.LIMIT - 155), text_model.LIMIT),
-    (bytes(text_model.LIMIT), text_model.LIMIT),
+    (DOTS + bytes(cases.LIMIT - 155), cases.LIMIT),
+    (bytes(cases.LIMIT), cases.LIMIT),
 ]
 
-FITTING = [DOTS, DOTS + bytes(text_model.LIMIT - 156), DOTS.replace(b"  0 ", b" -0 "), DOTS.replace(b"         95", b"00000000095")]
+FITTING = [DOTS, DOTS + bytes(cases.LIMIT - 156), DOTS.replace(b"  0 ", b" -0 "), DOTS.replace(b"         95", b"00000000095")]
 
 PIECES = [
     (b"", []),
@@ -76,8 +77,8 @@ class Model(unittest.TestCase):
     def test_screens(self):
         points = text_model.page(text_model.read_input(DOTS), b"a", 4, 4)
         self.assertEqual(text_model.screen(points, 12, 12), b"".join(points))
-        self.assertEqual(text_model.screen(points, 3, 2), 6 * text_model.EDGE)
-        self.assertEqual(text_model.screen(points, 14, 13)[-4 * 16 :], 2 * text_model.GREY + 14 * text_model.GREY)
+        self.assertEqual(text_model.screen(points, 3, 2), 6 * cases.EDGE)
+        self.assertEqual(text_model.screen(points, 14, 13)[-4 * 16 :], 2 * cases.GREY + 14 * cases.GREY)
 
     def test_inputs(self):
         for data, place in PLACES:
@@ -102,7 +103,7 @@ class Cases(unittest.TestCase):
 
     def test_each_end_is_met(self):
         lines = {text_soak.expected(text_soak.made_case(1, number)[0])[1] for number in range(1, 500)}
-        places = [0, 12, 24, 36, 48, 60, text_model.LIMIT]
+        places = [0, 12, 24, 36, 48, 60, cases.LIMIT]
         self.assertLessEqual({b"", b"rio9: usage\n", *(b"rio9: bad input at byte %d\n" % place for place in places)}, lines)
 
     def soak(self, room, script):
@@ -110,7 +111,7 @@ class Cases(unittest.TestCase):
         program.write_text(script)
         program.chmod(0o755)
         with contextlib.redirect_stdout(io.StringIO()) as out:
-            status = text_soak.main(["--program", str(program), "--cases", "12", "--jobs", "1", "--keep", room])
+            status = cases.soak_of(text_soak.COMMAND, "text_soak.py", "", ["--program", str(program), "--cases", "12", "--jobs", "1", "--keep", room])
         return status, out.getvalue(), len(list(pathlib.Path(room).glob("text-1-*")))
 
     def test_what_is_otherwise_is_kept(self):
@@ -124,7 +125,7 @@ class Cases(unittest.TestCase):
         given = text_model.read_input(DOTS + b"ab")
         write = formats.Event("M", 1, bytes.fromhex("17000000" "76" "0100" "02000000" "0000000000000000" "00000000"))
         for events in ([], [formats.Event("B", 1)], [formats.Event("B", 1), write], [formats.Event("B", 1), write, formats.Event("E", 1)]):
-            with self.subTest(events), self.assertRaises(text_model.NotSo):
+            with self.subTest(events), self.assertRaises(cases.NotSo):
                 text_model.check_record(given, formats.write_record(events))
 
 

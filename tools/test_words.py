@@ -39,6 +39,10 @@ CASES = [
     ("soak.py /bin/true --junk -1", b"", 2, "--junk"),
     ("text_soak.py --program /bin/true --cases 0", b"", 2, "--cases"),
     (f"text_soak.py --program {NOT_THERE}", b"", 2, NOT_THERE),
+    (f"desk_soak.py --program {NOT_THERE}", b"", 2, NOT_THERE),
+    ("events.py file", b"", 2, "file"),
+    ("events.py", b"# none\n1 2\n", 1, "line 2: "),
+    ("events.py", b"640 0 0\n", 1, "line 1: columns"),
     ("refused_memory.py --every 0", b"", 2, "0"),
     (f"refused_memory.py --program {NOT_THERE}", b"", 2, NOT_THERE),
 ]

@@ -7,19 +7,14 @@ import re
 from dataclasses import dataclass
 
 import font
-import formats
 import record
+from cases import BORDER, EDGE, GREY, LIMIT, NotSo, read_session
 
-LIMIT = 1 << 20
 CHANNELS, FIELD_BYTES, ROWS_AT = b"         k8 ", 12, 60
 FIELD = re.compile(rb" *-?[0-9]+ ")
 # What the left, upper, right and lower edge can be.
 FITTING = ([0], [0], [font.CELLS * width for width in range(1, font.MOST_WIDE + 1)], range(1, font.MOST_HIGH + 1))
 MOST_OF_A_PIECE = 100
-BORDER = 4
-# Blue, green, red and an ignored byte: of the display, and of a window's border.
-GREY, EDGE = bytes.fromhex("77777700"), bytes.fromhex("aaaa5500")
-REFUSED = 107
 # The bytes of a draw message `d`, and those of an `s` before its indices.
 DRAWING, HEAD_OF_STRING = 45, 47
 
@@ -121,17 +116,6 @@ def screen(points, width, height):
     return b"".join(cut + [GREY * width] * (height - len(cut)))
 
 
-def without_ignored(rows):
-    """Rows of x8r8g8b8 with zero in what is ignored."""
-    kept = bytearray(rows)
-    kept[3::4] = bytes(len(rows) // 4)
-    return bytes(kept)
-
-
-class NotSo(Exception):
-    """A record is not as it should be. It tells why."""
-
-
 def strings(data):
     """The indices of the strings that draw messages draw; NotSo where there is another message than `d` and `s`."""
     at, found = 0, b""
@@ -160,28 +144,8 @@ def writes(events, count):
 
 def check_record(given, made):
     """The events of a record that shows a text; NotSo where it says something else than it should."""
-    try:
-        events = formats.read_record(made)
-    except formats.BadText as error:
-        raise NotSo(error) from None
-    if not made.startswith(formats.HEADER + b"\n"):
-        raise NotSo("the record has another header")
-    if [event.kind for event in events] != ["B"] + ["M"] * (len(events) - 1) or any(event.mark is not None for event in events):
-        raise NotSo("not one session that sends messages")
+    events = read_session(made)
     drawn = [strings(data) for data in writes(events, len(pieces(given.text)))]
     if b"".join(drawn) != characters(given.text):
         raise NotSo("the strings are not the characters of the text")
     return events
-
-
-def check_replies(output, size, points):
-    """NotSo where a run's output has a refusal, or another screen of this size than one with a window of these points."""
-    replies = formats.read_replies(output)
-    if any(message[4] == REFUSED for _, message in replies.messages):
-        raise NotSo("a message is refused")
-    width, height = size
-    head = font.image_file("x8r8g8b8", width, height, b"")
-    if replies.screen[: len(head)] != head:
-        raise NotSo("the screen has another header")
-    if without_ignored(replies.screen[len(head) :]) != screen(points, width, height):
-        raise NotSo("the screen is another one")

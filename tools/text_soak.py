@@ -16,25 +16,15 @@ Status 1 tells that something is otherwise, 2 that a word or a file is wrong.
 It is outside the proof. Needs: Python 3.9 or later, its standard library alone.
 """
 
-import collections
-import multiprocessing
-import os
 import random
-import shlex
-import subprocess
 import sys
 from dataclasses import dataclass
 
 import font
-import formats
 import text_model
-from text_model import NotSo
+from cases import BAD_INPUT, BORDER, DISPLAY, DONE, LIMIT, USAGE, Command, NotSo, check_replies, output_of, replayed, soak_of
 
-PROGRAM = os.path.join(os.path.dirname(os.path.dirname(os.path.abspath(__file__))), "crates", "rio9", "out", "rio9")
-SECONDS = 600  # that a run may take, on a machine that does much else
-DISPLAY = (640, 480)
 LEAST_COLUMNS, MOST_COLUMNS, LEAST_ROWS, MOST_ROWS = 4, 200, 4, 100
-DONE, USAGE, BAD_INPUT = 0, 1, 11
 LETTERS = bytes(range(0x20, 0x7F))
 WORDS = b"a I of the and rio9 draws each window text, which (is) [x] {y} ~ | `cons` \"it\" 0123456789 THE_END".split(b" ")
 
@@ -132,7 +122,7 @@ def longest(chance, over):
     """An input of a length about the limit; its characters and its window are small."""
     file = font.image_file("k8", font.CELLS, 1, font_of(chance, 1, 1))
     text = (of_one_line(chance, 0) + b"\n" + of_bytes(chance, 0) + b"end") * 1000
-    length = text_model.LIMIT + over - len(file)
+    length = LIMIT + over - len(file)
     return Case(file + (text * (length // len(text) + 1))[:length], LEAST_COLUMNS + chance.randrange(60), LEAST_ROWS, True)
 
 
@@ -218,23 +208,10 @@ def expected(case):
     return DONE, b"", given
 
 
-def run(program, words, data):
-    return subprocess.run([*shlex.split(program), *words], input=data, capture_output=True, timeout=SECONDS)
-
-
 def size_of(case, given):
     """The size of the display that the record is replayed on."""
-    edges = 2 * text_model.BORDER
+    edges = 2 * BORDER
     return (case.columns * given.width + edges, case.rows * given.height + edges) if case.fitting else DISPLAY
-
-
-def replayed(options, size, events):
-    """What replay gives for events, and the screen behind it."""
-    words = ["replay", "--size", "%dx%d" % size, "--screen"]
-    ended = run(options.replay or options.program, words, formats.write_record(events))
-    if ended.returncode != DONE:
-        raise NotSo(f"replay ends with status {ended.returncode}")
-    return ended.stdout
 
 
 def check_pages(options, case, given, events, chance):
@@ -246,7 +223,7 @@ def check_pages(options, case, given, events, chance):
         output = replayed(options, size, events[: before + count])
         points = text_model.page(given, b"".join(cut[:count]), case.columns, case.rows)
         try:
-            text_model.check_replies(output, size, points)
+            check_replies(output, size, text_model.screen(points, *size))
         except NotSo as error:
             raise NotSo(f"after {count} of {len(cut)} pieces {error}") from None
     return len(chosen)
@@ -255,66 +232,13 @@ def check_pages(options, case, given, events, chance):
 def check(options, case, chance):
     """How a case ends, and how many screens were compared; NotSo where anything is otherwise."""
     status, line, given = expected(case)
-    ended = run(options.program, words_of(case), case.data)
-    if (ended.returncode, ended.stderr) != (status, line):
-        raise NotSo(f"status {ended.returncode} and {ended.stderr[:80]!r}, where {status} and {line!r} are right")
-    if given is None and ended.stdout:
-        raise NotSo("something was written")
+    made = output_of(options.program, words_of(case), case.data, status, line)
     if given is None:
         return line.decode().strip(), 0
-    return "done", check_pages(options, case, given, text_model.check_record(given, ended.stdout), chance)
+    return "done", check_pages(options, case, given, text_model.check_record(given, made), chance)
 
 
-def keep(options, number, case):
-    """Keeps the input of a case, and gives the command that shows it again."""
-    path = os.path.join(options.keep, f"text-{options.seed}-{number}")
-    with open(path, "wb") as file:
-        file.write(case.data)
-    return shlex.join([*shlex.split(options.program), *words_of(case)]) + f" < {shlex.quote(path)}"
-
-
-def begin_job(options):
-    global OPTIONS
-    OPTIONS = options
-
-
-def do_case(number):
-    """How a case ends, how many screens were compared, and what is wrong, if anything is."""
-    case, chance = made_case(OPTIONS.seed, number)
-    try:
-        return *check(OPTIONS, case, chance), None
-    except (NotSo, formats.BadText, subprocess.TimeoutExpired) as error:
-        return "wrong", 0, f"case {number}: {error}; see\n    {keep(OPTIONS, number, case)}"
-
-
-def soak(options):
-    """Runs all cases, and tells what was found; gives how many are wrong."""
-    ends, screens = collections.Counter(), 0
-    with multiprocessing.Pool(options.jobs, begin_job, (options,)) as pool:
-        for end, count, wrong in pool.imap_unordered(do_case, range(1, options.cases + 1), 4):
-            ends[end] += 1
-            screens += count
-            if wrong:
-                print(wrong, flush=True)
-    print(f"{options.cases} cases, {screens} screens; {', '.join(f'{count} {end}' for end, count in sorted(ends.items()))}; {ends['wrong']} wrong")
-    return ends["wrong"]
-
-
-def main(words):
-    parser = formats.Words(prog="text_soak.py", description=__doc__.split("\n")[0])
-    parser.add_argument("--program", default=PROGRAM, help="another program than the built one")
-    parser.add_argument("--replay", metavar="PATH", help="the program that replays the record, where it is another one")
-    parser.add_argument("--cases", type=formats.at_least(1), default=500, metavar="N")
-    parser.add_argument("--seed", type=formats.at_least(0), default=1, metavar="S")
-    parser.add_argument("--jobs", type=formats.at_least(1), default=2, metavar="N")
-    parser.add_argument("--keep", default=".", metavar="FOLDER", help="where inputs are kept")
-    options = parser.parse_args(words)
-    for program in filter(None, (options.program, options.replay)):
-        path = shlex.split(program)[0]
-        if not (os.path.isfile(path) and os.access(path, os.X_OK)):
-            formats.stop("text_soak.py", f"no program: {path}")
-    return 1 if soak(options) else 0
-
+COMMAND = Command("text", made_case, words_of, check)
 
 if __name__ == "__main__":
-    sys.exit(main(sys.argv[1:]))
+    sys.exit(soak_of(COMMAND, "text_soak.py", __doc__.split("\n")[0], sys.argv[1:]))

@@ -14,19 +14,18 @@ looks at the page after each piece, and so it is asked about a front of the text
 """
 import os
 import random
-import resource
 import subprocess
 import sys
 import tempfile
-import time
 
 HERE = os.path.dirname(os.path.abspath(__file__))
 ROOT = os.path.dirname(os.path.dirname(HERE))
 sys.path.insert(0, os.path.join(os.path.dirname(HERE), "replay"))
-from run import PROGRAM, most_memory, need_peer
+from beside import row, run, verdict
+from run import PROGRAM, need_peer
 
 WORDS = ["text", "--cols", "64", "--rows", "20"]
-ROUNDS, SEED, LONGEST, LINES_CHECKED = 9, 7, 120, 500
+SEED, LONGEST, LINES_CHECKED = 7, 120, 500
 LETTERS = "abcdefghijklmnopqrstuvwxyz"
 
 
@@ -48,43 +47,9 @@ def texts(size):
     }
 
 
-def processor_seconds():
-    """The processor seconds, of the user and the system, of all runs that have ended."""
-    used = resource.getrusage(resource.RUSAGE_CHILDREN)
-    return used.ru_utime + used.ru_stime
-
-
-def run(program, given, path):
-    """The processor seconds and the most memory of a run that writes its record to a file; the memory is looked at while it runs."""
-    with tempfile.TemporaryFile() as source, open(path, "wb") as out:
-        source.write(given)
-        source.seek(0)
-        before, memory = processor_seconds(), 0
-        process = subprocess.Popen([program, *WORDS], stdin=source, stdout=out)
-        while process.poll() is None:
-            memory = max(memory, most_memory(process))
-            time.sleep(0.001)
-        if process.returncode != 0:
-            sys.exit(f"times.py: status {process.returncode} of {program}")
-        return processor_seconds() - before, memory
-
-
-def best(program, given, path):
-    """The least seconds, and the most memory, of some runs."""
-    runs = [run(program, given, path) for _ in range(ROUNDS)]
-    return min(seconds for seconds, _ in runs), max(memory for _, memory in runs)
-
-
 def front(text):
     """So many lines of a text, or all; and no more bytes than so many of the longest lines have."""
     return b"".join(text[: LONGEST * LINES_CHECKED].splitlines(keepends=True)[:LINES_CHECKED])
-
-
-def verdict(program, peer, given, path):
-    """What the peer says of the program's record."""
-    run(program, given, path)
-    said = subprocess.run([peer, *WORDS, "--check", path], input=given, capture_output=True)
-    return (said.stdout or said.stderr).decode(errors="replace").strip()
 
 
 def main(words):
@@ -97,11 +62,11 @@ def main(words):
     with tempfile.TemporaryDirectory() as room:
         path = os.path.join(room, "record")
         for name, text in texts(int(options["--bytes"])).items():
-            theirs, other = best(peer, font + text, path)
-            ours, memory = best(program, font + text, path)
-            row = f"{name:<15} {ours:7.3f} s, peer {theirs:7.3f} s, ratio {ours / max(theirs, 0.001):6.2f}"
-            row += f"; memory {memory / 1e6:6.1f} MB, peer {other / 1e6:6.1f} MB; a record of {os.path.getsize(path) / 1e6:.1f} MB"
-            print(f"{row}; checked: {verdict(program, peer, font + front(text), path)}", flush=True)
+            used = row(program, peer, WORDS, font + text, path)
+            size = os.path.getsize(path)
+            run(program, WORDS, font + front(text), path)
+            said = verdict(peer, WORDS, font + front(text), path)
+            print(f"{name:<15} {used}; a record of {size / 1e6:.1f} MB; checked: {said}", flush=True)
 
 
 if __name__ == "__main__":

@@ -71,6 +71,16 @@ pub record AsksForText (words : List (List ℕ)) (columns rows : ℕ) : Type 0 w
   pub wide : GivesNumber given (codes "cols") 4 200 columns
   pub high : GivesNumber given (codes "rows") 4 100 rows
 
+abbrev pub desk_syntax : Syntax
+desk_syntax = record { flags = []; valued = [] }
+
+-- does what events of the mouse say, and takes no options
+pub record AsksForDesk (words : List (List ℕ)) : Type 0 where
+  pub given : List Given
+  pub rest : List (List ℕ)
+  pub begins : words ≡ codes "desk" ∷ rest
+  pub gives : GivesOptions desk_syntax given rest
+
 -- one word, with `--` before it, behind it, or nowhere
 abbrev pub IsAlone : (word : List ℕ) → (words : List (List ℕ)) → Type 0
 IsAlone word words = (words ≡ word ∷ []) ⊎ (words ≡ ending ∷ word ∷ []) ⊎ (words ≡ word ∷ ending ∷ [])

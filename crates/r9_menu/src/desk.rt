@@ -66,6 +66,13 @@ impl Desk {
         Ok(texts)
     }
 
+    /// What the next event will mean.
+    pub fn mode(&self) -> Mode
+        ensures { result ≡ self.now.mode }
+    {
+        self.mode
+    }
+
     #[tactic(auto, unfolding(model_desk::specs::Asked::asked))]
     fn asked(&self, e: Mouse) -> Ask
         ensures { result ≡ asked self.now e }

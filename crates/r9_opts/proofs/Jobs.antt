@@ -10,19 +10,19 @@ use Rattle.model_text.specs.Field.{value}
 use Rattle.model_text.specs.Reading.{◌>>=◌}
 use Rattle.model_words.specs.Options.{is_value}
 use Rattle.model_words.specs.Values.{counted}
-use Rattle.model_words.specs.Commands.{AsksToGenerate, alone_syntax, replay_syntax, serve_syntax, text_syntax}
+use Rattle.model_words.specs.Commands.{AsksToGenerate, alone_syntax, desk_syntax, replay_syntax, serve_syntax, text_syntax}
 use Rattle.r9_opts.specs.declared.job.Job.{Job}
-use Rattle.r9_opts.specs.declared.job.Job.TheVariants.{Replay, Serve, Alone, Text as Texts, Gen}
+use Rattle.r9_opts.specs.declared.job.Job.TheVariants.{Replay, Serve, Alone, Text as Texts, Desk, Gen}
 use Rattle.r9_opts.specs.App.{rio9_app}
 use Rattle.r9_opts.specs.Asked.{AskFor, JobOf}
 use Rattle.r9_opts.specs.Fit.{is_fit}
 use Rattle.r9_opts.specs.Rows.{IsAloneOf, IsCountOf, IsReplayOf, IsServeOf, IsTextOf}
 use Rattle.r9_opts.proofs.Options.{both, none_some, some_inj}
 use Rattle.r9_opts.proofs.Given.{value_fits}
-use Rattle.r9_opts.proofs.Levels.{Command, replays, serves, alones, texts, generates, Front, begins, other, fault_behind, fault_in, front, gen_rules, is_word, leaf_takes, leaf_took, rows_in, rules_of, sub_behind, word_of}
-use Rattle.r9_opts.proofs.Tables.{alone_names, gen_defaults, gen_optional, replay_names, serve_names, text_names}
+use Rattle.r9_opts.proofs.Levels.{Command, replays, serves, alones, texts, desks, generates, Front, begins, other, fault_behind, fault_in, front, gen_rules, is_word, leaf_takes, leaf_took, rows_in, rules_of, sub_behind, word_of}
+use Rattle.r9_opts.proofs.Tables.{alone_names, desk_names, gen_defaults, gen_optional, replay_names, serve_names, text_names}
 use Rattle.r9_opts.proofs.Number.{alone as one_word, alone_fits, alone_run, number_rows}
-use Rattle.r9_opts.proofs.Matched.{Matches, alone_asked, alone_found, matched, matches, replay_asked, replay_found, serve_asked, serve_found, text_asked, text_found}
+use Rattle.r9_opts.proofs.Matched.{Matches, alone_asked, alone_found, desk_found, matched, matches, replay_asked, replay_found, serve_asked, serve_found, text_asked, text_found}
 
 -- ---- commands and jobs
 
@@ -31,6 +31,7 @@ command_of (Replay opening screen) = replays
 command_of (Serve opening listen workers conns) = serves
 command_of (Alone opening session) = alones
 command_of (Texts columns lines) = texts
+command_of Desk = desks
 command_of (Gen n) = generates
 
 -- the matches give the job, whatever the command
@@ -39,6 +40,7 @@ AreOf rows (Replay opening screen) = IsReplayOf rows opening screen
 AreOf rows (Serve opening listen workers conns) = IsServeOf rows opening (string_bytes listen) workers conns
 AreOf rows (Alone opening session) = IsAloneOf rows opening session
 AreOf rows (Texts columns lines) = IsTextOf rows columns lines
+AreOf rows Desk = Unit {0}
 AreOf rows (Gen n) = IsCountOf rows (codes "number") 100000 n
 
 job_of : (name : Text) (rows : List Row) (job : Job) → JobOf name rows job → (name ≡ word_of (command_of job)) × AreOf rows job
@@ -46,6 +48,7 @@ job_of name rows (Replay opening screen) of = of
 job_of name rows (Serve opening listen workers conns) of = of
 job_of name rows (Alone opening session) of = of
 job_of name rows (Texts columns lines) of = of
+job_of name rows Desk of = (of, tt)
 job_of name rows (Gen n) of = of
 
 abbrev command_by : Text → Option Command
@@ -54,6 +57,7 @@ command_by word =
     else if is_word serves word then Some serves
     else if is_word alones word then Some alones
     else if is_word texts word then Some texts
+    else if is_word desks word then Some desks
     else if is_word generates word then Some generates
     else None
 
@@ -62,6 +66,7 @@ known replays = refl
 known serves = refl
 known alones = refl
 known texts = refl
+known desks = refl
 known generates = refl
 
 same_command : (a b : Command) → word_of a ≡ word_of b → a ≡ b
@@ -115,6 +120,7 @@ by_job rest rows (Alone opening session) fit fault are of =
     alone_found rest rows opening session (subst (Matches alone_syntax rest) (sym are) (matches (codes "alone") alone_syntax alone_names rest fit fault)) of
 by_job rest rows (Texts columns lines) fit fault are of =
     text_found rest rows columns lines (subst (Matches text_syntax rest) (sym are) (matches (codes "text") text_syntax text_names rest fit fault)) of
+by_job rest rows Desk fit fault are of = desk_found rest rows (subst (Matches desk_syntax rest) (sym are) (matches (codes "desk") desk_syntax desk_names rest fit fault))
 by_job rest rows (Gen n) fit fault are of = gen_found rest rows n fit fault are of
 
 by_command : (command : Command) (rest : List Text) (rows : List Row) (job : Job) → command ≡ command_of job → list_all is_fit rest ≡ true
@@ -150,6 +156,7 @@ word_fits replays = refl
 word_fits serves = refl
 word_fits alones = refl
 word_fits texts = refl
+word_fits desks = refl
 word_fits generates = refl
 
 fits_behind : (command : Command) (rest : List Text) → list_all is_fit rest ≡ true → list_all is_fit (word_of command ∷ rest) ≡ true
@@ -185,6 +192,9 @@ taken words (Texts columns lines) asks =
     let got = matched (codes "text") text_syntax text_names asks.rest asks.given asks.gives in
     subst (λ w. IsTaken w (Texts columns lines)) (sym asks.begins)
     (by_rest asks.rest (Texts columns lines) got.0 got.1 (refl, text_asked words (rows_in (rules_of texts) asks.rest) columns lines asks got.2))
+taken words Desk asks =
+    let got = matched (codes "desk") desk_syntax desk_names asks.rest asks.given asks.gives in
+    subst (λ w. IsTaken w Desk) (sym asks.begins) (by_rest asks.rest Desk got.0 got.1 refl)
 taken words (Gen n) asks =
     let value = counted_value 100000 n asks.word asks.counts in
     let took = leaf_takes (codes "gen") gen_rules gen_optional asks.rest (number_rows asks.word) (alone_run asks.word asks.rest value asks.one) in

@@ -17,7 +17,7 @@ use Rattle.clap.proofs.FaultLemmas.{stopped_fault}
 use Rattle.clap.specs.declared.error.kind.ErrorKind.TheVariants as kind
 use Rattle.clap.specs.declared.error.kind.ErrorKind.{ErrorKind}
 use Rattle.model_words.specs.Options.{Syntax, ending, dashed}
-use Rattle.model_words.specs.Commands.{alone_syntax, replay_syntax, serve_syntax, text_syntax}
+use Rattle.model_words.specs.Commands.{alone_syntax, desk_syntax, replay_syntax, serve_syntax, text_syntax}
 use Rattle.r9_opts.specs.App.{rio9_app}
 use Rattle.r9_opts.specs.Fit.{is_fit}
 use Rattle.r9_opts.proofs.Walks.{View, ends, long, plain, view, at, built_flag, built_valued, goes_on, leaf, no_short, run}
@@ -114,6 +114,7 @@ pub data Command : Type 0 where
   serves : Command
   alones : Command
   texts : Command
+  desks : Command
   generates : Command
 
 abbrev pub word_of : Command → Text
@@ -121,6 +122,7 @@ word_of replays = codes "replay"
 word_of serves = codes "serve"
 word_of alones = codes "alone"
 word_of texts = codes "text"
+word_of desks = codes "desk"
 word_of generates = codes "gen"
 
 abbrev pub rules_of : Command → List Rule
@@ -128,6 +130,7 @@ rules_of replays = rules_with replay_syntax
 rules_of serves = rules_with serve_syntax
 rules_of alones = rules_with alone_syntax
 rules_of texts = rules_with text_syntax
+rules_of desks = rules_with desk_syntax
 rules_of generates = gen_rules
 
 abbrev leaf_of : Command → Shape
@@ -139,7 +142,7 @@ top = record (leaf (codes "rio9") []) { is_leaf = false }
 abbrev built_app : App
 built_app = record {
   top = top;
-  subs = leaf_of replays ∷ leaf_of serves ∷ leaf_of alones ∷ leaf_of texts ∷ leaf_of generates ∷ [];
+  subs = leaf_of replays ∷ leaf_of serves ∷ leaf_of alones ∷ leaf_of texts ∷ leaf_of desks ∷ leaf_of generates ∷ [];
 }
 
 app_is : built rio9_app ≡ built_app
@@ -175,6 +178,7 @@ entered_is replays rest = or_nothing (fault_in (word_of replays) (rules_of repla
 entered_is serves rest = or_nothing (fault_in (word_of serves) (rules_of serves) rest)
 entered_is alones rest = or_nothing (fault_in (word_of alones) (rules_of alones) rest)
 entered_is texts rest = or_nothing (fault_in (word_of texts) (rules_of texts) rest)
+entered_is desks rest = or_nothing (fault_in (word_of desks) (rules_of desks) rest)
 entered_is generates rest = or_nothing (fault_in (word_of generates) (rules_of generates) rest)
 
 rows_are : (command : Command) (rest : List Text) → entered built_app (Some (word_of command, rest)) ≡ Some (word_of command, rows_in (rules_of command) rest)
@@ -182,6 +186,7 @@ rows_are replays rest = refl
 rows_are serves rest = refl
 rows_are alones rest = refl
 rows_are texts rest = refl
+rows_are desks rest = refl
 rows_are generates rest = refl
 
 walked_is : (command : Command) → walked [] names start (word_of command) ≡ stopped (word_of command) []
@@ -190,6 +195,7 @@ walked_is replays = refl
 walked_is serves = refl
 walked_is alones = refl
 walked_is texts = refl
+walked_is desks = refl
 walked_is generates = refl
 
 no_fault : (command : Command) → turn_fault top names start (word_of command) ≡ []
@@ -197,6 +203,7 @@ no_fault replays = refl
 no_fault serves = refl
 no_fault alones = refl
 no_fault texts = refl
+no_fault desks = refl
 no_fault generates = refl
 
 -- behind a command the walk only keeps the words
@@ -276,15 +283,17 @@ is_word command word = bytes_eq (word_of command) word
 
 pub front : (words : List Text) → list_all is_fit words ≡ true → Front words
 front [] fit = other [] no_words
-front (word ∷ rest) fit = go (is_word replays word) (is_word serves word) (is_word alones word) (is_word texts word) (is_word generates word) refl refl refl refl refl
+front (word ∷ rest) fit = go (is_word replays word) (is_word serves word) (is_word alones word) (is_word texts word) (is_word desks word) (is_word generates word) refl refl refl refl refl refl
   where
     same : (command : Command) → is_word command word ≡ true → Front (word ∷ rest)
     same command e = subst (λ (w : Text). Front (w ∷ rest)) ((bytes_eq-Decides (word_of command) word).0 e) (begins command rest)
 
-    go : (p q r s t : Bool) → is_word replays word ≡ p → is_word serves word ≡ q → is_word alones word ≡ r → is_word texts word ≡ s → is_word generates word ≡ t → Front (word ∷ rest)
-    go true q r s t e f g h i = same replays e
-    go false true r s t e f g h i = same serves f
-    go false false true s t e f g h i = same alones g
-    go false false false true t e f g h i = same texts h
-    go false false false false true e f g h i = same generates i
-    go false false false false false e f g h i = other (word ∷ rest) (nothing_first word rest (view word (both _ _ fit).0) (rw e (rw f (rw g (rw h (rw i refl))))))
+    go : (p q r s t u : Bool) → is_word replays word ≡ p → is_word serves word ≡ q → is_word alones word ≡ r → is_word texts word ≡ s → is_word desks word ≡ t → is_word generates word ≡ u → Front (word ∷ rest)
+    go true q r s t u e f g h i j = same replays e
+    go false true r s t u e f g h i j = same serves f
+    go false false true s t u e f g h i j = same alones g
+    go false false false true t u e f g h i j = same texts h
+    go false false false false true u e f g h i j = same desks i
+    go false false false false false true e f g h i j = same generates j
+    go false false false false false false e f g h i j =
+        other (word ∷ rest) (nothing_first word rest (view word (both _ _ fit).0) (rw e (rw f (rw g (rw h (rw i (rw j refl)))))))

@@ -7,7 +7,7 @@ use Rattle.clap.specs.Walk.{Row, Rule, Text, first_of, one_of}
 use Rattle.r9_event.specs.declared.event.Opening.{Opening}
 use Rattle.model_words.specs.Options.{Given, Syntax, GivesOptions, has_flag, is_allowed, is_among, or, value_of}
 use Rattle.model_words.specs.Values.{IsOpening, counted}
-use Rattle.model_words.specs.Commands.{AsksForAlone, AsksForOpening, AsksForReplay, AsksForText, AsksToServe, GivesNumber, alone_syntax, replay_syntax, serve_syntax, text_syntax}
+use Rattle.model_words.specs.Commands.{AsksForAlone, AsksForDesk, AsksForOpening, AsksForReplay, AsksForText, AsksToServe, GivesNumber, alone_syntax, desk_syntax, replay_syntax, serve_syntax, text_syntax}
 use Rattle.r9_opts.specs.Fit.{is_fit}
 use Rattle.r9_opts.specs.Rows.{IsAloneOf, IsNumberOf, IsReplayOf, IsServeOf, IsTextOf, Tells}
 use Rattle.r9_opts.proofs.Walks.{built_flag, reads}
@@ -197,3 +197,8 @@ text_asked words rows columns lines asks are = record { wide = number _ _ _ _ as
       count = record { text = gives.text; given = only_value text_syntax.valued name asks.given rows asks.gives.allowed are ∙ gives.valued; counts = gives.counts };
       enough = gives.enough;
     }
+
+-- ---- desk
+
+pub desk_found : (rest : List Text) (rows : List Row) → Matches desk_syntax rest rows → AsksForDesk (codes "desk" ∷ rest)
+desk_found rest rows got = record { given = got.given; rest = rest; begins = refl; gives = got.gives }

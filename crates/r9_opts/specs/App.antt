@@ -30,6 +30,9 @@ alone_app = with_rule (sized_app (codes "alone")) (valued_rule (codes "conn"))
 abbrev pub text_app : App
 text_app = with_rule (with_rule (new_app (codes "text")) (valued_rule (codes "cols"))) (valued_rule (codes "rows"))
 
+abbrev pub desk_app : App
+desk_app = new_app (codes "desk")
+
 abbrev pub gen_app : App
 gen_app = with_rule (new_app (codes "gen")) (word_rule (codes "number"))
 
@@ -46,4 +49,4 @@ abbrev pub answering_app : App
 answering_app = with_subcommand (with_subcommand (with_subcommand bare_app replay_app.top) serve_app.top) alone_app.top
 
 abbrev pub rio9_app : App
-rio9_app = with_subcommand (with_subcommand answering_app text_app.top) gen_app.top
+rio9_app = with_subcommand (with_subcommand (with_subcommand answering_app text_app.top) desk_app.top) gen_app.top

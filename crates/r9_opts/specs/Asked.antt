@@ -6,7 +6,7 @@ use Rattle.r9_opts.specs.declared.job.Job.{Job}
 use Rattle.r9_opts.specs.declared.job.Job.TheVariants as job
 use Rattle.r9_opts.specs.declared.job.OptsFault.{OptsFault}
 use Rattle.r9_opts.specs.declared.job.OptsFault.TheVariants as fault
-use Rattle.model_words.specs.Commands.{AsksForAlone, AsksForReplay, AsksForText, AsksToServe, AsksToGenerate}
+use Rattle.model_words.specs.Commands.{AsksForAlone, AsksForDesk, AsksForReplay, AsksForText, AsksToServe, AsksToGenerate}
 use Rattle.r9_opts.specs.Rows.{IsAloneOf, IsReplayOf, IsServeOf, IsTextOf, IsCountOf}
 
 -- the bytes of words
@@ -19,6 +19,7 @@ AskFor words (job.Replay opening screen) = AsksForReplay words opening screen
 AskFor words (job.Serve opening listen workers conns) = AsksToServe words opening (string_bytes listen) workers conns
 AskFor words (job.Alone opening session) = AsksForAlone words opening session
 AskFor words (job.Text columns rows) = AsksForText words columns rows
+AskFor words job.Desk = AsksForDesk words
 AskFor words (job.Gen number) = AsksToGenerate words number
 
 -- the matches of a command give this job
@@ -27,6 +28,7 @@ JobOf command rows (job.Replay opening screen) = (command ≡ codes "replay") ×
 JobOf command rows (job.Serve opening listen workers conns) = (command ≡ codes "serve") × IsServeOf rows opening (string_bytes listen) workers conns
 JobOf command rows (job.Alone opening session) = (command ≡ codes "alone") × IsAloneOf rows opening session
 JobOf command rows (job.Text columns lines) = (command ≡ codes "text") × IsTextOf rows columns lines
+JobOf command rows job.Desk = command ≡ codes "desk"
 JobOf command rows (job.Gen number) = (command ≡ codes "gen") × IsCountOf rows (codes "number") 100000 number
 
 -- this holds where the fault is that the words ask for nothing

@@ -3,7 +3,7 @@
 ghost use Rattle.std.specs.Prelude.{◌≡◌, codes, false, IfOk};
 ghost use Rattle.clap.specs.Words.{app_of, rule_of};
 ghost use Rattle.clap.specs.declared.builder.command.Command.TheViews.{out-Command};
-ghost use Rattle.r9_opts.specs.App.{valued_rule, flag_rule, word_rule, sized_app, replay_app, serve_app, alone_app, text_app, gen_app, bare_app, answering_app, rio9_app};
+ghost use Rattle.r9_opts.specs.App.{valued_rule, flag_rule, word_rule, sized_app, replay_app, serve_app, alone_app, text_app, desk_app, gen_app, bare_app, answering_app, rio9_app};
 
 use clap::{Arg, ArgAction, Command};
 use std::alloc::{AllocError, Global};
@@ -67,6 +67,13 @@ fn text<'a>(alloc: Global) -> Result<Command<'a>, AllocError>
         .arg(valued(alloc, "rows"))
 }
 
+fn desk<'a>(alloc: Global) -> Command<'a>
+    ensures app { app_of result ≡ desk_app }
+    ensures local { (out-Command result).has_globals ≡ false }
+{
+    Command::new(alloc, "desk")
+}
+
 fn generate<'a>(alloc: Global) -> Result<Command<'a>, AllocError>
     ensures app { IfOk result (λ c. app_of c ≡ gen_app) }
     ensures local { IfOk result (λ c. (out-Command c).has_globals ≡ false) }
@@ -104,5 +111,6 @@ pub fn rio9<'a>(alloc: Global) -> Result<Command<'a>, AllocError>
 {
     answering(alloc)?
         .subcommand(text(alloc)?)?
+        .subcommand(desk(alloc))?
         .subcommand(generate(alloc)?)
 }

@@ -29,6 +29,8 @@ pub enum Job {
         cols: u32,
         rows: u32,
     },
+    /// Makes, moves and deletes windows as events of the mouse say.
+    Desk,
     /// Makes and answers a record of so many messages.
     Gen {
         number: u32,

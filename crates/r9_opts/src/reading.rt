@@ -201,6 +201,9 @@ fn job_of(alloc: Global, command: &str, given: &ArgMatches<'_>) -> Result<Option
     if command == "text" {
         return Ok(text(given));
     }
+    if command == "desk" {
+        return Ok(Some(Job::Desk));
+    }
     if command == "gen" {
         return Ok(generate(given));
     }

@@ -1,9 +1,7 @@
 //! The draw messages with which a client shows a text in a window that scrolls, as bytes (draw(3)).
 #![tactic(auto)]
 
-mod fields;
 mod made;
-mod messages;
 mod moves;
 mod shape;
 

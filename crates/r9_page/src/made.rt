@@ -6,11 +6,13 @@ ghost use Rattle.model_client.specs.Messages as messages;
 ghost use Rattle.model_page.specs.Text as text;
 ghost use Rattle.model_page.specs.Text.{cell, cells, font_rect, making};
 ghost use Rattle.model_page.specs.Page.{IsShape};
-ghost use Rattle.r9_page.specs.Shown.{rect_of, shape_of};
+ghost use Rattle.r9_drawing.specs.Shown.{rect_of};
+ghost use Rattle.r9_page.specs.Shown.{shape_of};
 
-use crate::fields::{Area, Place};
-use crate::messages::{Character, Image, font, make_image, named, rows, take_character};
 use crate::shape::Shape;
+use r9_drawing::{
+    Area, Character, Image, Place, colour, font, make_image, named, rows, take_character,
+};
 use r9_memory::Memory;
 use r9_text::Bytes;
 use std::alloc::Global;
@@ -27,47 +29,11 @@ pub const LETTERS: u32 = 3;
 /// The id of the window's image.
 pub const WINDOW: u32 = 4;
 
-/// The point where both coordinates are 0.
-pub const ORIGIN: Place = Place { x: 0, y: 0 };
-
 /// How many characters a font has.
 const CELLS: u16 = 95;
 
 /// The channels k8.
 const GREY8: u32 = 0x38;
-
-/// The channels x8r8g8b8.
-const RGB24: u32 = 0x6808_1828;
-
-/// How far the greatest clip rectangle goes.
-const FAR: u32 = 0x3fff_ffff;
-
-/// An image of one pixel that repeats.
-fn colour(alloc: Global, id: u32, color: u32) -> Result<Bytes, Memory>
-    ensures { IfOk result (λ bytes. bytes ≡ messages.image id text.rgb24 1 text.dot text.everywhere color) }
-{
-    make_image(
-        alloc,
-        Image {
-            id,
-            chan: RGB24,
-            repl: 1,
-            r: Area {
-                left: 0,
-                upper: 0,
-                right: 1,
-                lower: 1,
-            },
-            clipr: Area {
-                left: 0,
-                upper: 0,
-                right: FAR,
-                lower: FAR,
-            },
-            color,
-        },
-    )
-}
 
 /// The rectangle of a font's characters, side by side.
 fn font_area(shape: Shape) -> Area

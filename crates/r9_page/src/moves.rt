@@ -4,13 +4,13 @@ ghost use Rattle.std.specs.Prelude.{◌≡◌, All, IfOk};
 ghost use Rattle.model_textwin.specs.declared.Move.TheVariants.{Scroll, Put};
 ghost use Rattle.model_page.specs.Text.{last_row, move_bytes, moves_bytes, page_rect, upper};
 ghost use Rattle.model_page.specs.Page.{IsShape};
-ghost use Rattle.r9_page.specs.Shown.{IsWithin, rect_of, shape_of};
+ghost use Rattle.r9_drawing.specs.Shown.{rect_of};
+ghost use Rattle.r9_page.specs.Shown.{IsWithin, shape_of};
 
-use crate::fields::{Area, Place};
-use crate::made::{BLACK, LETTERS, ORIGIN, WHITE, WINDOW};
-use crate::messages::{Drawing, Writing, draw, string};
+use crate::made::{BLACK, LETTERS, WHITE, WINDOW};
 use crate::shape::Shape;
 use model_textwin::Move;
+use r9_drawing::{Area, Drawing, ORIGIN, Place, Writing, draw, string};
 use r9_memory::Memory;
 use r9_text::Bytes;
 use std::alloc::Global;

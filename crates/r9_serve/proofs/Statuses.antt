@@ -6,12 +6,12 @@ use Rattle.model_record.specs.Record.{IsRecord, IsLate, IsNeither}
 use Rattle.r9_serve.specs.declared.status.Status.{Status}
 use Rattle.r9_serve.specs.declared.status.Status.TheVariants as status
 use Rattle.r9_opts.specs.declared.job.Job.{Job}
-use Rattle.r9_opts.specs.declared.job.Job.TheVariants.{Replay, Serve, Alone, Text, Gen}
+use Rattle.r9_opts.specs.declared.job.Job.TheVariants.{Replay, Serve, Alone, Text, Desk, Gen}
 use Rattle.r9_replay.specs.Replays.{HadRecord, WasBadAt, WasLate}
-use Rattle.r9_serve.specs.Run.{Ask, AskForReplay, AskForText, AskToRead, AskToServe, IsOutput, LeftInput, WrotePart, IsInputAfter, IsOutAfter, IsDone, IsRefused, IsToldLate}
+use Rattle.r9_serve.specs.Run.{Ask, AskForReplay, AskToRead, AskToServe, IsOutput, LeftInput, WrotePart, IsInputAfter, IsOutAfter, IsDone, IsRefused, IsToldBad, IsToldLate}
 use Rattle.r9_journal.proofs.Headers.{late_once, record_not_late}
 use Rattle.r9_journal.proofs.Records.{bad_not_late, not_both}
-use Rattle.r9_serve.proofs.Asking.{gen_reads_not, not_both as not_both_asked, serve_not_gen, serve_not_replay, text_not_gen, text_not_replay}
+use Rattle.r9_serve.proofs.Asking.{desk_not_replay, gen_reads_not, not_both as not_both_asked, serve_not_gen, serve_not_replay, text_not_replay}
 
 -- a record is replayed
 pub done_by : (found : Status) (left : Option (List ℕ)) (text : List ℕ) (events : List Event) → left ≡ Some text → IsRecord text events
@@ -43,6 +43,7 @@ had_no_output words (Replay opening screen) left text lines told none replays as
 had_no_output words (Gen number) left text lines told none replays ask out = not_both_asked words number replays ask
 had_no_output words (Serve opening listen workers conns) left text lines told none replays ask out = serve_not_replay words replays (Serve opening listen workers conns, ask, tt)
 had_no_output words (Text columns rows) left text lines told none replays ask out = text_not_replay words (Text columns rows, ask, tt) replays
+had_no_output words Desk left text lines told none replays ask out = desk_not_replay words (Desk, ask, tt) replays
 had_no_output words (Alone opening session) left text lines told none replays ask out = out
 
 pub refused_by : (words : List (Bor (List ℕ))) (found : Status) (left before after : Option (List ℕ)) (text : List ℕ) → left ≡ Some text → IsNeither text
@@ -83,18 +84,48 @@ late_by words (status.Spent count) left before after text n told is replays usag
 
 -- a record is made
 pub made_by : (words : List (Bor (List ℕ))) (number : ℕ) (found : Status) → Ask words (Gen number) → (found ≡ status.Usage → ⊥) → ((place : ℕ) → found ≡ status.BadRecord place → AskForReplay words)
-    → ((first : ℕ) → found ≡ status.LateRecord first → AskForReplay words) → ((place : ℕ) → found ≡ status.BadInput place → AskForText words) → (found ≡ status.ReadFault → AskToRead words) → (found ≡ status.WriteFault → ⊥)
+    → ((first : ℕ) → found ≡ status.LateRecord first → AskForReplay words) → ((place : ℕ) → found ≡ status.BadInput place → ⊥) → (found ≡ status.ReadFault → AskToRead words) → (found ≡ status.WriteFault → ⊥)
     → ((worker : ℕ) → found ≡ status.DoorFault worker → AskToServe words) → ((count : ℕ) → found ≡ status.Spent count → AskToServe words) → IsDone found
 made_by words number status.Done ask usage bad late input read write door spent = inl refl
 made_by words number status.Usage ask usage bad late input read write door spent = absurd (usage refl)
 made_by words number (status.BadRecord place) ask usage bad late input read write door spent = not_both_asked words number (bad place refl) ask
 made_by words number (status.LateRecord first) ask usage bad late input read write door spent = not_both_asked words number (late first refl) ask
-made_by words number (status.BadInput place) ask usage bad late input read write door spent = text_not_gen words number (input place refl) ask
+made_by words number (status.BadInput place) ask usage bad late input read write door spent = absurd (input place refl)
 made_by words number status.ReadFault ask usage bad late input read write door spent = gen_reads_not words number (read refl) ask
 made_by words number status.WriteFault ask usage bad late input read write door spent = absurd (write refl)
 made_by words number status.Memory ask usage bad late input read write door spent = inr refl
 made_by words number (status.DoorFault worker) ask usage bad late input read write door spent = serve_not_gen words number ask (door worker refl)
 made_by words number (status.Spent count) ask usage bad late input read write door spent = serve_not_gen words number ask (spent count refl)
+
+-- where no other status comes the job is done
+pub done_unless : (found : Status) → (found ≡ status.Usage → ⊥) → ((place : ℕ) → found ≡ status.BadRecord place → ⊥) → ((first : ℕ) → found ≡ status.LateRecord first → ⊥)
+    → ((place : ℕ) → found ≡ status.BadInput place → ⊥) → (found ≡ status.ReadFault → ⊥) → (found ≡ status.WriteFault → ⊥) → ((worker : ℕ) → found ≡ status.DoorFault worker → ⊥)
+    → ((count : ℕ) → found ≡ status.Spent count → ⊥) → IsDone found
+done_unless status.Done usage bad late input read write door spent = inl refl
+done_unless status.Usage usage bad late input read write door spent = absurd (usage refl)
+done_unless (status.BadRecord place) usage bad late input read write door spent = absurd (bad place refl)
+done_unless (status.LateRecord first) usage bad late input read write door spent = absurd (late first refl)
+done_unless (status.BadInput place) usage bad late input read write door spent = absurd (input place refl)
+done_unless status.ReadFault usage bad late input read write door spent = absurd (read refl)
+done_unless status.WriteFault usage bad late input read write door spent = absurd (write refl)
+done_unless status.Memory usage bad late input read write door spent = inr refl
+done_unless (status.DoorFault worker) usage bad late input read write door spent = absurd (door worker refl)
+done_unless (status.Spent count) usage bad late input read write door spent = absurd (spent count refl)
+
+-- and where there is no output the input is told to be bad at the one place where it is
+pub bad_unless : (asked : Job → Type 0) (found : Status) (left before after : Option (List ℕ)) (place : ℕ) → ((job : Job) (lines : List ℕ) → asked job → IsOutput job left lines → ⊥)
+    → (found ≡ status.Usage → ⊥) → IsOutAfter asked found left before after → ((at : ℕ) → found ≡ status.BadRecord at → ⊥) → ((first : ℕ) → found ≡ status.LateRecord first → ⊥)
+    → ((at : ℕ) → found ≡ status.BadInput at → at ≡ place) → (found ≡ status.ReadFault → ⊥) → IsToldBad found place
+bad_unless asked status.Done left before after place none usage out bad late input read = absurd (none out.job out.lines out.is_asked out.are_lines)
+bad_unless asked status.Usage left before after place none usage out bad late input read = absurd (usage refl)
+bad_unless asked (status.BadRecord at) left before after place none usage out bad late input read = absurd (bad at refl)
+bad_unless asked (status.LateRecord first) left before after place none usage out bad late input read = absurd (late first refl)
+bad_unless asked (status.BadInput at) left before after place none usage out bad late input read = inl (ap (λ (n : ℕ). status.BadInput n) (input at refl))
+bad_unless asked status.ReadFault left before after place none usage out bad late input read = absurd (read refl)
+bad_unless asked status.WriteFault left before after place none usage out bad late input read = absurd (none out.job out.lines out.is_asked out.are_lines)
+bad_unless asked status.Memory left before after place none usage out bad late input read = inr refl
+bad_unless asked (status.DoorFault worker) left before after place none usage out bad late input read = absurd (none out.job out.lines out.is_asked out.are_lines)
+bad_unless asked (status.Spent count) left before after place none usage out bad late input read = absurd (none out.job out.lines out.is_asked out.are_lines)
 
 wrote_under : (asked : Job → Type 0) (job : Job) (left before after : Option (List ℕ)) → asked job → WrotePart (λ j. j ≡ job) left before after → WrotePart asked left before after
 wrote_under asked job left before after is wrote = record {

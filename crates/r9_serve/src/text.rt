@@ -8,6 +8,7 @@ ghost use Rattle.r9_textfile.specs.Input.{input_of, limit};
 ghost use Rattle.r9_typing.specs.Record.{IsTextRecord};
 ghost use Rattle.r9_serve.specs.Run.{IsInputAfter, IsOutAfter, WasBadInput, WasTextShown};
 
+use crate::fault::MakeFault;
 use crate::put::put_text;
 use crate::status::Status;
 use r9_input::{InputFault, read_up_to};
@@ -19,29 +20,18 @@ use std::alloc::Global;
 /// So many bytes of the input are read at most. One that has them is bad.
 const MAX_LEN: usize = 1 << 20;
 
-/// Why there is no record of a text.
-#[derive(Clone, Copy, Debug, PartialEq, Eq)]
-enum ShowFault {
-    /// The input is no font with a text, and goes wrong at this place.
-    BadInput(u64),
-    /// The input failed.
-    ReadFault,
-    /// There was no memory.
-    Memory,
-}
-
 /// The record that shows the text of what was read.
-fn show(alloc: Global, columns: u32, rows: u32, read: &[u8]) -> Result<Bytes, ShowFault>
+fn show(alloc: Global, columns: u32, rows: u32, read: &[u8]) -> Result<Bytes, MakeFault>
     requires wide { (4 ≤ columns) × (columns ≤ 200) }
     requires high { (4 ≤ rows) × (rows ≤ 100) }
     ensures record { IfOk result (λ lines. IsTextRecord columns rows read.now lines) }
-    ensures bad { (place : ℕ) → result ≡ Err (ShowFault.BadInput place) → input_of read.now ≡ Err place }
-    ensures read { ¬ IsErrOf result ShowFault.ReadFault }
+    ensures bad { (place : ℕ) → result ≡ Err (MakeFault.BadInput place) → input_of read.now ≡ Err place }
+    ensures read { ¬ IsErrOf result MakeFault.ReadFault }
 {
     match text_record(alloc, columns, rows, read) {
         Ok(record) => Ok(record),
-        Err(TextFault::Bad { place }) => Err(ShowFault::BadInput(place)),
-        Err(TextFault::Memory) => Err(ShowFault::Memory),
+        Err(TextFault::Bad { place }) => Err(MakeFault::BadInput(place)),
+        Err(TextFault::Memory) => Err(MakeFault::Memory),
     }
 }
 
@@ -51,20 +41,20 @@ fn shown<S: Source>(
     columns: u32,
     rows: u32,
     input: &mut S,
-) -> Result<Bytes, ShowFault>
+) -> Result<Bytes, MakeFault>
     requires wide { (4 ≤ columns) × (columns ≤ 200) }
     requires high { (4 ≤ rows) × (rows ≤ 100) }
     ensures record { IfOk result (λ lines. WasTextShown columns rows (S.left input.old) lines) }
     ensures read { OnOk result (WasReadTo limit (S.left input.old) (S.left input.new)) }
-    ensures bad { (place : ℕ) → result ≡ Err (ShowFault.BadInput place) → WasBadInput (S.left input.old) place }
-    ensures bad_read { (place : ℕ) → result ≡ Err (ShowFault.BadInput place) → WasReadTo limit (S.left input.old) (S.left input.new) }
-    ensures read_fault { IsErrOf result ShowFault.ReadFault → Rose (S.faults input.old) (S.faults input.new) }
-    ensures steady { ¬ IsErrOf result ShowFault.ReadFault → S.faults input.new ≡ S.faults input.old }
+    ensures bad { (place : ℕ) → result ≡ Err (MakeFault.BadInput place) → WasBadInput (S.left input.old) place }
+    ensures bad_read { (place : ℕ) → result ≡ Err (MakeFault.BadInput place) → WasReadTo limit (S.left input.old) (S.left input.new) }
+    ensures read_fault { IsErrOf result MakeFault.ReadFault → Rose (S.faults input.old) (S.faults input.new) }
+    ensures steady { ¬ IsErrOf result MakeFault.ReadFault → S.faults input.new ≡ S.faults input.old }
 {
     match read_up_to(alloc, MAX_LEN, input) {
         Ok(read) => show(alloc, columns, rows, read.as_slice()),
-        Err(InputFault::Failed) => Err(ShowFault::ReadFault),
-        Err(InputFault::Memory) => Err(ShowFault::Memory),
+        Err(InputFault::Failed) => Err(MakeFault::ReadFault),
+        Err(InputFault::Memory) => Err(MakeFault::Memory),
     }
 }
 
@@ -94,9 +84,9 @@ pub fn show_text<S: Source, O: Sink>(
 {
     let record = match shown(alloc, columns, rows, input) {
         Ok(record) => record,
-        Err(ShowFault::BadInput(place)) => return Status::BadInput { place },
-        Err(ShowFault::ReadFault) => return Status::ReadFault,
-        Err(ShowFault::Memory) => return Status::Memory,
+        Err(MakeFault::BadInput(place)) => return Status::BadInput { place },
+        Err(MakeFault::ReadFault) => return Status::ReadFault,
+        Err(MakeFault::Memory) => return Status::Memory,
     };
     match put_text(record.as_slice(), out) {
         Ok(()) => Status::Done,

@@ -1,4 +1,3 @@
-pub mod Said
 pub mod Fits
 pub mod Moving
 pub mod Typing

@@ -1,12 +1,9 @@
 -- The lines of a text, a piece after the other.
 use Rattle.std.proofs.Common.{◌≡◌, ◌∙◌, ◌≤◌, ◌-◌, ◌*◌, ℕ, zero, suc, List, [], ◌∷◌, ◌++◌, codes, drop, length, map, replicate, take, Some, refl, sym, ap, subst, arith, append-nil, length-drop}
 use Rattle.std.proofs.lemmas.List.{take_all}
-use Rattle.std.specs.Fmt.{digits}
 use Rattle.r9_event.specs.declared.event.Event.TheVariants.{Begin}
 use Rattle.model_text.specs.Number.{AreBytes}
-use Rattle.model_wire.specs.Message.{T}
 use Rattle.model_record.specs.Record.{record_of}
-use Rattle.model_client.specs.Saying.{says}
 use Rattle.model_textwin.specs.declared.Move.{Move}
 use Rattle.model_textwin.specs.Moves.{all_moved, put_codes, screen}
 use Rattle.model_textwin.specs.Pieces.{pieces}
@@ -17,9 +14,9 @@ use Rattle.model_typed.specs.Typing.{AllFit, Piece, text_history}
 use Rattle.model_typed.specs.Shown.{pages}
 use Rattle.model_typed.proofs.Shown.{text_is_shown}
 use Rattle.r9_textwin.specs.Window.{SameSides, Stands, Window}
-use Rattle.r9_typing.specs.Lines.{IsSaid, lines_of}
+use Rattle.r9_saying.specs.Lines.{IsSaid}
 use Rattle.r9_typing.specs.Typed.{IsRecordOf, IsTyped}
-use Rattle.r9_typing.proofs.Said.{said_more}
+use Rattle.r9_saying.proofs.Said.{record_is, said_more}
 use Rattle.r9_typing.proofs.Moving.{characters-append, characters_few}
 
 -- ---- the pieces
@@ -106,16 +103,8 @@ blank_rows (suc count) some =
     let below : suc count - 1 ≡ count = omega arith in
     λ i. drop (all i) ([] ∷ []) ++ replicate (below i) []
 
-beginning : codes "rio9 1" ++ (10 ∷ codes "B 1") ++ 10 ∷ [] ≡ record_of (Begin 1 ∷ [])
-unfolding digits
-beginning = refl
-
-record_is : (messages : List T) (begun out : List ℕ) → begun ≡ record_of (Begin 1 ∷ []) → IsSaid begun out messages → out ≡ record_of (Begin 1 ∷ map says messages)
-unfolding digits
-record_is messages begun out is said = said.lines ∙ ap (λ (t : List ℕ). t ++ lines_of messages) is
-
 pub recorded : (shape : Shape) (pixels text begun opened out : List ℕ) → IsShape shape → AreBytes pixels → length pixels ≡ shape.height * (cells * shape.width)
-    → begun ≡ codes "rio9 1" ++ (10 ∷ codes "B 1") ++ 10 ∷ [] → IsSaid begun opened (opening shape pixels) → IsTyped shape blank text opened out → IsRecordOf shape pixels text out
+    → begun ≡ record_of (Begin 1 ∷ []) → IsSaid begun opened (opening shape pixels) → IsTyped shape blank text opened out → IsRecordOf shape pixels text out
 recorded shape pixels text begun opened out is are enough first said typed =
     let some : 1 ≤ shape.rows = let high = is.high in omega (arith, high) in
     let fit : AllFit shape (replicate shape.rows []) typed.all = subst (λ (rows : List (List ℕ)). AllFit shape rows typed.all) (blank_rows shape.rows some) typed.fit in
@@ -123,5 +112,5 @@ recorded shape pixels text begun opened out is are enough first said typed =
     record {
       history = text_history shape pixels typed.all;
       shown = text_is_shown shape pixels text typed.all is are enough fit typed.shown typed.codes all.whole;
-      is_record = record_is (opening shape pixels ++ map (λ (p : Piece). write (moves_bytes shape p.0)) typed.all) begun out (first ∙ beginning) all;
+      is_record = record_is (opening shape pixels ++ map (λ (p : Piece). write (moves_bytes shape p.0)) typed.all) begun out first all;
     }

@@ -9,7 +9,7 @@ use Rattle.model_textwin.specs.Wrap.{Page, characters}
 use Rattle.model_page.specs.Text.{Shape, moves_bytes, write}
 use Rattle.model_typed.specs.Typing.{AllFit, Piece}
 use Rattle.model_typed.specs.Shown.{IsShown, pages}
-use Rattle.r9_typing.specs.Lines.{IsSaid}
+use Rattle.r9_saying.specs.Lines.{IsSaid}
 
 -- The lines of a text's pieces came behind what was there before. The pieces' moves lead from a page on to the pages after them, and put
 -- the characters of the text.

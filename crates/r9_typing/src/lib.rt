@@ -2,7 +2,6 @@
 //! rio(4)).
 #![tactic(auto)]
 
-mod lines;
 mod opening;
 mod pieces;
 mod record;

@@ -5,12 +5,13 @@ ghost use Rattle.model_textwin.specs.Wrap.{blank};
 ghost use Rattle.model_page.specs.Text.{moves_bytes, write};
 ghost use Rattle.model_page.specs.Page.{IsShape};
 ghost use Rattle.r9_page.specs.Shown.{IsWithin, shape_of};
-ghost use Rattle.r9_typing.specs.Lines.{IsSaid};
+ghost use Rattle.r9_saying.specs.Lines.{IsSaid};
 ghost use Rattle.r9_typing.specs.Typed.{IsTyped};
 
-use crate::lines::push_write;
+use crate::opening::DATA;
 use r9_memory::Memory;
 use r9_page::{Shape, moves_bytes};
+use r9_saying::push_write;
 use r9_text::Bytes;
 use r9_textwin::{Move, TextWin, first_piece};
 use std::alloc::Global;
@@ -23,7 +24,7 @@ fn push_piece(alloc: Global, shape: Shape, moves: &[Move], out: &mut Bytes) -> R
     ensures { OnOk result (IsSaid out.old out.new (write (moves_bytes (shape_of shape) moves.now) ∷ [])) }
 {
     let bytes = moves_bytes(alloc, shape, moves)?;
-    push_write(alloc, bytes.as_slice(), out)
+    push_write(alloc, DATA, bytes.as_slice(), out)
 }
 
 /// Adds the lines of a text's pieces. The page is blank before them.

@@ -8,11 +8,11 @@ ghost use Rattle.r9_page.specs.Shown.{shape_of};
 ghost use Rattle.r9_typing.specs.Typed.{IsRecordOf};
 ghost use Rattle.r9_typing.specs.Record.{IsTextRecord};
 
-use crate::lines::are_bytes;
 use crate::opening::push_opening;
 use crate::pieces::push_pieces;
 use r9_memory::Memory;
 use r9_page::Shape;
+use r9_saying::{are_bytes, begin};
 use r9_text::Bytes;
 use r9_textfile::{BadInput, read_input};
 use std::alloc::Global;
@@ -51,16 +51,13 @@ impl From<BadInput> for TextFault {
     }
 }
 
-/// The header of a record, and the line with which session 1 begins.
-const BEGINNING: &[u8] = b"rio9 1\nB 1\n";
-
 /// The record that shows a text with a font of these pixels.
 fn record_of(alloc: Global, shape: Shape, pixels: &[u8], text: &[u8]) -> Result<Bytes, Memory>
     requires shape { IsShape (shape_of shape) }
     requires all { length pixels.now ≡ shape.height * (cells * shape.width) }
     ensures { IfOk result (IsRecordOf (shape_of shape) pixels.now text.now) }
 {
-    let mut out = Bytes::from_slice(alloc, BEGINNING)?;
+    let mut out = begin(alloc)?;
     push_opening(alloc, shape, pixels, &mut out)?;
     push_pieces(alloc, shape, text, &mut out)?;
     are_bytes(pixels);

@@ -2,7 +2,7 @@ use Rattle.std.proofs.Common.{rules, ◌≡◌, ◌<◌, ◌++◌, arith}
 use Rattle.std.specs.List.{flat_map, range_with_len}
 use Rattle.model_page.specs.Text.{cell, cells}
 use Rattle.r9_page.specs.Shown.{shape_of}
-use Rattle.r9_page.proofs.Joins.{one_more}
+use Rattle.r9_drawing.proofs.Joins.{one_more}
 use Rattle.r9_page.proofs.made.push_cells.Goals as goal
 
 pub loop-code-preserved : goal.loop-code-preserved

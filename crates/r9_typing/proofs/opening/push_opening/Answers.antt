@@ -1,11 +1,12 @@
 use Rattle.std.proofs.Common.{◌∙◌, ◌++◌, [], ◌∷◌}
 use Rattle.model_wire.specs.Message.{Tattach, no_fid}
+use Rattle.model_client.specs.Files.{to_data, to_new}
 use Rattle.model_client.specs.Saying.{hello}
 use Rattle.model_page.specs.Text.{asked, making, opening, write}
 use Rattle.r9_page.specs.Shown.{shape_of}
-use Rattle.r9_typing.specs.Lines.{IsSaid, opens}
+use Rattle.r9_saying.specs.Lines.{IsSaid, opens}
 use Rattle.r9_typing.proofs.Fits.{making_short}
-use Rattle.r9_typing.proofs.Said.{on_ok_then, said_more, said_write_as}
+use Rattle.r9_saying.proofs.Said.{on_ok_then, said_more, said_write_as}
 use Rattle.r9_typing.proofs.opening.push_opening.Goals as goal
 
 pub push_write-requires : goal.push_write-requires
@@ -22,7 +23,7 @@ returns c =
     let bytes = c.as_slice.result.now in
     on_ok_then c.push_write.result (IsSaid connected after (write bytes ∷ [])) (IsSaid before after (opening shape pixels))
     (λ said.
-    said_more (hello ∷ Tattach 1 0 no_fid [] (asked shape) ∷ []) (opens ++ write (making shape pixels) ∷ []) before entered after c.in_ok-push_entering.ensures
-    (said_more opens (write (making shape pixels) ∷ []) entered connected after c.in_ok-push_connecting.ensures
-    (said_write_as bytes (making shape pixels) connected after (c.as_slice.ensures ∙ c.in_ok-bytes.ensures) said)))
+    said_more (hello ∷ Tattach 1 0 no_fid [] (asked shape) ∷ []) ((opens to_new 1 2 ++ opens to_data 2 2) ++ write (making shape pixels) ∷ []) before entered after c.in_ok-push_entering.ensures
+    (said_more (opens to_new 1 2 ++ opens to_data 2 2) (write (making shape pixels) ∷ []) entered connected after c.in_ok-push_connecting.ensures
+    (said_write_as 2 bytes (making shape pixels) connected after (c.as_slice.ensures ∙ c.in_ok-bytes.ensures) said)))
     c.push_write.ensures

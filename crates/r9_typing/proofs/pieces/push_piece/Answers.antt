@@ -1,9 +1,9 @@
 use Rattle.std.proofs.Common.{◌∙◌, [], ◌∷◌}
 use Rattle.model_page.specs.Text.{moves_bytes, write}
 use Rattle.r9_page.specs.Shown.{shape_of}
-use Rattle.r9_typing.specs.Lines.{IsSaid}
+use Rattle.r9_saying.specs.Lines.{IsSaid}
 use Rattle.r9_typing.proofs.Fits.{few}
-use Rattle.r9_typing.proofs.Said.{on_ok_then, said_write_as}
+use Rattle.r9_saying.proofs.Said.{on_ok_then, said_write_as}
 use Rattle.r9_typing.proofs.pieces.push_piece.Goals as goal
 
 pub push_write-requires : goal.push_write-requires
@@ -16,4 +16,4 @@ returns c =
     let after = c.push_write.new.out in
     let bytes = c.as_slice.result.now in
     on_ok_then c.push_write.result (IsSaid before after (write bytes ∷ [])) (IsSaid before after (write moved ∷ []))
-    (said_write_as bytes moved before after (c.as_slice.ensures ∙ c.in_ok-bytes.ensures)) c.push_write.ensures
+    (said_write_as 2 bytes moved before after (c.as_slice.ensures ∙ c.in_ok-bytes.ensures)) c.push_write.ensures

@@ -1,0 +1,5 @@
+mod Lengths
+mod Short
+mod Steps
+mod Given
+mod Recorded
