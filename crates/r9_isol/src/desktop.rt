@@ -49,4 +49,12 @@ impl Desktop {
             made: None,
         })
     }
+
+    /// The serial of the window that is made in this step, which an attach for a new window then gets; none where none is made.
+    #[tactic(auto, unfolding(crate::specs::World::desktop_of))]
+    pub fn set_made(&mut self, made: Option<u32>)
+        ensures { desktop_of self.new ≡ record (desktop_of self.old) { made = made } }
+    {
+        self.made = made;
+    }
 }
