@@ -3,11 +3,11 @@
 
     tools/refused_memory.py [--program PATH] [--every K] [--jobs N]
 
-The runs are `replay` of a case of crates/tests_rows in which a session has a window, draws and waits, `gen 3`, and `text` with the
-font of tools/font.txt. What refuses is refused_memory.c, which cc builds and the program is started with. Each run has to end with status 5, its line on standard
-error and a front of what is printed where no request is refused, or with status 0 and all of that. With --every only each K-th request is
-refused. It prints how many requests a run makes, how many were refused, and how the runs ended. Status 1 tells that one ended
-otherwise, 2 that a word or a file is wrong.
+The runs are `replay` of a case of crates/tests_rows in which a session has a window, draws and waits, `gen 3`, `text` with the
+font of tools/font.txt, and `desk` with the first events of examples/desk.txt. What refuses is refused_memory.c, which cc builds and the
+program is started with. Each run has to end with status 5, its line on standard error and a front of what is printed where no request is
+refused, or with status 0 and all of that. With --every only each K-th request is refused. It prints how many requests a run makes, how
+many were refused, and how the runs ended. Status 1 tells that one ended otherwise, 2 that a word or a file is wrong.
 
 It is outside the proof. Needs: Linux with glibc, Python 3.9 or later, its standard library alone, and cc.
 """
@@ -20,8 +20,10 @@ import sys
 import tempfile
 from dataclasses import dataclass
 
+import events
 import font
 import formats
+from desk_model import EVENT_BYTES
 
 HERE = os.path.dirname(os.path.abspath(__file__))
 ROOT = os.path.dirname(HERE)
@@ -29,6 +31,8 @@ PROGRAM = os.path.join(ROOT, "crates", "rio9", "out", "rio9")
 CASES = os.path.join(ROOT, "crates", "tests_rows", "stdin")
 CASE = "A window is resized: its waiting read of mouse tells so, and its old image is no longer valid"
 TEXT = b"a text that scrolls\nin its window\n"
+MOUSE = os.path.join(ROOT, "examples", "desk.txt")
+EVENTS = 12
 LINE = b"rio9: out of memory\n"
 SECONDS = 60  # that a run may take
 
@@ -69,6 +73,12 @@ def typed(text):
     """The words and the input that show a text in a small window."""
     with open(font.DRAWN, encoding="ascii") as file:
         return ("text", "--cols", "4", "--rows", "4"), font.font_file(font.read_font(file.read())) + text
+
+
+def pointed(count):
+    """The words and the input that make windows by a mouse."""
+    with open(MOUSE, encoding="ascii") as file:
+        return ("desk",), events.events_of(file.read())[: EVENT_BYTES * count]
 
 
 def kind_of(ending, whole):
@@ -117,7 +127,7 @@ def main(words):
     options = parser.parse_args(words)
     if not (os.path.isfile(options.program) and os.access(options.program, os.X_OK)):
         formats.stop("refused_memory.py", f"no program: {options.program}")
-    runs = [Run(options.program, *case) for case in (case_of(CASE), (("gen", "3"), b""), typed(TEXT))]
+    runs = [Run(options.program, *case) for case in (case_of(CASE), (("gen", "3"), b""), typed(TEXT), pointed(EVENTS))]
     with tempfile.TemporaryDirectory() as room:
         library = built(room)
         good = [check(run, library, room, options) for run in runs]

@@ -19,7 +19,7 @@ const HEADER_LEN: usize = 60;
 const ROW_LEN: usize = 640 * 4;
 
 /// The number of a word, or 0 where there is none.
-fn number(word: Option<&str>) -> usize {
+pub fn number(word: Option<&str>) -> usize {
     word.and_then(|word| word.parse().ok()).unwrap_or(0)
 }
 
@@ -43,7 +43,7 @@ fn input_of(alloc: Global, lines: &str) -> io::Result<Vec<u8>> {
 }
 
 /// Runs a command on an input, with doors to which nobody comes, and gives its exit status.
-fn run_words<R: Threads + Wait + Sync, E: Sink>(
+pub fn run_words<R: Threads + Wait + Sync, E: Sink>(
     rt: &R,
     alloc: Global,
     words: &[&str],

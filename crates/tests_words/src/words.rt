@@ -2,7 +2,7 @@ use r9_opts::{Job, OptsFault, read_words};
 use std::test::Fail;
 
 // Words that ask for nothing.
-const REFUSED: [&[&str]; 61] = [
+const REFUSED: [&[&str]; 66] = [
     &[],
     &["--"],
     &["--", "replay"],
@@ -64,6 +64,11 @@ const REFUSED: [&[&str]; 61] = [
     &["text", "--cols=80", "--rows=24", "x"],
     &["text", "--cols=80", "--", "--rows=24"],
     &["text", "--cols=80", "--rows=24", "--chan=k8"],
+    &["desk", "x"],
+    &["desk", "--", "x"],
+    &["desk", "--", "--"],
+    &["desk", "--screen"],
+    &["desk", "--size", "640x480"],
 ];
 
 #[test]
@@ -153,4 +158,12 @@ fn a_window_of_text_has_columns_and_rows(rt: HostRuntime) {
             Ok(Job::Text { cols: 4, rows: 100 })
         )
     );
+}
+
+#[test]
+fn a_desk_has_no_options(rt: HostRuntime) {
+    let desks: [&[&str]; 2] = [&["desk"], &["desk", "--"]];
+    for words in desks {
+        assert!(rt; matches!(read_words(rt.alloc(), words), Ok(Job::Desk)));
+    }
 }
