@@ -1,9 +1,10 @@
 //! The desktop as one value.
 
-ghost use Rattle.std.specs.Prelude.{◌≡◌, ◌^◌, ◌<ℤ◌, pos, [], IfOk};
+ghost use Rattle.std.specs.Prelude.{◌≡◌, ◌^◌, ◌∷◌, ◌<ℤ◌, pos, [], map, IfOk};
 ghost use Rattle.r9_geom.specs.Geometry.{IsOrdered};
 ghost use Rattle.model_draw.specs.Files.{screen_file};
 ghost use Rattle.model_draw.specs.Orders.{picture_of};
+ghost use Rattle.model_rio.specs.Table.{window_of};
 ghost use Rattle.model_world.specs.Desktop.{first_desktop};
 ghost use Rattle.r9_desktop.specs.World.{desktop_of};
 
@@ -13,7 +14,9 @@ use r9_draw::Draw;
 use r9_event::{Note, Notes};
 use r9_geom::Rect;
 use r9_memory::Memory;
+use r9_pane::Pane;
 use r9_text::Bytes;
+use r9_window::Window;
 use r9_wmgr::Manager;
 use std::alloc::Global;
 use std::collections::BTreeMap;
@@ -72,6 +75,30 @@ impl Desktop {
         ensures left { desktop_of self.new ≡ record (desktop_of self.old) { notes = [] } }
     {
         std::mem::replace(&mut self.notes, Notes::new(self.alloc))
+    }
+
+    /// What the files of windows have, by the windows' serials.
+    #[tactic(auto, unfolding(crate::specs::World::desktop_of))]
+    pub fn panes(&self) -> &BTreeMap<u32, Pane>
+        ensures { result.now.entries ≡ (desktop_of self.now).panes }
+    {
+        &self.panes
+    }
+
+    /// The live window with a serial.
+    #[tactic(auto, unfolding(crate::specs::World::desktop_of))]
+    pub fn window(&self, serial: u32) -> Option<Window>
+        ensures { result ≡ window_of (desktop_of self.now).table serial }
+    {
+        self.manager.window_of(serial)
+    }
+
+    /// The serials of the hosts of all rios, in the order in which the rios began; that of the root rio is 0.
+    #[tactic(auto, unfolding(crate::specs::World::desktop_of))]
+    pub fn hosts(&self) -> Result<Vec<u32>, Memory>
+        ensures { IfOk result (λ hosts. hosts.items ≡ map (λ rio. rio.host) ((desktop_of self.now).table.root ∷ (desktop_of self.now).table.rios)) }
+    {
+        self.manager.hosts()
     }
 
     /// The display as an image(6) file, which the file `screen` outside of windows has, too.

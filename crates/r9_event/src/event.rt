@@ -1,6 +1,6 @@
 //! Events and what they give.
 
-use crate::lists::{Notes, Replies};
+use crate::lists::{Notes, Replies, Uses};
 use r9_chan::Chan;
 use r9_text::Bytes;
 
@@ -50,6 +50,8 @@ pub struct Did {
     pub replies: Replies,
     /// What the windows were told, in order, each note with the serial of its window.
     pub notes: Notes,
+    /// What the event used by which a session could notice another one, in order.
+    pub uses: Uses,
     /// Where memory ran out in a data write: how many of its draw messages were done. The event stands in the history with
     /// this mark.
     pub short: Option<u32>,

@@ -10,6 +10,6 @@ mod rio;
 
 pub use ask::{Answer, Ask};
 pub use event::{Did, Entry, Event, Opening, Reply};
-pub use lists::{Entries, Notes, Orders, Replies};
+pub use lists::{Entries, Notes, Orders, Replies, Uses};
 pub use own::{Item, Use};
 pub use rio::{Note, Order};

@@ -1,8 +1,9 @@
-//! Lists of events, of replies, of notes and of orders.
+//! Lists of events, of replies, of notes, of orders and of uses.
 
 ghost use Rattle.std.specs.Prelude.{◌≡◌, ◌++◌, [], ◌∷◌, OnOk, OnErr, IfSome, IfNone};
 
 use crate::event::{Event, Reply};
+use crate::own::Use;
 use crate::rio::{Note, Order};
 use r9_memory::Memory;
 use std::alloc::Global;
@@ -182,6 +183,48 @@ impl Orders {
 
     /// The orders in order.
     pub fn as_slice(&self) -> &[Order]
+        ensures { result.now ≡ self.now }
+    {
+        self.items.as_slice()
+    }
+}
+
+/// Uses in the order in which they came.
+#[derive(Debug, Drop)]
+pub struct Uses {
+    items: Vec<Use>,
+}
+
+impl Model for Uses {
+    ghost use Rattle.std.specs.Prelude.{List};
+    ghost use Rattle.r9_event.specs.declared.own.Use.{Use};
+
+    ghost Value = { List Use };
+
+    ghost view = { λ u. u.items.items };
+}
+
+impl Uses {
+    /// No uses.
+    pub fn new(alloc: Global) -> Self
+        ensures { result ≡ [] }
+    {
+        Uses {
+            items: Vec::new(alloc),
+        }
+    }
+
+    /// Adds a use at the end.
+    pub fn push(&mut self, used: Use) -> Result<(), Memory>
+        ensures ok { OnOk result (self.new ≡ self.old ++ used ∷ []) }
+        ensures err { OnErr result (self.new ≡ self.old) }
+    {
+        self.items.push(used)?;
+        Ok(())
+    }
+
+    /// The uses in order.
+    pub fn as_slice(&self) -> &[Use]
         ensures { result.now ≡ self.now }
     {
         self.items.as_slice()

@@ -15,6 +15,7 @@ use Rattle.model_world.specs.Session.{Session}
 use Rattle.model_world.specs.Replay.{step, served, ended, outbox, replay, world_from, waiting_after}
 use Rattle.model_world.proofs.Histories.{world_from-push, waiting_from-push}
 use Rattle.model_served.specs.Served.{journal_of}
+use Rattle.model_alone.specs.Uses.{event_used}
 use Rattle.r9_hall.specs.Acts.{IsMadeOf}
 use Rattle.r9_hall.specs.HallView.{AllowedNext, HallValue, HasLed, OfHistories, StandsFor, StandsForMore}
 use Rattle.r9_hall.specs.Outboxes.{waiting}
@@ -143,7 +144,7 @@ of_histories h P holds whole history stands = subst P (stands.led whole).world h
 
 -- a Stop gives nothing
 abbrev pub nothing_done : Did
-nothing_done = record { replies = []; notes = []; short = None; closed = None }
+nothing_done = record { replies = []; notes = []; uses = []; short = None; closed = None }
 
 silent_same : (world : World) → world.desktop.notes ≡ [] → world ≡ (step world Stop).world
 silent_same world told = λ i. record { opening = world.opening; desktop = record world.desktop { notes = told i }; sessions = world.sessions }
@@ -164,6 +165,7 @@ stop_turned h after allowed opening first stored roll broken world outboxes = re
 pub stop_made : (h after : HallValue) (event : Event) (did : Did) → event ≡ Stop → did ≡ nothing_done → AllowedNext h event → after.opening ≡ h.opening → after.first ≡ h.first
     → after.stored ≡ h.stored ++ record { number = h.first + length h.stored; event = event } ∷ [] → after.roll ≡ roll_after h.roll event → after.broken ≡ h.broken → after.world ≡ h.world
     → after.outboxes ≡ h.outboxes → IsMadeOf h event did after
+unfolding event_used
 stop_made h after event did is none allowed opening first stored roll broken world outboxes =
     let next : AllowedNext h Stop = subst (λ (e : Event). AllowedNext h e) is allowed in
     let turned : HasTurned h Stop after = stop_turned h after next opening first (stored ∙ ap (λ (e : Event). h.stored ++ record { number = h.first + length h.stored; event = e } ∷ []) is)
@@ -173,6 +175,7 @@ stop_made h after event did is none allowed opening first stored roll broken wor
       allowed = next;
       replies = λ whole history stands. refl;
       notes = λ whole history stands. sym (history_told h.opening (events_of history));
+      uses = λ watches whole history stands. refl;
       closed = λ whole history stands. refl;
       short = λ whole history stands. tt;
       told = λ whole history stands wants. absurd wants;

@@ -6,3 +6,4 @@ mod Worlds
 mod Waits
 mod Cuts
 pub mod Stored
+mod Watched

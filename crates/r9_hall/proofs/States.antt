@@ -7,6 +7,7 @@ use Rattle.r9_event.specs.declared.event.Event.TheVariants.{End}
 use Rattle.r9_event.specs.declared.event.Opening.{Opening}
 use Rattle.r9_event.specs.declared.event.Reply.{Reply}
 use Rattle.r9_event.specs.declared.event.Did.{Did}
+use Rattle.r9_event.specs.declared.own.Use.{Use}
 use Rattle.r9_memory.specs.declared.Memory.{Memory}
 use Rattle.model_text.specs.Map.{lookup, with, without}
 use Rattle.model_map.proofs.Ascending.{without-here}
@@ -124,26 +125,26 @@ left_asked c before after desktop left (Some session) true asked linked quiet at
 
 -- ---- the end of a session
 
-pub gone_made : (opening : Opening) (before gone after : Sessions) (c : ℕ) (found : Option Session) (lived : Bool) (replies : List Reply) → lookup before.live.entries c ≡ found → lived ≡ true
+pub gone_made : (opening : Opening) (before gone after : Sessions) (c : ℕ) (found : Option Session) (lived : Bool) (replies : List Reply) (used : List Use) → lookup before.live.entries c ≡ found → lived ≡ true
     → IsLeft c found (desktop_of before.desktop) lived (desktop_of gone.desktop) → gone.live.entries ≡ without before.live.entries c → IsSettled (world_with opening gone) [] (world_with opening after) replies
-    → IsMade opening before (End c) (record { replies = replies; short = None; closed = None }) after
-gone_made opening before gone after c None true replies at lives left went settled = absurd left
-gone_made opening before gone after c None false replies at lives left went settled = absurd (cc lives)
-gone_made opening before gone after c (Some session) false replies at lives left went settled = absurd left
-gone_made opening before gone after c (Some session) true replies at lives left went settled = record {
+    → IsMade opening before (End c) (record { replies = replies; uses = used; short = None; closed = None }) after
+gone_made opening before gone after c None true replies used at lives left went settled = absurd left
+gone_made opening before gone after c None false replies used at lives left went settled = absurd (cc lives)
+gone_made opening before gone after c (Some session) false replies used at lives left went settled = absurd left
+gone_made opening before gone after c (Some session) true replies used at lives left went settled = record {
   step_is = ap (λ (o : Option Session). ended (world_with opening before) c o) at
       ∙ ap (λ (w : World). settled_after w [] None) (λ i. world_of opening (sym went i) (sym left i))
       ∙ (λ i. turned (sym settled.world i) (sym settled.replies_are i) None);
 }
 
-pub absent_made : (opening : Opening) (before after : Sessions) (c : ℕ) (found : Option Session) (lived : Bool) → lookup before.live.entries c ≡ found → lived ≡ false
-    → IsLeft c found (desktop_of before.desktop) lived (desktop_of after.desktop) → after.live.entries ≡ before.live.entries → IsMade opening before (End c) (record { replies = []; short = None; closed = None }) after
-absent_made opening before after c None true at lives left same = absurd left
-absent_made opening before after c None false at lives left same = record {
+pub absent_made : (opening : Opening) (before after : Sessions) (c : ℕ) (found : Option Session) (lived : Bool) (used : List Use) → lookup before.live.entries c ≡ found → lived ≡ false
+    → IsLeft c found (desktop_of before.desktop) lived (desktop_of after.desktop) → after.live.entries ≡ before.live.entries → IsMade opening before (End c) (record { replies = []; uses = used; short = None; closed = None }) after
+absent_made opening before after c None true used at lives left same = absurd left
+absent_made opening before after c None false used at lives left same = record {
   step_is = ap (λ (o : Option Session). ended (world_with opening before) c o) at ∙ (λ i. turned (world_of opening (sym same i) (sym left i)) [] None);
 }
-absent_made opening before after c (Some session) true at lives left same = absurd (cc lives)
-absent_made opening before after c (Some session) false at lives left same = absurd left
+absent_made opening before after c (Some session) true used at lives left same = absurd (cc lives)
+absent_made opening before after c (Some session) false used at lives left same = absurd left
 
 -- the turn ends, and what the windows were told is taken
 pub turn_of : (opening : Opening) (before kept after : Sessions) (event : Event) (made : Made) (did : Did) → IsMade opening before event made kept → did.replies ≡ made.replies → did.closed ≡ made.closed

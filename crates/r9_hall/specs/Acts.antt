@@ -1,5 +1,5 @@
 -- What an event makes of a hall, and what an act does.
-use Rattle.std.specs.Prelude.{◌≡◌, ◌++◌, ℕ, Bool, List, [], ◌∷◌, Option, Some, None, IfSome, IsSome, MatchBool}
+use Rattle.std.specs.Prelude.{◌≡◌, ◌++◌, ℕ, Bool, true, List, [], ◌∷◌, Option, Some, None, IfSome, IsSome, MatchBool}
 use Rattle.r9_event.specs.declared.event.Event.{Event}
 use Rattle.r9_event.specs.declared.event.Event.TheVariants.{Stop}
 use Rattle.r9_event.specs.declared.event.Entry.{Entry}
@@ -10,19 +10,21 @@ use Rattle.r9_event.specs.declared.ask.Answer.TheVariants.{Went, Duplicate}
 use Rattle.r9_lock.specs.declared.chronicle.Acted.{Acted}
 use Rattle.model_session.specs.Acts.{May}
 use Rattle.model_served.specs.Served.{served}
+use Rattle.model_alone.specs.Uses.{event_used}
 use Rattle.model_world.specs.Cut.{IsCutEvent, IsWantingEvent}
 use Rattle.model_world.specs.Replay.{marked, replay, step}
 use Rattle.model_world.specs.Session.{Session}
 use Rattle.r9_hall.specs.HallView.{HallValue, AllowedNext, OfHistories, StandsFor, StandsForMore, StandsOn}
 
 -- An event was made and gave this: it is one entry more, with the mark that was told, and what it gave is what its step of the world
--- gives. A mark is told only of a write of an open `data` file, where its own mark took effect or the message may want memory; and a
+-- gives, what it used where the hall watches. A mark is told only of a write of an open `data` file, where its own mark took effect or the message may want memory; and a
 -- reply that is the refusal of want of memory tells one.
 pub record IsMadeOf (before : HallValue) (event : Event) (did : Did) (after : HallValue) : Type 0 where
   pub entered : StandsForMore before (marked event did.short) after
   pub allowed : AllowedNext before (marked event did.short)
   pub replies : OfHistories before (λ events. did.replies ≡ (step (replay before.opening events) (marked event did.short)).replies)
   pub notes : OfHistories before (λ events. did.notes ≡ (step (replay before.opening events) (marked event did.short)).notes)
+  pub uses : before.world.watches ≡ true → OfHistories before (λ events. did.uses ≡ event_used (replay before.opening events) (step (replay before.opening events) (marked event did.short)).world (marked event did.short))
   pub closed : OfHistories before (λ events. did.closed ≡ (step (replay before.opening events) (marked event did.short)).closed)
   pub short : OfHistories before (λ events. IfSome did.short (λ k. IsCutEvent (replay before.opening events) event k))
   pub told : OfHistories before (λ events. IsWantingEvent (replay before.opening events) (marked event did.short) → IsSome did.short)

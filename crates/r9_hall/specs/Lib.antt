@@ -4,3 +4,4 @@ pub mod HallView
 pub mod Acts
 pub mod WorldView
 pub mod Settling
+pub mod Watching

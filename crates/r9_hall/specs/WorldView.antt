@@ -11,10 +11,11 @@ use Rattle.r9_hall.specs.declared.world.World.TheInside as world
 use Rattle.r9_hall.specs.Settling.{WaitsAt}
 use Rattle.r9_hall.specs.StateView.{world_with}
 
--- the opening, the sessions with what they share, how many sessions have begun, and whether the world is broken, which it is once
--- memory ran out in an event
+-- the opening, whether what events used is told, the sessions with what they share, how many sessions have begun, and whether the world is
+-- broken, which it is once memory ran out in an event
 pub record WorldValue : Type 0 where
   pub opening : Opening
+  pub watches : Bool
   pub sessions : Sessions
   pub begun : ℕ
   pub broken : Bool
@@ -36,7 +37,7 @@ pub record IsStepped (before : WorldValue) (event : Event) (after : WorldValue) 
   pub going : after.broken ≡ false
 
 abbrev pub value_of : world.Inside → WorldValue
-value_of w = record { opening = w.opening; sessions = w.sessions; begun = w.begun; broken = w.broken }
+value_of w = record { opening = w.opening; watches = w.watches; sessions = w.sessions; begun = w.begun; broken = w.broken }
 
 -- A world that is not broken has the draw device with the connections of the sessions that live, no session that has not begun,
 -- and no read that waits though it can be answered.

@@ -1,6 +1,6 @@
 //! The hall: what its history led to, and the entries of it that are still stored.
 
-ghost use Rattle.std.specs.Prelude.{◌≡◌, ◌<◌, ◌≤◌, ◌+◌, ◌^◌, ◌++◌, ◌∷◌, ◌↔◌, [], false, length, None, IsTrue, IfOk, OnOk, OnErr, IsOk};
+ghost use Rattle.std.specs.Prelude.{◌≡◌, ◌<◌, ◌≤◌, ◌+◌, ◌^◌, ◌++◌, ◌∷◌, ◌↔◌, [], true, false, length, None, IsTrue, IfOk, OnOk, OnErr, IsOk};
 ghost use Rattle.std.specs.Vec.{vec_len, vec_capacity};
 ghost use Rattle.r9_event.specs.declared.event.Event.{Event};
 ghost use Rattle.model_draw.specs.Files.{screen_file};
@@ -15,7 +15,7 @@ ghost use Rattle.r9_hall.specs.WorldView.{world_in};
 
 use crate::outboxes::{post, waiting_for};
 use crate::world::World;
-use r9_event::{Did, Entry, Event, Notes, Opening, Replies};
+use r9_event::{Did, Entry, Event, Notes, Opening, Replies, Uses};
 use r9_journal::Roll;
 use r9_memory::Memory;
 use r9_text::Bytes;
@@ -95,13 +95,14 @@ fn marked(event: Event, short: Option<u32>) -> Event
 
 /// What a Stop gives.
 fn nothing(alloc: Global) -> Given
-    ensures did { result.did ≡ record { replies = []; notes = []; short = None; closed = None } }
+    ensures did { result.did ≡ record { replies = []; notes = []; uses = []; short = None; closed = None } }
     ensures taken { result.taken ≡ [] }
 {
     Given {
         did: Did {
             replies: Replies::new(alloc),
             notes: Notes::new(alloc),
+            uses: Uses::new(alloc),
             short: None,
             closed: None,
         },
@@ -110,16 +111,18 @@ fn nothing(alloc: Global) -> Given
 }
 
 impl Hall {
-    /// A hall in which nothing has happened.
-    pub fn start(alloc: Global, opening: Opening) -> Result<Self, Memory>
+    /// A hall in which nothing has happened. Where it watches, each `Did` tells what its event used by which a session could notice another
+    /// one, for which each message is read once more.
+    fn start_as(alloc: Global, opening: Opening, watches: bool) -> Result<Self, Memory>
         ensures opening { IfOk result (λ hall. hall.opening ≡ opening) }
+        ensures watches { IfOk result (λ hall. hall.world.watches ≡ watches) }
         ensures first { IfOk result (λ hall. hall.first ≡ 1) }
         ensures whole { IfOk result (λ hall. hall.broken ≡ false) }
         ensures stands { IfOk result (λ hall. StandsFor hall []) }
     {
         let mut stored = Vec::new(alloc);
         stored.reserve(1)?;
-        let world = World::start(alloc, opening)?;
+        let world = World::start(alloc, opening, watches)?;
         Ok(Hall {
             alloc,
             world,
@@ -129,6 +132,27 @@ impl Hall {
             stored,
             broken: false,
         })
+    }
+
+    /// A hall in which nothing has happened, which tells of each event what it used.
+    pub fn start(alloc: Global, opening: Opening) -> Result<Self, Memory>
+        ensures opening { IfOk result (λ hall. hall.opening ≡ opening) }
+        ensures watches { IfOk result (λ hall. hall.world.watches ≡ true) }
+        ensures first { IfOk result (λ hall. hall.first ≡ 1) }
+        ensures whole { IfOk result (λ hall. hall.broken ≡ false) }
+        ensures stands { IfOk result (λ hall. StandsFor hall []) }
+    {
+        Hall::start_as(alloc, opening, true)
+    }
+
+    /// The same, but that it tells of no event what it used, and so reads each message once alone.
+    pub fn start_unwatched(alloc: Global, opening: Opening) -> Result<Self, Memory>
+        ensures opening { IfOk result (λ hall. hall.opening ≡ opening) }
+        ensures first { IfOk result (λ hall. hall.first ≡ 1) }
+        ensures whole { IfOk result (λ hall. hall.broken ≡ false) }
+        ensures stands { IfOk result (λ hall. StandsFor hall []) }
+    {
+        Hall::start_as(alloc, opening, false)
     }
 
     /// The entries that are stored, in order.
@@ -189,8 +213,9 @@ impl Hall {
         ensures made { IfOk result (λ given. IsMadeOf self.old event given.did self.new) }
         ensures taken { IfOk result (λ given. given.taken ≡ taken self.old.outboxes event) }
         ensures whole { OnOk result (self.new.broken ≡ self.old.broken) }
+        ensures watches { self.new.world.watches ≡ self.old.world.watches }
         ensures stop { event ≡ Event.Stop → IsOk result }
-        ensures stopped { event ≡ Event.Stop → IfOk result (λ given. given.did ≡ record { replies = []; notes = []; short = None; closed = None }) }
+        ensures stopped { event ≡ Event.Stop → IfOk result (λ given. given.did ≡ record { replies = []; notes = []; uses = []; short = None; closed = None }) }
         ensures err { OnErr result (IsAsStored self.old self.new) }
     {
         if let Event::Stop = event {
@@ -222,8 +247,9 @@ impl Hall {
         ensures first { self.new.first ≡ self.old.first }
         ensures made { IfOk result (λ did. IsMadeOf self.old event did self.new) }
         ensures whole { OnOk result (self.new.broken ≡ self.old.broken) }
+        ensures watches { self.new.world.watches ≡ self.old.world.watches }
         ensures stop { event ≡ Event.Stop → IsOk result }
-        ensures stopped { event ≡ Event.Stop → IfOk result (λ did. did ≡ record { replies = []; notes = []; short = None; closed = None }) }
+        ensures stopped { event ≡ Event.Stop → IfOk result (λ did. did ≡ record { replies = []; notes = []; uses = []; short = None; closed = None }) }
         ensures err { OnErr result (IsAsStored self.old self.new) }
     {
         let given = self.make(event)?;

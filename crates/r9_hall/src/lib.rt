@@ -6,6 +6,7 @@ mod hall;
 mod outboxes;
 mod sessions;
 mod settling;
+mod watching;
 mod world;
 
 pub use hall::Hall;

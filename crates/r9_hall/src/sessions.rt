@@ -1,6 +1,6 @@
 //! The sessions that live and what they share, and what an event makes of them.
 
-ghost use Rattle.std.specs.Prelude.{◌≡◌, ◌≤◌, ℕ, [], length, None, Option, IfOk, OnOk, IfSome, IsSome};
+ghost use Rattle.std.specs.Prelude.{◌≡◌, ◌≤◌, ℕ, [], true, length, None, Option, IfOk, OnOk, IfSome, IsSome};
 ghost use Rattle.model_text.specs.Map.{lookup};
 ghost use Rattle.model_draw.specs.Files.{screen_file};
 ghost use Rattle.model_draw.specs.Orders.{picture_of};
@@ -13,13 +13,17 @@ ghost use Rattle.r9_desktop.specs.World.{desktop_of};
 ghost use Rattle.r9_event.specs.declared.event.Event.{Event};
 ghost use Rattle.r9_event.specs.declared.event.Opening.{Opening};
 ghost use Rattle.r9_hall.specs.Settling.{WaitsAt};
+ghost use Rattle.model_alone.specs.Uses.{event_used};
 ghost use Rattle.r9_hall.specs.StateView.{world_with, IsAnswered, IsLeft, IsMade, IsServed, IsTurn, IsWhole};
+ghost use Rattle.r9_hall.specs.Watching.{IsSeen, IsSeenOf};
 
 use crate::settling::spelled;
+use crate::watching::hosts_of;
 use r9_desktop::Desktop;
-use r9_event::{Did, Event, Opening, Replies};
+use r9_event::{Did, Event, Opening, Replies, Uses};
 use r9_geom::{Point, Rect};
 use r9_memory::Memory;
+use r9_seen::{Look, answer as answer_seen};
 use r9_session::Session;
 use r9_text::Bytes;
 use std::alloc::Global;
@@ -32,20 +36,24 @@ pub struct Sessions {
     pub(crate) desktop: Desktop,
 }
 
-/// What an event gave but for what the windows were told: the replies to it, the mark with which it stands in the history where
-/// that is not its own, and the tag by which it closed its session.
+/// What an event gave but for what the windows were told: the replies to it, what it used, the mark with which it stands in the history
+/// where that is not its own, and the tag by which it closed its session.
 #[derive(Drop)]
 struct Made {
     replies: Replies,
+    uses: Uses,
     short: Option<u32>,
     closed: Option<u16>,
 }
 
-/// What a message gave by itself: its reply, if it has one, the mark with which it stands in the history where that is not its own,
-/// the tag by which it closed its session, and the serial of the window or rio whose file it wrote, 0 where it wrote none.
+/// What a message gave by itself: its reply, if it has one, what it used as far as that is seen then, with what was seen before, the mark
+/// with which it stands in the history where that is not its own, the tag by which it closed its session, and the serial of the window or
+/// rio whose file it wrote, 0 where it wrote none.
 #[derive(Drop)]
 struct Own {
     replies: Replies,
+    uses: Uses,
+    look: Look,
     short: Option<u32>,
     closed: Option<u16>,
     wrote: u32,
@@ -71,22 +79,26 @@ fn answer(
     session: u32,
     bytes: &[u8],
     mark: Option<u32>,
+    watches: bool,
 ) -> Result<Own, Memory>
     requires long { 7 ≤ length bytes.now }
     requires linked { IsLinked session found.old.made found.old.connections (desktop_of desktop.old).device }
-    ensures { IfOk result (λ own. IsAnswered session found.old (desktop_of desktop.old) bytes.now mark own found.new (desktop_of desktop.new)) }
+    ensures answered { IfOk result (λ own. IsAnswered session found.old (desktop_of desktop.old) bytes.now mark own found.new (desktop_of desktop.new)) }
+    ensures seen { watches ≡ true → IfOk result (λ own. IsSeen session found.old (desktop_of desktop.old) bytes.now mark own) }
 {
     let closed = found.closing_tag(bytes);
-    let answered = found.answer(alloc, desktop, session, bytes, mark)?;
+    let seen = answer_seen(alloc, found, desktop, session, bytes, mark, watches)?;
     let mut replies = Replies::new(alloc);
-    if let Some(reply) = &answered.reply {
+    if let Some(reply) = &seen.answered.reply {
         replies.push(spelled(alloc, session, reply)?)?;
     }
     Ok(Own {
         replies,
-        short: answered.short,
+        uses: seen.uses,
+        look: seen.look,
+        short: seen.answered.short,
         closed,
-        wrote: answered.wrote,
+        wrote: seen.answered.wrote,
     })
 }
 
@@ -98,15 +110,17 @@ fn answer_in(
     session: u32,
     bytes: &[u8],
     mark: Option<u32>,
+    watches: bool,
 ) -> Result<Option<Own>, Memory>
     requires long { 7 ≤ length bytes.now }
     requires linked { AreLinked (desktop_of desktop.old).device sessions.old.entries }
+    ensures seen { watches ≡ true → IfOk result (λ own. IsSeenOf session (lookup sessions.old.entries session) (desktop_of desktop.old) bytes.now mark own) }
     ensures served { IfOk result (λ own. IsServed session (lookup sessions.old.entries session) sessions.old.entries (desktop_of desktop.old) bytes.now mark own sessions.new.entries (desktop_of desktop.new)) }
     ensures linked { OnOk result (AreLinked (desktop_of desktop.new).device sessions.new.entries) }
 {
     match sessions.get_mut(&session) {
         Some(found) => {
-            let own = answer(alloc, found, desktop, session, bytes, mark)?;
+            let own = answer(alloc, found, desktop, session, bytes, mark, watches)?;
             Ok(Some(own))
         }
         None => Ok(None),
@@ -134,10 +148,11 @@ fn leave(
 
 /// What an event gives that is no message.
 fn silent(alloc: Global) -> Made
-    ensures { result ≡ record { replies = []; short = None; closed = None } }
+    ensures { result ≡ record { replies = []; uses = []; short = None; closed = None } }
 {
     Made {
         replies: Replies::new(alloc),
+        uses: Uses::new(alloc),
         short: None,
         closed: None,
     }
@@ -154,13 +169,14 @@ impl Sessions {
         })
     }
 
-    /// What a message gives: its own reply, if it has one, and then those to reads that waited.
+    /// What a message gives: its own reply, if it has one, and then those to reads that waited; and what it used, where that is watched.
     fn serve(
         &mut self,
         alloc: Global,
         session: u32,
         bytes: &[u8],
         mark: Option<u32>,
+        watches: bool,
     ) -> Result<Made, Memory>
         requires long { 7 ≤ length bytes.now }
         requires linked { AreLinked (desktop_of self.old.desktop).device self.old.live.entries }
@@ -168,7 +184,9 @@ impl Sessions {
         ensures made { IfOk result (λ made. (opening : Opening) → IsMade opening self.old (marked (Event.Msg session bytes.now mark) made.short) made self.new) }
         ensures short { IfOk result (λ made. (opening : Opening) → IfSome made.short (λ k. IsCutEvent (world_with opening self.old) (Event.Msg session bytes.now mark) k)) }
         ensures told { IfOk result (λ made. (opening : Opening) → IsWantingEvent (world_with opening self.old) (marked (Event.Msg session bytes.now mark) made.short) → IsSome made.short) }
+        ensures uses { watches ≡ true → IfOk result (λ made. (opening : Opening) → made.uses ≡ event_used (world_with opening self.old) (world_with opening self.new) (marked (Event.Msg session bytes.now mark) made.short)) }
     {
+        let hosts = hosts_of(alloc, &self.desktop, watches)?;
         let own = answer_in(
             alloc,
             &mut self.live,
@@ -176,6 +194,7 @@ impl Sessions {
             session,
             bytes,
             mark,
+            watches,
         )?;
         let Some(own) = own else {
             return Ok(silent(alloc));
@@ -183,8 +202,10 @@ impl Sessions {
         let asked = self.woken(alloc, session, own.wrote)?;
         let mut replies = own.replies;
         self.settle(alloc, &asked, &mut replies)?;
+        let uses = self.uses_at_end(session, own.uses, &own.look, &hosts, watches)?;
         Ok(Made {
             replies,
+            uses,
             short: own.short,
             closed: own.closed,
         })
@@ -193,6 +214,7 @@ impl Sessions {
     fn begin(&mut self, alloc: Global, session: u32) -> Result<Made, Memory>
         ensures made { IfOk result (λ made. (opening : Opening) → IsMade opening self.old (Event.Begin session) made self.new) }
         ensures unmarked { IfOk result (λ made. made.short ≡ None) }
+        ensures unused { IfOk result (λ made. made.uses ≡ []) }
     {
         self.live.insert(session, Session::fresh(alloc))?;
         Ok(silent(alloc))
@@ -203,6 +225,7 @@ impl Sessions {
         requires quiet { (c : ℕ) → WaitsAt self.old.live.entries (desktop_of self.old.desktop) c }
         ensures made { IfOk result (λ made. (opening : Opening) → IsMade opening self.old (Event.End session) made self.new) }
         ensures unmarked { IfOk result (λ made. made.short ≡ None) }
+        ensures unused { IfOk result (λ made. made.uses ≡ []) }
     {
         let mut replies = Replies::new(alloc);
         if leave(alloc, &self.live, &mut self.desktop, session)? {
@@ -212,19 +235,21 @@ impl Sessions {
         }
         Ok(Made {
             replies,
+            uses: Uses::new(alloc),
             short: None,
             closed: None,
         })
     }
 
     /// Makes an event. What the windows were told is still to be taken.
-    fn make(&mut self, alloc: Global, event: &Event) -> Result<Made, Memory>
+    fn make(&mut self, alloc: Global, event: &Event, watches: bool) -> Result<Made, Memory>
         requires whole { IsWhole event.now }
         requires linked { AreLinked (desktop_of self.old.desktop).device self.old.live.entries }
         requires quiet { (c : ℕ) → WaitsAt self.old.live.entries (desktop_of self.old.desktop) c }
         ensures made { IfOk result (λ made. (opening : Opening) → IsMade opening self.old (marked event.now made.short) made self.new) }
         ensures short { IfOk result (λ made. (opening : Opening) → IfSome made.short (λ k. IsCutEvent (world_with opening self.old) event.now k)) }
         ensures told { IfOk result (λ made. (opening : Opening) → IsWantingEvent (world_with opening self.old) (marked event.now made.short) → IsSome made.short) }
+        ensures uses { watches ≡ true → IfOk result (λ made. (opening : Opening) → made.uses ≡ event_used (world_with opening self.old) (world_with opening self.new) (marked event.now made.short)) }
     {
         match event {
             Event::Begin { session } => self.begin(alloc, *session),
@@ -232,27 +257,29 @@ impl Sessions {
                 session,
                 bytes,
                 mark,
-            } => self.serve(alloc, *session, bytes.as_slice(), *mark),
+            } => self.serve(alloc, *session, bytes.as_slice(), *mark, watches),
             Event::End { session } => self.end(alloc, *session),
             Event::Take { .. } | Event::Stop => Ok(silent(alloc)),
         }
     }
 
-    /// Makes an event, and gives the replies to it, what the windows were told, and the mark with which it stands in the history
-    /// where that is not its own. Nothing is said of the sessions and what they share where memory ran out.
-    pub fn step(&mut self, alloc: Global, event: &Event) -> Result<Did, Memory>
+    /// Makes an event, and gives the replies to it, what the windows were told, what it used where that is watched, and the mark with
+    /// which it stands in the history where that is not its own. Nothing is said of the sessions and what they share where memory ran out.
+    pub fn step(&mut self, alloc: Global, event: &Event, watches: bool) -> Result<Did, Memory>
         requires whole { IsWhole event.now }
         requires linked { AreLinked (desktop_of self.old.desktop).device self.old.live.entries }
         requires quiet { (c : ℕ) → WaitsAt self.old.live.entries (desktop_of self.old.desktop) c }
         ensures turn { IfOk result (λ did. (opening : Opening) → IsTurn opening self.old (marked event.now did.short) did self.new) }
         ensures short { IfOk result (λ did. (opening : Opening) → IfSome did.short (λ k. IsCutEvent (world_with opening self.old) event.now k)) }
         ensures told { IfOk result (λ did. (opening : Opening) → IsWantingEvent (world_with opening self.old) (marked event.now did.short) → IsSome did.short) }
+        ensures uses { watches ≡ true → IfOk result (λ did. (opening : Opening) → did.uses ≡ event_used (world_with opening self.old) (world_with opening self.new) (marked event.now did.short)) }
     {
-        let made = self.make(alloc, event)?;
+        let made = self.make(alloc, event, watches)?;
         let notes = self.desktop.take_notes();
         Ok(Did {
             replies: made.replies,
             notes,
+            uses: made.uses,
             short: made.short,
             closed: made.closed,
         })

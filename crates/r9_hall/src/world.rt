@@ -1,10 +1,11 @@
 //! The world, without the history that led to it.
 
-ghost use Rattle.std.specs.Prelude.{◌≡◌, false, None, option_map, IfOk, IfSome, IsSome};
+ghost use Rattle.std.specs.Prelude.{◌≡◌, true, false, None, option_map, IfOk, IfSome, IsSome};
 ghost use Rattle.std.specs.Option.{option_map_or};
 ghost use Rattle.model_text.specs.Map.{lookup};
 ghost use Rattle.model_draw.specs.Files.{screen_file};
 ghost use Rattle.model_draw.specs.Orders.{picture_of};
+ghost use Rattle.model_alone.specs.Uses.{event_used};
 ghost use Rattle.model_world.specs.Cut.{IsCutEvent, IsWantingEvent};
 ghost use Rattle.model_world.specs.Links.{IsNext, begun_after};
 ghost use Rattle.model_world.specs.Replay.{marked, step};
@@ -20,11 +21,13 @@ use std::marker::Model;
 
 /// What a history leads to, as a replay needs it: the opening, the sessions that live and what they share. It keeps neither
 /// the events that were made nor the replies to them, so a long history takes no more memory than a short one. Contracts see it
-/// as the world, how many sessions have begun, and whether it is broken: once memory ran out in an event it takes no other.
+/// as the world, how many sessions have begun, whether it tells what events used, and whether it is broken: once memory ran out in an
+/// event it takes no other.
 #[derive(Drop)]
 pub struct World {
     alloc: Global,
     opening: Opening,
+    watches: bool,
     sessions: Sessions,
     begun: u32,
     broken: bool,
@@ -56,30 +59,35 @@ fn begun_after(begun: u32, event: &Event) -> u32
 }
 
 impl World {
-    /// The world in which nothing has happened.
-    pub fn start(alloc: Global, opening: Opening) -> Result<Self, Memory>
-        ensures { IfOk result (λ world. IsFirst opening world) }
+    /// The world in which nothing has happened. Where it watches, it tells what each event used by which a session could notice another
+    /// one, for which it reads each message once more.
+    pub fn start(alloc: Global, opening: Opening, watches: bool) -> Result<Self, Memory>
+        ensures first { IfOk result (λ world. IsFirst opening world) }
+        ensures watches { IfOk result (λ world. world.watches ≡ watches) }
     {
         let sessions = Sessions::start(alloc, &opening)?;
         Ok(World {
             alloc,
             opening,
+            watches,
             sessions,
             begun: 0,
             broken: false,
         })
     }
 
-    /// Makes an event, and gives the replies to it, what the windows were told, and the mark with which it stands in the history where that is not its own. A
-    /// session that begins is the next one. Where memory ran out the world is broken, and nothing else is said of it.
+    /// Makes an event, and gives the replies to it, what the windows were told, what it used where that is watched, and the mark with which
+    /// it stands in the history where that is not its own. A session that begins is the next one. Where memory ran out the world is broken, and nothing else is said of it.
     pub fn step(&mut self, event: &Event) -> Result<Did, Memory>
         requires whole { IsWhole event.now }
         requires next { IsNext self.old.begun event.now }
         requires going { self.old.broken ≡ false }
         ensures opening { self.new.opening ≡ self.old.opening }
+        ensures watches { self.new.watches ≡ self.old.watches }
         ensures world { IfOk result (λ did. IsStepped self.old (marked event.now did.short) self.new) }
         ensures replies { IfOk result (λ did. did.replies ≡ (step (world_in self.old) (marked event.now did.short)).replies) }
         ensures notes { IfOk result (λ did. did.notes ≡ (step (world_in self.old) (marked event.now did.short)).notes) }
+        ensures uses { self.old.watches ≡ true → IfOk result (λ did. did.uses ≡ event_used (world_in self.old) (step (world_in self.old) (marked event.now did.short)).world (marked event.now did.short)) }
         ensures closed { IfOk result (λ did. did.closed ≡ (step (world_in self.old) (marked event.now did.short)).closed) }
         // A mark is told only of a write of an open `data` file, where its own mark took effect or the message may want memory.
         ensures short { IfOk result (λ did. IfSome did.short (λ k. IsCutEvent (world_in self.old) event.now k)) }
@@ -87,7 +95,7 @@ impl World {
         ensures told { IfOk result (λ did. IsWantingEvent (world_in self.old) (marked event.now did.short) → IsSome did.short) }
     {
         self.broken = true;
-        let did = self.sessions.step(self.alloc, event)?;
+        let did = self.sessions.step(self.alloc, event, self.watches)?;
         self.begun = begun_after(self.begun, event);
         self.broken = false;
         Ok(did)

@@ -10,7 +10,7 @@ ghost use Rattle.r9_looked.specs.Firsts.{is_write};
 ghost use Rattle.r9_looked.specs.Told.{IsTold};
 
 use crate::first::{First, look_first};
-use r9_event::Use;
+use r9_event::Uses;
 use r9_memory::Memory;
 use r9_pane::Pane;
 use std::alloc::Global;
@@ -49,9 +49,9 @@ fn look_within(
     bytes: &[u8],
     most: u64,
     rows: &[u32],
-    uses: &mut Vec<Use>,
+    uses: &mut Uses,
 ) -> Result<(), Memory>
-    ensures { OnOk result (uses.new.items ≡ uses.old.items ++ flat_map (look_used panes.now.entries) (messages_read most rows.now bytes.now)) }
+    ensures { OnOk result (uses.new ≡ uses.old ++ flat_map (look_used panes.now.entries) (messages_read most rows.now bytes.now)) }
 {
     let mut bytes = bytes;
     let mut rows = rows;
@@ -75,9 +75,9 @@ pub fn look_again(
     bytes: &[u8],
     most: u64,
     rows: &[u32],
-    uses: &mut Vec<Use>,
+    uses: &mut Uses,
 ) -> Result<(), Memory>
-    ensures { OnOk result ((k : ℕ) (device : World) (mark : Option ℕ) → IsTold k device bytes.now mark most rows.now → uses.new.items ≡ uses.old.items ++ flat_map (look_used panes.now.entries) (looked_at k device bytes.now mark)) }
+    ensures { OnOk result ((k : ℕ) (device : World) (mark : Option ℕ) → IsTold k device bytes.now mark most rows.now → uses.new ≡ uses.old ++ flat_map (look_used panes.now.entries) (looked_at k device bytes.now mark)) }
 {
     look_within(alloc, panes, bytes, most, rows, uses)
 }

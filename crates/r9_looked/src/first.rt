@@ -11,7 +11,7 @@ ghost use Rattle.r9_looked.specs.Firsts.{IsFirst, is_write};
 use crate::listed::look_listed;
 use crate::plain::look_plain;
 use r9_dmsg::{Dmsg, next_listed, next_msg};
-use r9_event::Use;
+use r9_event::Uses;
 use r9_memory::Memory;
 use r9_pane::Pane;
 use std::alloc::Global;
@@ -34,13 +34,9 @@ fn has_rows(message: &Dmsg) -> bool
 }
 
 /// Adds what the message that stands first in bytes uses, which has no list; None where none stands there.
-fn look_first_plain(
-    alloc: Global,
-    bytes: &[u8],
-    uses: &mut Vec<Use>,
-) -> Result<Option<First>, Memory>
+fn look_first_plain(alloc: Global, bytes: &[u8], uses: &mut Uses) -> Result<Option<First>, Memory>
     requires plain { (m : Message) (rest : List ℕ) → first_message bytes.now ≡ IsMessage m rest → has_list m ≡ false }
-    ensures { IfOk result (λ first. (panes : List (ℕ × WindowPane)) → IsFirst panes bytes.now uses.old.items first uses.new.items) }
+    ensures { IfOk result (λ first. (panes : List (ℕ × WindowPane)) → IsFirst panes bytes.now uses.old first uses.new) }
 {
     // Only lists take memory.
     let Ok(message) = next_msg(alloc, bytes) else {
@@ -58,9 +54,9 @@ pub(crate) fn look_first(
     alloc: Global,
     panes: &BTreeMap<u32, Pane>,
     bytes: &[u8],
-    uses: &mut Vec<Use>,
+    uses: &mut Uses,
 ) -> Result<Option<First>, Memory>
-    ensures { IfOk result (λ first. IsFirst panes.now.entries bytes.now uses.old.items first uses.new.items) }
+    ensures { IfOk result (λ first. IsFirst panes.now.entries bytes.now uses.old first uses.new) }
 {
     let Some(asked) = next_listed(bytes) else {
         return look_first_plain(alloc, bytes, uses);

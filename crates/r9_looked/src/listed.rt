@@ -11,7 +11,7 @@ ghost use Rattle.r9_dmsg.specs.Listed.{listed_message, writing_message};
 use crate::naming::window_named;
 use crate::plain::{DISPLAY, NAMES_DISPLAY, SHARES, push_own};
 use r9_dmsg::{Background, Listed, Restacking, Writing};
-use r9_event::Use;
+use r9_event::{Use, Uses};
 use r9_memory::Memory;
 use r9_pane::Pane;
 use std::collections::BTreeMap;
@@ -53,9 +53,9 @@ fn writes_display(asked: &Writing<'_>) -> bool
 pub(crate) fn look_listed(
     panes: &BTreeMap<u32, Pane>,
     asked: &Listed<'_>,
-    uses: &mut Vec<Use>,
+    uses: &mut Uses,
 ) -> Result<(), Memory>
-    ensures { OnOk result (uses.new.items ≡ uses.old.items ++ look_used panes.now.entries (listed_message asked.now)) }
+    ensures { OnOk result (uses.new ≡ uses.old ++ look_used panes.now.entries (listed_message asked.now)) }
 {
     match asked {
         Listed::Restack(asked) => push_own(uses, restacks_display(asked), NAMES_DISPLAY),

@@ -9,7 +9,7 @@ ghost use Rattle.r9_dmsg.specs.Listed.{has_list};
 ghost use Rattle.r9_dmsg.specs.View.{message_of};
 
 use r9_dmsg::Dmsg;
-use r9_event::Use;
+use r9_event::{Use, Uses};
 use r9_memory::Memory;
 
 /// The id of the display.
@@ -22,8 +22,8 @@ pub(crate) const NAMES_DISPLAY: u8 = 7;
 pub(crate) const SHARES: u8 = 8;
 
 /// Adds a use of something that all sessions share, by the number of its reason, where there is one.
-pub(crate) fn push_own(uses: &mut Vec<Use>, used: bool, reason: u8) -> Result<(), Memory>
-    ensures { OnOk result (uses.new.items ≡ uses.old.items ++ (if used then Own reason ∷ [] else [])) }
+pub(crate) fn push_own(uses: &mut Uses, used: bool, reason: u8) -> Result<(), Memory>
+    ensures { OnOk result (uses.new ≡ uses.old ++ (if used then Own reason ∷ [] else [])) }
 {
     if used {
         uses.push(Use::Own(reason))?;
@@ -78,9 +78,9 @@ fn shares(message: &Dmsg) -> bool
 }
 
 /// Adds what a message without a list uses.
-pub(crate) fn look_plain(message: &Dmsg, uses: &mut Vec<Use>) -> Result<(), Memory>
+pub(crate) fn look_plain(message: &Dmsg, uses: &mut Uses) -> Result<(), Memory>
     requires { has_list (message_of message.now) ≡ false }
-    ensures { OnOk result ((panes : List (ℕ × Pane)) → uses.new.items ≡ uses.old.items ++ look_used panes (message_of message.now)) }
+    ensures { OnOk result ((panes : List (ℕ × Pane)) → uses.new ≡ uses.old ++ look_used panes (message_of message.now)) }
 {
     push_own(uses, names_display(message), NAMES_DISPLAY)?;
     push_own(uses, shares(message), SHARES)

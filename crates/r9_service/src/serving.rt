@@ -70,7 +70,7 @@ pub fn serve<R: Threads + Wait + Sync, O: Sink + Send, E: Sink, D: Door + Send>(
     requires workers { (0 < service.now.workers) × (service.now.workers < 1024) × (service.now.workers ≤ length doors.old) }
     ensures { Serving (told_doors D.ended D.over D.faults (told_ends D.In.left D.In.faults D.Out.held D.Out.unflushed D.Out.faults)) service.now.opening service.now.sessions service.now.workers result.outcome result.told doors.old doors.new (side (O.held out.old) (O.unflushed out.old) (O.faults out.old)) (side (O.held out.new) (O.unflushed out.new) (O.faults out.new)) (side (E.held err.old) (E.unflushed err.old) (E.faults err.old)) (side (E.held err.new) (E.unflushed err.new) (E.faults err.new)) }
 {
-    match Hall::start(alloc, service.opening) {
+    match Hall::start_unwatched(alloc, service.opening) {
         Ok(hall) => serve_hall(rt, alloc, service, hall, out, err, doors),
         Err(_) => Served {
             outcome: Outcome::Memory,

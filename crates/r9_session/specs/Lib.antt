@@ -5,3 +5,4 @@ pub mod Answers
 pub mod Clients
 pub mod Roots
 pub mod Telling
+pub mod Reached

@@ -6,6 +6,7 @@ mod answer;
 mod attaching;
 mod holding;
 mod leaving;
+mod looking;
 mod opening;
 mod reading;
 mod session;

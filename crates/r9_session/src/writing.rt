@@ -31,7 +31,7 @@ pub struct Answered {
 }
 
 /// Whether a mode is for writing (open(5)).
-fn writes(mode: u8) -> bool
+pub(crate) fn writes(mode: u8) -> bool
     ensures { result ≡ writes mode }
 {
     mode % 16 == 1 || mode % 16 == 2

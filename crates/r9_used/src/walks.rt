@@ -9,14 +9,14 @@ ghost use Rattle.r9_used.specs.Words.{uses_of};
 
 use crate::files::step_used;
 use r9_around::Outside;
-use r9_event::Use;
+use r9_event::{Use, Uses};
 use r9_memory::Memory;
 use r9_text::{Bytes, Numbers};
 use r9_tree::{Node, walk};
 
 /// Adds a use, where there is one.
-fn push_used(uses: &mut Vec<Use>, used: Option<Use>) -> Result<(), Memory>
-    ensures { OnOk result (uses.new.items ≡ uses.old.items ++ uses_of used) }
+fn push_used(uses: &mut Uses, used: Option<Use>) -> Result<(), Memory>
+    ensures { OnOk result (uses.new ≡ uses.old ++ uses_of used) }
 {
     if let Some(used) = used {
         uses.push(used)?;
@@ -31,11 +31,11 @@ pub fn walk_used<O: Outside>(
     connections: &Numbers,
     from: Node,
     names: &[Bytes],
-    uses: &mut Vec<Use>,
+    uses: &mut Uses,
 ) -> Result<(), Memory>
     requires within { All (λ n. n ≤ most_connections) connections.now }
     requires from { IsNode from }
-    ensures { OnOk result ((session : ℕ) → uses.new.items ≡ uses.old.items ++ flat_map step_used (walked ((O.outside session).view (O.state outside.now) connections.now) (node_of from) names.now).0) }
+    ensures { OnOk result ((session : ℕ) → uses.new ≡ uses.old ++ flat_map step_used (walked ((O.outside session).view (O.state outside.now) connections.now) (node_of from) names.now).0) }
 {
     let [name, others @ ..] = names else {
         return Ok(());

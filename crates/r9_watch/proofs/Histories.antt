@@ -5,7 +5,6 @@ use Rattle.r9_event.specs.declared.event.Entry.{Entry}
 use Rattle.r9_event.specs.declared.event.Event.{Event}
 use Rattle.r9_event.specs.declared.event.Opening.{Opening}
 use Rattle.r9_event.specs.declared.own.Item.{Item}
-use Rattle.r9_event.specs.declared.own.Use.{Use}
 use Rattle.model_world.specs.World.{World, opened}
 use Rattle.model_world.specs.Replay.{marked, step, world_from}
 use Rattle.model_alone.specs.Own.{Judged, Watched, first_reason, is_empty, judged, judged_by, judged_from, lowest, not_alone, steps_of, unseen}
@@ -90,5 +89,5 @@ ends opening c events event none some = λ more.
     ∙ reason_then 1 all j _ none some
     ∙ λ i. Some (count i, lowest j.reasons)
 
-pub shows : (opening : Opening) (c : ℕ) (events : List Event) (entry : Entry) (used : List Use) (did : Did) → ShowsTheSame opening c events entry used did
-shows opening c events entry used did = λ next. λ i. judged_by c (seen_from c (opened opening) unseen events) (next.used_is i) (next.notes_are i) (next.replies_are i) (marked entry.event did.short)
+pub shows : (opening : Opening) (c : ℕ) (events : List Event) (entry : Entry) (did : Did) → ShowsTheSame opening c events entry did
+shows opening c events entry did = λ next. λ i. judged_by c (seen_from c (opened opening) unseen events) (next.uses_are i) (next.notes_are i) (next.replies_are i) (marked entry.event did.short)

@@ -1,2 +1,2 @@
 mod Judging
-mod Histories
+pub mod Histories

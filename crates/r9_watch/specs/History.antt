@@ -4,7 +4,6 @@ use Rattle.r9_event.specs.declared.event.Did.{Did}
 use Rattle.r9_event.specs.declared.event.Entry.{Entry}
 use Rattle.r9_event.specs.declared.event.Event.{Event}
 use Rattle.r9_event.specs.declared.event.Opening.{Opening}
-use Rattle.r9_event.specs.declared.own.Use.{Use}
 use Rattle.model_world.specs.World.{World, opened}
 use Rattle.model_world.specs.Replay.{marked, replay, step}
 use Rattle.model_alone.specs.Own.{Judged, Watched, judged, lowest, not_alone, own, unseen}
@@ -24,16 +23,16 @@ watched_in opening c events = record { session = c; seen = seen_from c (opened o
 abbrev pub next_judged : Opening → (c : ℕ) → List Event → Event → Judged
 next_judged opening c events event = judged c (replay opening events) (seen_from c (opened opening) unseen events) event
 
--- An entry, as it then stands in the history, used this and gave that after the history.
-pub record IsNextEntry (opening : Opening) (events : List Event) (entry : Entry) (used : List Use) (did : Did) : Type 0 where
-  pub used_is : used ≡ event_used (replay opening events) (step (replay opening events) (marked entry.event did.short)).world (marked entry.event did.short)
+-- An entry, as it then stands in the history, gave this after the history.
+pub record IsNextEntry (opening : Opening) (events : List Event) (entry : Entry) (did : Did) : Type 0 where
+  pub uses_are : did.uses ≡ event_used (replay opening events) (step (replay opening events) (marked entry.event did.short)).world (marked entry.event did.short)
   pub notes_are : did.notes ≡ (step (replay opening events) (marked entry.event did.short)).notes
   pub replies_are : did.replies ≡ (step (replay opening events) (marked entry.event did.short)).replies
 
 -- An entry shows to the watch of a history what it shows by the definition.
-abbrev pub ShowsTheSame : Opening → (c : ℕ) → List Event → Entry → List Use → Did → Type 0
-ShowsTheSame opening c events entry used did =
-    IsNextEntry opening events entry used did → shown (watched_in opening c events) entry used did ≡ next_judged opening c events (marked entry.event did.short)
+abbrev pub ShowsTheSame : Opening → (c : ℕ) → List Event → Entry → Did → Type 0
+ShowsTheSame opening c events entry did =
+    IsNextEntry opening events entry did → shown (watched_in opening c events) entry did ≡ next_judged opening c events (marked entry.event did.short)
 
 -- One that gives no reason goes on with the history.
 pub record GoesOn (opening : Opening) (c : ℕ) (events : List Event) (event : Event) : Type 0 where

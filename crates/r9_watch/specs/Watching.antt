@@ -3,7 +3,6 @@ use Rattle.std.specs.Prelude.{◌≡◌, ℕ, ◌++◌, true, false, List, [], �
 use Rattle.r9_event.specs.declared.event.Did.{Did}
 use Rattle.r9_event.specs.declared.event.Entry.{Entry}
 use Rattle.r9_event.specs.declared.own.Item.{Item}
-use Rattle.r9_event.specs.declared.own.Use.{Use}
 use Rattle.model_world.specs.Replay.{marked}
 use Rattle.model_alone.specs.Own.{Judged, Watched, is_empty, judged_by, lowest}
 use Rattle.r9_watch.specs.declared.watch.Watch.TheInside as watch
@@ -20,9 +19,9 @@ pub record Watching : Type 0 where
 abbrev pub watching_of : watch.Inside → Watching
 watching_of w = record { session = w.session; seen = watched_of w.seen; items = w.items }
 
--- what an entry shows by what it used and gave, as it stands in the history
-abbrev pub shown : Watching → Entry → List Use → Did → Judged
-shown w entry used did = judged_by w.session w.seen used did.notes did.replies (marked entry.event did.short)
+-- what an entry shows by what it gave, as it stands in the history
+abbrev pub shown : Watching → Entry → Did → Judged
+shown w entry did = judged_by w.session w.seen did.uses did.notes did.replies (marked entry.event did.short)
 
 -- one step more, if it has items
 abbrev pub with_step : List (List Item) → List Item → List (List Item)

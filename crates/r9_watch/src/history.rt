@@ -5,7 +5,6 @@ ghost use Rattle.r9_event.specs.declared.event.Did.{Did};
 ghost use Rattle.r9_event.specs.declared.event.Entry.{Entry};
 ghost use Rattle.r9_event.specs.declared.event.Event.{Event};
 ghost use Rattle.r9_event.specs.declared.event.Opening.{Opening};
-ghost use Rattle.r9_event.specs.declared.own.Use.{Use};
 ghost use Rattle.model_alone.specs.Own.{is_empty, not_alone, unseen};
 ghost use Rattle.r9_watch.specs.History.{next_judged, watched_in, Ends, GoesOn, ShowsTheSame};
 
@@ -13,7 +12,7 @@ ghost use Rattle.r9_watch.specs.History.{next_judged, watched_in, Ends, GoesOn, 
 /// by which the session is not alone, with the lowest reason.
 pub fn watches_hold_histories()
     ensures starts { (opening : Opening) (c : ℕ) → watched_in opening c [] ≡ record { session = c; seen = unseen; items = [] } }
-    ensures shows { (opening : Opening) (c : ℕ) (events : List Event) (entry : Entry) (used : List Use) (did : Did) → ShowsTheSame opening c events entry used did }
+    ensures shows { (opening : Opening) (c : ℕ) (events : List Event) (entry : Entry) (did : Did) → ShowsTheSame opening c events entry did }
     ensures goes_on { (opening : Opening) (c : ℕ) (events : List Event) (event : Event) → not_alone opening c events ≡ None → is_empty (next_judged opening c events event).reasons ≡ true → GoesOn opening c events event }
     ensures ends { (opening : Opening) (c : ℕ) (events : List Event) (event : Event) → not_alone opening c events ≡ None → is_empty (next_judged opening c events event).reasons ≡ false → Ends opening c events event }
 {}

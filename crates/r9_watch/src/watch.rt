@@ -7,7 +7,7 @@ ghost use Rattle.r9_watch.specs.Words.{IsWhole};
 use crate::items::Items;
 use crate::reasons::{Seen, is_by, judge};
 use crate::telling::told;
-use r9_event::{Did, Entry, Use};
+use r9_event::{Did, Entry};
 use r9_memory::Memory;
 use std::alloc::Global;
 use std::marker::Model;
@@ -67,19 +67,19 @@ impl Watch {
         }
     }
 
-    /// Sees the next entry of the history, what it used and what it gave. NotAlone exactly where that gives a reason for which the
+    /// Sees the next entry of the history and what it gave. NotAlone exactly where what it used gives a reason for which the
     /// session is not alone with its window; else what the session is told comes as one step behind those that there are. After an
     /// `Err` all is as before.
     #[tactic(auto, unfolding(model_alone::specs::Own::judged_by))]
-    pub fn see(&mut self, entry: &Entry, uses: &[Use], did: &Did) -> Result<(), WatchFault>
+    pub fn see(&mut self, entry: &Entry, did: &Did) -> Result<(), WatchFault>
         requires { IsWhole entry.now.event }
-        ensures alone { OnOk result (is_empty (shown self.old entry.now uses.now did.now).reasons ≡ true) }
-        ensures told { OnOk result (self.new ≡ after_judged self.old (shown self.old entry.now uses.now did.now)) }
-        ensures refused { IfErr result (IsNotAlone entry.now.number (shown self.old entry.now uses.now did.now)) }
+        ensures alone { OnOk result (is_empty (shown self.old entry.now did.now).reasons ≡ true) }
+        ensures told { OnOk result (self.new ≡ after_judged self.old (shown self.old entry.now did.now)) }
+        ensures refused { IfErr result (IsNotAlone entry.now.number (shown self.old entry.now did.now)) }
         ensures kept { OnErr result (self.new ≡ self.old) }
     {
         let own = is_by(self.session, &entry.event);
-        let judged = judge(own, self.seen, uses);
+        let judged = judge(own, self.seen, did.uses.as_slice());
         if let Some(reason) = judged.reason {
             return Err(WatchFault::NotAlone {
                 entry: entry.number,

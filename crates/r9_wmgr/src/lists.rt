@@ -195,3 +195,13 @@ pub(crate) fn lower(windows: &mut Vec<Window>, w: Window) -> Result<(), Memory>
     windows.push(w)?;
     Ok(())
 }
+
+/// Adds the serials of the hosts of rios at the end.
+pub(crate) fn push_hosts(rios: &[Rio], hosts: &mut Vec<u32>) -> Result<(), Memory>
+    ensures { OnOk result (hosts.new.items ≡ hosts.old.items ++ map (λ rio. rio.host) rios.now) }
+{
+    for rio in rios {
+        hosts.push(rio.host)?;
+    }
+    Ok(())
+}

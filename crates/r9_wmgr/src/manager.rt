@@ -9,7 +9,7 @@ ghost use Rattle.r9_wmgr.specs.Changes.{by};
 
 use crate::lists::{
     Change, bottom_up, change_rios, changed, find_numbered, find_rio, find_topmost, find_window,
-    lower, made_in, raise, replace, without, without_rio,
+    lower, made_in, push_hosts, raise, replace, without, without_rio,
 };
 use r9_geom::{Point, Rect};
 use r9_memory::Memory;
@@ -97,6 +97,16 @@ impl Manager {
         ensures { result ≡ model.is_host self.now serial }
     {
         self.rio_of(serial).is_some()
+    }
+
+    /// The serials of the hosts of all rios, in the order in which the rios began; that of the root rio is 0.
+    pub fn hosts(&self) -> Result<Vec<u32>, Memory>
+        ensures { IfOk result (λ hosts. hosts.items ≡ map (λ rio. rio.host) (self.now.root ∷ self.now.rios)) }
+    {
+        let mut hosts = Vec::new(self.alloc);
+        hosts.push(self.root.host)?;
+        push_hosts(&self.rios, &mut hosts)?;
+        Ok(hosts)
     }
 
     pub(crate) fn current_of(&self, host: u32) -> Option<u32>

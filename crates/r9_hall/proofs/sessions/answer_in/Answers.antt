@@ -6,6 +6,7 @@ use Rattle.model_world.specs.Session.{Session}
 use Rattle.model_world.proofs.Steps.{linked_of}
 use Rattle.r9_desktop.specs.World.{desktop_of}
 use Rattle.r9_hall.specs.StateView.{IsServed}
+use Rattle.r9_hall.specs.Watching.{IsSeenOf}
 use Rattle.r9_hall.proofs.States.{served_linked}
 use Rattle.r9_hall.proofs.sessions.answer_in.Goals as goal
 
@@ -22,8 +23,9 @@ returns-in_ok-own-in-Some c =
     let at : lookup before c.args.session ≡ Some c.in-Some.found.now = sym (lookup_at before c.args.session) ∙ sym c.get_mut.ensures.value ∙ ap option_copied_mut c.in-Some.is in
     let written : after ≡ with before c.args.session c.answer.new.found = with-written before _ c.args.session c.answer.new.found (c.get_mut.follows.holds c.answer.new.found).0 in
     let served : IsServed c.args.session (Some c.in-Some.found.now) before (desktop_of c.args.desktop.now) c.args.bytes.now c.args.mark (Some c.in_ok-own-in-Some.own) after left =
-    (c.answer.new.found, written, c.in_ok-own-in-Some.ensures) in
+    (c.answer.new.found, written, c.in_ok-own-in-Some.ensures.answered) in
     record {
+      seen = λ watches. subst (λ (found : Option Session). IsSeenOf c.args.session found (desktop_of c.args.desktop.now) c.args.bytes.now c.args.mark (Some c.in_ok-own-in-Some.own)) (sym at) (c.in_ok-own-in-Some.ensures.seen watches);
       served = subst (λ (found : Option Session). IsServed c.args.session found before (desktop_of c.args.desktop.now) c.args.bytes.now c.args.mark (Some c.in_ok-own-in-Some.own) after left) (sym at) served;
       linked = served_linked c.args.session before (desktop_of c.args.desktop.now) (Some c.in-Some.found.now) c.args.bytes.now c.args.mark (Some c.in_ok-own-in-Some.own) after left c.requires.linked at served;
     }

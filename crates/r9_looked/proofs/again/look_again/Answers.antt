@@ -9,5 +9,5 @@ pub returns : goal.returns
 returns c =
     where_ok c.look_within.result _ _
     (λ is. λ k device mark told.
-    is ∙ ap (λ (l : List Message). c.args.uses.now.items ++ flat_map (look_used c.args.panes.now.entries) l) (sym (looked_again k device c.args.bytes.now mark c.args.most c.args.rows.now told)))
+    is ∙ ap (λ (l : List Message). c.args.uses.now ++ flat_map (look_used c.args.panes.now.entries) l) (sym (looked_again k device c.args.bytes.now mark c.args.most c.args.rows.now told)))
     c.look_within.ensures

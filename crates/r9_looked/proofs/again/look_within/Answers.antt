@@ -13,8 +13,8 @@ messages-preserved c =
     let left = c.messages.left - 1 in
     let some = c.messages-test.true in
     let more : c.messages.left ≡ suc left = omega (arith, some) in
-    let looked : IsLooked panes c.messages.bytes.now c.messages.uses.items c.in-Some.first c.look_first.new.uses.items =
-    subst (λ (first : Option First). IsFirst panes c.messages.bytes.now c.messages.uses.items first c.look_first.new.uses.items) c.in-Some.is c.in_ok-first.ensures in
-    c.messages.invariant ∙ ap (λ (n : ℕ). c.messages.uses.items ++ flat_map (look_used panes) (messages_read n c.messages.rows.now c.messages.bytes.now)) more
-    ∙ reads_first panes left c.messages.rows.now c.messages.bytes.now c.messages.uses.items c.look_first.new.uses.items c.in-Some.first looked
-    ∙ λ i. c.look_first.new.uses.items ++ flat_map (look_used panes) (messages_read left (sym (c.behind_first.ensures.rows looked.message looked.write) i) (sym (c.behind_first.ensures.bytes looked.message looked.write) i))
+    let looked : IsLooked panes c.messages.bytes.now c.messages.uses c.in-Some.first c.look_first.new.uses =
+    subst (λ (first : Option First). IsFirst panes c.messages.bytes.now c.messages.uses first c.look_first.new.uses) c.in-Some.is c.in_ok-first.ensures in
+    c.messages.invariant ∙ ap (λ (n : ℕ). c.messages.uses ++ flat_map (look_used panes) (messages_read n c.messages.rows.now c.messages.bytes.now)) more
+    ∙ reads_first panes left c.messages.rows.now c.messages.bytes.now c.messages.uses c.look_first.new.uses c.in-Some.first looked
+    ∙ λ i. c.look_first.new.uses ++ flat_map (look_used panes) (messages_read left (sym (c.behind_first.ensures.rows looked.message looked.write) i) (sym (c.behind_first.ensures.bytes looked.message looked.write) i))

@@ -7,8 +7,8 @@ use Rattle.r9_looked.proofs.again.look_within.Given as goal
 -- what was added so far, and what the messages use that are left
 abbrev pub invariant-messages : goal.invariant-messages
 invariant-messages l =
-    l.initial.uses.items ++ flat_map (look_used l.panes.entries) (messages_read l.initial.left l.initial.rows l.initial.bytes)
-    ≡ l.uses.items ++ flat_map (look_used l.panes.entries) (messages_read l.left l.rows l.bytes)
+    l.initial.uses ++ flat_map (look_used l.panes.entries) (messages_read l.initial.left l.initial.rows l.initial.bytes)
+    ≡ l.uses ++ flat_map (look_used l.panes.entries) (messages_read l.left l.rows l.bytes)
 
 abbrev pub decreases-messages : goal.decreases-messages
 decreases-messages l = l.left

@@ -10,5 +10,5 @@ returns-in_default c = λ panes.
 
 pub returns : goal.returns
 returns c = λ panes.
-    looked_plain panes c.args.bytes.now c.args.uses.now.items c.look_plain.new.uses.items (message_of c.in-Ok.message) c.spelled_len.result c.has_rows.result c.in-Ok.ensures.message c.in-Ok.ensures.whole
+    looked_plain panes c.args.bytes.now c.args.uses.now c.look_plain.new.uses (message_of c.in-Ok.message) c.spelled_len.result c.has_rows.result c.in-Ok.ensures.message c.in-Ok.ensures.whole
     c.spelled_len.ensures c.has_rows.ensures (c.in_ok-look_plain.ensures panes)

@@ -3,6 +3,7 @@ use Rattle.r9_event.specs.declared.event.Event.{Event}
 use Rattle.r9_event.specs.declared.event.Entry.{Entry}
 use Rattle.r9_event.specs.declared.event.Reply.{Reply}
 use Rattle.model_event.specs.Legal.{Allowed, Roll, roll_after}
+use Rattle.model_alone.specs.Uses.{event_used}
 use Rattle.model_world.specs.Cut.{IsCutEvent, IsWantingEvent}
 use Rattle.model_world.specs.Replay.{marked, step, waiting_after}
 use Rattle.model_world.specs.World.{World}
@@ -78,6 +79,7 @@ returns c =
       allowed = (allowed, λ broken. unbroken c.self.inside.broken whole broken);
       replies = of_histories before (λ (w : World). did.replies ≡ (step w event).replies) c.in_ok-did.ensures.replies;
       notes = of_histories before (λ (w : World). did.notes ≡ (step w event).notes) c.in_ok-did.ensures.notes;
+      uses = λ watches. of_histories before (λ (w : World). did.uses ≡ event_used w (step w event).world event) (c.in_ok-did.ensures.uses watches);
       closed = of_histories before (λ (w : World). did.closed ≡ (step w event).closed) c.in_ok-did.ensures.closed;
       short = of_histories before (λ (w : World). IfSome did.short (λ k. IsCutEvent w c.args.event k)) c.in_ok-did.ensures.short;
       told = of_histories before (λ (w : World). IsWantingEvent w event → IsSome did.short) c.in_ok-did.ensures.told;
@@ -88,6 +90,7 @@ returns c =
       made = subst (λ (h : HallValue). IsMadeOf h c.args.event did after) c.self.view_is made;
       taken = c.in_ok-taken.ensures.taken ∙ ap (λ (h : HallValue). taken h.outboxes c.args.event) c.self.view_is;
       whole = sym whole ∙ ap (λ (h : HallValue). h.broken) c.self.view_is;
+      watches = c.step.ensures.watches ∙ ap (λ (h : HallValue). h.world.watches) c.self.view_is;
       stop = λ is. absurd (c.in_default.not-Stop is);
       stopped = λ is. absurd (c.in_default.not-Stop is);
       err = tt;

@@ -34,15 +34,15 @@ pub returns-clause-made : goal.returns-clause-made
 returns-clause-made c = λ opening.
     let before = c.args.self.now in
     let session = c.args.session in
-    let P : Sessions × List Reply → Type 0 = λ made. IsMade opening before (End session) (record { replies = made.1; short = None; closed = None }) made.0 in
+    let P : Sessions × List Reply → Type 0 = λ made. IsMade opening before (End session) (record { replies = made.1; uses = c.new.result; short = None; closed = None }) made.0 in
     elim c.if-branch.branch [
       | then-branch+in_ok-asked+in_ok-settle w ↦
           let gone : Sessions = record { live = w.remove.new.self; desktop = c.leave.new.desktop } in
           subst P (λ i. (sym w.self-is i, sym w.replies-is i))
-          (gone_made opening before gone w.settle.new.self session (lookup before.live.entries session) c.in_ok-leave.field-0 w.settle.new.replies refl w.if-branch.true c.in_ok-leave.ensures
+          (gone_made opening before gone w.settle.new.self session (lookup before.live.entries session) c.in_ok-leave.field-0 w.settle.new.replies c.new.result refl w.if-branch.true c.in_ok-leave.ensures
           (w.remove.ensures.entries ∙ without_at before.live.entries session)
           (subst (λ (replies : List Reply). IsSettled (world_with opening gone) replies (world_with opening w.settle.new.self) w.settle.new.replies) c.new-replies.ensures (w.in_ok-settle.ensures opening)))
       | else-branch w ↦
           subst P (λ i. (sym w.self-is i, sym (w.replies-is ∙ c.new-replies.ensures) i))
-          (absent_made opening before (record { live = before.live; desktop = c.leave.new.desktop }) session (lookup before.live.entries session) c.in_ok-leave.field-0 refl w.if-branch.false c.in_ok-leave.ensures refl)
+          (absent_made opening before (record { live = before.live; desktop = c.leave.new.desktop }) session (lookup before.live.entries session) c.in_ok-leave.field-0 c.new.result refl w.if-branch.false c.in_ok-leave.ensures refl)
     ]

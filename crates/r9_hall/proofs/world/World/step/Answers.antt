@@ -1,7 +1,9 @@
 use Rattle.std.proofs.Common.{◌≡◌, false, IfSome, IsSome, refl, sym, ap, subst, ◌∙◌}
+use Rattle.model_alone.specs.Uses.{event_used}
 use Rattle.model_world.specs.Cut.{IsCutEvent, IsWantingEvent}
 use Rattle.model_world.specs.Links.{IsNext, begun_after}
 use Rattle.model_world.specs.Replay.{marked, step}
+use Rattle.r9_hall.specs.StateView.{world_with}
 use Rattle.r9_hall.specs.WorldView.{WorldValue, world_in}
 use Rattle.r9_hall.proofs.Worlds.{turn_begun, turn_known, turn_linked, turn_quiet}
 use Rattle.r9_hall.proofs.world.World.step.Goals as goal
@@ -43,6 +45,10 @@ returns c =
       };
       replies = sym turn.replies_are ∙ ap (λ (w : WorldValue). (step (world_in w) event).replies) c.self.view_is;
       notes = sym turn.notes_are ∙ ap (λ (w : WorldValue). (step (world_in w) event).notes) c.self.view_is;
+      watches = ap (λ (w : WorldValue). w.watches) c.self.view_is;
+      uses = λ watches. c.in_ok-did.ensures.uses (ap (λ (w : WorldValue). w.watches) c.self.view_is ∙ watches) opening
+          ∙ (λ i. event_used (world_with opening c.self.inside.sessions) (sym turn.world i) event)
+          ∙ ap (λ (w : WorldValue). event_used (world_in w) (step (world_in w) event).world event) c.self.view_is;
       closed = sym turn.closed_is ∙ ap (λ (w : WorldValue). (step (world_in w) event).closed) c.self.view_is;
       short = subst (λ (w : WorldValue). IfSome c.in_ok-did.did.short (λ k. IsCutEvent (world_in w) c.args.event.now k)) c.self.view_is (c.in_ok-did.ensures.short opening);
       told = subst (λ (w : WorldValue). IsWantingEvent (world_in w) event → IsSome c.in_ok-did.did.short) c.self.view_is (c.in_ok-did.ensures.told opening);
