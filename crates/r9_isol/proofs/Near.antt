@@ -5,7 +5,7 @@ use Rattle.std.proofs.lemmas.Int.{ints}
 use Rattle.r9_geom.specs.Geometry.{IsNear, IsRectNear}
 use Rattle.r9_event.specs.declared.rio.Note.{Note}
 use Rattle.r9_event.specs.declared.rio.Note.TheVariants as note
-use Rattle.r9_isol.specs.Noted.{IsNearNote}
+use Rattle.model_near.specs.Near.{IsNearNote}
 use Rattle.model_window.specs.Heard.{Heard, known_noted, ConsctlHeld, ConsoleRead, Labelled, MouseHeld, MouseRead, Noted, Raw, Written}
 use Rattle.model_window.specs.Pane.{Pane, new_pane, pane_heard}
 

@@ -1,4 +1,3 @@
 pub mod Words
-pub mod Noted
 pub mod World
 pub mod Laws

@@ -3,10 +3,10 @@
 ghost use Rattle.std.specs.Prelude.{◌≡◌, false, option_map, IfOk, OnOk};
 ghost use Rattle.std.specs.Option.{option_map_or};
 ghost use Rattle.model_alone.specs.Lone.{noted_alone, orders_of, window_noted};
+ghost use Rattle.model_near.specs.Near.{IsNearNote};
 ghost use Rattle.model_window.specs.Heard.{Noted};
 ghost use Rattle.model_window.specs.Pane.{new_pane, pane_heard};
 ghost use Rattle.r9_event.specs.declared.rio.Order.TheVariants as order;
-ghost use Rattle.r9_isol.specs.Noted.{IsNearNote};
 ghost use Rattle.r9_isol.specs.World.{desktop_of};
 
 use crate::desktop::{Desktop, Window};

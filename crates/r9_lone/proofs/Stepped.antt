@@ -17,7 +17,7 @@ use Rattle.model_world.specs.Whole.{client}
 use Rattle.model_world.proofs.Connections.{carried_out_kept}
 use Rattle.model_world.proofs.Orders.{EndNone}
 use Rattle.model_alone.specs.Lone.{LoneDesktop, LoneWorld, lone_from, lone_step, noted_alone, notes_in, orders_of, with_notes}
-use Rattle.r9_lone.specs.Steps.{IsSoundStep}
+use Rattle.model_near.specs.Steps.{IsSoundStep}
 
 -- what stands at a place begins what is left there
 pub begins_with : {A : Type 0} (xs : List A) (i : ℕ) (x : A) → i < length xs → x ≡ get_or xs i x → drop i xs ≡ x ∷ drop (i + 1) xs

@@ -3,12 +3,12 @@
 ghost use Rattle.std.specs.Prelude.{◌≡◌, ◌≤◌, ◌++◌, true, false, length, All, IfOk, IsSome, OnOk};
 ghost use Rattle.std.specs.Option.{option_and_then};
 ghost use Rattle.model_alone.specs.Lone.{all_settled, answered_alone, first_lone_desktop, first_lone_world, left_by, lone, lone_desktop, lone_from, lone_step, made_by, made_in, note_in, notes_in, replied, with_notes};
+ghost use Rattle.model_near.specs.Steps.{IsSoundItem, IsSoundStep};
 ghost use Rattle.model_wire.specs.Spelling.{spelling_of_r, FitsR};
 ghost use Rattle.model_world.specs.Answer.{answer};
 ghost use Rattle.r9_around.specs.Words.{mark_after};
 ghost use Rattle.r9_isol.specs.World.{desktop_of};
 ghost use Rattle.r9_lone.specs.Settling.{IsLate};
-ghost use Rattle.r9_lone.specs.Steps.{IsSoundItem, IsSoundStep};
 ghost use Rattle.r9_wire.specs.View.{r_of};
 
 use r9_event::{Item, Note, Opening};
