@@ -64,12 +64,36 @@ impl<'a> Picture<'a> {
         }
     }
 
-    // Pixels side by side, from a point to the right.
-    fn row(&self, q: Point, raws: &mut [u32])
+    // So many pixels side by side, from a point to the right, where all are in the rectangle.
+    fn run(&self, q: Point, count: usize) -> Option<&[u32]>
+        requires { 0 < count }
+        ensures len { IfSome result (λ run. length run.now ≡ count) }
+        ensures pixels { IfSome result (λ run. (k : ℕ) → k < count → slice_index run.now k ≡ pictured self.now (along q k)) }
+    {
+        let first = self.number(q, 0)?;
+        let last = self.number(q, count - 1)?;
+        Some(&self.raws[first..last + 1])
+    }
+
+    // Pixels side by side, from a point to the right, one after the other.
+    fn each_pixel(&self, q: Point, raws: &mut [u32])
         ensures { (k : ℕ) → k < length raws.old → slice_index raws.new k ≡ pictured self.now (along q k) }
     {
         for k in 0..raws.len() {
             raws[k] = self.pixel(q, k);
+        }
+    }
+
+    // Pixels side by side, from a point to the right: those of a row of the rectangle are copied whole.
+    fn row(&self, q: Point, raws: &mut [u32])
+        ensures { (k : ℕ) → k < length raws.old → slice_index raws.new k ≡ pictured self.now (along q k) }
+    {
+        if raws.is_empty() {
+            return;
+        }
+        match self.run(q, raws.len()) {
+            Some(run) => raws.copy_from_slice(run),
+            None => self.each_pixel(q, raws),
         }
     }
 }

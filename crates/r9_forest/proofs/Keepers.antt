@@ -24,7 +24,8 @@ use Rattle.r9_forest.specs.declared.keeping.Kept.TheVariants.{Plane, Tile}
 use Rattle.r9_forest.specs.Images.{world}
 use Rattle.r9_forest.specs.Keeping.{kept_itself, kept_of}
 use Rattle.r9_arrive.proofs.Canvases.{bare_canvas, parent_same, SameButCanvas}
-use Rattle.r9_forest.proofs.Showing.{form_live, keeping_seen, point_has}
+use Rattle.r9_forest.proofs.Showing.{keeping_seen, point_has}
+use Rattle.r9_put.proofs.Forms.{form_live}
 
 -- what has a place is an image
 pub place_live : (pixels : KeptPixels) (world : World) (i : ℕ) (p : Point) → form_at pixels ≡ forms_of world → has_place pixels (own i p) ≡ true → IsLive world i

@@ -2,7 +2,6 @@ pub mod Backs
 pub mod Exchanged
 pub mod Gathering
 pub mod Going
-pub mod Grids
 pub mod Groups
 pub mod Keepers
 pub mod Making
@@ -17,4 +16,3 @@ pub mod Setting
 pub mod Showing
 pub mod Sized
 pub mod Sounding
-pub mod Wholes

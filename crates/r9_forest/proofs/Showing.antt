@@ -117,29 +117,7 @@ row_width r at (suc n) near inside =
     let last = bounds_of r (along at n) (inside (along at n) (along_holds at (suc n) n (omega arith))) in
     omega (arith, ints, first.left, last.right, near.min.left, near.max.right)
 
--- and a rectangle of an image is near
-pub image_near : (world : World) (i : ℕ) → IsForest world → IsLive world i → IsRectNearBy (2 ^ 36) (image_at world i).r
-image_near world i ok live =
-    let is = ok.images i live in
-    record { min = near_wider (2 ^ 34) (2 ^ 36) (image_at world i).r.min (lit≤ tt) is.near_min; max = is.near_max }
-
 -- what is painted from back to front is what it shows
 pub view-painted : (world : World) → IsForest world → (i : ℕ) (p : Point) → IsLive world i → holds (image_at world i).r p ≡ true → view world i p ≡ paint world i p
 unfolding view paint
 view-painted world ok i p live inside = sym (paint_within-is_view world ok (suc deepest) i p live inside)
-
--- what an image is to have for its pixels
-pub form_live : (world : World) (i : ℕ) → IsLive world i → forms_of world i ≡ Some (form_of (image_at world i))
-form_live world i live = at (world i) live
-  where
-    at : (o : Option Image) → is_some o ≡ true → option_map form_of o ≡ Some (form_of (unwrap_or o no_image))
-    at None e = absurd (true≢false (sym e))
-    at (Some image) e = refl
-
-pub standing_nowhere : (s : Option Standing) → option_map (λ (s : Standing). s.parent) s ≡ None → is_some s ≡ false
-standing_nowhere None e = refl
-standing_nowhere (Some s) e = cc
-
-pub nowhere_none : (s : Option Standing) → is_some s ≡ false → option_map (λ (s : Standing). s.parent) s ≡ None
-nowhere_none None e = refl
-nowhere_none (Some s) e = cc

@@ -6,4 +6,3 @@ pub mod Replaced
 pub mod Room
 pub mod Sound
 pub mod Told
-pub mod Written

@@ -1,6 +1,6 @@
 //! Windows that move on the image on which they stand, and images that get another min.
 
-ghost use Rattle.std.specs.Prelude.{◌≡◌, ◌+◌, ◌*◌, ◌^◌, ◌≤◌, length, slice_index, IfOk, IsTrue, OnErr, OnOk, Some};
+ghost use Rattle.std.specs.Prelude.{◌≡◌, ◌+◌, ◌*◌, ◌^◌, ◌≤◌, length, slice_index, vec_len, IfOk, IsTrue, OnErr, OnOk, Some};
 ghost use Rattle.r9_geom.specs.declared.Point.{Point as Spot};
 ghost use Rattle.r9_geom.specs.Geometry.{area_of, holds, IsNearBy};
 ghost use Rattle.r9_plane.specs.Pixels.{number_of};
@@ -97,8 +97,7 @@ impl Images {
         ensures steps { steps.new ≤ steps.old + 4 * area_of (image_at (world self.old) i).r }
     {
         let r = self.lists.get(i).r;
-        // As many as fill what any window uncovers are enough for what this one shows.
-        let mut shown = zeros(self.alloc, self.room.len())?;
+        let mut shown = self.room_of(i)?;
         self.read_shown(i, &mut shown);
         let place = carried_rect(&r, r.min, corner);
         let list = moved_list(
@@ -111,6 +110,16 @@ impl Images {
             .reserve_hidden(&self.lists, standing.parent, &list)?;
         self.take_place(i, standing, &shown, list, steps);
         Ok(())
+    }
+
+    /// Room for what a window shows: so many pixels that are 0.
+    pub(crate) fn room_of(&self, i: u32) -> Result<Vec<u32>, Memory>
+        requires live { IsLive (world self.now) i }
+        requires few { area_of (image_at (world self.now) i).r ≤ vec_len self.now.room }
+        ensures { IfOk result (λ shown. vec_len shown ≡ area_of (image_at (world self.now) i).r) }
+    {
+        let r = self.lists.get(i).r;
+        zeros(self.alloc, (r.width() * r.height()) as usize)
     }
 
     /// Reads what an image shows, row by row.

@@ -15,7 +15,7 @@ ghost use Rattle.r9_fills.specs.Content as fills;
 ghost use Rattle.r9_forest.specs.Replaced.{moved_out, put_in, replaced, IsLater, IsReplacing, IsShown};
 
 use super::coming::{is_full, peek_number};
-use super::images::{Images, zeros};
+use super::images::Images;
 use super::moving::moved_list;
 use model_forest::{Standing, Window};
 use r9_fills::{Content, Picture};
@@ -246,8 +246,7 @@ impl Images {
         ensures room { IfOk result (λ shown. area_of (image_at (world self.now) old).r ≤ vec_len shown) }
         ensures shown { IfOk result (λ shown. keep ≡ true → IsShown (world self.now) old shown.items) }
     {
-        // As many as fill what any window uncovers are enough for what this one shows.
-        let shown = zeros(self.alloc, self.room.len())?;
+        let shown = self.room_of(old)?;
         if keep {
             Ok(self.show(old, shown))
         } else {

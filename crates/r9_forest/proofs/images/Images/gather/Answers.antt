@@ -13,7 +13,7 @@ use Rattle.r9_pixels.specs.Kept.{kept_at}
 use Rattle.r9_fills.specs.Fills.{fill_at}
 use Rattle.r9_forest.specs.Images.{world}
 use Rattle.r9_forest.proofs.Gathering.{row_gathered}
-use Rattle.r9_forest.proofs.Grids.{near_row, row_of}
+use Rattle.r9_put.proofs.Grids.{near_row, row_of}
 use Rattle.r9_forest.proofs.images.Images.gather.Goals as goal
 use Rattle.r9_forest.proofs.images.Images.gather.Goals.{At-loop-row}
 

@@ -14,7 +14,8 @@ use Rattle.r9_forest.specs.Images.{world}
 use Rattle.r9_forest.specs.Keeping.{kept_itself, kept_of, tile_of}
 use Rattle.r9_arrive.proofs.Canvases.{bare_canvas}
 use Rattle.r9_forest.proofs.Keepers.{hidden_keeps, hidden_tile, kept_nowhere, shown_keeps}
-use Rattle.r9_forest.proofs.Showing.{form_live, keeping_seen, point_has, shown_kept}
+use Rattle.r9_forest.proofs.Showing.{keeping_seen, point_has, shown_kept}
+use Rattle.r9_put.proofs.Forms.{form_live}
 use Rattle.r9_forest.proofs.images.Images.kept.Goals as goal
 use Rattle.r9_forest.proofs.images.Images.kept.Goals.{After-locate-run}
 

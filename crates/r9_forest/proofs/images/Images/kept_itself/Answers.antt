@@ -15,7 +15,7 @@ use Rattle.r9_forest.specs.Images.{world}
 use Rattle.r9_forest.specs.Keeping.{on_plane, tiles_of}
 use Rattle.r9_arrive.proofs.Canvases.{bare_canvas, parent_same}
 use Rattle.r9_forest.proofs.Keepers.{cells_alike, kept_nowhere, kept_window, place_live, window_form}
-use Rattle.r9_forest.proofs.Showing.{form_live, nowhere_none}
+use Rattle.r9_put.proofs.Forms.{form_live, nowhere_none}
 use Rattle.r9_forest.proofs.images.Images.kept_itself.Goals as goal
 
 pub get-requires : goal.get-requires

@@ -112,17 +112,25 @@ unfolding world
 same g c = ap (with_kept (shape c.args.self.now.lists)) c.reserve_hidden.ensures.kept.kept
 
 -- there is room for what the window shows
-enough : (g : Over) (c : In_ok-shown g) → parent_of (shape c.args.self.now.lists) c.args.i ≡ Some c.args.standing.parent → area_of (image_at (world c.args.self.now) c.args.i).r ≤ c.in_ok-shown.shown.len
+enough : (g : Over) (c : In_ok-shown g) → area_of (image_at (world c.args.self.now) c.args.i).r ≤ c.in_ok-shown.shown.len
+enough g c = omega (arith, c.in_ok-shown.ensures)
+
+pub room_of-requires-clause-live : goal.room_of-requires-clause-live
 unfolding world
-enough g c stands =
+room_of-requires-clause-live g c =
+    sym ((bare_canvas (shape c.args.self.now.lists) (kept_at c.args.self.now.pixels)).live c.args.i) ∙ alive g (goal.at.room_of-requires-clause-live g c).Start
+
+pub room_of-requires-clause-few : goal.room_of-requires-clause-few
+unfolding world
+room_of-requires-clause-few g c =
     let size = ap area_of ((bare_canvas (shape c.args.self.now.lists) (kept_at c.args.self.now.pixels)).r c.args.i) in
-    let most = c.args.self.now.fills c.args.i c.args.standing.parent stands in
-    omega (arith, size, most, c.len.ensures, c.in_ok-shown.ensures)
+    let most = c.args.self.now.fills c.args.i c.args.standing.parent (parent g (goal.at.room_of-requires-clause-few g c).Start) in
+    omega (arith, size, most)
 
 pub read_shown-requires-clause-room : goal.read_shown-requires-clause-room
 read_shown-requires-clause-room g c =
     let at = goal.at.read_shown-requires-clause-room g c in
-    omega (arith, enough g at.In_ok-shown (parent g at.Start), c.deref_mut.ensures.len)
+    omega (arith, enough g at.In_ok-shown, c.deref_mut.ensures.len)
 
 -- what was read is at hand
 items : (g : Over) (c : After-deref-3 g) → c.deref-3.result.now ≡ c.read_shown.new.raws
@@ -159,7 +167,7 @@ take_place-requires-clause-room g c =
     let at = goal.at.take_place-requires-clause-room g c in
     let size = ap (λ (w : World). area_of (image_at w c.args.i).r) (same g at.After-reserve_hidden) in
     let long : length c.deref-3.result.now ≡ c.in_ok-shown.shown.len = ap length (items g at.After-deref-3) ∙ c.read_shown.auto.raws ∙ c.deref_mut.ensures.len in
-    omega (arith, size, long, enough g at.In_ok-shown (parent g at.Start))
+    omega (arith, size, long, enough g at.In_ok-shown)
 
 pub take_place-requires-clause-shown : goal.take_place-requires-clause-shown
 unfolding world

@@ -9,7 +9,8 @@ use Rattle.r9_pixels.specs.Owns.{plane_form}
 use Rattle.r9_forest.specs.Images.{world}
 use Rattle.r9_forest.specs.Keeping.{on_plane}
 use Rattle.r9_arrive.proofs.Canvases.{bare_canvas, parent_same}
-use Rattle.r9_forest.proofs.Showing.{form_live, shown_kept, standing_nowhere}
+use Rattle.r9_forest.proofs.Showing.{shown_kept}
+use Rattle.r9_put.proofs.Forms.{form_live, standing_nowhere}
 use Rattle.r9_forest.proofs.images.Images.plane.Goals as goal
 use Rattle.r9_forest.proofs.images.Images.plane.Goals.{After-plane}
 

@@ -14,7 +14,7 @@ use Rattle.r9_pixels.specs.Kept.{kept_at}
 use Rattle.r9_forest.specs.Images.{world}
 use Rattle.r9_arrive.proofs.Canvases.{bare_canvas}
 use Rattle.r9_forest.proofs.Repeats.{reduced_run, run_inside}
-use Rattle.r9_forest.proofs.Showing.{image_near}
+use Rattle.r9_put.proofs.Forms.{image_near}
 use borrow.Rule.Slice.PartMut.{put_mid}
 use Rattle.r9_forest.proofs.images.Images.read_repeated.Goals as goal
 use Rattle.r9_forest.proofs.images.Images.read_repeated.Goals.{After-get}

@@ -13,8 +13,8 @@ use Rattle.r9_pixels.specs.Kept.{kept_at}
 use Rattle.r9_forest.specs.Images.{world}
 use Rattle.r9_arrive.proofs.Canvases.{bare_canvas}
 use Rattle.r9_forest.proofs.Gathering.{row_gathered}
-use Rattle.r9_forest.proofs.Grids.{row_of}
-use Rattle.r9_forest.proofs.Showing.{image_near}
+use Rattle.r9_put.proofs.Grids.{row_of}
+use Rattle.r9_put.proofs.Forms.{image_near}
 use borrow.Rule.Slice.PartMut.{put_mid}
 use Rattle.r9_forest.proofs.images.Images.read_shown.Goals as goal
 use Rattle.r9_forest.proofs.images.Images.read_shown.Goals.{After-get}

@@ -1,7 +1,5 @@
-use Rattle.std.proofs.Common.{◌∙◌, ◌≤◌, ap, arith}
-use Rattle.std.specs.Prelude.{vec_len}
+use Rattle.std.proofs.Common.{◌∙◌, ap, arith}
 use Rattle.r9_geom.specs.Geometry.{area_of}
-use Rattle.model_forest.specs.World.{image_at}
 use Rattle.model_forest.proofs.Changes.{live-standing}
 use Rattle.r9_locate.specs.Table.{shape}
 use Rattle.r9_pixels.specs.Kept.{kept_at}
@@ -9,26 +7,28 @@ use Rattle.r9_arrive.proofs.Canvases.{bare_canvas}
 use Rattle.r9_forest.specs.Images.{world}
 use Rattle.r9_forest.proofs.Going.{parent_is}
 use Rattle.r9_forest.proofs.images.Images.room_for.Goals as goal
-use Rattle.r9_forest.proofs.images.Images.room_for.Goals.{In_ok-shown}
 
--- what is made is enough
-enough : (c : In_ok-shown) → area_of (image_at (world c.args.self.now) c.args.old).r ≤ vec_len c.in_ok-shown.shown
+pub room_of-requires-clause-live : goal.room_of-requires-clause-live
 unfolding world
-enough c =
+room_of-requires-clause-live c = live-standing (world c.args.self.now) c.args.old c.args.p c.requires
+
+pub room_of-requires-clause-few : goal.room_of-requires-clause-few
+unfolding world
+room_of-requires-clause-few c =
     let now = c.args.self.now in
     let most = now.fills c.args.old c.args.p (parent_is (shape now.lists) (kept_at now.pixels) c.args.old ∙ c.requires) in
     let same = ap area_of ((bare_canvas (shape now.lists) (kept_at now.pixels)).r c.args.old) in
-    omega (arith, most, same, c.in_ok-shown.ensures, c.len.ensures)
+    omega (arith, most, same)
 
 pub show-requires-clause-live : goal.show-requires-clause-live
 unfolding world
 show-requires-clause-live c = live-standing (world c.args.self.now) c.args.old c.args.p c.requires
 
 pub show-requires-clause-room : goal.show-requires-clause-room
-show-requires-clause-room c = enough (goal.at.show-requires-clause-room c).In_ok-shown
+show-requires-clause-room c = omega (arith, c.in_ok-shown.ensures)
 
 pub returns-then-keep-clause-room : goal.returns-then-keep-clause-room
-returns-then-keep-clause-room c = let room = enough (goal.at.returns-then-keep-clause-room c).In_ok-shown in omega (arith, room, c.show.ensures.len)
+returns-then-keep-clause-room c = omega (arith, c.in_ok-shown.ensures, c.show.ensures.len)
 
 pub returns-else-keep-clause-room : goal.returns-else-keep-clause-room
-returns-else-keep-clause-room c = enough (goal.at.returns-else-keep-clause-room c).In_ok-shown
+returns-else-keep-clause-room c = omega (arith, c.in_ok-shown.ensures)

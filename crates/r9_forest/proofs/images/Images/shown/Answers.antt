@@ -12,7 +12,7 @@ use Rattle.model_forest.specs.View.{view}
 use Rattle.model_forest.specs.World.{Image, image_at}
 use Rattle.model_forest.proofs.Sound.{view-below}
 use Rattle.r9_forest.specs.Images.{world}
-use Rattle.r9_forest.proofs.Grids.{band_shown, begins_row, row_lies}
+use Rattle.r9_put.proofs.Grids.{band_shown, begins_row, row_lies}
 use Rattle.r9_arrive.proofs.Canvases.{bare_canvas}
 use Rattle.r9_forest.proofs.images.Images.shown.Goals as goal
 

@@ -11,7 +11,7 @@ use Rattle.r9_pixels.specs.Kept.{kept_at}
 use Rattle.r9_forest.specs.Images.{world}
 use Rattle.r9_arrive.proofs.Canvases.{bare_canvas, parent_same}
 use Rattle.r9_forest.proofs.Rows.{rows_of-same}
-use Rattle.r9_forest.proofs.Showing.{nowhere_none}
+use Rattle.r9_put.proofs.Forms.{nowhere_none}
 use Rattle.r9_forest.proofs.images.Images.unload_rows.Goals as goal
 
 pub get-requires : goal.get-requires

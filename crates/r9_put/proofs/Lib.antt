@@ -1,0 +1,5 @@
+pub mod Forms
+pub mod Grids
+pub mod Parts
+pub mod Putting
+pub mod Wholes
