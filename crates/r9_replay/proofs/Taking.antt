@@ -32,7 +32,7 @@ pub was_late : (left : Option (List ℕ)) (text shown : List ℕ) (after : Optio
 was_late left text shown after found n read is late at =
     subst (λ (m : ℕ). WasLate left m) at (late_whole left text after found read (subst (λ (t : List ℕ). IsLate t found) is late))
 
-had_record : (left : Option (List ℕ)) (text shown : List ℕ) (after : Option (List ℕ)) (events : List Event) → HasRead text_limit left text after → shown ≡ text → IsRecord shown events
+pub had_record : (left : Option (List ℕ)) (text shown : List ℕ) (after : Option (List ℕ)) (events : List Event) → HasRead text_limit left text after → shown ≡ text → IsRecord shown events
     → ((others : List Event) → IsRecord shown others → events ≡ others) → HadRecord left events
 had_record left text shown after events read is is_record one =
     let read_shown = subst (λ (t : List ℕ). HasRead text_limit left t after) (sym is) read in

@@ -6,5 +6,5 @@ mod replay;
 mod screen;
 
 pub use log::ReplyLog;
-pub use replay::{Ended, ReplayFault, make_event, replay_input};
+pub use replay::{Ended, MAX_LEN, ReplayFault, make_event, make_seen, replay_input};
 pub use screen::put_screen;

@@ -1,7 +1,8 @@
 //! The command `replay`.
 
-ghost use Rattle.std.specs.Prelude.{◌≡◌, ◌++◌, ℕ, Bool, false, IsTrue, IfOk, OnOk, IsErrOf, Err};
+ghost use Rattle.std.specs.Prelude.{◌≡◌, ◌++◌, ℕ, Bool, true, false, IsTrue, IfOk, OnOk, IsErrOf, Err};
 ghost use Rattle.r9_outside.specs.Count.{Rose};
+ghost use Rattle.model_alone.specs.Uses.{event_used};
 ghost use Rattle.model_event.specs.Legal.{IsLegal};
 ghost use Rattle.model_world.specs.Links.{IsNext};
 ghost use Rattle.model_world.specs.Replay.{marked, step, replay, replies};
@@ -12,7 +13,7 @@ ghost use Rattle.r9_replay.specs.Replays.{WasBadAt, WasLate, WasRead, AreReplyLi
 ghost use Rattle.r9_replay.specs.Replayed.{output, AreRepliesTo};
 
 use crate::log::ReplyLog;
-use r9_event::{Event, Opening, Replies, Reply};
+use r9_event::{Did, Event, Opening, Replies, Reply};
 use r9_hall::World;
 use r9_input::{InputFault, read_up_to};
 use r9_journal::{JournalFault, Record};
@@ -20,8 +21,8 @@ use r9_memory::Memory;
 use r9_outside::Source;
 use std::alloc::Global;
 
-/// So many bytes of the input are read at most. One that has them is no record.
-const MAX_LEN: usize = 1 << 30;
+/// So many bytes of an input are read at most. One that has them is no record.
+pub const MAX_LEN: usize = 1 << 30;
 
 /// Why there are no replies.
 #[derive(Clone, Copy, Debug, PartialEq, Eq)]
@@ -70,6 +71,26 @@ fn is_as_made(event: &Event, short: Option<u32>) -> bool
     false
 }
 
+/// Makes an event, and gives the replies to it, what the windows were told, and what it used where that is watched. Where memory ran
+/// out in a data write, that is told as want of memory.
+pub fn make_seen(world: &mut World, event: &Event) -> Result<Did, Memory>
+    requires whole { IsWhole event.now }
+    requires next { IsNext world.old.begun event.now }
+    requires going { world.old.broken ≡ false }
+    ensures watches { world.new.watches ≡ world.old.watches }
+    ensures world { OnOk result (IsStepped world.old event.now world.new) }
+    ensures marked { IfOk result (λ did. marked event.now did.short ≡ event.now) }
+    ensures replies { IfOk result (λ did. did.replies ≡ (step (world_in world.old) event.now).replies) }
+    ensures notes { IfOk result (λ did. did.notes ≡ (step (world_in world.old) event.now).notes) }
+    ensures uses { world.old.watches ≡ true → IfOk result (λ did. did.uses ≡ event_used (world_in world.old) (step (world_in world.old) event.now).world event.now) }
+{
+    let did = world.step(event)?;
+    if !is_as_made(event, did.short) {
+        return Err(Memory);
+    }
+    Ok(did)
+}
+
 /// Makes an event, and gives the replies to it. Where memory ran out in a data write, that is told as want of memory.
 pub fn make_event(world: &mut World, event: Event) -> Result<Replies, Memory>
     requires whole { IsWhole event }
@@ -78,10 +99,7 @@ pub fn make_event(world: &mut World, event: Event) -> Result<Replies, Memory>
     ensures world { OnOk result (IsStepped world.old event world.new) }
     ensures replies { IfOk result (λ replies. replies ≡ (step (world_in world.old) event).replies) }
 {
-    let did = world.step(&event)?;
-    if !is_as_made(&event, did.short) {
-        return Err(Memory);
-    }
+    let did = make_seen(world, &event)?;
     Ok(did.replies)
 }
 
@@ -103,7 +121,7 @@ fn replayed(alloc: Global, opening: Opening, mut left: Record) -> Result<Ended, 
     ensures replies { IfOk result (λ ended. ended.log ≡ replies opening left.entry) }
     ensures world { IfOk result (λ ended. world_in ended.world ≡ replay opening left.entry) }
 {
-    let mut world = World::start(alloc, opening)?;
+    let mut world = World::start(alloc, opening, false)?;
     let mut log = ReplyLog::new(alloc);
     'events: while let Some(event) = left.pop_first(alloc)? {
         run_event(&mut world, event, &mut log)?;

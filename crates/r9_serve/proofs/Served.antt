@@ -127,6 +127,7 @@ module _ {D I O : Type 0} (doors : Doors D I O) where
     IsOther (status.BadRecord place) = ⊥
     IsOther (status.LateRecord first) = ⊥
     IsOther (status.BadInput place) = ⊥
+    IsOther (status.NotAlone entry reason) = ⊥
     IsOther status.ReadFault = ⊥
     IsOther _ = Unit {0}
 

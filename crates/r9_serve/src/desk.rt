@@ -55,6 +55,7 @@ pub fn put_desk<S: Source, O: Sink>(alloc: Global, input: &mut S, out: &mut O) -
     ensures asked { result ≢ Status.Usage }
     ensures records { (place : ℕ) → result ≢ Status.BadRecord place }
     ensures parts { (first : ℕ) → result ≢ Status.LateRecord first }
+    ensures alone { (entry reason : ℕ) → result ≢ Status.NotAlone entry reason }
     ensures doors { (worker : ℕ) → result ≢ Status.DoorFault worker }
     ensures turns { (count : ℕ) → result ≢ Status.Spent count }
     ensures out { IsOutAfter (λ asked. asked ≡ job.Desk) result (S.left input.old) (O.held out.old) (O.held out.new) }

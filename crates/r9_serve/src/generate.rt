@@ -62,7 +62,7 @@ fn run_counted(alloc: Global, opening: Opening, mut left: Entries) -> Result<Cou
     ensures events { IfOk result (λ counts. counts.events ≡ length left) }
     ensures replies { IfOk result (λ counts. counts.replies ≡ length (replies opening left)) }
 {
-    let mut world = World::start(alloc, opening)?;
+    let mut world = World::start(alloc, opening, false)?;
     let mut counts = Counts {
         events: 0,
         replies: 0,

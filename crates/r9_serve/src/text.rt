@@ -72,6 +72,7 @@ pub fn show_text<S: Source, O: Sink>(
     ensures asked { result ≢ Status.Usage }
     ensures records { (place : ℕ) → result ≢ Status.BadRecord place }
     ensures parts { (first : ℕ) → result ≢ Status.LateRecord first }
+    ensures alone { (entry reason : ℕ) → result ≢ Status.NotAlone entry reason }
     ensures doors { (worker : ℕ) → result ≢ Status.DoorFault worker }
     ensures turns { (count : ℕ) → result ≢ Status.Spent count }
     ensures out { IsOutAfter (λ asked. asked ≡ job.Text columns rows) result (S.left input.old) (O.held out.old) (O.held out.new) }

@@ -9,9 +9,9 @@ use Rattle.r9_replay.proofs.replay.replayed.Goals as goal
 
 pub events-init : goal.events-init
 events-init c = record {
-  replies = ap (λ (log : List Reply). log ++ replies_from (world_in c.in_ok-world.world) c.args.left) c.new-log.ensures ∙ ap (λ (w : World). replies_from w c.args.left) c.in_ok-world.ensures.world;
-  world = ap (λ (w : World). world_from w c.args.left) c.in_ok-world.ensures.world;
-  may = may_start c.args.opening _ c.args.left c.in_ok-world.ensures c.requires;
+  replies = ap (λ (log : List Reply). log ++ replies_from (world_in c.in_ok-world.world) c.args.left) c.new-log.ensures ∙ ap (λ (w : World). replies_from w c.args.left) c.in_ok-world.ensures.first.world;
+  world = ap (λ (w : World). world_from w c.args.left) c.in_ok-world.ensures.first.world;
+  may = may_start c.args.opening _ c.args.left c.in_ok-world.ensures.first c.requires;
 }
 
 pub events-preserved : goal.events-preserved

@@ -24,7 +24,7 @@ pub returns-in-Gen-clause-out : goal.returns-in-Gen-clause-out
 returns-in-Gen-clause-out g c =
     let asked : AskFor (texts_of c.args.words.now) (Gen c.in-Gen.number) = subst (AskFor (texts_of c.args.words.now)) c.in-Gen.is c.in-Ok.ensures.found in
     subst (λ (e : Ending). IsOutAfter (Ask c.args.words.now) e.status (g.S.Source.left c.args.input.now) (g.O.Sink.held c.args.out.now) (g.O.Sink.held c.generate.new.out)) (sym c.with_line-in-Gen.ensures)
-    (out_under (Ask c.args.words.now) (Gen c.in-Gen.number) c.generate.result _ _ _ (asked, tt) (c.generate.ensures.out (g.S.Source.left c.args.input.now)))
+    (out_under (Ask c.args.words.now) (Gen c.in-Gen.number) c.generate.result _ _ _ asked (c.generate.ensures.out (g.S.Source.left c.args.input.now)))
 
 pub returns-in-Err-Memory-clause-serves : goal.returns-in-Err-Memory-clause-serves
 returns-in-Err-Memory-clause-serves g c =
@@ -44,68 +44,75 @@ pub returns-in-Serve-clause-usage : goal.returns-in-Serve-clause-usage
 returns-in-Serve-clause-usage g c =
     let asked : AskFor (texts_of c.args.words.now) (Serve c.in-Serve.opening c.in-Serve.listen c.in-Serve.workers c.in-Serve.conns) = subst (AskFor (texts_of c.args.words.now)) c.in-Serve.is c.in-Ok.ensures.found in
     let doors = told_doors g.D.Door.ended g.D.Door.over g.D.Door.faults (told_ends g.D.In.Source.left g.D.In.Source.faults g.D.Out.Sink.held g.D.Out.Sink.unflushed g.D.Out.Sink.faults) in
-    let was = served_under doors (Ask c.args.words.now) c.in-Serve.opening c.in-Serve.listen c.in-Serve.workers c.in-Serve.conns _ _ _ _ _ _ _ _ (asked, tt) (c.serve_job.ensures c.in-Serve.listen) in
+    let was = served_under doors (Ask c.args.words.now) c.in-Serve.opening c.in-Serve.listen c.in-Serve.workers c.in-Serve.conns _ _ _ _ _ _ _ _ asked (c.serve_job.ensures c.in-Serve.listen) in
     λ is job ask. served_other doors (Ask c.args.words.now) _ _ _ _ _ _ _ _ was status.Usage is
 
 pub returns-in-Serve-clause-out : goal.returns-in-Serve-clause-out
 returns-in-Serve-clause-out g c =
     let asked : AskFor (texts_of c.args.words.now) (Serve c.in-Serve.opening c.in-Serve.listen c.in-Serve.workers c.in-Serve.conns) = subst (AskFor (texts_of c.args.words.now)) c.in-Serve.is c.in-Ok.ensures.found in
     let doors = told_doors g.D.Door.ended g.D.Door.over g.D.Door.faults (told_ends g.D.In.Source.left g.D.In.Source.faults g.D.Out.Sink.held g.D.Out.Sink.unflushed g.D.Out.Sink.faults) in
-    let was = served_under doors (Ask c.args.words.now) c.in-Serve.opening c.in-Serve.listen c.in-Serve.workers c.in-Serve.conns _ _ _ _ _ _ _ _ (asked, tt) (c.serve_job.ensures c.in-Serve.listen) in
+    let was = served_under doors (Ask c.args.words.now) c.in-Serve.opening c.in-Serve.listen c.in-Serve.workers c.in-Serve.conns _ _ _ _ _ _ _ _ asked (c.serve_job.ensures c.in-Serve.listen) in
     served_out doors (Ask c.args.words.now) _ _ _ _ _ _ _ _ was (g.S.Source.left c.args.input.now)
 
 pub returns-in-Serve-clause-flushed : goal.returns-in-Serve-clause-flushed
 returns-in-Serve-clause-flushed g c =
     let asked : AskFor (texts_of c.args.words.now) (Serve c.in-Serve.opening c.in-Serve.listen c.in-Serve.workers c.in-Serve.conns) = subst (AskFor (texts_of c.args.words.now)) c.in-Serve.is c.in-Ok.ensures.found in
     let doors = told_doors g.D.Door.ended g.D.Door.over g.D.Door.faults (told_ends g.D.In.Source.left g.D.In.Source.faults g.D.Out.Sink.held g.D.Out.Sink.unflushed g.D.Out.Sink.faults) in
-    let was = served_under doors (Ask c.args.words.now) c.in-Serve.opening c.in-Serve.listen c.in-Serve.workers c.in-Serve.conns _ _ _ _ _ _ _ _ (asked, tt) (c.serve_job.ensures c.in-Serve.listen) in
+    let was = served_under doors (Ask c.args.words.now) c.in-Serve.opening c.in-Serve.listen c.in-Serve.workers c.in-Serve.conns _ _ _ _ _ _ _ _ asked (c.serve_job.ensures c.in-Serve.listen) in
     served_flushed doors (Ask c.args.words.now) _ _ _ _ _ _ _ _ was
 
 pub returns-in-Serve-clause-input : goal.returns-in-Serve-clause-input
 returns-in-Serve-clause-input g c =
     let asked : AskFor (texts_of c.args.words.now) (Serve c.in-Serve.opening c.in-Serve.listen c.in-Serve.workers c.in-Serve.conns) = subst (AskFor (texts_of c.args.words.now)) c.in-Serve.is c.in-Ok.ensures.found in
     let doors = told_doors g.D.Door.ended g.D.Door.over g.D.Door.faults (told_ends g.D.In.Source.left g.D.In.Source.faults g.D.Out.Sink.held g.D.Out.Sink.unflushed g.D.Out.Sink.faults) in
-    let was = served_under doors (Ask c.args.words.now) c.in-Serve.opening c.in-Serve.listen c.in-Serve.workers c.in-Serve.conns _ _ _ _ _ _ _ _ (asked, tt) (c.serve_job.ensures c.in-Serve.listen) in
+    let was = served_under doors (Ask c.args.words.now) c.in-Serve.opening c.in-Serve.listen c.in-Serve.workers c.in-Serve.conns _ _ _ _ _ _ _ _ asked (c.serve_job.ensures c.in-Serve.listen) in
     served_input doors (Ask c.args.words.now) _ _ _ _ _ _ _ _ was (g.S.Source.left c.args.input.now)
 
 pub returns-in-Serve-clause-bad_record : goal.returns-in-Serve-clause-bad_record
 returns-in-Serve-clause-bad_record g c =
     let asked : AskFor (texts_of c.args.words.now) (Serve c.in-Serve.opening c.in-Serve.listen c.in-Serve.workers c.in-Serve.conns) = subst (AskFor (texts_of c.args.words.now)) c.in-Serve.is c.in-Ok.ensures.found in
     let doors = told_doors g.D.Door.ended g.D.Door.over g.D.Door.faults (told_ends g.D.In.Source.left g.D.In.Source.faults g.D.Out.Sink.held g.D.Out.Sink.unflushed g.D.Out.Sink.faults) in
-    let was = served_under doors (Ask c.args.words.now) c.in-Serve.opening c.in-Serve.listen c.in-Serve.workers c.in-Serve.conns _ _ _ _ _ _ _ _ (asked, tt) (c.serve_job.ensures c.in-Serve.listen) in
+    let was = served_under doors (Ask c.args.words.now) c.in-Serve.opening c.in-Serve.listen c.in-Serve.workers c.in-Serve.conns _ _ _ _ _ _ _ _ asked (c.serve_job.ensures c.in-Serve.listen) in
     λ place is. absurd (served_other doors (Ask c.args.words.now) _ _ _ _ _ _ _ _ was (status.BadRecord place) is)
 
 pub returns-in-Serve-clause-late_record : goal.returns-in-Serve-clause-late_record
 returns-in-Serve-clause-late_record g c =
     let asked : AskFor (texts_of c.args.words.now) (Serve c.in-Serve.opening c.in-Serve.listen c.in-Serve.workers c.in-Serve.conns) = subst (AskFor (texts_of c.args.words.now)) c.in-Serve.is c.in-Ok.ensures.found in
     let doors = told_doors g.D.Door.ended g.D.Door.over g.D.Door.faults (told_ends g.D.In.Source.left g.D.In.Source.faults g.D.Out.Sink.held g.D.Out.Sink.unflushed g.D.Out.Sink.faults) in
-    let was = served_under doors (Ask c.args.words.now) c.in-Serve.opening c.in-Serve.listen c.in-Serve.workers c.in-Serve.conns _ _ _ _ _ _ _ _ (asked, tt) (c.serve_job.ensures c.in-Serve.listen) in
+    let was = served_under doors (Ask c.args.words.now) c.in-Serve.opening c.in-Serve.listen c.in-Serve.workers c.in-Serve.conns _ _ _ _ _ _ _ _ asked (c.serve_job.ensures c.in-Serve.listen) in
     λ first is. absurd (served_other doors (Ask c.args.words.now) _ _ _ _ _ _ _ _ was (status.LateRecord first) is)
 
 pub returns-in-Serve-clause-bad_input : goal.returns-in-Serve-clause-bad_input
 returns-in-Serve-clause-bad_input g c =
     let asked : AskFor (texts_of c.args.words.now) (Serve c.in-Serve.opening c.in-Serve.listen c.in-Serve.workers c.in-Serve.conns) = subst (AskFor (texts_of c.args.words.now)) c.in-Serve.is c.in-Ok.ensures.found in
     let doors = told_doors g.D.Door.ended g.D.Door.over g.D.Door.faults (told_ends g.D.In.Source.left g.D.In.Source.faults g.D.Out.Sink.held g.D.Out.Sink.unflushed g.D.Out.Sink.faults) in
-    let was = served_under doors (Ask c.args.words.now) c.in-Serve.opening c.in-Serve.listen c.in-Serve.workers c.in-Serve.conns _ _ _ _ _ _ _ _ (asked, tt) (c.serve_job.ensures c.in-Serve.listen) in
+    let was = served_under doors (Ask c.args.words.now) c.in-Serve.opening c.in-Serve.listen c.in-Serve.workers c.in-Serve.conns _ _ _ _ _ _ _ _ asked (c.serve_job.ensures c.in-Serve.listen) in
     λ place is. absurd (served_other doors (Ask c.args.words.now) _ _ _ _ _ _ _ _ was (status.BadInput place) is)
+
+pub returns-in-Serve-clause-not_alone : goal.returns-in-Serve-clause-not_alone
+returns-in-Serve-clause-not_alone g c =
+    let asked : AskFor (texts_of c.args.words.now) (Serve c.in-Serve.opening c.in-Serve.listen c.in-Serve.workers c.in-Serve.conns) = subst (AskFor (texts_of c.args.words.now)) c.in-Serve.is c.in-Ok.ensures.found in
+    let doors = told_doors g.D.Door.ended g.D.Door.over g.D.Door.faults (told_ends g.D.In.Source.left g.D.In.Source.faults g.D.Out.Sink.held g.D.Out.Sink.unflushed g.D.Out.Sink.faults) in
+    let was = served_under doors (Ask c.args.words.now) c.in-Serve.opening c.in-Serve.listen c.in-Serve.workers c.in-Serve.conns _ _ _ _ _ _ _ _ asked (c.serve_job.ensures c.in-Serve.listen) in
+    λ entry reason is. absurd (served_other doors (Ask c.args.words.now) _ _ _ _ _ _ _ _ was (status.NotAlone entry reason) is)
 
 pub returns-in-Serve-clause-read_fault : goal.returns-in-Serve-clause-read_fault
 returns-in-Serve-clause-read_fault g c =
     let asked : AskFor (texts_of c.args.words.now) (Serve c.in-Serve.opening c.in-Serve.listen c.in-Serve.workers c.in-Serve.conns) = subst (AskFor (texts_of c.args.words.now)) c.in-Serve.is c.in-Ok.ensures.found in
     let doors = told_doors g.D.Door.ended g.D.Door.over g.D.Door.faults (told_ends g.D.In.Source.left g.D.In.Source.faults g.D.Out.Sink.held g.D.Out.Sink.unflushed g.D.Out.Sink.faults) in
-    let was = served_under doors (Ask c.args.words.now) c.in-Serve.opening c.in-Serve.listen c.in-Serve.workers c.in-Serve.conns _ _ _ _ _ _ _ _ (asked, tt) (c.serve_job.ensures c.in-Serve.listen) in
+    let was = served_under doors (Ask c.args.words.now) c.in-Serve.opening c.in-Serve.listen c.in-Serve.workers c.in-Serve.conns _ _ _ _ _ _ _ _ asked (c.serve_job.ensures c.in-Serve.listen) in
     λ is. absurd (served_other doors (Ask c.args.words.now) _ _ _ _ _ _ _ _ was status.ReadFault is)
 
 pub returns-in-Serve-clause-write_fault : goal.returns-in-Serve-clause-write_fault
 returns-in-Serve-clause-write_fault g c =
     let asked : AskFor (texts_of c.args.words.now) (Serve c.in-Serve.opening c.in-Serve.listen c.in-Serve.workers c.in-Serve.conns) = subst (AskFor (texts_of c.args.words.now)) c.in-Serve.is c.in-Ok.ensures.found in
     let doors = told_doors g.D.Door.ended g.D.Door.over g.D.Door.faults (told_ends g.D.In.Source.left g.D.In.Source.faults g.D.Out.Sink.held g.D.Out.Sink.unflushed g.D.Out.Sink.faults) in
-    let was = served_under doors (Ask c.args.words.now) c.in-Serve.opening c.in-Serve.listen c.in-Serve.workers c.in-Serve.conns _ _ _ _ _ _ _ _ (asked, tt) (c.serve_job.ensures c.in-Serve.listen) in
+    let was = served_under doors (Ask c.args.words.now) c.in-Serve.opening c.in-Serve.listen c.in-Serve.workers c.in-Serve.conns _ _ _ _ _ _ _ _ asked (c.serve_job.ensures c.in-Serve.listen) in
     widened (served_fault doors (Ask c.args.words.now) _ _ _ _ _ _ _ _ was) (asks_to_serve c.args.words.now c.in-Serve.opening c.in-Serve.listen c.in-Serve.workers c.in-Serve.conns asked)
 
 pub returns-in-Serve-clause-serves : goal.returns-in-Serve-clause-serves
 returns-in-Serve-clause-serves g c =
     let asked : AskFor (texts_of c.args.words.now) (Serve c.in-Serve.opening c.in-Serve.listen c.in-Serve.workers c.in-Serve.conns) = subst (AskFor (texts_of c.args.words.now)) c.in-Serve.is c.in-Ok.ensures.found in
     let doors = told_doors g.D.Door.ended g.D.Door.over g.D.Door.faults (told_ends g.D.In.Source.left g.D.In.Source.faults g.D.Out.Sink.held g.D.Out.Sink.unflushed g.D.Out.Sink.faults) in
-    let was = served_under doors (Ask c.args.words.now) c.in-Serve.opening c.in-Serve.listen c.in-Serve.workers c.in-Serve.conns _ _ _ _ _ _ _ _ (asked, tt) (c.serve_job.ensures c.in-Serve.listen) in
+    let was = served_under doors (Ask c.args.words.now) c.in-Serve.opening c.in-Serve.listen c.in-Serve.workers c.in-Serve.conns _ _ _ _ _ _ _ _ asked (c.serve_job.ensures c.in-Serve.listen) in
     λ _. was

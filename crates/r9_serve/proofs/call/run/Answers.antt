@@ -1,11 +1,12 @@
 use Rattle.std.proofs.Common.{◌≤◌, ◌⊎◌, inl, inr, ℕ, arith}
 use Rattle.r9_attend.specs.Calls.{told_ends}
 use Rattle.r9_workers.specs.Shifts.{told_doors}
-use Rattle.r9_opts.specs.declared.job.Job.TheVariants.{Gen}
+use Rattle.r9_opts.specs.declared.job.Job.TheVariants.{Alone, Gen}
 use Rattle.r9_serve.specs.Run.{Ask}
 use Rattle.r9_textfile.specs.Input.{input_of}
 use Rattle.r9_deskfile.specs.Events.{events_of}
-use Rattle.r9_serve.proofs.Asking.{desk_not_replay, desk_not_serve, desk_refuses, gen_refuses_not, replay_refuses_not, serve_not_gen, serve_not_replay, text_not_replay, text_not_serve, text_refuses}
+use Rattle.r9_serve.proofs.Asking.{alone_of_record, desk_not_record, desk_not_serve, desk_refuses, gen_not_record, gen_refuses_not, lone_of_record, record_refuses_not, replay_not_lone, replay_of_record, serve_not_gen, serve_not_record, text_not_record, text_not_serve, text_refuses}
+use Rattle.r9_serve.proofs.Alones.{accompanied_by, not_lone}
 use Rattle.r9_serve.proofs.Desks.{had_no_events}
 use Rattle.r9_serve.proofs.Refusing.{left_bad_at, left_not_bad}
 use Rattle.r9_serve.proofs.Served.{served_door, served_spent, served_well}
@@ -51,38 +52,59 @@ returns-clause-complete g c =
     let job = c.do_job-ending.ensures in
     let words = c.args.words.now in
     λ asks input out text events told is.
+    let records = replay_of_record words asks in
     done_by _ _ text events told is (λ u. job.usage u asks.0 asks.1) (λ place b. (job.bad_record place b).1) (λ first l. (job.late_record first l).1)
-    (λ place b. replay_refuses_not words _ place asks (job.bad_input place b)) (λ r. input (job.read_fault r).1)
-    (λ w. either out (λ serves. serve_not_replay words asks serves.0) (job.write_fault w)) (λ worker d. serve_not_replay words asks (job.serving worker d)) (λ count s. serve_not_replay words asks (job.turns count s))
+    (λ place b. record_refuses_not words _ place records (job.bad_input place b)) (λ entry reason l. replay_not_lone words _ entry reason asks (job.not_alone entry reason l)) (λ r. input (job.read_fault r).1)
+    (λ w. either out (λ serves. serve_not_record words records serves.0) (job.write_fault w)) (λ worker d. serve_not_record words records (job.serving worker d)) (λ count s. serve_not_record words records (job.turns count s))
 
 pub returns-clause-refuses : goal.returns-clause-refuses
 returns-clause-refuses g c =
     let job = c.do_job-ending.ensures in
     λ asks input text told none.
     refused_by c.args.words.now _ _ _ _ text told none asks (λ u. job.usage u asks.0 asks.1) job.out (λ first l. (job.late_record first l).1)
-    (λ place b. replay_refuses_not c.args.words.now _ place asks (job.bad_input place b)) (λ r. input (job.read_fault r).1)
+    (λ place b. record_refuses_not c.args.words.now _ place asks (job.bad_input place b)) job.not_alone (λ r. input (job.read_fault r).1)
 
 pub returns-clause-late : goal.returns-clause-late
 returns-clause-late g c =
     let job = c.do_job-ending.ensures in
     λ asks input text first told is.
     late_by c.args.words.now _ _ _ _ text first told is asks (λ u. job.usage u asks.0 asks.1) job.out (λ place b. (job.bad_record place b).1) (λ n l. (job.late_record n l).1)
-    (λ place b. replay_refuses_not c.args.words.now _ place asks (job.bad_input place b)) (λ r. input (job.read_fault r).1)
+    (λ place b. record_refuses_not c.args.words.now _ place asks (job.bad_input place b)) job.not_alone (λ r. input (job.read_fault r).1)
+
+pub returns-clause-answered : goal.returns-clause-answered
+returns-clause-answered g c =
+    let job = c.do_job-ending.ensures in
+    let words = c.args.words.now in
+    λ opening session asks input out text events told is alone.
+    let records = alone_of_record words opening session asks in
+    done_by _ _ text events told is (λ u. job.usage u (Alone opening session) asks.asked) (λ place b. (job.bad_record place b).1) (λ first l. (job.late_record first l).1)
+    (λ place b. record_refuses_not words _ place records (job.bad_input place b)) (λ entry reason l. not_lone words _ text events opening session entry reason told is asks alone (job.not_alone entry reason l)) (λ r. input (job.read_fault r).1)
+    (λ w. either out (λ serves. serve_not_record words records serves.0) (job.write_fault w)) (λ worker d. serve_not_record words records (job.serving worker d)) (λ count s. serve_not_record words records (job.turns count s))
+
+pub returns-clause-accompanied : goal.returns-clause-accompanied
+returns-clause-accompanied g c =
+    let job = c.do_job-ending.ensures in
+    let words = c.args.words.now in
+    λ opening session asks input text events entry reason told is from.
+    accompanied_by words _ _ _ _ text events opening session entry reason told is asks from (λ u. job.usage u (Alone opening session) asks.asked) job.out (λ place b. (job.bad_record place b).1) (λ first l. (job.late_record first l).1)
+    (λ place b. record_refuses_not words _ place (alone_of_record words opening session asks) (job.bad_input place b)) job.not_alone (λ r. input (job.read_fault r).1)
 
 pub returns-clause-makes : goal.returns-clause-makes
 returns-clause-makes g c =
     let job = c.do_job-ending.ensures in
     let words = c.args.words.now in
     λ number ask out. made_by words number _ ask (λ u. job.usage u (Gen number) ask) (λ place b. (job.bad_record place b).0) (λ first l. (job.late_record first l).0)
-    (λ place b. gen_refuses_not words number _ place ask (job.bad_input place b)) (λ r. (job.read_fault r).0) (λ w. either out (λ serves. serve_not_gen words number ask serves.0) (job.write_fault w)) job.serving job.turns
+    (λ place b. gen_refuses_not words number _ place ask (job.bad_input place b))
+    (λ entry reason l. gen_not_record words number (lone_of_record words _ entry reason (job.not_alone entry reason l)) ask) (λ r. (job.read_fault r).0) (λ w. either out (λ serves. serve_not_gen words number ask serves.0) (job.write_fault w)) job.serving job.turns
 
 pub returns-clause-typed : goal.returns-clause-typed
 returns-clause-typed g c =
     let job = c.do_job-ending.ensures in
     let words = c.args.words.now in
     λ asks input out bytes shown told is.
-    done_unless _ (λ u. job.usage u asks.0 asks.1) (λ place b. text_not_replay words asks (job.bad_record place b).0) (λ first l. text_not_replay words asks (job.late_record first l).0)
-    (λ place b. left_not_bad input_of _ bytes shown place told is (text_refuses words _ place asks (job.bad_input place b))) (λ r. input (job.read_fault r).1)
+    done_unless _ (λ u. job.usage u asks.0 asks.1) (λ place b. text_not_record words asks (job.bad_record place b).0) (λ first l. text_not_record words asks (job.late_record first l).0)
+    (λ place b. left_not_bad input_of _ bytes shown place told is (text_refuses words _ place asks (job.bad_input place b)))
+    (λ entry reason l. text_not_record words asks (lone_of_record words _ entry reason (job.not_alone entry reason l))) (λ r. input (job.read_fault r).1)
     (λ w. either out (λ serves. text_not_serve words asks serves.0) (job.write_fault w)) (λ worker d. text_not_serve words asks (job.serving worker d)) (λ count s. text_not_serve words asks (job.turns count s))
 
 pub returns-clause-mistyped : goal.returns-clause-mistyped
@@ -91,16 +113,18 @@ returns-clause-mistyped g c =
     let words = c.args.words.now in
     λ asks input bytes place told is.
     bad_unless (Ask words) _ _ _ _ place (λ other lines ask. had_no_text words other _ bytes lines place told is asks ask) (λ u. job.usage u asks.0 asks.1) job.out
-    (λ at b. text_not_replay words asks (job.bad_record at b).0) (λ first l. text_not_replay words asks (job.late_record first l).0)
-    (λ at b. left_bad_at input_of _ bytes at place told is (text_refuses words _ at asks (job.bad_input at b))) (λ r. input (job.read_fault r).1)
+    (λ at b. text_not_record words asks (job.bad_record at b).0) (λ first l. text_not_record words asks (job.late_record first l).0)
+    (λ at b. left_bad_at input_of _ bytes at place told is (text_refuses words _ at asks (job.bad_input at b)))
+    (λ entry reason l. text_not_record words asks (lone_of_record words _ entry reason (job.not_alone entry reason l))) (λ r. input (job.read_fault r).1)
 
 pub returns-clause-pointed : goal.returns-clause-pointed
 returns-clause-pointed g c =
     let job = c.do_job-ending.ensures in
     let words = c.args.words.now in
     λ asks input out bytes events told is.
-    done_unless _ (λ u. job.usage u asks.0 asks.1) (λ place b. desk_not_replay words asks (job.bad_record place b).0) (λ first l. desk_not_replay words asks (job.late_record first l).0)
-    (λ place b. left_not_bad events_of _ bytes events place told is (desk_refuses words _ place asks (job.bad_input place b))) (λ r. input (job.read_fault r).1)
+    done_unless _ (λ u. job.usage u asks.0 asks.1) (λ place b. desk_not_record words asks (job.bad_record place b).0) (λ first l. desk_not_record words asks (job.late_record first l).0)
+    (λ place b. left_not_bad events_of _ bytes events place told is (desk_refuses words _ place asks (job.bad_input place b)))
+    (λ entry reason l. desk_not_record words asks (lone_of_record words _ entry reason (job.not_alone entry reason l))) (λ r. input (job.read_fault r).1)
     (λ w. either out (λ serves. desk_not_serve words asks serves.0) (job.write_fault w)) (λ worker d. desk_not_serve words asks (job.serving worker d)) (λ count s. desk_not_serve words asks (job.turns count s))
 
 pub returns-clause-mispointed : goal.returns-clause-mispointed
@@ -109,8 +133,9 @@ returns-clause-mispointed g c =
     let words = c.args.words.now in
     λ asks input bytes place told is.
     bad_unless (Ask words) _ _ _ _ place (λ other lines ask. had_no_events words other _ bytes lines place told is asks ask) (λ u. job.usage u asks.0 asks.1) job.out
-    (λ at b. desk_not_replay words asks (job.bad_record at b).0) (λ first l. desk_not_replay words asks (job.late_record first l).0)
-    (λ at b. left_bad_at events_of _ bytes at place told is (desk_refuses words _ at asks (job.bad_input at b))) (λ r. input (job.read_fault r).1)
+    (λ at b. desk_not_record words asks (job.bad_record at b).0) (λ first l. desk_not_record words asks (job.late_record first l).0)
+    (λ at b. left_bad_at events_of _ bytes at place told is (desk_refuses words _ at asks (job.bad_input at b)))
+    (λ entry reason l. desk_not_record words asks (lone_of_record words _ entry reason (job.not_alone entry reason l))) (λ r. input (job.read_fault r).1)
 
 pub returns-clause-completes : goal.returns-clause-completes
 returns-clause-completes g c =

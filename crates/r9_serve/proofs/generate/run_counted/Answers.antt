@@ -9,8 +9,8 @@ use Rattle.r9_serve.proofs.generate.run_counted.Goals as goal
 pub events-init : goal.events-init
 events-init c = record {
   events = omega arith;
-  replies = omega (arith, ap (λ (w : World). length (replies_from w c.args.left)) c.in_ok-world.ensures.world);
-  may = may_start c.args.opening _ c.args.left c.in_ok-world.ensures c.requires;
+  replies = omega (arith, ap (λ (w : World). length (replies_from w c.args.left)) c.in_ok-world.ensures.first.world);
+  may = may_start c.args.opening _ c.args.left c.in_ok-world.ensures.first c.requires;
 }
 
 pub events-preserved : goal.events-preserved

@@ -1,0 +1,55 @@
+//! A history that runs event by event, and in which a session is watched.
+
+ghost use Rattle.std.specs.Prelude.{◌≡◌, ℕ, true, IfOk, Err, Some};
+ghost use Rattle.model_alone.specs.Own.{not_alone};
+ghost use Rattle.model_event.specs.Legal.{IsLegal};
+ghost use Rattle.r9_hall.specs.WorldView.{IsFirst};
+ghost use Rattle.r9_alone.specs.Watched.{IsWatchedIn};
+
+use r9_event::{Entry, Opening};
+use r9_hall::World;
+use r9_journal::Record;
+use r9_memory::Memory;
+use r9_replay::make_seen;
+use r9_watch::{Watch, WatchFault};
+use std::alloc::Global;
+
+/// The watch of a session at the end of a history, which runs event by event in a world that has just started, as its record is read.
+/// NotAlone at the first entry by which the session is not alone with its window; what follows it is not run. Memory also where there are
+/// more entries than can be counted.
+fn watch_events(
+    alloc: Global,
+    session: u32,
+    world: &mut World,
+    mut left: Record,
+) -> Result<Watch, WatchFault>
+    requires first { IsFirst world.old.opening world.old }
+    requires watches { world.old.watches ≡ true }
+    requires legal { IsLegal left }
+    ensures watched { IfOk result (λ watch. IsWatchedIn world.old.opening session left.entry watch) }
+    ensures ends { (entry reason : ℕ) → result ≡ Err (WatchFault.NotAlone entry reason) → not_alone world.old.opening session left.entry ≡ Some (entry, reason) }
+{
+    let mut watch = Watch::new(alloc, session);
+    let mut number: u64 = 1;
+    'events: while let Some(event) = left.pop_first(alloc)? {
+        let did = make_seen(world, &event)?;
+        watch.see(&Entry { number, event }, &did)?;
+        number = number.checked_add(1).ok_or(Memory)?;
+    }
+    Ok(watch)
+}
+
+/// The watch of a session at the end of the history whose record is read; NotAlone where it is not alone with its window in it.
+pub(crate) fn watched(
+    alloc: Global,
+    opening: Opening,
+    session: u32,
+    left: Record,
+) -> Result<Watch, WatchFault>
+    requires { IsLegal left }
+    ensures watched { IfOk result (λ watch. IsWatchedIn opening session left.entry watch) }
+    ensures ends { (entry reason : ℕ) → result ≡ Err (WatchFault.NotAlone entry reason) → not_alone opening session left.entry ≡ Some (entry, reason) }
+{
+    let mut world = World::start(alloc, opening, true)?;
+    watch_events(alloc, session, &mut world, left)
+}
