@@ -1,4 +1,4 @@
-"""What sessions send, made by chance: mostly sensible, and some of it wrong. made_records.py makes records of it. It is outside
+"""What sessions send, made by chance: mostly sensible, and some of it wrong. made_records.py and guests.py make records of it. It is outside
 the proof.
 
 Sessions walk, open, read and write what is there, have windows and rios, type and click, draw and read pixels. Some of what they
@@ -561,6 +561,14 @@ class Maker:
         found = [image for image in connection.images if image in WINDOWS]
         return self.chance.pick(found) if found and self.chance.often(0.95) else self.some_image(connection)
 
+    def ground(self, connection):
+        """An image to make a screen on."""
+        return 0 if self.chance.often(0.6) else self.some_window(connection)
+
+    def is_public(self, _connection):
+        """Whether a screen is made for all connections."""
+        return self.chance.often(0.3)
+
     def some_font(self, connection):
         is_known = connection.fonts and self.chance.often(0.95)
         return self.chance.pick(list(connection.fonts)) if is_known else self.some_image(connection)
@@ -625,9 +633,9 @@ def draw_screen(maker, connection):
     chance = maker.chance
     screen = chance.pick(SCREENS) if chance.often(0.97) else 0
     connection.screens.append(screen)
-    on = 0 if chance.often(0.6) else maker.some_window(connection)
+    on = maker.ground(connection)
     fill = chance.pick([2, 2, 3]) if chance.often(0.8) else maker.some_image(connection)
-    return drawing("A", id=screen, imageid=on, fillid=fill, public=chance.often(0.3))
+    return drawing("A", id=screen, imageid=on, fillid=fill, public=maker.is_public(connection))
 
 
 def draw_clip(maker, connection):

@@ -3,8 +3,8 @@
 
     tools/refused_memory.py [--program PATH] [--every K] [--jobs N]
 
-The runs are `replay` of a case of crates/tests_rows in which a session has a window, draws and waits, `gen 3`, `text` with the
-font of tools/font.txt, and `desk` with the first events of examples/desk.txt. What refuses is refused_memory.c, which cc builds and the
+The runs are `replay` of a case of crates/tests_rows in which a session has a window, draws and waits, `alone` of a session of
+examples/guest.record, `gen 3`, `text` with the font of tools/font.txt, and `desk` with the first events of examples/desk.txt. What refuses is refused_memory.c, which cc builds and the
 program is started with. Each run has to end with status 5, its line on standard error and a front of what is printed where no request is
 refused, or with status 0 and all of that. With --every only each K-th request is refused. It prints how many requests a run makes, how
 many were refused, and how the runs ended. Status 1 tells that one ended otherwise, 2 that a word or a file is wrong.
@@ -33,6 +33,7 @@ CASE = "A window is resized: its waiting read of mouse tells so, and its old ima
 TEXT = b"a text that scrolls\nin its window\n"
 MOUSE = os.path.join(ROOT, "examples", "desk.txt")
 EVENTS = 12
+GUESTS = os.path.join(ROOT, "examples", "guest.record")
 LINE = b"rio9: out of memory\n"
 SECONDS = 60  # that a run may take
 
@@ -67,6 +68,12 @@ def case_of(title):
                 _, words, given = case.split("\n", 2)
                 return tuple(words.split(" ")), given.encode()
     formats.stop("refused_memory.py", f"no case in {CASES}: {title}")
+
+
+def guest():
+    """The words and the input that answer a guest among others."""
+    with open(GUESTS, "rb") as file:
+        return ("alone", "--size", "160x120", "--conn", "2"), file.read()
 
 
 def typed(text):
@@ -127,7 +134,7 @@ def main(words):
     options = parser.parse_args(words)
     if not (os.path.isfile(options.program) and os.access(options.program, os.X_OK)):
         formats.stop("refused_memory.py", f"no program: {options.program}")
-    runs = [Run(options.program, *case) for case in (case_of(CASE), (("gen", "3"), b""), typed(TEXT), pointed(EVENTS))]
+    runs = [Run(options.program, *case) for case in (case_of(CASE), guest(), (("gen", "3"), b""), typed(TEXT), pointed(EVENTS))]
     with tempfile.TemporaryDirectory() as room:
         library = built(room)
         good = [check(run, library, room, options) for run in runs]

@@ -42,17 +42,21 @@ def menus(count):
     return [Mouse(100 + at % 7, 100, 4 * (at % 2 == 0), at) for at in range(count)]
 
 
+def kinds(count):
+    """The inputs, by the kinds of their events."""
+    found = {"gestures": events_of(random.Random(SEED), count), "clicks": clicks(count), "menus": menus(count)}
+    return {name: spelled(events[:count]) for name, events in found.items()}
+
+
 def main(words):
     options = {"--program": PROGRAM, "--events": "20000"}
     while len(words) > 1 and words[-2] in options:
         options[words[-2]], words = words[-1], words[:-2]
     program, count = options["--program"], int(options["--events"])
     peer = need_peer(program, words)
-    kinds = {"gestures": events_of(random.Random(SEED), count), "clicks": clicks(count), "menus": menus(count)}
     with tempfile.TemporaryDirectory() as room:
         path = os.path.join(room, "record")
-        for name, events in kinds.items():
-            given = spelled(events[:count])
+        for name, given in kinds(count).items():
             used = row(program, peer, WORDS, given, path)
             size = os.path.getsize(path)
             print(f"{name:<9} {used}; a record of {size / 1e6:.1f} MB; checked: {verdict(peer, WORDS, given, path)}", flush=True)

@@ -19,13 +19,12 @@ import re
 import subprocess
 import sys
 import tempfile
-import time
 
 HERE = os.path.dirname(os.path.abspath(__file__))
 ROOT = os.path.dirname(os.path.dirname(HERE))
 sys.path[:0] = [os.path.join(ROOT, folder) for folder in ("bench/drawing", "bench/replay", "tools")]
 import formats
-from run import PROGRAM, message, most_memory, number, string
+from run import PROGRAM, message, number, string, use
 from times import K1, POINT, WIDE, X8R8G8B8, allocate, draw, rect, topen, walk
 
 ROUNDS, MOST_ROUNDS = 3, 15
@@ -165,20 +164,12 @@ def record_of(lines):
 
 def run(program, words, text):
     """User seconds, peak bytes and output of a run."""
-    with tempfile.TemporaryFile() as given, tempfile.TemporaryFile() as out:
-        given.write(text)
-        given.seek(0)
-        process = subprocess.Popen([program, "replay", *words], stdin=given, stdout=out, stderr=subprocess.DEVNULL)
-        memory, ended = 0, 0
-        while not ended:
-            memory = max(memory, most_memory(process))
-            time.sleep(0.001)
-            ended, status, usage = os.wait4(process.pid, os.WNOHANG)
-        process.returncode = os.waitstatus_to_exitcode(status)
-        if process.returncode != 0:
-            raise Differ(f"{program} ended with status {process.returncode}")
+    with tempfile.TemporaryFile() as out:
+        used = use([program, "replay", *words], text, out)
+        if used.status != 0:
+            raise Differ(f"{program} ended with status {used.status}")
         out.seek(0)
-        return usage.ru_utime, memory, out.read()
+        return used.user, used.memory, out.read()
 
 
 def instructions(program, text):

@@ -1,33 +1,18 @@
 """What a program uses to write its record for an input, beside a peer with the same words."""
-import resource
 import subprocess
-import tempfile
-import time
 
-from run import most_memory
+from run import use
 
 ROUNDS = 9
 
 
-def processor_seconds():
-    """The processor seconds, of the user and the system, of all runs that have ended."""
-    used = resource.getrusage(resource.RUSAGE_CHILDREN)
-    return used.ru_utime + used.ru_stime
-
-
 def run(program, words, given, path):
-    """The processor seconds and the most memory of a run that writes its record to a file; the memory is looked at while it runs."""
-    with tempfile.TemporaryFile() as source, open(path, "wb") as out:
-        source.write(given)
-        source.seek(0)
-        before, memory = processor_seconds(), 0
-        process = subprocess.Popen([program, *words], stdin=source, stdout=out)
-        while process.poll() is None:
-            memory = max(memory, most_memory(process))
-            time.sleep(0.001)
-        if process.returncode != 0:
-            raise SystemExit(f"status {process.returncode} of {program}")
-        return processor_seconds() - before, memory
+    """The processor seconds and the most memory of a run that writes its record to a file."""
+    with open(path, "wb") as out:
+        used = use([program, *words], given, out)
+    if used.status != 0:
+        raise SystemExit(f"status {used.status} of {program}")
+    return used.user + used.system, used.memory
 
 
 def best(program, words, given, path):

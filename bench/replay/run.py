@@ -9,6 +9,7 @@ import subprocess
 import sys
 import tempfile
 import time
+from dataclasses import dataclass
 
 ROOT = os.path.dirname(os.path.dirname(os.path.dirname(os.path.abspath(__file__))))
 PROGRAM = os.path.join(ROOT, "crates", "rio9", "out", "rio9")
@@ -75,6 +76,31 @@ def most_memory(process):
             if line.startswith("VmHWM:"):
                 return int(line.split()[1]) * 1024
     return 0
+
+
+@dataclass(frozen=True)
+class Use:
+    """What a run used: seconds of the user and of the system, and the most resident bytes; and the status that it ended with."""
+
+    user: float
+    system: float
+    memory: int
+    status: int
+
+
+def use(command, text, out):
+    """What a run of a command on a text uses, which prints to a file; the memory is looked at while it runs."""
+    with tempfile.TemporaryFile() as given:
+        given.write(text)
+        given.seek(0)
+        process = subprocess.Popen(command, stdin=given, stdout=out, stderr=subprocess.DEVNULL)
+        memory, ended = 0, 0
+        while not ended:
+            memory = max(memory, most_memory(process))
+            time.sleep(0.001)
+            ended, status, usage = os.wait4(process.pid, os.WNOHANG)
+    process.returncode = os.waitstatus_to_exitcode(status)
+    return Use(usage.ru_utime, usage.ru_stime, memory, process.returncode)
 
 
 def measure(text, status, command=(PROGRAM, "replay")):
