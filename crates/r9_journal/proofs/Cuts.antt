@@ -38,7 +38,7 @@ cut_takes mark (b ∷ text) line rest e = elim (chosen (eqb b mark) _ _ (Some (l
 not_mark : (b mark : ℕ) → b ≢ mark → eqb b mark ≡ false
 not_mark b mark other = grind (arith, nat_tests)
 
-is_mark : (b mark : ℕ) → b ≡ mark → eqb b mark ≡ true
+pub is_mark : (b mark : ℕ) → b ≡ mark → eqb b mark ≡ true
 is_mark b mark same = grind (arith, nat_tests)
 
 pub cut_again : (mark : ℕ) (line rest : List ℕ) → Lacks mark line → cut mark (line ++ mark ∷ rest) ≡ Some (line, rest)

@@ -5,6 +5,7 @@ ghost use Rattle.std.specs.Option.{option_map};
 ghost use Rattle.model_text.specs.Hex.{unhex};
 ghost use Rattle.r9_journal.specs.Reading.{cut, numeral, exclaimed, message_by, message_of_line, event_by, event_of};
 
+use memchr::memchr;
 use r9_event::Event;
 use r9_memory::Memory;
 use r9_text::{read_decimal, read_hex};
@@ -14,12 +15,10 @@ use std::alloc::Global;
 pub fn cut(mark: u8, text: &[u8]) -> Option<(&[u8], &[u8])>
     ensures { option_map (λ parts. (parts.0.now, parts.1.now)) result ≡ cut mark text.now }
 {
-    for (at, byte) in text.iter().enumerate() {
-        if *byte == mark {
-            return Some((&text[..at], &text[at + 1..]));
-        }
+    match memchr(mark, text) {
+        Some(at) => Some((&text[..at], &text[at + 1..])),
+        None => None,
     }
-    None
 }
 
 /// The number below 2^32 whose decimal digits a word is.

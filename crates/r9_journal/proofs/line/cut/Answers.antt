@@ -1,9 +1,12 @@
 use Rattle.std.proofs.Common.{sym, arith}
-use Rattle.r9_journal.proofs.Cuts.{cut_at, cut_none}
+use Rattle.std.proofs.lemmas.Bool.{eqb-true}
+use Rattle.r9_journal.proofs.Cuts.{cut_at, cut_none, is_mark}
 use Rattle.r9_journal.proofs.line.cut.Goals as goal
 
-pub returns-then-byte-mark : goal.returns-then-byte-mark
-returns-then-byte-mark c = cut_at c.args.mark c.args.text.now c.loop-at.at c.loop-at-test.true c.loop-at.invariant c.if-byte-mark.true
+pub returns-in-Some : goal.returns-in-Some
+returns-in-Some c =
+    let found = c.in-Some.ensures in
+    cut_at c.args.mark c.args.text.now c.in-Some.at found.0.high (λ k lt same. found.0.before k (omega arith) lt (is_mark _ _ same)) (eqb-true _ _ found.1)
 
-pub returns : goal.returns
-returns c = sym (cut_none c.args.mark c.args.text.now (λ k lt. c.loop-at.invariant k (omega arith)))
+pub returns-in-None : goal.returns-in-None
+returns-in-None c = sym (cut_none c.args.mark c.args.text.now (λ k lt same. c.in-None.ensures k (omega arith) lt (is_mark _ _ same)))
