@@ -26,8 +26,8 @@ pub enum MaskLayout {
     Grey1,
 }
 
-// The packed colour of a raw pixel.
-pub(crate) fn read(layout: Layout, raw: u32) -> u32
+/// The packed colour of a raw pixel.
+pub fn read(layout: Layout, raw: u32) -> u32
     ensures { colour_of result ≡ expand (chan_of layout) raw }
 {
     match layout {
@@ -37,8 +37,8 @@ pub(crate) fn read(layout: Layout, raw: u32) -> u32
     }
 }
 
-// The raw pixel of a packed colour.
-pub(crate) fn write(layout: Layout, word: u32) -> u32
+/// The raw pixel of a packed colour.
+pub fn write(layout: Layout, word: u32) -> u32
     ensures { result ≡ pack (chan_of layout) (colour_of word) }
 {
     match layout {

@@ -7,6 +7,6 @@ mod layout;
 mod raw;
 mod row;
 
-pub use layout::{Layout, MaskLayout};
+pub use layout::{Layout, MaskLayout, read, write};
 pub use raw::comp_raw_row;
 pub use row::comp_row;

@@ -1,1 +1,5 @@
 mod CoveringLemmas
+mod FieldLemmas
+mod MovingLemmas
+mod PackingLemmas
+mod Parts

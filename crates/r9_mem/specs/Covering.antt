@@ -10,3 +10,7 @@ covers op alpha through = (op == 0) || ((op == 10) || ((op == 11) && ((alpha == 
 -- the same of a source pixel and a mask pixel under their channels
 abbrev pub hides : ℕ → ℕ → ℕ → ℕ → ℕ → Bool
 hides op src s mask_chan m = covers op (expand src s).a (mask mask_chan m)
+
+-- whether an operator gives the source through a full mask, from a source of this alpha: S does, and SoverD where it is full
+abbrev pub takes : ℕ → ℕ → Bool
+takes op alpha = (op == 10) || ((op == 11) && (alpha == 255))

@@ -1,1 +1,4 @@
 pub mod Covering
+pub mod Fields
+pub mod Packing
+pub mod Rows

@@ -1,0 +1,7 @@
+use Rattle.std.proofs.Common.{◌≡◌, ℕ, ◌<◌, get_or}
+use Rattle.model_pixel.specs.Channels.{colour_of, expand}
+use Rattle.r9_kern.specs.Layouts.{chan_of}
+use Rattle.r9_mem.proofs.reading.read_whole.Given as goal
+
+abbrev pub invariant-loop-i : goal.invariant-loop-i
+invariant-loop-i l = (k : ℕ) → k < l.i → colour_of (get_or l.words k 0) ≡ expand (chan_of l.layout) (get_or l.raws k 0)
