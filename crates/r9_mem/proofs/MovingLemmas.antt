@@ -1,14 +1,14 @@
 -- What pixels keep when they are packed as they are read, and where nothing else is composed.
 use Rattle.std.proofs.Common.{◌≡◌, ◌≢◌, ℕ, zero, suc, ◌+◌, ◌-◌, ◌*◌, ◌/◌, ◌%◌, ◌^◌, ◌<◌, ◌≤◌, min, Bool, true, ◌&&◌, List, [], ◌∷◌, ltb, refl, ap, sym, subst, ◌∙◌, arith, inl, inr}
-use Rattle.std.specs.Prelude.{◌==◌, nat_le, if◌then◌else◌}
+use Rattle.std.specs.Prelude.{◌==◌, nat_le}
 use Rattle.std.specs.List.{list_all}
 use Rattle.std.specs.Int.Bits.{bit_and}
 use Rattle.std.proofs.Math.Nat.{mod-eq_of_lt}
 use Rattle.std.proofs.lemmas.Nat.{and_block, and_mask, shr_split}
 use Rattle.std.proofs.lemmas.Bool.{agree_below, agree_below_at, eqb-true, ltb-true, ne_eqb, eq-eqb, cond-true, cond-false, cond_both, and_parts, or_cases, leb-true, cases_eq}
-use Rattle.model_pixel.specs.Channels.{Colour, Channel, channels, colour_of, component, count_of, expand, grey_of, is_channel, is_descriptor, is_kind, level, mask, pack, promoted}
+use Rattle.model_pixel.specs.Channels.{Colour, Channel, channels, colour_of, component, count_of, expand, is_channel, is_descriptor, is_kind, level, mask, pack, promoted}
 use Rattle.model_pixel.specs.Composition.{mul, composed, comp, composed_raw}
-use Rattle.r9_chan.proofs.ChannelLemmas.{are_channels_of}
+use Rattle.r9_chan.proofs.ChannelLemmas.{are_channels_of, mask_by_alpha, mask_by_grey}
 use Rattle.r9_mem.specs.Covering.{takes}
 use Rattle.r9_mem.specs.Packing.{packed_by}
 use Rattle.r9_mem.proofs.FieldLemmas.{and_none, bits-below}
@@ -233,7 +233,15 @@ pub opaque_takes : (w s : ℕ) → count_of 4 w ≡ 0 → takes 11 (expand w s).
 unfolding expand
 opaque_takes w s none = ap (λ (a : ℕ). takes 11 a) (level-absent 4 255 (channels w) s none)
 
--- the mask value of a packed colour that is read under a mask's channels
-pub mask_value : (chan m word : ℕ) (by_grey : Bool) → by_grey ≡ (count_of 4 chan == 0) → colour_of word ≡ expand chan m → (if by_grey then grey_of (colour_of word) else (word % 256)) ≡ mask chan m
-unfolding mask
-mask_value chan m word by_grey by is = λ i. if by i then grey_of (is i) else (is i).a
+-- ---- mask values
+
+-- of channels with an alpha
+pub mask_alpha : (chan raw : ℕ) → count_of 4 chan ≢ 0 → mask chan raw ≡ level 4 255 (channels chan) raw
+unfolding expand
+mask_alpha chan raw some = mask_by_alpha chan raw some
+
+-- of a grey without alpha
+pub mask_grey : (chan raw : ℕ) → is_descriptor chan ≡ true → count_of 4 chan ≡ 0 → count_of 3 chan ≢ 0 → mask chan raw ≡ level 3 0 (channels chan) raw
+mask_grey chan raw is none some =
+    mask_by_grey chan raw none
+    ∙ told_of chan raw (are_channels_of chan is) (occurs_of chan is) 3 (omega arith) (omega (arith, some))

@@ -1,13 +1,15 @@
 -- What readers and writers of rows make of a pixel.
-use Rattle.std.specs.Prelude.{◌≡◌, ◌==◌, ℕ}
-use Rattle.model_pixel.specs.Channels.{Colour, colour_of, count_of, expand, pack, ALPHA}
+use Rattle.std.specs.Prelude.{◌≡◌, ℕ}
+use Rattle.model_pixel.specs.Channels.{Colour, colour_of, expand, grey_of, mask, pack}
 use Rattle.r9_kern.specs.Layouts.{chan_of}
 use Rattle.r9_mem.specs.declared.reading.Reader.{Reader}
+use Rattle.r9_mem.specs.declared.reading.Masker.{Masker}
+use Rattle.r9_mem.specs.declared.reading.Masker.TheVariants as maskers
 use Rattle.r9_mem.specs.declared.rows.Row.{Row}
 use Rattle.r9_mem.specs.declared.reading.Reader.TheVariants.{Whole, Grey, Apart}
 use Rattle.r9_mem.specs.declared.writing.Writer.{Writer}
 use Rattle.r9_mem.specs.declared.writing.Writer.TheVariants as writers
-use Rattle.r9_mem.specs.Fields.{seen, put, greyed, IsFields, IsPlaces}
+use Rattle.r9_mem.specs.Fields.{value, seen, put, greyed, IsField, IsFields, IsPlaces}
 
 -- the colour of a raw pixel
 abbrev pub read : Reader → ℕ → Colour
@@ -19,6 +21,15 @@ abbrev pub IsReader : Reader → Type 0
 IsReader (Whole layout) = Unit {0}
 IsReader Grey = Unit {0}
 IsReader (Apart fields) = IsFields fields
+
+-- the mask value of a raw pixel
+abbrev pub masked : Masker → ℕ → ℕ
+masked (maskers.Single field) raw = value field raw
+masked (maskers.Colours reader) raw = grey_of (read reader raw)
+
+abbrev pub IsMasker : Masker → Type 0
+IsMasker (maskers.Single field) = IsField field
+IsMasker (maskers.Colours reader) = IsReader reader
 
 -- the raw pixel of a packed colour
 abbrev pub written : Writer → ℕ → ℕ
@@ -37,15 +48,14 @@ IsWriter (writers.Greys places) = IsPlaces places
 pub record IsRow (row : Row) : Type 0 where
   pub source : IsReader row.source
   pub target : IsReader row.target
-  pub through : IsReader row.through
+  pub through : IsMasker row.through
   pub writer : IsWriter row.writer
 
 -- what a row is told of the channels of target, source and mask
 pub record Serves (row : Row) (dst : ℕ) (src : ℕ) (chan : ℕ) : Type 0 where
   pub source : (raw : ℕ) → read row.source raw ≡ expand src raw
   pub target : (raw : ℕ) → read row.target raw ≡ expand dst raw
-  pub through : (raw : ℕ) → read row.through raw ≡ expand chan raw
-  pub by_grey : row.by_grey ≡ (count_of ALPHA chan == 0)
+  pub through : (raw : ℕ) → masked row.through raw ≡ mask chan raw
   pub writer : (word : ℕ) → written row.writer word ≡ pack dst (colour_of word)
 
 -- whether a writer makes the one raw pixel of what a reader makes of the other, under any channels that they serve

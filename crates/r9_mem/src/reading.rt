@@ -1,12 +1,12 @@
 // Rows of raw pixels as packed colours, and as mask values.
-ghost use Rattle.std.specs.Prelude.{◌≡◌, ◌<◌, ◌^◌, ◌%◌, ℕ, Bool, if◌then◌else◌, length, slice_index, EachIndex};
-ghost use Rattle.model_pixel.specs.Channels.{colour_of, expand, grey_of};
+ghost use Rattle.std.specs.Prelude.{◌≡◌, ◌<◌, ◌^◌, ◌≤◌, ℕ, length, slice_index, EachIndex};
+ghost use Rattle.model_pixel.specs.Channels.{colour_of, expand, grey_of, mask};
 ghost use Rattle.r9_kern.specs.Layouts.{chan_of};
-ghost use Rattle.r9_mem.specs.Fields.{seen, IsFields};
-ghost use Rattle.r9_mem.specs.Rows.{read, IsReader};
+ghost use Rattle.r9_mem.specs.Fields.{seen, value, IsField, IsFields};
+ghost use Rattle.r9_mem.specs.Rows.{masked, read, IsMasker, IsReader};
 
 use super::field::{Field, constant, field_of, value};
-use super::kind::{ALPHA, BLUE, GREEN, GREY, GREY_BYTE, RED};
+use super::kind::{ALPHA, BLUE, GREEN, GREY, GREY_BYTE, RED, lacks};
 use super::layout::layout_of;
 use r9_chan::Chan;
 use r9_kern::Layout;
@@ -125,23 +125,62 @@ fn mask_greys(words: &[u32], masks: &mut [u8])
     }
 }
 
-fn mask_alphas(words: &[u32], masks: &mut [u8])
-    requires { length words.now ≡ length masks.old }
-    ensures { EachIndex masks.new (λ i. slice_index masks.new i ≡ slice_index words.now i % 256) }
+/// How mask pixels of some channels are read.
+#[derive(Clone, Copy)]
+pub enum Masker {
+    /// One field is the mask value: the alpha, or the grey where there is no alpha.
+    Single(Field),
+    /// The colours' greys are.
+    Colours(Reader),
+}
+
+pub(crate) fn masker_of(chan: &Chan) -> Masker
+    ensures masker { IsMasker result }
+    ensures value { (raw : ℕ) → masked result raw ≡ mask chan.now raw }
 {
+    let word = chan.word();
+    if !lacks(chan, ALPHA) {
+        return Masker::Single(field_of(word, ALPHA, constant(255)));
+    }
+    if !lacks(chan, GREY) {
+        return Masker::Single(field_of(word, GREY, constant(0)));
+    }
+    Masker::Colours(reader_of(chan))
+}
+
+fn mask_single(field: &Field, raws: &[u32], masks: &mut [u8])
+    requires field { IsField field.now }
+    requires lengths { length raws.now ≡ length masks.old }
+    ensures { EachIndex masks.new (λ i. slice_index masks.new i ≡ value field.now (slice_index raws.now i)) }
+{
+    let field = *field;
     for i in 0..masks.len() {
-        masks[i] = (words[i] % 256) as u8;
+        masks[i] = value(&field, raws[i]) as u8;
     }
 }
 
-/// The mask values of packed colours: their alphas, or their greys where the channels have no alpha.
-pub(crate) fn mask_row(opaque: bool, words: &[u32], masks: &mut [u8])
-    requires { length words.now ≡ length masks.old }
-    ensures { EachIndex masks.new (λ i. slice_index masks.new i ≡ (if opaque then grey_of (colour_of (slice_index words.now i)) else (slice_index words.now i % 256))) }
+fn mask_colours(reader: &Reader, raws: &[u32], masks: &mut [u8])
+    requires reader { IsReader reader.now }
+    requires few { length masks.old ≤ 64 }
+    requires lengths { length raws.now ≡ length masks.old }
+    ensures { EachIndex masks.new (λ i. slice_index masks.new i ≡ grey_of (read reader.now (slice_index raws.now i))) }
 {
-    if opaque {
-        mask_greys(words, masks);
-    } else {
-        mask_alphas(words, masks);
+    let len = masks.len();
+    let mut words = [0; 64];
+    let words = &mut words[..len];
+    read_row(reader, raws, words);
+    mask_greys(words, masks);
+}
+
+/// Reads at most a block of raw mask pixels as mask values.
+pub(crate) fn mask_row(masker: &Masker, raws: &[u32], masks: &mut [u8])
+    requires masker { IsMasker masker.now }
+    requires few { length masks.old ≤ 64 }
+    requires lengths { length raws.now ≡ length masks.old }
+    ensures { EachIndex masks.new (λ i. slice_index masks.new i ≡ masked masker.now (slice_index raws.now i)) }
+{
+    match masker {
+        Masker::Single(field) => mask_single(field, raws, masks),
+        Masker::Colours(reader) => mask_colours(reader, raws, masks),
     }
 }

@@ -4,10 +4,9 @@ ghost use Rattle.model_pixel.specs.Channels.{expand, pack};
 ghost use Rattle.r9_chan.specs.Op.{number};
 ghost use Rattle.r9_mem.specs.Rows.{IsReader, IsRow, IsWriter, Serves, Written};
 
-use super::kind::{ALPHA, lacks};
 use super::layout::{layout_of, mask_layout_of};
 use super::moving::{is_moved, move_row};
-use super::reading::{Reader, mask_row, read_row, reader_of};
+use super::reading::{Masker, Reader, mask_row, masker_of, read_row, reader_of};
 use super::writing::{Writer, write_row, writer_of};
 use r9_chan::{Chan, Op};
 use r9_kern::{comp_raw_row, comp_row};
@@ -20,9 +19,7 @@ const BLOCK: usize = 64;
 pub struct Row {
     source: Reader,
     target: Reader,
-    through: Reader,
-    /// Whether a mask pixel's grey is its value, since it has no alpha.
-    by_grey: bool,
+    through: Masker,
     writer: Writer,
 }
 
@@ -33,8 +30,7 @@ fn row_of(dst: &Chan, src: &Chan, mask: &Chan) -> Row
     Row {
         source: reader_of(src),
         target: reader_of(dst),
-        through: reader_of(mask),
-        by_grey: lacks(mask, ALPHA),
+        through: masker_of(mask),
         writer: writer_of(dst),
     }
 }
@@ -48,16 +44,15 @@ fn compose_block(row: &Row, op: Op, d: &mut [u32], s: &[u32], m: &[u32])
     ensures { (dst src mask : ℕ) → Serves row.now dst src mask → EachIndex d.new (λ i. slice_index d.new i ≡ composed_raw dst src mask (number op) (slice_index s.now i) (slice_index m.now i) (slice_index d.old i)) }
 {
     let len = d.len();
-    let mut mask_words = [0; BLOCK];
-    read_row(&row.through, m, &mut mask_words[..len]);
     let mut masks = [0; BLOCK];
-    mask_row(row.by_grey, &mask_words[..len], &mut masks[..len]);
+    let masks = &mut masks[..len];
+    mask_row(&row.through, m, masks);
     let mut above = [0; BLOCK];
     read_row(&row.source, s, &mut above[..len]);
     let mut words = [0; BLOCK];
     let words = &mut words[..len];
     read_row(&row.target, d, words);
-    comp_row(op, words, &above[..len], &masks[..len]);
+    comp_row(op, words, &above[..len], masks);
     write_row(&row.writer, words, d);
 }
 
