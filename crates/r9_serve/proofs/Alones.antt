@@ -42,8 +42,8 @@ module _ (words : List (Bor (List ℕ))) (left : Option (List ℕ)) (text : List
   no_lines : (job : Job) (lines : List ℕ) (entry reason : ℕ) → left ≡ Some text → IsRecord text events → AskForAlone words opening session → not_alone opening session events ≡ Some (entry, reason)
       → Ask words job → IsOutput job left lines → ⊥
   no_lines (Alone other d) lines entry reason told is asks from ask out =
-      none_some _ (sym (of_asked other d out.are.events None told is asks (record { asked = ask; word = out.word }) out.are.had out.are.alone) ∙ from)
-  no_lines (Replay o screen) lines entry reason told is asks from ask out = alone_not_replay words opening session asks.asked (Replay o screen, ask, tt)
+      none_some _ (sym (of_asked other d out.are.events None told is asks ask out.are.had out.are.alone) ∙ from)
+  no_lines (Replay o screen) lines entry reason told is asks from ask out = alone_not_replay words opening session asks (Replay o screen, ask, tt)
   no_lines (Gen number) lines entry reason told is asks from ask out = gen_not_record words number (alone_of_record words opening session asks) ask
   no_lines (Serve o listen workers conns) lines entry reason told is asks from ask out = serve_not_record words (alone_of_record words opening session asks) (Serve o listen workers conns, ask, tt)
   no_lines (Text columns rows) lines entry reason told is asks from ask out = text_not_record words (Text columns rows, ask, tt) (alone_of_record words opening session asks)

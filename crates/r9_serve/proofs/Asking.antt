@@ -119,13 +119,13 @@ replay_of_record words (Desk, ask, is) = absurd is
 replay_of_record words (Gen number, ask, is) = absurd is
 
 pub alone_of_record : (words : List (Bor (List ℕ))) (opening : Opening) (session : ℕ) → AskForAlone words opening session → AskForRecord words
-alone_of_record words opening session asks = (Alone opening session, asks.asked, tt)
+alone_of_record words opening session asks = (Alone opening session, asks, tt)
 
 pub lone_of_record : (words : List (Bor (List ℕ))) (left : Option (List ℕ)) (entry reason : ℕ) → WasAskedNotAlone words left entry reason → AskForRecord words
 lone_of_record words left entry reason was = alone_of_record words was.opening was.session was.asks
 
 pub replay_not_lone : {A : Type 0} (words : List (Bor (List ℕ))) (left : Option (List ℕ)) (entry reason : ℕ) → AskForReplay words → WasAskedNotAlone words left entry reason → A
-replay_not_lone words left entry reason replays was = alone_not_replay words was.opening was.session was.asks.asked replays
+replay_not_lone words left entry reason replays was = alone_not_replay words was.opening was.session was.asks replays
 
 -- a record and a made record have no input that is refused so, and a text and a desk each its own
 pub record_refuses_not : {A : Type 0} (words : List (Bor (List ℕ))) (left : Option (List ℕ)) (place : ℕ) → AskForRecord words → WasRefused words left place → A

@@ -42,18 +42,18 @@ one_word : (v w : ℕ) → v < 2 ^ 32 → w < 2 ^ 32 → is_descriptor v ≡ tru
 one_word v w first second is other same =
     sym (channels_undone v first) ∙ ap undone (channels_tell v w (lawful v is) (lawful w other) same) ∙ channels_undone w second
 
-one_display : (sides channels : List ℕ) (one other : Opening) → one.chan < 2 ^ 32 → other.chan < 2 ^ 32 → IsOpening sides channels one → IsOpening sides channels other → one ≡ other
-one_display sides channels one other first second is also =
+one_display : (sides channels : List ℕ) (one other : Opening) → IsOpening sides channels one → IsOpening sides channels other → one ≡ other
+one_display sides channels one other is also =
     let size = some_inj (sym is.sized ∙ also.sized) in
-    let chan = one_word one.chan other.chan first second is.coloured also.coloured (is.named ∙ sym also.named) in
+    let chan = one_word one.chan other.chan is.word also.word is.coloured also.coloured (is.named ∙ sym also.named) in
     λ i. record { width = (size i).width; height = (size i).height; chan = chan i }
 
 pub asked_once : (words : List (Bor (List ℕ))) (one other : Opening) (c d : ℕ) → AskForAlone words one c → AskForAlone words other d → (one ≡ other) × (c ≡ d)
 asked_once words one other c d first second =
-    let took = taken (texts_of words) (Alone one c) first.asked in
-    let also = taken (texts_of words) (Alone other d) second.asked in
+    let took = taken (texts_of words) (Alone one c) first in
+    let also = taken (texts_of words) (Alone other d) second in
     let rows : also.rows ≡ took.rows = ap (λ q. q.1) (some_inj (sym also.sub ∙ took.sub)) in
     let is = took.gives.1 in
     let again = subst (λ r. IsAloneOf r other d) rows also.gives.1 in
     let number = some_inj (sym is.chosen.given ∙ again.chosen.given) in
-    (one_display _ _ one other first.word second.word is.opened again.opened, some_inj (sym is.chosen.counts ∙ ap (counted 4294967295) number ∙ again.chosen.counts))
+    (one_display _ _ one other is.opened again.opened, some_inj (sym is.chosen.counts ∙ ap (counted 4294967295) number ∙ again.chosen.counts))

@@ -1,6 +1,6 @@
 //! The command `alone`.
 
-ghost use Rattle.std.specs.Prelude.{◌≡◌, ◌≢◌, ◌<◌, ◌^◌, ℕ, false};
+ghost use Rattle.std.specs.Prelude.{◌≡◌, ◌≢◌, ℕ, false};
 ghost use Rattle.r9_opts.specs.declared.job.Job.TheVariants as job;
 ghost use Rattle.r9_outside.specs.Count.{Rose};
 ghost use Rattle.r9_replay.specs.Replays.{WasBadAt, WasLate};
@@ -26,7 +26,6 @@ pub fn put_alone<S: Source, O: Sink>(
     ensures doors { (worker : ℕ) → result ≢ Status.DoorFault worker }
     ensures turns { (count : ℕ) → result ≢ Status.Spent count }
     ensures inputs { (place : ℕ) → result ≢ Status.BadInput place }
-    ensures word { opening.chan < 2 ^ 32 }
     ensures out { IsOutAfter (λ asked. asked ≡ job.Alone opening session) result (S.left input.old) (O.held out.old) (O.held out.new) }
     ensures flushed { result ≡ Status.Done → O.unflushed out.new ≡ false }
     ensures input { IsInputAfter (λ asked. asked ≡ job.Alone opening session) result (S.left input.old) (S.left input.new) }

@@ -77,7 +77,7 @@ returns-clause-answered g c =
     let words = c.args.words.now in
     λ opening session asks input out text events told is alone.
     let records = alone_of_record words opening session asks in
-    done_by _ _ text events told is (λ u. job.usage u (Alone opening session) asks.asked) (λ place b. (job.bad_record place b).1) (λ first l. (job.late_record first l).1)
+    done_by _ _ text events told is (λ u. job.usage u (Alone opening session) asks) (λ place b. (job.bad_record place b).1) (λ first l. (job.late_record first l).1)
     (λ place b. record_refuses_not words _ place records (job.bad_input place b)) (λ entry reason l. not_lone words _ text events opening session entry reason told is asks alone (job.not_alone entry reason l)) (λ r. input (job.read_fault r).1)
     (λ w. either out (λ serves. serve_not_record words records serves.0) (job.write_fault w)) (λ worker d. serve_not_record words records (job.serving worker d)) (λ count s. serve_not_record words records (job.turns count s))
 
@@ -86,7 +86,7 @@ returns-clause-accompanied g c =
     let job = c.do_job-ending.ensures in
     let words = c.args.words.now in
     λ opening session asks input text events entry reason told is from.
-    accompanied_by words _ _ _ _ text events opening session entry reason told is asks from (λ u. job.usage u (Alone opening session) asks.asked) job.out (λ place b. (job.bad_record place b).1) (λ first l. (job.late_record first l).1)
+    accompanied_by words _ _ _ _ text events opening session entry reason told is asks from (λ u. job.usage u (Alone opening session) asks) job.out (λ place b. (job.bad_record place b).1) (λ first l. (job.late_record first l).1)
     (λ place b. record_refuses_not words _ place (alone_of_record words opening session asks) (job.bad_input place b)) job.not_alone (λ r. input (job.read_fault r).1)
 
 pub returns-clause-makes : goal.returns-clause-makes
