@@ -35,7 +35,7 @@ cut_takes mark (b ∷ text) line rest e = elim (chosen (eqb b mark) _ _ (Some (l
     some_is : (x y : List ℕ × List ℕ) → Some x ≡ Some y → x ≡ y
     some_is x y e = cc
 
-not_mark : (b mark : ℕ) → b ≢ mark → eqb b mark ≡ false
+pub not_mark : (b mark : ℕ) → b ≢ mark → eqb b mark ≡ false
 not_mark b mark other = grind (arith, nat_tests)
 
 pub is_mark : (b mark : ℕ) → b ≡ mark → eqb b mark ≡ true

@@ -7,7 +7,7 @@ use Rattle.model_record.specs.Line.{event_line, mark_text}
 use Rattle.r9_event.specs.declared.event.Event.{Event}
 use Rattle.r9_event.specs.declared.event.Event.TheVariants.{Msg}
 
-hex_len : (bytes : List ℕ) → length (hex bytes) ≡ length bytes * 2
+pub hex_len : (bytes : List ℕ) → length (hex bytes) ≡ length bytes * 2
 hex_len [] = refl
 hex_len (byte ∷ bytes) = omega (arith, hex_len bytes)
 

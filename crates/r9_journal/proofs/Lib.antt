@@ -4,3 +4,6 @@ pub mod Headers
 pub mod Records
 pub mod Rest
 pub mod Lengths
+pub mod Numerals
+pub mod HexDigits
+pub mod Fittings

@@ -66,7 +66,7 @@ high_digit d = by (ltb d 10) refl
     by true e = rw e (omega arith)
     by false e = rw e (omega arith)
 
-hex_lacks : (mark : ℕ) → mark < 48 → (bytes : List ℕ) → Lacks mark (hex bytes)
+pub hex_lacks : (mark : ℕ) → mark < 48 → (bytes : List ℕ) → Lacks mark (hex bytes)
 hex_lacks mark low [] = tt
 hex_lacks mark low (byte ∷ bytes) = (λ e. omega (arith, high_digit (byte / 16), e), (λ e. omega (arith, high_digit (byte % 16), e), hex_lacks mark low bytes))
 

@@ -1,6 +1,6 @@
 //! The event that a line of a record tells.
 
-ghost use Rattle.std.specs.Prelude.{◌≡◌, None, Some, IfOk};
+ghost use Rattle.std.specs.Prelude.{◌≡◌, ◌<◌, ◌↔◌, None, Some, length, slice_index, IsTrue, IfOk};
 ghost use Rattle.std.specs.Option.{option_map};
 ghost use Rattle.model_text.specs.Hex.{unhex};
 ghost use Rattle.r9_journal.specs.Reading.{cut, numeral, exclaimed, message_by, message_of_line, event_by, event_of};
@@ -8,7 +8,7 @@ ghost use Rattle.r9_journal.specs.Reading.{cut, numeral, exclaimed, message_by, 
 use memchr::memchr;
 use r9_event::Event;
 use r9_memory::Memory;
-use r9_text::{read_decimal, read_hex};
+use r9_text::{read_digits, read_hex};
 use std::alloc::Global;
 
 /// What stands before the first such byte, and behind it.
@@ -21,12 +21,24 @@ pub fn cut(mark: u8, text: &[u8]) -> Option<(&[u8], &[u8])>
     }
 }
 
+/// A number below 2^32 has so many digits at most.
+const MOST_DIGITS: usize = 10;
+
+/// Whether a zero leads other characters.
+fn is_led(word: &[u8]) -> bool
+    ensures { IsTrue result ↔ ((1 < length word.now) × (slice_index word.now 0 ≡ 48)) }
+{
+    word.len() > 1 && word[0] == b'0'
+}
+
 /// The number below 2^32 whose decimal digits a word is.
-#[tactic(auto, unfolding(crate::specs::Reading::numeral))]
-fn numeral(word: &[u8]) -> Option<u32>
+pub fn numeral(word: &[u8]) -> Option<u32>
     ensures { result ≡ numeral word.now }
 {
-    let number = read_decimal(word)?;
+    if is_led(word) {
+        return None;
+    }
+    let number = read_digits(word, MOST_DIGITS)?;
     if number < 1 << 32 {
         Some(number as u32)
     } else {
@@ -35,7 +47,7 @@ fn numeral(word: &[u8]) -> Option<u32>
 }
 
 /// The number behind an exclamation mark.
-fn exclaimed(word: &[u8]) -> Option<u32>
+pub fn exclaimed(word: &[u8]) -> Option<u32>
     ensures { result ≡ exclaimed word.now }
 {
     match word {
@@ -49,31 +61,28 @@ fn exclaimed(word: &[u8]) -> Option<u32>
 fn message_by(alloc: Global, session: u32, text: &[u8]) -> Result<Option<Event>, Memory>
     ensures { IfOk result (λ event. event ≡ message_by session text.now (cut 32 text.now)) }
 {
-    match cut(b' ', text) {
-        None => {
-            let Some(bytes) = read_hex(alloc, text)? else {
-                return Ok(None);
-            };
-            Ok(Some(Event::Msg {
-                session,
-                bytes,
-                mark: None,
-            }))
-        }
-        Some((digits, mark)) => {
-            let Some(bytes) = read_hex(alloc, digits)? else {
-                return Ok(None);
-            };
-            let Some(mark) = exclaimed(mark) else {
-                return Ok(None);
-            };
-            Ok(Some(Event::Msg {
-                session,
-                bytes,
-                mark: Some(mark),
-            }))
-        }
+    let whole = read_hex(alloc, text)?;
+    if let Some(bytes) = whole {
+        return Ok(Some(Event::Msg {
+            session,
+            bytes,
+            mark: None,
+        }));
     }
+    let Some((digits, mark)) = cut(b' ', text) else {
+        return Ok(None);
+    };
+    let Some(bytes) = read_hex(alloc, digits)? else {
+        return Ok(None);
+    };
+    let Some(mark) = exclaimed(mark) else {
+        return Ok(None);
+    };
+    Ok(Some(Event::Msg {
+        session,
+        bytes,
+        mark: Some(mark),
+    }))
 }
 
 /// The message that the part of a line behind its letter tells.

@@ -1,12 +1,12 @@
 //! Reading a session record.
 
-ghost use Rattle.std.specs.Prelude.{◌≡◌, ◌↔◌, ◌≤◌, ◌<◌, ◌-◌, ◌++◌, ◌∷◌, [], ℕ, List, IfOk, OnErr, IfSome, IfNone, MatchResult, Some, length};
-ghost use Rattle.model_event.specs.Legal.{Allowed, IsLegal, roll_of};
+ghost use Rattle.std.specs.Prelude.{◌≡◌, ◌↔◌, ◌≤◌, ◌<◌, ◌-◌, ◌++◌, ◌∷◌, [], ℕ, List, IfOk, OnErr, IfSome, IfNone, MatchResult, length};
+ghost use Rattle.model_event.specs.Legal.{IsLegal, roll_of};
 ghost use Rattle.model_record.specs.Record.{IsRecord, IsBadAt, IsLate};
 ghost use Rattle.r9_event.specs.declared.event.Event.{Event};
 ghost use Rattle.r9_journal.specs.Header.{IsHeaded};
-ghost use Rattle.r9_journal.specs.Reading.{event_of};
 
+use crate::fitting::enter_line;
 use crate::header::first_number;
 use crate::line::{cut, event_of};
 use crate::roll::Roll;
@@ -53,17 +53,6 @@ fn behind_header(text: &[u8]) -> Option<(u64, &[u8])>
     let (header, rest) = cut(b'\n', text)?;
     let first = first_number(header)?;
     Some((first, rest))
-}
-
-/// The event that a line tells, where it may come next.
-fn fitting_event(alloc: Global, roll: &Roll, line: &[u8]) -> Result<Option<Event>, Memory>
-    ensures fits { IfOk result (λ found. IfSome found (λ event. (event_of line.now ≡ Some event) × Allowed roll.now event)) }
-    ensures none { IfOk result (λ found. IfNone found ((event : Event) → event_of line.now ≡ Some event → Allowed roll.now event → ⊥)) }
-{
-    match event_of(alloc, line)? {
-        Some(event) if roll.allows(&event) => Ok(Some(event)),
-        _ => Ok(None),
-    }
 }
 
 /// A text that is a record of a history, from which the events are taken one after the other. Contracts see it as those
@@ -115,10 +104,10 @@ impl<'a> Record<'a> {
             let Some((line, behind)) = cut(b'\n', rest) else {
                 return Err(JournalFault::Bad(place));
             };
-            let Some(event) = fitting_event(alloc, &roll, line)? else {
+            let fits = enter_line(alloc, &mut roll, line)?;
+            if !fits {
                 return Err(JournalFault::Bad(place));
-            };
-            roll.enter(&event)?;
+            }
             rest = behind;
         }
         Ok(Record { lines })

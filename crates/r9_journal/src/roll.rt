@@ -1,6 +1,6 @@
 //! Which events may come next.
 
-ghost use Rattle.std.specs.Prelude.{◌≡◌, ◌==◌, ◌↔◌, not, filter, Contains, IsTrue, OnOk, OnErr, IsOk};
+ghost use Rattle.std.specs.Prelude.{◌≡◌, ◌==◌, ◌↔◌, not, filter, Contains, IsTrue, IsFalse, OnOk, OnErr, IsOk};
 ghost use Rattle.model_event.specs.Legal.{Allowed, AllowedTo, IsMessage, no_sessions, roll_after};
 
 use r9_event::Event;
@@ -12,7 +12,7 @@ use std::marker::Model;
 const MAX_LIVE: usize = 1024;
 
 /// The greatest mark.
-const MAX_MARK: u32 = 65_535;
+pub(crate) const MAX_MARK: u32 = 65_535;
 
 /// The sessions of a history: how many have begun, which of them live, and whether all has stopped.
 #[derive(Debug, Drop)]
@@ -85,6 +85,13 @@ impl Roll {
         ensures { IsTrue result ↔ Allowed self.now event.now }
     {
         !self.stopped && self.allows_to(event)
+    }
+
+    /// Whether a message of a session may come next.
+    pub(crate) fn hears(&self, session: u32) -> bool
+        ensures { IsTrue result ↔ (IsFalse self.now.stopped × Contains self.now.live session) }
+    {
+        !self.stopped && self.lives(session)
     }
 
     fn leave(&mut self, session: u32)

@@ -72,12 +72,12 @@ fn push_line(event: &Event, text: &mut Bytes) -> Result<(), Memory>
     text.push(b'\n')
 }
 
-/// Adds the line of a reply. For want of memory a part of it may be there.
-fn push_reply(reply: &Reply, text: &mut Bytes) -> Result<(), Memory>
-    ensures ok { OnOk result (text.new ≡ text.old ++ reply_line reply.now) }
+/// Adds the line of a reply to a session. For want of memory a part of it may be there.
+fn push_reply(session: u32, bytes: &[u8], text: &mut Bytes) -> Result<(), Memory>
+    ensures ok { OnOk result (text.new ≡ text.old ++ reply_line (record { session = session; bytes = bytes.now })) }
     ensures err { OnErr result (take (length text.old) text.new ≡ text.old) }
 {
-    push_bytes(b"R ", reply.session, reply.bytes.as_slice(), text)?;
+    push_bytes(b"R ", session, bytes, text)?;
     text.push(b'\n')
 }
 
@@ -99,8 +99,16 @@ pub fn write_reply(reply: &Reply, out: &mut Bytes) -> Result<(), Memory>
     ensures ok { OnOk result (out.new ≡ out.old ++ reply_line reply.now) }
     ensures err { OnErr result (out.new ≡ out.old) }
 {
+    write_reply_of(reply.session, reply.bytes.as_slice(), out)
+}
+
+/// Adds the line of the reply that has these bytes and goes to this session at the end, or nothing for want of memory.
+pub fn write_reply_of(session: u32, bytes: &[u8], out: &mut Bytes) -> Result<(), Memory>
+    ensures ok { OnOk result (out.new ≡ out.old ++ reply_line (record { session = session; bytes = bytes.now })) }
+    ensures err { OnErr result (out.new ≡ out.old) }
+{
     let before = out.len();
-    let put = push_reply(reply, out);
+    let put = push_reply(session, bytes, out);
     if put.is_err() {
         out.truncate(before);
     }

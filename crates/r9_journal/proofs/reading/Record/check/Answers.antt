@@ -1,8 +1,6 @@
-use Rattle.std.proofs.Common.{◌≡◌, ℕ, length, List, [], ◌∷◌, ◌++◌, refl, Option, Some, IfSome, IfNone, sym, ap, subst, arith}
-use Rattle.model_event.specs.Legal.{Allowed}
+use Rattle.std.proofs.Common.{ℕ, List, [], ◌∷◌, ◌++◌, refl, sym, subst, arith}
 use Rattle.model_record.specs.Record.{IsBadAt, IsRecord}
 use Rattle.r9_event.specs.declared.event.Event.{Event}
-use Rattle.r9_journal.specs.Reading.{event_of}
 use Rattle.r9_journal.proofs.Records.{begins, reads_on, read_all, open_bad, line_bad, headless_bad, rest_within, shorter, place_is, not_both, bad_late, found_late, is_late, memory_late}
 use Rattle.r9_journal.proofs.Headers.{headed_late, record_not_late}
 use Rattle.r9_journal.proofs.Rest.{all_told, told_again, are_lines}
@@ -31,18 +29,14 @@ returns-in_default-cut-clause-bad c = λ place e.
     subst (λ (n : ℕ). IsBadAt c.args.text.now n) (place_is _ _ place e)
     (open_bad _ _ _ _ c.lines.invariant.1 (grind (arith, c.lines-test.true, c.is_empty.ensures)) (sym c.in_default-cut.ensures))
 
-pub returns-in_default-2-clause-only : goal.returns-in_default-2-clause-only
-returns-in_default-2-clause-only c = λ events is.
-    let none =
-    subst (λ (o : Option Event). IfNone o ((event : Event) → event_of c.in-Some-cut.line.now ≡ Some event → Allowed c.lines.roll event → ⊥))
-    c.in_default-2.is c.in_ok-event.ensures.none in
+pub returns-then-not-fits-clause-only : goal.returns-then-not-fits-clause-only
+returns-then-not-fits-clause-only c = λ events is.
+    let none = c.in_ok-fits.ensures.unfit c.if-not-fits.true in
     absurd (not_both _ _ events (line_bad _ _ _ _ _ _ c.lines.invariant.1 (grind (arith, c.lines-test.true, c.is_empty.ensures)) (sym c.in-Some-cut.ensures) none) is)
 
-pub returns-in_default-2-clause-bad : goal.returns-in_default-2-clause-bad
-returns-in_default-2-clause-bad c = λ place e.
-    let none =
-    subst (λ (o : Option Event). IfNone o ((event : Event) → event_of c.in-Some-cut.line.now ≡ Some event → Allowed c.lines.roll event → ⊥))
-    c.in_default-2.is c.in_ok-event.ensures.none in
+pub returns-then-not-fits-clause-bad : goal.returns-then-not-fits-clause-bad
+returns-then-not-fits-clause-bad c = λ place e.
+    let none = c.in_ok-fits.ensures.unfit c.if-not-fits.true in
     subst (λ (n : ℕ). IsBadAt c.args.text.now n) (place_is _ _ place e)
     (line_bad _ _ _ _ _ _ c.lines.invariant.1 (grind (arith, c.lines-test.true, c.is_empty.ensures)) (sym c.in-Some-cut.ensures) none)
 
@@ -51,18 +45,8 @@ lines-smaller c = shorter _ _ _ (sym c.in-Some-cut.ensures)
 
 pub lines-preserved : goal.lines-preserved
 lines-preserved c =
-    let fits =
-    subst (λ (o : Option Event). IfSome o (λ event. (event_of c.in-Some-cut.line.now ≡ Some event) × Allowed c.lines.roll event)) c.in-Some-2.is c.in_ok-event.ensures.fits in
-    (c.lines.invariant.0 ++ c.in-Some-2.event ∷ [], reads_on _ _ _ _ _ _ _ _ c.in-Some-2.event c.lines.invariant.1 (sym c.in-Some-cut.ensures) fits refl c.in_ok-enter.ensures.entered)
-
-pub lines-smaller-in_ok-enter : goal.lines-smaller-in_ok-enter
-lines-smaller-in_ok-enter c = shorter _ _ _ (sym c.in-Some-cut.ensures)
-
-pub lines-preserved-in_ok-enter : goal.lines-preserved-in_ok-enter
-lines-preserved-in_ok-enter c =
-    let fits =
-    subst (λ (o : Option Event). IfSome o (λ event. (event_of c.in-Some-cut.line.now ≡ Some event) × Allowed c.lines.roll event)) c.in-Some-2.is c.in_ok-event.ensures.fits in
-    (c.lines.invariant.0 ++ c.in-Some-2.event ∷ [], reads_on _ _ _ _ _ _ _ _ c.in-Some-2.event c.lines.invariant.1 (sym c.in-Some-cut.ensures) fits refl c.in_ok-enter.ensures.entered)
+    let is = c.in_ok-fits.ensures.entered c.if-not-fits.false in
+    (c.lines.invariant.0 ++ is.0 ∷ [], reads_on _ _ _ _ _ _ _ _ is.0 c.lines.invariant.1 (sym c.in-Some-cut.ensures) (is.1, is.2) refl is.3)
 
 pub invariant_of-result : goal.invariant_of-result
 invariant_of-result c =
@@ -94,19 +78,14 @@ pub returns-in_default-cut-clause-late : goal.returns-in_default-cut-clause-late
 returns-in_default-cut-clause-late c =
     bad_late _ c.args.text.now _ (open_bad _ _ _ _ c.lines.invariant.1 (grind (arith, c.lines-test.true, c.is_empty.ensures)) (sym c.in_default-cut.ensures))
 
-pub returns-in_err-event-clause-late : goal.returns-in_err-event-clause-late
-returns-in_err-event-clause-late c = memory_late _ c.args.text.now _ _ c.from_residual.ensures.1 c.lines.invariant.1.headed
+pub returns-in_err-fits-clause-late : goal.returns-in_err-fits-clause-late
+returns-in_err-fits-clause-late c = memory_late _ c.args.text.now _ _ c.from_residual.ensures.1 c.lines.invariant.1.headed
 
-pub returns-in_default-2-clause-late : goal.returns-in_default-2-clause-late
-returns-in_default-2-clause-late c =
-    let none =
-    subst (λ (o : Option Event). IfNone o ((event : Event) → event_of c.in-Some-cut.line.now ≡ Some event → Allowed c.lines.roll event → ⊥))
-    c.in_default-2.is c.in_ok-event.ensures.none in
+pub returns-then-not-fits-clause-late : goal.returns-then-not-fits-clause-late
+returns-then-not-fits-clause-late c =
+    let none = c.in_ok-fits.ensures.unfit c.if-not-fits.true in
     bad_late _ c.args.text.now _
     (line_bad _ _ _ _ _ _ c.lines.invariant.1 (grind (arith, c.lines-test.true, c.is_empty.ensures)) (sym c.in-Some-cut.ensures) none)
-
-pub returns-in_err-enter-clause-late : goal.returns-in_err-enter-clause-late
-returns-in_err-enter-clause-late c = memory_late _ c.args.text.now _ _ c.from_residual-in_err-enter.ensures.1 c.lines.invariant.1.headed
 
 pub returns-clause-late : goal.returns-clause-late
 returns-clause-late c =
