@@ -1,6 +1,7 @@
 //! Packed pixels of a rectangle: a map from its points to raw pixels, in the layout of image(6).
 #![tactic(auto)]
 
+mod moves;
 mod packed;
 mod plane;
 mod rows;

@@ -26,6 +26,7 @@ fn read_small(bytes: &[u8], depth: u32, n: usize) -> u32
     (u32::from(byte) >> shift_of(depth, n)) % (1 << depth)
 }
 
+#[inline(always)]
 fn byte(bytes: &[u8], at: usize) -> u32
     requires { at < length bytes.now }
     ensures value { result ≡ slice_index bytes.now at }
@@ -34,6 +35,7 @@ fn byte(bytes: &[u8], at: usize) -> u32
     u32::from(bytes[at])
 }
 
+#[inline(always)]
 fn read_whole(bytes: &[u8], depth: u32, n: usize) -> u32
     requires depth { IsTrue (is_depth depth) }
     requires whole { 8 ≤ depth }
@@ -55,6 +57,7 @@ fn read_whole(bytes: &[u8], depth: u32, n: usize) -> u32
 }
 
 /// Raw pixel number n of packed pixels.
+#[inline(always)]
 pub fn read(bytes: &[u8], depth: u32, n: usize) -> u32
     requires depth { IsTrue (is_depth depth) }
     requires within { (n + 1) * depth ≤ 8 * length bytes.now }
@@ -93,6 +96,7 @@ fn with_bits(byte: u8, shift: u32, depth: u32, raw: u32) -> u8
     ((((high << depth) + raw) << shift) + low) as u8
 }
 
+#[inline(always)]
 fn write_whole(bytes: &mut [u8], depth: u32, n: usize, raw: u32)
     requires depth { IsTrue (is_depth depth) }
     requires whole { 8 ≤ depth }
@@ -108,6 +112,7 @@ fn write_whole(bytes: &mut [u8], depth: u32, n: usize, raw: u32)
 }
 
 /// Writes raw pixel number n of packed pixels, and no other.
+#[inline(always)]
 pub fn write(bytes: &mut [u8], depth: u32, n: usize, raw: u32)
     requires depth { IsTrue (is_depth depth) }
     requires within { (n + 1) * depth ≤ 8 * length bytes.old }

@@ -1,17 +1,22 @@
-ghost use Rattle.std.specs.Prelude.{◌≡◌, ◌+◌, ◌*◌, ◌/◌, ◌^◌, ◌<◌, ◌≤◌, ℕ, IsTrue, IfOk, length, slice_index, vec_len, if◌then◌else◌};
+ghost use Rattle.std.specs.Prelude.{◌≡◌, ◌+◌, ◌*◌, ◌/◌, ◌^◌, ◌<◌, ◌≤◌, ◌||◌, ℕ, false, IsTrue, IfOk, length, slice_index, vec_len, if◌then◌else◌};
 ghost use Rattle.r9_geom.specs.Geometry.{IsOrdered, IsRectNear, width, height};
 ghost use Rattle.model_pixel.specs.Channels as channels;
+ghost use Rattle.r9_marks.specs.Cells.{cells_over};
+ghost use Rattle.r9_marks.specs.Marks as table;
 ghost use Rattle.model_pixel.specs.Rows.{byte_at, raw_at, row_bytes, row_pixel, row_place, rows_of};
 
+mod moving;
+
 use super::packed;
-use super::rows::{row_bytes, skip};
+use super::rows::{columns_before, row_bytes, rows_above, skip, strip};
 use super::runs::{self, BLOCK_BYTES, MOST_PIXELS};
 use r9_chan::Chan;
 use r9_geom::{Point, Rect, distance};
+use r9_marks::{Marks, cells_over};
 use r9_memory::Memory;
 use std::alloc::Global;
 
-/// Packed pixels of a rectangle, row by row with no gap.
+/// Packed pixels of a rectangle, row by row with no gap, and a mark for each cell of 32 by 32 of them, counted from its min.
 #[derive(Drop)]
 pub struct Plane {
     r: Rect,
@@ -19,6 +24,7 @@ pub struct Plane {
     depth: u32,
     columns: usize,
     bytes: Vec<u8>,
+    marks: Marks,
     ghost near: { IsRectNear r },
     ghost ordered: { IsOrdered r },
     ghost depth_is: { depth ≡ channels.depth chan },
@@ -26,12 +32,15 @@ pub struct Plane {
     ghost columns_are: { columns ≡ width r },
     ghost countable: { height r * width r < 2 ^ 63 },
     ghost room: { height r * width r * depth ≤ 8 * vec_len bytes },
+    ghost across: { table.across_of marks ≡ cells_over (width r) },
+    ghost down: { table.down_of marks ≡ cells_over (height r) },
 }
 
 impl Plane {
     ghost use Rattle.r9_geom.specs.declared.Point.{Point};
-    ghost use Rattle.r9_geom.specs.Geometry.{at_min, carried, distance, holds, is_point, strip, IsNear};
+    ghost use Rattle.r9_geom.specs.Geometry.{area_of, at_min, carried, distance, holds, is_point, strip, IsNear};
     ghost use Rattle.r9_plane.specs.Pixels.{along, chan_of, number_of, pixel_at, rect_of};
+    ghost use Rattle.r9_plane.specs.Marks.{mark_count, marked_at, marks_of, touched};
 
     // The number of a point's pixel.
     fn number(&self, p: Point) -> usize
@@ -60,9 +69,52 @@ impl Plane {
         ensures rect { rect_of self.new ≡ rect_of self.old }
         ensures chan { chan_of self.new ≡ chan_of self.old }
         ensures pixels { (q : Point) → pixel_at self.new q ≡ (if is_point q p then raw else pixel_at self.old q) }
+        ensures marks { (column row : ℕ) → marked_at self.new column row ≡ (touched (rect_of self.old) (strip p 1) column row || marked_at self.old column row) }
+        ensures few { mark_count self.new ≤ mark_count self.old + 1 }
     {
         let number = self.number(p);
         packed::write(&mut self.bytes, self.depth, number, raw);
+        self.mark(&strip(p, 1));
+    }
+
+    // Marks the cells of the points of a rectangle.
+    fn mark(&mut self, r: &Rect)
+        requires ordered { IsOrdered r.now }
+        requires inside { (p : Point) → IsTrue (holds r.now p) → IsTrue (holds (rect_of self.old) p) }
+        ensures rect { rect_of self.new ≡ rect_of self.old }
+        ensures chan { chan_of self.new ≡ chan_of self.old }
+        ensures pixels { pixel_at self.new ≡ pixel_at self.old }
+        ensures marks { (column row : ℕ) → marked_at self.new column row ≡ (touched (rect_of self.old) r.now column row || marked_at self.old column row) }
+        ensures few { mark_count self.new ≤ mark_count self.old + area_of r.now }
+    {
+        if r.is_empty() {
+            return;
+        }
+        let column = columns_before(&self.r, r.min);
+        let row = rows_above(&self.r, r.min);
+        let width = r.width() as usize;
+        let height = r.height() as usize;
+        self.marks.mark(column, row, width, height);
+    }
+
+    /// Whether a cell is marked: whether a point of it was written since the marks were cleared.
+    pub fn marked(&self, column: u32, row: u32) -> bool
+        requires column { column < cells_over (width (rect_of self.now)) }
+        requires row { row < cells_over (height (rect_of self.now)) }
+        ensures { result ≡ marked_at self.now column row }
+    {
+        self.marks.is_marked(column as usize, row as usize)
+    }
+
+    /// Clears all marks.
+    pub fn clear_marks(&mut self)
+        ensures rect { rect_of self.new ≡ rect_of self.old }
+        ensures chan { chan_of self.new ≡ chan_of self.old }
+        ensures pixels { pixel_at self.new ≡ pixel_at self.old }
+        ensures marks { (column row : ℕ) → marked_at self.new column row ≡ false }
+        ensures count { mark_count self.new ≡ 0 }
+    {
+        self.marks.clear();
     }
 
     /// A plane with one raw pixel everywhere.
@@ -73,6 +125,8 @@ impl Plane {
         ensures rect { IfOk result (λ plane. rect_of plane ≡ r) }
         ensures chan { IfOk result (λ plane. chan_of plane ≡ chan) }
         ensures pixels { IfOk result (λ plane. (p : Point) → pixel_at plane p ≡ (if holds r p then raw else 0)) }
+        ensures marks { IfOk result (λ plane. (column row : ℕ) → marked_at plane column row ≡ false) }
+        ensures count { IfOk result (λ plane. mark_count plane ≡ 0) }
     {
         let depth = chan.depth();
         let columns = r.width() as usize;
@@ -81,12 +135,14 @@ impl Plane {
             _ => return Err(Memory),
         };
         let bytes = runs::filled(alloc, depth, count, raw)?;
+        let marks = Marks::new(alloc, cells_over(columns), cells_over(r.height() as usize))?;
         Ok(Plane {
             r,
             chan,
             depth,
             columns,
             bytes,
+            marks,
         })
     }
 
@@ -126,12 +182,15 @@ impl Plane {
         ensures rect { rect_of self.new ≡ rect_of self.old }
         ensures chan { chan_of self.new ≡ chan_of self.old }
         ensures pixels { (q : Point) → pixel_at self.new q ≡ (if holds (strip at (length raws.now)) q then slice_index raws.now (distance at.x q.x) else pixel_at self.old q) }
+        ensures marks { (column row : ℕ) → marked_at self.new column row ≡ (touched (rect_of self.old) (strip at (length raws.now)) column row || marked_at self.old column row) }
+        ensures few { mark_count self.new ≤ mark_count self.old + length raws.now }
     {
         if raws.is_empty() {
             return;
         }
         let first = self.number(at);
         runs::write_run(&mut self.bytes, self.depth, first, raws);
+        self.mark(&strip(at, raws.len()));
     }
 
     // Writes pixels side by side, from a point to the right, all as those of a block.
@@ -142,6 +201,7 @@ impl Plane {
         ensures rect { rect_of self.new ≡ rect_of self.old }
         ensures chan { chan_of self.new ≡ chan_of self.old }
         ensures pixels { (q : Point) → pixel_at self.new q ≡ (if holds (strip at width) q then raw_at (channels.depth (chan_of self.old)) block.now 0 else pixel_at self.old q) }
+        ensures marks { marks_of self.new ≡ marks_of self.old }
     {
         if width == 0 {
             return;
@@ -159,6 +219,8 @@ impl Plane {
         ensures rect { rect_of self.new ≡ rect_of self.old }
         ensures chan { chan_of self.new ≡ chan_of self.old }
         ensures pixels { (q : Point) → pixel_at self.new q ≡ (if holds r q then raw else pixel_at self.old q) }
+        ensures marks { (column row : ℕ) → marked_at self.new column row ≡ (touched (rect_of self.old) r column row || marked_at self.old column row) }
+        ensures few { mark_count self.new ≤ mark_count self.old + area_of r }
     {
         let mut block = [0; BLOCK_BYTES];
         runs::fill_block(&mut block, self.depth, raw);
@@ -166,6 +228,7 @@ impl Plane {
         for row in 0..r.height() {
             self.fill_row(r.point_at(0, row), width, &block);
         }
+        self.mark(&r);
     }
 
     // Takes pixels side by side from another plane of the same channels, there from `from` and here from `at` to the right.
@@ -176,6 +239,7 @@ impl Plane {
         ensures rect { rect_of self.new ≡ rect_of self.old }
         ensures chan { chan_of self.new ≡ chan_of self.old }
         ensures pixels { (q : Point) → pixel_at self.new q ≡ (if holds (strip at width) q then pixel_at other.now (along from (distance at.x q.x)) else pixel_at self.old q) }
+        ensures marks { marks_of self.new ≡ marks_of self.old }
     {
         if width == 0 {
             return;
@@ -203,12 +267,15 @@ impl Plane {
         ensures rect { rect_of self.new ≡ rect_of self.old }
         ensures chan { chan_of self.new ≡ chan_of self.old }
         ensures pixels { (q : Point) → pixel_at self.new q ≡ (if holds r q then pixel_at other.now (carried q r.min from) else pixel_at self.old q) }
+        ensures marks { (column row : ℕ) → marked_at self.new column row ≡ (touched (rect_of self.old) r column row || marked_at self.old column row) }
+        ensures few { mark_count self.new ≤ mark_count self.old + area_of r }
     {
         let width = r.width() as usize;
         for row in 0..r.height() {
             let at = r.point_at(0, row);
             self.copy_row(at, width, other, at.carried(r.min, from));
         }
+        self.mark(&r);
     }
 
     /// Gives the rectangle another min. Each pixel stays where it is in it, so that none is moved.
@@ -218,6 +285,7 @@ impl Plane {
         ensures rect { rect_of self.new ≡ at_min (rect_of self.old) min }
         ensures chan { chan_of self.new ≡ chan_of self.old }
         ensures pixels { (q : Point) → pixel_at self.new q ≡ pixel_at self.old (carried q min (rect_of self.old).min) }
+        ensures marks { marks_of self.new ≡ marks_of self.old }
     {
         self.r = self.r.at_min(min);
     }
@@ -230,6 +298,7 @@ impl Plane {
         ensures rect { rect_of self.new ≡ rect_of self.old }
         ensures chan { chan_of self.new ≡ chan_of self.old }
         ensures pixels { (q : Point) → pixel_at self.new q ≡ (if holds (strip at width) q then raw_at (channels.depth (chan_of self.old)) line.now (skip + distance at.x q.x) else pixel_at self.old q) }
+        ensures marks { marks_of self.new ≡ marks_of self.old }
     {
         if width == 0 {
             return;
@@ -247,6 +316,8 @@ impl Plane {
         ensures rect { rect_of self.new ≡ rect_of self.old }
         ensures chan { chan_of self.new ≡ chan_of self.old }
         ensures pixels { (q : Point) → pixel_at self.new q ≡ (if holds r q then row_pixel r (channels.depth (chan_of self.old)) rows.now q else pixel_at self.old q) }
+        ensures marks { (column row : ℕ) → marked_at self.new column row ≡ (touched (rect_of self.old) r column row || marked_at self.old column row) }
+        ensures few { mark_count self.new ≤ mark_count self.old + area_of r }
     {
         let line_len = row_bytes(r, self.depth) as usize;
         let skip = skip(r, self.depth) as usize;
@@ -256,6 +327,7 @@ impl Plane {
             self.load_row(at, width, skip, &rows[row as usize * line_len..]);
             at.y += 1;
         }
+        self.mark(&r);
     }
 
     // One row of whole pixels, which leave no byte out.

@@ -3,7 +3,7 @@
 ghost use Rattle.std.specs.Prelude.{◌≡◌, ◌+◌, ◌-◌, ◌*◌, ◌/◌, ◌≤◌, ◌<◌, ◌^◌, ◌≤ℤ◌, ◌+ℤ◌, ℕ, pos, neg_ℤ, length, slice_index, IsTrue};
 ghost use Rattle.r9_geom.specs.declared.Point.{Point as Spot};
 ghost use Rattle.r9_geom.specs.Geometry as geometry;
-ghost use Rattle.r9_geom.specs.Geometry.{height, holds, strip, width, IsOrdered, IsRectNear};
+ghost use Rattle.r9_geom.specs.Geometry.{height, holds, strip, width, IsNear, IsOrdered, IsRectNear};
 ghost use Rattle.model_pixel.specs.Channels.{is_depth};
 ghost use Rattle.model_pixel.specs.Rows as spec;
 ghost use Rattle.r9_plane.specs.Pixels.{along};
@@ -49,8 +49,23 @@ pub fn skip(r: Rect, depth: u32) -> u64
     }
 }
 
+/// So many points side by side, from one to the right.
+pub fn strip(at: Point, len: usize) -> Rect
+    requires at { IsNear at }
+    requires len { len ≤ 2 ^ 41 }
+    ensures { result ≡ strip at len }
+{
+    Rect {
+        min: at,
+        max: Point {
+            x: at.x + len as i64,
+            y: at.y + 1,
+        },
+    }
+}
+
 // How many rows of a rectangle are above a point of it.
-fn rows_above(r: &Rect, p: Point) -> usize
+pub fn rows_above(r: &Rect, p: Point) -> usize
     requires { IsTrue (holds r.now p) }
     ensures { result ≡ geometry.distance r.now.min.y p.y }
 {
@@ -58,7 +73,7 @@ fn rows_above(r: &Rect, p: Point) -> usize
 }
 
 // How many columns of a rectangle are to the left of a point of it.
-fn columns_before(r: &Rect, p: Point) -> usize
+pub fn columns_before(r: &Rect, p: Point) -> usize
     requires { IsTrue (holds r.now p) }
     ensures { result ≡ geometry.distance r.now.min.x p.x }
 {

@@ -3,11 +3,14 @@
 
 ghost use Rattle.std.specs.Prelude.{◌≡◌, ◌≢◌, ◌+◌, ◌<◌, ◌≤◌, ◌==◌, ◌&&◌, ◌||◌, ◌^◌, ℕ, false, if◌then◌else◌, length, max, not, slice_index, slice_set, IsTrue, OnErr, OnOk};
 ghost use Rattle.r9_geom.specs.declared.Point.{Point as Spot};
-ghost use Rattle.r9_geom.specs.Geometry.{distance, holds, is_point, strip};
+ghost use Rattle.r9_geom.specs.Geometry.{carried, distance, holds, is_point, strip};
+ghost use Rattle.model_pixel.specs.Channels.{depth};
+ghost use Rattle.r9_plane.specs.Pixels.{along, chan_of, pixel_at, rect_of};
 ghost use Rattle.r9_store.specs.Tiles.{cell, held, is_held, pixel, place_of, spare};
 
 use r9_geom::{Point, distance};
 use r9_memory::Memory;
+use r9_plane::Plane;
 use slab::Slab;
 use std::alloc::Global;
 use std::marker::Model;
@@ -125,17 +128,27 @@ impl Store {
         put_at(&mut self.tiles[t.0], place_of(p), raw);
     }
 
+    /// The raw pixels side by side in a tile, from a point to the right: so many of them, as they are kept.
+    pub fn row(&self, t: TileNo, at: Point, len: usize) -> &[u32]
+        requires held { IsTrue (is_held self.now t) }
+        requires inside { (p : Spot) → IsTrue (holds (strip at len) p) → IsTrue (holds cell p) }
+        ensures len { length result.now ≡ len }
+        ensures pixels { (p : Spot) → IsTrue (holds (strip at len) p) → slice_index result.now (distance at.x p.x) ≡ pixel self.now t p }
+    {
+        if len == 0 {
+            return &[];
+        }
+        run(&self.tiles[t.0], place_of(at), len)
+    }
+
     /// The raw pixels side by side in a tile, from a point to the right: as many as there is room for in `raws`.
     pub fn get_row(&self, t: TileNo, at: Point, raws: &mut [u32])
         requires held { IsTrue (is_held self.now t) }
         requires inside { (p : Spot) → IsTrue (holds (strip at (length raws.old)) p) → IsTrue (holds cell p) }
         ensures { (p : Spot) → IsTrue (holds (strip at (length raws.old)) p) → slice_index raws.new (distance at.x p.x) ≡ pixel self.now t p }
     {
-        if raws.is_empty() {
-            return;
-        }
-        let first = place_of(at);
-        get_run(&self.tiles[t.0], first, raws);
+        let row = self.row(t, at, raws.len());
+        raws.copy_from_slice(row);
     }
 
     /// Puts raw pixels side by side into a tile, from a point to the right, and changes nothing else.
@@ -152,6 +165,25 @@ impl Store {
         }
         let first = place_of(at);
         put_run(&mut self.tiles[t.0], first, raws);
+    }
+
+    /// Puts the raw pixels of a plane side by side into a tile, from a point of each to the right: so many of them. They have no
+    /// more bits than the plane's channels tell. Nothing else changes.
+    pub fn copy_row(&mut self, t: TileNo, at: Point, len: usize, plane: &Plane, from: Point)
+        requires held { IsTrue (is_held self.old t) }
+        requires inside { (p : Spot) → IsTrue (holds (strip at len) p) → IsTrue (holds cell p) }
+        requires inside_plane { (p : Spot) → IsTrue (holds (strip from len) p) → IsTrue (holds (rect_of plane.now) p) }
+        ensures pixels { (u : ℕ) (q : Spot) → pixel self.new u q ≡ (if (u == t) && holds (strip at len) q then pixel_at plane.now (carried q at from) else pixel self.old u q) }
+        ensures below { (i : ℕ) → i < len → pixel_at plane.now (along from i) < 2 ^ depth (chan_of plane.now) }
+        ensures same { (u : ℕ) → is_held self.new u ≡ is_held self.old u }
+        ensures held { held self.new ≡ held self.old }
+        ensures spare { spare self.new ≡ spare self.old }
+    {
+        if len == 0 {
+            return;
+        }
+        let first = place_of(at);
+        copy_run(&mut self.tiles[t.0], first, len, plane, from);
     }
 
     /// How many tiles are held.
@@ -181,11 +213,12 @@ fn put_at(tile: &mut [u32; PIXELS], place: usize, raw: u32)
 }
 
 // The pixels of a tile from a place on.
-fn get_run(tile: &[u32; PIXELS], first: usize, raws: &mut [u32])
-    requires { first + length raws.old ≤ PIXELS }
-    ensures { (i : ℕ) → i < length raws.old → slice_index raws.new i ≡ slice_index tile.now (first + i) }
+fn run(tile: &[u32; PIXELS], first: usize, len: usize) -> &[u32]
+    requires { first + len ≤ PIXELS }
+    ensures len { length result.now ≡ len }
+    ensures pixels { (i : ℕ) → i < len → slice_index result.now i ≡ slice_index tile.now (first + i) }
 {
-    raws.copy_from_slice(&tile[first..first + raws.len()]);
+    &tile[first..first + len]
 }
 
 // Puts pixels into a tile from a place on.
@@ -195,6 +228,17 @@ fn put_run(tile: &mut [u32; PIXELS], first: usize, raws: &[u32])
     ensures others { (n : ℕ) → ((i : ℕ) → i < length raws.now → n ≢ first + i) → slice_index tile.new n ≡ slice_index tile.old n }
 {
     tile[first..first + raws.len()].copy_from_slice(raws);
+}
+
+// Puts pixels of a plane into a tile from a place on.
+fn copy_run(tile: &mut [u32; PIXELS], first: usize, len: usize, plane: &Plane, from: Point)
+    requires fits { first + len ≤ PIXELS }
+    requires inside { (p : Spot) → IsTrue (holds (strip from len) p) → IsTrue (holds (rect_of plane.now) p) }
+    ensures written { (i : ℕ) → i < len → slice_index tile.new (first + i) ≡ pixel_at plane.now (along from i) }
+    ensures below { (i : ℕ) → i < len → pixel_at plane.now (along from i) < 2 ^ depth (chan_of plane.now) }
+    ensures others { (n : ℕ) → ((i : ℕ) → i < len → n ≢ first + i) → slice_index tile.new n ≡ slice_index tile.old n }
+{
+    plane.get_row(from, &mut tile[first..first + len]);
 }
 
 // Where the pixel of a point stands among those of its tile, row by row.

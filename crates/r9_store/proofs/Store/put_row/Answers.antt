@@ -1,5 +1,7 @@
-use Rattle.std.proofs.Common.{◌+◌, ◌∙◌, ap, sym, arith, length}
+use Rattle.std.proofs.Common.{◌+◌, ◌∙◌, ap, sym, arith, length, refl}
 use Rattle.std.specs.Prelude.{slice_index}
+use Rattle.r9_geom.specs.declared.Point.{Point}
+use Rattle.r9_geom.specs.Geometry.{distance}
 use Rattle.r9_store.proofs.Rows.{run_fits, shown-put_row, some_of, start_in}
 use Rattle.r9_store.proofs.Store.put_row.Goals as goal
 
@@ -14,8 +16,10 @@ put_run-requires c =
 pub returns-clause-pixels : goal.returns-clause-pixels
 returns-clause-pixels c u q =
     rw (← c.self.view_is, ← c.t.view_is)
-    (shown-put_row c.self.inside.tiles.slots c.t.inside.0 c.index_mut.result.now c.put_run.new.tile c.args.at c.args.raws.now c.index_mut.ensures.value c.requires.inside
+    (shown-put_row c.self.inside.tiles.slots c.t.inside.0 c.index_mut.result.now c.put_run.new.tile c.args.at (length c.args.raws.now)
+    (slice_index c.args.raws.now) (λ (p : Point). slice_index c.args.raws.now (distance c.args.at.x p.x))
+    c.index_mut.ensures.value c.requires.inside
     (record {
       written = λ i h. ap (λ n. slice_index c.put_run.new.tile (n + i)) (sym c.place_of-first.ensures.value) ∙ c.put_run.ensures.written i h;
       others = λ n apart. c.put_run.ensures.others n (λ i h same. apart i h (same ∙ ap (λ f. f + i) c.place_of-first.ensures.value));
-    }) u q)
+    }) (λ _ _. refl) u q)

@@ -1,9 +1,11 @@
 use Rattle.std.proofs.Common.{◌≡◌, ◌∙◌, ◌<◌, ◌^◌, ap, sym, refl, subst, arith, true}
-use Rattle.std.specs.Prelude.{if◌then◌else◌}
+use Rattle.std.specs.Prelude.{if◌then◌else◌, ◌||◌}
 use Rattle.std.proofs.lemmas.Int.{ints}
 use Rattle.r9_geom.specs.declared.Point.{Point}
 use Rattle.r9_geom.specs.Geometry.{carried, distance, height, holds, strip, width, IsNearBy}
 use Rattle.r9_geom.proofs.GeometryLemmas.{band, band_all, distance_below, height_most, row_inside}
+use Rattle.r9_marks.specs.Marks.{marked, marked_count}
+use Rattle.r9_plane.specs.Marks.{touched}
 use Rattle.r9_plane.specs.Pixels.{along, pixel_at}
 use Rattle.r9_plane.proofs.PlaneLemmas.{band_begins, band_grows, carried_along, carried_strip, carried_twice}
 use Rattle.r9_plane.proofs.plane.Plane.copy.Goals as goal
@@ -12,6 +14,7 @@ pub loop-row-init : goal.loop-row-init
 loop-row-init c = record {
   rect = refl;
   chan = refl;
+  marks = refl;
   pixels = λ q. band_begins c.args.r q (pixel_at c.args.other.now (carried q c.args.r.min c.args.from)) (pixel_at c.args.self.now q);
 }
 
@@ -70,6 +73,7 @@ loop-row-preserved c =
     record {
       rect = c.copy_row.ensures.rect ∙ inv.rect;
       chan = c.copy_row.ensures.chan ∙ inv.chan;
+      marks = c.copy_row.ensures.marks ∙ inv.marks;
       pixels = λ q.
           let shown = pixel_at other (along c.carried.result (distance at.x q.x)) in
           band_grows r at q row shown (pixel_at other (carried q r.min c.args.from))
@@ -85,6 +89,18 @@ returns-clause-pixels c q =
     let r = c.args.r in
     let value = pixel_at c.args.other.now (carried q r.min c.args.from) in
     let end : c.loop-row.row ≡ height r = omega (arith, c.height-row-end.ensures) in
-    c.loop-row.invariant.pixels q
+    ap (λ pixels. pixels q) c.mark.ensures.pixels
+    ∙ c.loop-row.invariant.pixels q
     ∙ ap (λ n. if holds (band r n) q then value else pixel_at c.args.self.now q) end
     ∙ ap (λ b. if b then value else pixel_at c.args.self.now q) (band_all r q c.requires.ordered.down)
+
+pub mark-requires-clause-inside : goal.mark-requires-clause-inside
+mark-requires-clause-inside c p h = ap (λ r. holds r p) c.loop-row.invariant.rect ∙ c.requires.inside p h
+
+pub returns-clause-marks : goal.returns-clause-marks
+returns-clause-marks c column row =
+    let inv = c.loop-row.invariant in
+    c.mark.ensures.marks column row ∙ (λ i. touched (inv.rect i) c.args.r column row || marked (inv.marks i) column row)
+
+pub returns-clause-few : goal.returns-clause-few
+returns-clause-few c = omega (arith, c.mark.ensures.few, ap marked_count c.loop-row.invariant.marks)

@@ -1,5 +1,5 @@
 use Rattle.std.proofs.Common.{◌≡◌, ◌∙◌, ◌<◌, ℕ, List, ap, sym, refl, arith, true}
-use Rattle.std.specs.Prelude.{if◌then◌else◌}
+use Rattle.std.specs.Prelude.{if◌then◌else◌, ◌||◌}
 use Rattle.std.proofs.lemmas.Int.{ints}
 use Rattle.std.proofs.lemmas.List.{length-replicate}
 use Rattle.r9_geom.specs.declared.Point.{Point}
@@ -7,6 +7,8 @@ use Rattle.r9_geom.specs.Geometry.{height, holds, strip, width}
 use Rattle.r9_geom.proofs.GeometryLemmas.{band, band_all, height_most, row_inside}
 use Rattle.model_pixel.specs.Channels.{depth}
 use Rattle.model_pixel.specs.Rows.{raw_at}
+use Rattle.r9_marks.specs.Marks.{marked, marked_count}
+use Rattle.r9_plane.specs.Marks.{touched}
 use Rattle.r9_plane.specs.Pixels.{pixel_at}
 use Rattle.r9_plane.proofs.PlaneLemmas.{band_begins, band_grows}
 use Rattle.r9_plane.proofs.PackedLemmas.{depth_most}
@@ -16,6 +18,7 @@ pub loop-row-init : goal.loop-row-init
 loop-row-init c = record {
   rect = refl;
   chan = refl;
+  marks = refl;
   pixels = λ q. band_begins c.args.r q c.args.raw (pixel_at c.args.self.now q);
 }
 
@@ -65,6 +68,7 @@ loop-row-preserved c =
     record {
       rect = c.fill_row.ensures.rect ∙ inv.rect;
       chan = c.fill_row.ensures.chan ∙ inv.chan;
+      marks = c.fill_row.ensures.marks ∙ inv.marks;
       pixels = λ q.
           band_grows r at q row shown c.args.raw
           (pixel_at c.loop-row.self q) (pixel_at plane q) (pixel_at c.fill_row.new.self q)
@@ -78,6 +82,18 @@ pub returns-clause-pixels : goal.returns-clause-pixels
 returns-clause-pixels c q =
     let r = c.args.r in
     let end : c.loop-row.row ≡ height r = omega (arith, c.height-row-end.ensures) in
-    c.loop-row.invariant.pixels q
+    ap (λ pixels. pixels q) c.mark.ensures.pixels
+    ∙ c.loop-row.invariant.pixels q
     ∙ ap (λ n. if holds (band r n) q then c.args.raw else pixel_at c.args.self.now q) end
     ∙ ap (λ b. if b then c.args.raw else pixel_at c.args.self.now q) (band_all r q c.requires.ordered.down)
+
+pub mark-requires-clause-inside : goal.mark-requires-clause-inside
+mark-requires-clause-inside c p h = ap (λ r. holds r p) c.loop-row.invariant.rect ∙ c.requires.inside p h
+
+pub returns-clause-marks : goal.returns-clause-marks
+returns-clause-marks c column row =
+    let inv = c.loop-row.invariant in
+    c.mark.ensures.marks column row ∙ (λ i. touched (inv.rect i) c.args.r column row || marked (inv.marks i) column row)
+
+pub returns-clause-few : goal.returns-clause-few
+returns-clause-few c = omega (arith, c.mark.ensures.few, ap marked_count c.loop-row.invariant.marks)

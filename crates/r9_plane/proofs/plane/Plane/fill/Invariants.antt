@@ -4,11 +4,13 @@ use Rattle.r9_geom.specs.declared.Point.{Point}
 use Rattle.r9_geom.specs.Geometry.{holds}
 use Rattle.r9_geom.proofs.GeometryLemmas.{band}
 use Rattle.r9_plane.specs.Pixels.{chan_of, pixel_at, rect_of}
+use Rattle.r9_plane.specs.Marks.{marks_of}
 use Rattle.r9_plane.proofs.plane.Plane.fill.Given as goal
 
 abbrev pub invariant-loop-row : goal.invariant-loop-row
 invariant-loop-row l = record {
   rect : rect_of l.self ≡ rect_of l.fn.self;
   chan : chan_of l.self ≡ chan_of l.fn.self;
+  marks : marks_of l.self ≡ marks_of l.fn.self;
   pixels : (q : Point) → pixel_at l.self q ≡ (if holds (band l.r l.row) q then l.fn.raw else pixel_at l.fn.self q);
 }

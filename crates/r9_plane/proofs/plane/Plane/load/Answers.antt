@@ -1,10 +1,12 @@
 use Rattle.std.proofs.Common.{◌≡◌, ◌+◌, ◌-◌, ◌*◌, ◌<◌, ◌≤◌, length, take, drop, length-drop, ap, sym, ◌∙◌, arith, refl, true}
-use Rattle.std.specs.Prelude.{if◌then◌else◌}
+use Rattle.std.specs.Prelude.{if◌then◌else◌, ◌||◌}
 use Rattle.std.proofs.lemmas.Int.{ints}
 use Rattle.r9_geom.specs.Geometry.{distance, height, holds, strip, width}
 use Rattle.r9_geom.proofs.GeometryLemmas.{band, band_all, distance_below, row_distance, row_inside, width_most}
 use Rattle.model_pixel.specs.Channels.{depth, is_depth}
 use Rattle.model_pixel.specs.Rows.{raw_at, row_bytes, row_pixel, skip}
+use Rattle.r9_marks.specs.Marks.{marked, marked_count}
+use Rattle.r9_plane.specs.Marks.{touched}
 use Rattle.r9_plane.specs.Pixels.{pixel_at}
 use Rattle.r9_plane.proofs.PlaneLemmas.{band_begins, band_grows, lines_left, rest_is}
 use Rattle.r9_plane.proofs.RowLemmas.{row_fits}
@@ -16,6 +18,7 @@ loop-row-init c = record {
   y = omega (arith, ints);
   rect = refl;
   chan = refl;
+  marks = refl;
   pixels = λ q. band_begins c.args.r q (row_pixel c.args.r (depth c.args.self.now.chan) c.args.rows.now q) (pixel_at c.args.self.now q);
 }
 
@@ -73,6 +76,7 @@ loop-row-preserved c =
       y = omega (arith, ints, inv.y, last, c.requires.near.min.top, c.requires.near.max.bottom);
       rect = c.load_row.ensures.rect ∙ inv.rect;
       chan = c.load_row.ensures.chan ∙ inv.chan;
+      marks = c.load_row.ensures.marks ∙ inv.marks;
       pixels = λ q.
           let shown = raw_at (depth c.loop-row.self.chan) (take (length rows - row * c.row_bytes-line_len.result) (drop (row * c.row_bytes-line_len.result) rows)) (c.skip-skip.result + distance at.x q.x) in
           band_grows r at q row shown
@@ -90,6 +94,18 @@ returns-clause-pixels c q =
     let r = c.args.r in
     let value = row_pixel r (depth c.args.self.now.chan) c.args.rows.now q in
     let end : c.loop-row.row ≡ height r = omega (arith, c.height-row-end.ensures) in
-    c.loop-row.invariant.pixels q
+    ap (λ pixels. pixels q) c.mark.ensures.pixels
+    ∙ c.loop-row.invariant.pixels q
     ∙ ap (λ n. if holds (band r n) q then value else pixel_at c.args.self.now q) end
     ∙ ap (λ b. if b then value else pixel_at c.args.self.now q) (band_all r q c.requires.ordered.down)
+
+pub mark-requires-clause-inside : goal.mark-requires-clause-inside
+mark-requires-clause-inside c p h = ap (λ r. holds r p) c.loop-row.invariant.rect ∙ c.requires.inside p h
+
+pub returns-clause-marks : goal.returns-clause-marks
+returns-clause-marks c column row =
+    let inv = c.loop-row.invariant in
+    c.mark.ensures.marks column row ∙ (λ i. touched (inv.rect i) c.args.r column row || marked (inv.marks i) column row)
+
+pub returns-clause-few : goal.returns-clause-few
+returns-clause-few c = omega (arith, c.mark.ensures.few, ap marked_count c.loop-row.invariant.marks)

@@ -1,6 +1,7 @@
 use Rattle.std.proofs.Common.{◌≡◌, ◌∙◌, ◌<◌, ◌≤◌, ◌^◌, ◌*◌, ℕ, ap, sym, subst, vec_len}
 use Rattle.r9_geom.specs.declared.Rect.{Rect}
 use Rattle.r9_geom.specs.Geometry.{height, width, IsOrdered, IsRectNear}
+use Rattle.r9_marks.specs.Cells.{cells_over}
 use Rattle.r9_plane.specs.Pixels.{pixel_at, pixel_of}
 use Rattle.r9_plane.proofs.Shifts.{height-at_min, ordered-at_min, pixel-at_min, width-at_min}
 use Rattle.r9_plane.proofs.plane.Plane.shift.Goals as goal
@@ -20,6 +21,8 @@ invariant_of-self c =
       columns_are = plane.columns_are ∙ wide;
       countable = subst (λ (n : ℕ). n < 2 ^ 63) (λ j. tall j * wide j) plane.countable;
       room = subst (λ (n : ℕ). n * plane.depth ≤ 8 * vec_len plane.bytes) (λ j. tall j * wide j) plane.room;
+      across = plane.across ∙ ap cells_over wide;
+      down = plane.down ∙ ap cells_over tall;
     }
 
 pub returns-clause-pixels : goal.returns-clause-pixels

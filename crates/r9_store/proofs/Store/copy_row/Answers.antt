@@ -1,0 +1,29 @@
+use Rattle.std.proofs.Common.{◌+◌, ◌∙◌, ap, sym, arith, ℕ}
+use Rattle.std.specs.Prelude.{slice_index}
+use Rattle.r9_geom.specs.declared.Point.{Point}
+use Rattle.r9_geom.specs.Geometry.{carried}
+use Rattle.r9_plane.specs.Pixels.{along, pixel_at}
+use Rattle.r9_store.proofs.Rows.{along_carried, run_fits, shown-put_row, start_in}
+use Rattle.r9_store.proofs.Store.copy_row.Goals as goal
+
+pub place_of-first-requires : goal.place_of-first-requires
+place_of-first-requires c = start_in c.args.at c.args.len (omega (arith, c.if-len-eq0.false)) c.requires.inside
+
+pub copy_run-requires-clause-fits : goal.copy_run-requires-clause-fits
+copy_run-requires-clause-fits c =
+    let fits = run_fits c.args.at c.args.len (omega (arith, c.if-len-eq0.false)) c.requires.inside in
+    omega (arith, fits, c.place_of-first.ensures.value)
+
+pub returns-clause-pixels : goal.returns-clause-pixels
+returns-clause-pixels c u q =
+    let plane = c.args.plane.now in
+    let from = c.args.from in
+    rw (← c.self.view_is, ← c.t.view_is)
+    (shown-put_row c.self.inside.tiles.slots c.t.inside.0 c.index_mut.result.now c.copy_run.new.tile c.args.at c.args.len
+    (λ (i : ℕ). pixel_at plane (along from i)) (λ (p : Point). pixel_at plane (carried p c.args.at from))
+    c.index_mut.ensures.value c.requires.inside
+    (record {
+      written = λ i h. ap (λ n. slice_index c.copy_run.new.tile (n + i)) (sym c.place_of-first.ensures.value) ∙ c.copy_run.ensures.written i h;
+      others = λ n apart. c.copy_run.ensures.others n (λ i h same. apart i h (same ∙ ap (λ f. f + i) c.place_of-first.ensures.value));
+    })
+    (λ p h. ap (pixel_at plane) (along_carried c.args.at from p c.args.len h)) u q)
