@@ -1,17 +1,23 @@
 -- Cells of a rectangle, and the windows above one.
-use Rattle.std.proofs.Common.{◌≡◌, ◌∙◌, ℕ, ℤ, suc, length, get_or, drop, drop-cons, ◌+◌, ◌*◌, ◌/◌, ◌%◌, ◌<◌, ◌≢◌, ◌^◌, pos, ◌+ℤ◌, ◌≤ℤ◌, neg_ℤ, Bool, true, List, [], ◌∷◌, refl, ap, subst, arith, ⊎_elim}
-use Rattle.std.specs.Prelude.{◌||◌, if◌then◌else◌}
+use Rattle.std.proofs.Common.{◌≡◌, ◌∙◌, ℕ, ℤ, zero, suc, length, get_or, take, find, ◌+◌, ◌*◌, ◌/◌, ◌%◌, ◌<◌, ◌≤◌, ◌≢◌, ◌^◌, pos, ◌+ℤ◌, ◌≤ℤ◌, neg_ℤ, Bool, true, false, All, List, [], ◌∷◌, Some, None, cond, refl, sym, ap, subst, arith, ⊎_elim}
+use Rattle.std.specs.Prelude.{◌==◌, ◌||◌, nat_lt, not, if◌then◌else◌}
 use Rattle.std.specs.Int.{int_max, int_min}
-use Rattle.std.specs.List.{list_any}
-use Rattle.std.proofs.lemmas.Bool.{cases_eq, ne_eqb}
+use Rattle.std.specs.List.{list_any, position_or_len}
+use Rattle.std.specs.Option.{option_map_or}
+use Rattle.std.proofs.lemmas.Bool.{cases_eq, cases_lt}
+use Rattle.std.proofs.lemmas.Bool.Decides.{Decides-ltb}
 use Rattle.std.proofs.lemmas.Int.{ints}
 use Rattle.std.proofs.Math.Nat.{div-add-mod, div-lt_iff_lt-mul, mod-lt, mul_comm}
 use Rattle.r9_geom.specs.declared.Point.{Point}
 use Rattle.r9_geom.specs.declared.Rect.{Rect}
-use Rattle.r9_geom.specs.Geometry.{distance, height, holds, meet, point_at, width, IsOrdered, IsRectNear}
+use Rattle.r9_geom.specs.Geometry.{distance, height, holds, meet, point_at, width, IsNear, IsOrdered, IsRectNear}
 use Rattle.r9_geom.proofs.GeometryLemmas.{distance_is, point_holds, strip_distance}
 use Rattle.model_forest.specs.declared.Window.{Window}
-use Rattle.model_kept.specs.Cells.{above, cell_count, cell_of, cell_part, cells_across}
+use Rattle.model_forest.specs.World.{no_rect}
+use Rattle.model_kept.specs.Cells.{above, cell_count, cell_of, cell_part, cells_across, hides_under}
+use Rattle.model_kept.specs.Keeping.{place_among}
+use Rattle.r9_locate.proofs.Locating.{no_rect_near, place_near}
+use Rattle.r9_cells.specs.Fitting.{hides_above}
 
 -- a cell begins within the rectangle
 pub cell_begins : (r : Rect) (k : ℕ) → k < cell_count r → (32 * (k % cells_across r) < width r) × (32 * (k / cells_across r) < height r)
@@ -86,11 +92,73 @@ cell_near r k near ordered below =
       max = record { left = right.0; right = right.1; top = bottom.0; bottom = bottom.1 };
     }
 
--- the window at a place of a list stands above, where none before is the one that is asked about
-pub above_here : (f : Window → Bool) (i : ℕ) (ws : List Window) (k : ℕ) (d : Window) → k < length ws → (get_or ws k d).image ≢ i → f (get_or ws k d) ≡ true → list_any f (above i (drop k ws)) ≡ true
-above_here f i ws k d below other is =
-    let w = get_or ws k d in
-    let rest = drop (suc k) ws in
-    ap (λ xs. list_any f (above i xs)) (drop-cons ws k d below)
-    ∙ ap (λ b. list_any f (if b then [] else w ∷ above i rest)) (ne_eqb w.image i other)
-    ∙ ap (λ b. b || list_any f (above i rest)) is
+-- the windows above one are those before it
+pub above_before : (i : ℕ) (ws : List Window) → above i ws ≡ take (position_or_len (λ w. w.image == i) ws) ws
+above_before i [] = refl
+above_before i (w ∷ ws) = by_test (above_before i ws) (w.image == i)
+  where
+    at : ℕ
+    at = position_or_len (λ v. v.image == i) ws
+
+    by_test : above i ws ≡ take at ws → (b : Bool) → (if b then [] else w ∷ above i ws) ≡ take (cond (not b) (1 + at) 0) (w ∷ ws)
+    by_test rest true = refl
+    by_test rest false = let first : suc at ≡ 1 + at = omega arith in ap (λ l. w ∷ l) rest ∙ ap (λ n. take n (w ∷ ws)) first
+
+-- and where it stands in the list, it has its place
+pub place_at : (i : ℕ) (ws : List Window) (d : Window) → position_or_len (λ w. w.image == i) ws < length ws → (get_or ws (position_or_len (λ w. w.image == i) ws) d).place ≡ place_among ws i
+place_at i [] d below = absurd (omega arith)
+place_at i (w ∷ ws) d below = by_test (λ lower. place_at i ws d lower) (w.image == i) below
+  where
+    at : ℕ
+    at = position_or_len (λ v. v.image == i) ws
+
+    by_test : (at < length ws → (get_or ws at d).place ≡ place_among ws i) → (b : Bool) → cond (not b) (1 + at) 0 < suc (length ws) → (get_or (w ∷ ws) (cond (not b) (1 + at) 0) d).place ≡ option_map_or (λ (v : Window). v.place) (cond b (Some w) (find (λ (v : Window). v.image == i) ws)) no_rect
+    by_test rest true below = refl
+    by_test rest false below = let first : 1 + at ≡ suc at = omega arith in ap (λ n. (get_or (w ∷ ws) n d).place) first ∙ rest (omega (arith, below))
+
+pub place_none : (i : ℕ) (ws : List Window) → length ws ≤ position_or_len (λ w. w.image == i) ws → place_among ws i ≡ no_rect
+place_none i [] past = refl
+place_none i (w ∷ ws) past = by_test (λ over. place_none i ws over) (w.image == i) past
+  where
+    at : ℕ
+    at = position_or_len (λ v. v.image == i) ws
+
+    by_test : (length ws ≤ at → place_among ws i ≡ no_rect) → (b : Bool) → suc (length ws) ≤ cond (not b) (1 + at) 0 → option_map_or (λ (v : Window). v.place) (cond b (Some w) (find (λ (v : Window). v.image == i) ws)) no_rect ≡ no_rect
+    by_test rest true past = absurd (omega (arith, past))
+    by_test rest false past = rest (omega (arith, past))
+
+pub position_some : (n len at : ℕ) → cond (nat_lt n len) (Some n) None ≡ Some at → n ≡ at
+position_some n len at e = by_test (nat_lt n len) e
+  where
+    by_test : (b : Bool) → cond b (Some n) None ≡ Some at → n ≡ at
+    by_test true k = cc
+    by_test false k = cc
+
+pub position_none : (n len : ℕ) → cond (nat_lt n len) (Some n) None ≡ None → len ≤ n
+position_none n len e =
+    ⊎_elim
+    (λ (below : n < len). let some : Some n ≡ None = sym (ap (λ b. cond b (Some n) None) ((Decides-ltb n len).1 below)) ∙ e in absurd (cc))
+    (λ (past : len ≤ n). past)
+    (cases_lt n len)
+
+-- where the place begins
+pub to_near : (ws : List Window) (i : ℕ) (to : Point) → All (λ w. IsRectNear w.place) ws → to ≡ (place_among ws i).min → IsNear to
+to_near ws i to places is = subst IsNear (sym is) (place_near (2 ^ 40) ws i places (no_rect_near (2 ^ 40)))
+
+-- what the windows above hide of a part of one
+pub under : (below : Rect) (ws upper : List Window) (i : ℕ) (r : Rect) (to : Point) (part : Rect) → upper ≡ above i ws → to ≡ (place_among ws i).min → hides_above below upper r to part ≡ hides_under below ws i r part
+under below ws upper i r to part above_is to_is = λ j. hides_above below (above_is j) r (to_is j) part
+
+-- what is asked of the first windows of a list, one more
+pub any_take : (f : Window → Bool) (ws : List Window) (k : ℕ) (d : Window) → k < length ws → list_any f (take (suc k) ws) ≡ (list_any f (take k ws) || f (get_or ws k d))
+any_take f [] k d below = absurd (omega arith)
+any_take f (w ∷ ws) zero d below = or_false (f w)
+  where
+    or_false : (b : Bool) → (b || false) ≡ b
+    or_false true = refl
+    or_false false = refl
+any_take f (w ∷ ws) (suc k) d below = ap (λ b. f w || b) (any_take f ws k d (omega arith)) ∙ either (f w) (list_any f (take k ws)) (f (get_or ws k d))
+  where
+    either : (a b c : Bool) → (a || (b || c)) ≡ ((a || b) || c)
+    either true b c = refl
+    either false b c = refl

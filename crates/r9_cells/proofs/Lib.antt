@@ -7,4 +7,5 @@ pub mod Pixels
 pub mod Places
 pub mod Remade
 pub mod Rows
+pub mod Carried
 pub mod Steps

@@ -1,5 +1,5 @@
 -- Of a window of which nothing is hidden no cell is.
-use Rattle.std.proofs.Common.{◌≡◌, ◌∙◌, ℕ, Bool, true, false, List, refl, sym, ap, arith}
+use Rattle.std.proofs.Common.{◌≡◌, ◌∙◌, Bool, true, false, List, refl, sym, ap, arith}
 use Rattle.std.specs.Prelude.{not, ◌||◌}
 use Rattle.std.specs.List.{list_any}
 use Rattle.std.proofs.lemmas.Bool.{false_from_ne_true, false≢true, true_from_ne_false}
@@ -9,9 +9,8 @@ use Rattle.r9_geom.specs.declared.Rect.{Rect}
 use Rattle.r9_geom.specs.Geometry.{carried, holds, is_empty, is_inside, meet}
 use Rattle.r9_geom.proofs.GeometryLemmas.{bounds_of, holds_from, inside_tells}
 use Rattle.model_forest.specs.declared.Window.{Window}
-use Rattle.model_kept.specs.Cells.{above, hides_under}
-use Rattle.model_kept.specs.Keeping.{place_among}
 use Rattle.model_kept.proofs.Hiding.{meets_some, outside_point, some_meets}
+use Rattle.r9_cells.specs.Fitting.{hides_above}
 
 abbrev out : Rect → (from to : Point) → Rect
 out r from to = record { min = carried r.min from to; max = carried r.max from to }
@@ -35,12 +34,9 @@ parts_of false covered e = cc
 both : (inside covered : Bool) → inside ≡ true → covered ≡ false → (not inside || covered) ≡ false
 both inside covered is none = ap (λ b. not b || covered) is ∙ none
 
-pub part_shown : (below : Rect) (ws : List Window) (i : ℕ) (r s : Rect) → hides_under below ws i r r ≡ false → hides_under below ws i r (meet r s) ≡ false
-part_shown below ws i r s none = both (is_inside part below) (covered part) inside clear
+pub part_shown : (below : Rect) (upper : List Window) (r : Rect) (to : Point) (s : Rect) → hides_above below upper r to r ≡ false → hides_above below upper r to (meet r s) ≡ false
+part_shown below upper r to s none = both (is_inside part below) (covered part) inside clear
   where
-    to : Point
-    to = (place_among ws i).min
-
     whole : Rect
     whole = out r r.min to
 
@@ -48,7 +44,7 @@ part_shown below ws i r s none = both (is_inside part below) (covered part) insi
     part = out (meet r s) r.min to
 
     covered : Rect → Bool
-    covered o = list_any (λ (w : Window). not (is_empty (meet w.place o))) (above i ws)
+    covered o = list_any (λ (w : Window). not (is_empty (meet w.place o))) upper
 
     shown : (is_inside whole below ≡ true) × (covered whole ≡ false)
     shown = parts_of (is_inside whole below) (covered whole) none
@@ -65,5 +61,5 @@ part_shown below ws i r s none = both (is_inside part below) (covered part) insi
     clear =
         false_from_ne_true (covered part)
         (λ e.
-        let q = some_meets part (above i ws) e in
-        false≢true (sym shown.1 ∙ meets_some whole (above i ws) q.0 (wider r s r.min to q.0 q.1) q.2))
+        let q = some_meets part upper e in
+        false≢true (sym shown.1 ∙ meets_some whole upper q.0 (wider r s r.min to q.0 q.1) q.2))

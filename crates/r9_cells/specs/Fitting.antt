@@ -1,8 +1,9 @@
 -- The cells of a window that are to have a tile.
-use Rattle.std.specs.Prelude.{◌≡◌, ◌<◌, ◌==◌, ℕ, Bool, nat_lt, not, ◌&&◌, List, Option, is_some, length}
-use Rattle.std.specs.List.{count_by, range_with_len, sum_by}
+use Rattle.std.specs.Prelude.{◌≡◌, ◌<◌, ◌==◌, ℕ, Bool, nat_lt, not, ◌&&◌, ◌||◌, List, Option, is_some, length}
+use Rattle.std.specs.List.{count_by, list_any, range_with_len, sum_by}
+use Rattle.r9_geom.specs.declared.Point.{Point}
 use Rattle.r9_geom.specs.declared.Rect.{Rect}
-use Rattle.r9_geom.specs.Geometry.{IsOrdered, IsRectNear}
+use Rattle.r9_geom.specs.Geometry.{carried, is_empty, is_inside, meet, IsOrdered, IsRectNear}
 use Rattle.model_forest.specs.declared.Window.{Window}
 use Rattle.model_forest.specs.World.{World, image_at, IsLive}
 use Rattle.model_kept.specs.Cells.{cell_count, cell_part, hides_under}
@@ -14,6 +15,14 @@ pub record IsCelled (rows : List (List (Option ℕ))) (i : ℕ) (r : Rect) : Typ
   pub ordered : IsOrdered r
   pub image : i < length rows
   pub cells : length (row_at rows i) ≡ cell_count r
+
+-- an image of rectangle below does not show all of a part of a window under these others, whose own rectangle is r and stands
+-- at that point
+abbrev pub hides_above : Rect → List Window → Rect → Point → Rect → Bool
+hides_above below upper r to part =
+    let from = r.min in
+    let out : Rect = record { min = carried part.min from to; max = carried part.max from to } in
+    not (is_inside out below) || list_any (λ w. not (is_empty (meet w.place out))) upper
 
 -- an image of rectangle below with these windows hides a cell of its window i
 abbrev pub hides_cell : Rect → List Window → ℕ → Rect → ℕ → Bool

@@ -2,17 +2,17 @@
 
 ghost use Rattle.std.specs.Prelude.{◌≡◌, ◌≢◌, ◌+◌, ◌<◌, ◌≤◌, ◌==◌, ◌&&◌, ◌||◌, ℕ, Bool, nat_lt, None, true, is_some, length, not, IsTrue, All, if◌then◌else◌};
 ghost use Rattle.r9_geom.specs.declared.Point.{Point as Spot};
-ghost use Rattle.r9_geom.specs.Geometry.{IsRectNear};
+ghost use Rattle.r9_geom.specs.Geometry.{IsNear, IsRectNear};
 ghost use Rattle.r9_store.specs.Tiles.{spare};
-ghost use Rattle.model_kept.specs.Cells.{cell_count, hides_under};
+ghost use Rattle.model_kept.specs.Cells.{cell_count, cell_part};
 ghost use Rattle.r9_cells.specs.Rows.{cell_at, row_at};
 ghost use Rattle.r9_cells.specs.Fitting as spec;
-ghost use Rattle.r9_cells.specs.Fitting.{hides_cell, IsCelled};
+ghost use Rattle.r9_cells.specs.Fitting.{hides_above, hides_cell, IsCelled};
 
-use super::hiding::{hides, hides_part};
+use super::hiding::{hides, hides_part, standing};
 use super::table::Cells;
 use model_forest::Window;
-use r9_geom::Rect;
+use r9_geom::{Point, Rect};
 
 impl Cells {
     ghost use Rattle.r9_cells.specs.Cells.{all_rows, cell_pixel, tiles_in};
@@ -57,15 +57,24 @@ impl Cells {
         }
     }
 
-    // Whether a cell of a window is hidden and has no tile.
-    fn wants(&self, any: bool, below: &Rect, windows: &[Window], i: u32, r: &Rect, k: usize) -> bool
-        requires any { any ≡ hides_under below.now windows.now i r.now r.now }
+    // Whether a cell of a window under these others is hidden and has no tile.
+    fn wants(
+        &self,
+        any: bool,
+        below: &Rect,
+        upper: &[Window],
+        i: u32,
+        r: &Rect,
+        to: Point,
+        k: usize,
+    ) -> bool
+        requires any { any ≡ hides_above below.now upper.now r.now to r.now }
         requires celled { IsCelled (all_rows self.now) i r.now }
-        requires places { All (λ w. IsRectNear w.place) windows.now }
+        requires to { IsNear to }
         requires cell { k < cell_count r.now }
-        ensures { result ≡ spec.wants (all_rows self.now) below.now windows.now i r.now k }
+        ensures { result ≡ (hides_above below.now upper.now r.now to (cell_part r.now k) && not (is_some (cell_at (all_rows self.now) i k))) }
     {
-        hides_part(any, below, windows, i, r, k) && !self.has(i as usize, k)
+        hides_part(any, below, upper, r, to, k) && !self.has(i as usize, k)
     }
 
     // How many cells of a window are hidden and have no tile.
@@ -74,10 +83,11 @@ impl Cells {
         requires places { All (λ w. IsRectNear w.place) windows.now }
         ensures { result ≡ spec.wanted (all_rows self.now) below.now windows.now i r.now }
     {
-        let any = hides(below, windows, i, r, r);
+        let (upper, to) = standing(windows, i);
+        let any = hides(below, upper, r, to, r);
         let mut count = 0;
         for k in 0..self.rows[i as usize].cells.len() {
-            count += usize::from(self.wants(any, below, windows, i, r, k));
+            count += usize::from(self.wants(any, below, upper, i, r, to, k));
         }
         count
     }
@@ -93,10 +103,11 @@ impl Cells {
         ensures rows { length (all_rows self.new) ≡ length (all_rows self.old) }
         ensures lengths { (j : ℕ) → length (row_at (all_rows self.new) j) ≡ length (row_at (all_rows self.old) j) }
     {
-        let any = hides(below, windows, i, r, r);
+        let (upper, to) = standing(windows, i);
+        let any = hides(below, upper, r, to, r);
         let cells = self.rows[i as usize].cells.len();
         for k in 0..cells {
-            let is = hides_part(any, below, windows, i, r, k);
+            let is = hides_part(any, below, upper, r, to, k);
             self.take_for(i as usize, k, is);
         }
     }
@@ -111,10 +122,11 @@ impl Cells {
         ensures rows { length (all_rows self.new) ≡ length (all_rows self.old) }
         ensures lengths { (j : ℕ) → length (row_at (all_rows self.new) j) ≡ length (row_at (all_rows self.old) j) }
     {
-        let any = hides(below, windows, i, r, r);
+        let (upper, to) = standing(windows, i);
+        let any = hides(below, upper, r, to, r);
         let cells = self.rows[i as usize].cells.len();
         for k in 0..cells {
-            let is = hides_part(any, below, windows, i, r, k);
+            let is = hides_part(any, below, upper, r, to, k);
             self.give_unless(i as usize, k, is);
         }
     }

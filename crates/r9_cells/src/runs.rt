@@ -1,9 +1,10 @@
 //! Hidden pixels side by side, through the cells that they lie in.
 
-ghost use Rattle.std.specs.Prelude.{◌≡◌, ◌≢◌, ◌^◌, ◌<◌, ◌≤◌, ℕ, Some, true, length, slice_index, IsTrue};
+ghost use Rattle.std.specs.Prelude.{◌≡◌, ◌≢◌, ◌^◌, ◌<◌, ◌≤◌, ℕ, Some, true, length, slice_index, IsTrue, if◌then◌else◌};
 ghost use Rattle.r9_geom.specs.declared.Point.{Point as Spot};
-ghost use Rattle.r9_geom.specs.Geometry.{holds, strip, IsRectNear};
-ghost use Rattle.r9_plane.specs.Pixels.{along};
+ghost use Rattle.r9_geom.specs.Geometry.{carried, holds, strip, IsRectNear};
+ghost use Rattle.model_pixel.specs.Channels.{depth};
+ghost use Rattle.r9_plane.specs.Pixels.{along, chan_of, pixel_at, rect_of};
 ghost use Rattle.r9_store.specs.Tiles.{cell, is_held, pixel, spare};
 ghost use Rattle.model_kept.specs.Cells.{cell_of, in_cell};
 ghost use Rattle.r9_cells.specs.Rows.{cell_at, cell_place, has_tile, CellPlace};
@@ -12,6 +13,7 @@ use super::hiding::cells_across;
 use super::table::Cells;
 use r9_geom::{Point, Rect, distance};
 use r9_locate::along;
+use r9_plane::Plane;
 use r9_store::TileNo;
 
 /// A point of a tile, counted from its corner.
@@ -101,6 +103,46 @@ impl Cells {
         while done < raws.len() {
             let run = run_of(r, along(at, done), raws.len() - done);
             self.put_row(i, run.cell, run.at, &raws[done..done + run.len]);
+            done += run.len;
+        }
+    }
+
+    /// Takes hidden pixels side by side, of an image with that rectangle, from a plane, from a point of each to the right. They
+    /// have no more bits than the plane's channels tell.
+    pub fn hide(&mut self, i: usize, r: &Rect, at: Point, n: usize, plane: &Plane, from: Point)
+        requires near { IsRectNear r.now }
+        requires has { (k : ℕ) → k < n → IsTrue (has_tile (all_rows self.old) i r.now (along at k)) }
+        requires inside { (k : ℕ) → k < n → IsTrue (holds (rect_of plane.now) (along from k)) }
+        ensures at { (k : ℕ) → k < n → place_pixel self.new (cell_place i r.now (along at k)) ≡ pixel_at plane.now (along from k) }
+        ensures below { (k : ℕ) → k < n → pixel_at plane.now (along from k) < 2 ^ depth (chan_of plane.now) }
+        ensures others { (place : CellPlace) → ((k : ℕ) → k < n → place ≢ cell_place i r.now (along at k)) → place_pixel self.new place ≡ place_pixel self.old place }
+        ensures rows { all_rows self.new ≡ all_rows self.old }
+        ensures spare { spare (tiles_in self.new) ≡ spare (tiles_in self.old) }
+    {
+        let mut done = 0;
+        while done < n {
+            let run = run_of(r, along(at, done), n - done);
+            let there = along(from, done);
+            self.copy_row(i, run.cell, run.at, run.len, plane, there);
+            done += run.len;
+        }
+    }
+
+    /// Puts hidden pixels side by side, of an image with that rectangle, into a plane, from a point of each to the right.
+    pub fn show(&self, i: usize, r: &Rect, from: Point, n: usize, plane: &mut Plane, at: Point)
+        requires near { IsRectNear r.now }
+        requires has { (k : ℕ) → k < n → IsTrue (has_tile (all_rows self.now) i r.now (along from k)) }
+        requires inside { (k : ℕ) → k < n → IsTrue (holds (rect_of plane.old) (along at k)) }
+        requires below { (k : ℕ) → k < n → place_pixel self.now (cell_place i r.now (along from k)) < 2 ^ depth (chan_of plane.old) }
+        ensures rect { rect_of plane.new ≡ rect_of plane.old }
+        ensures chan { chan_of plane.new ≡ chan_of plane.old }
+        ensures pixels { (q : Spot) → pixel_at plane.new q ≡ (if holds (strip at n) q then place_pixel self.now (cell_place i r.now (carried q at from)) else pixel_at plane.old q) }
+    {
+        let mut done = 0;
+        while done < n {
+            let run = run_of(r, along(from, done), n - done);
+            let there = along(at, done);
+            plane.put_row(there, self.row(i, run.cell, run.at, run.len));
             done += run.len;
         }
     }

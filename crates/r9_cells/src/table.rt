@@ -1,14 +1,16 @@
 //! The tiles of the cells of images.
 
-ghost use Rattle.std.specs.Prelude.{◌≡◌, ◌≢◌, ◌+◌, ◌<◌, ◌==◌, ◌&&◌, ◌||◌, ℕ, Some, None, false, not, length, is_some, max, replicate, slice_index, slice_index_or, slice_set, [], ◌∷◌, ◌++◌, IsTrue, OnErr, OnOk, if◌then◌else◌};
+ghost use Rattle.std.specs.Prelude.{◌≡◌, ◌≢◌, ◌+◌, ◌^◌, ◌<◌, ◌==◌, ◌&&◌, ◌||◌, ℕ, Some, None, false, not, length, is_some, max, replicate, slice_index, slice_index_or, slice_set, [], ◌∷◌, ◌++◌, IsTrue, OnErr, OnOk, if◌then◌else◌};
 ghost use Rattle.r9_geom.specs.declared.Point.{Point as Spot};
 ghost use Rattle.r9_geom.specs.Geometry.{holds, strip};
-ghost use Rattle.r9_plane.specs.Pixels.{along};
+ghost use Rattle.model_pixel.specs.Channels.{depth};
+ghost use Rattle.r9_plane.specs.Pixels.{along, chan_of, pixel_at, rect_of};
 ghost use Rattle.r9_store.specs.Tiles.{cell, held, spare};
 ghost use Rattle.r9_cells.specs.Rows.{cell_at, row_at, rows_of, tiles_of, CellPlace, IsKept};
 
 use r9_geom::Point;
 use r9_memory::Memory;
+use r9_plane::Plane;
 use r9_store::{Store, TileNo};
 use std::alloc::Global;
 
@@ -157,6 +159,16 @@ impl Cells {
         }
     }
 
+    /// Pixels side by side in the tile of a cell, from a point of it to the right: so many of them, as they are kept.
+    pub fn row(&self, i: usize, k: usize, at: Point, len: usize) -> &[u32]
+        requires tile { IsTrue (is_some (cell_at (all_rows self.now) i k)) }
+        requires inside { (p : Spot) → IsTrue (holds (strip at len) p) → IsTrue (holds cell p) }
+        ensures len { length result.now ≡ len }
+        ensures pixels { (n : ℕ) → n < len → slice_index result.now n ≡ cell_pixel self.now i k (along at n) }
+    {
+        self.store.row(self.tile(i, k), at, len)
+    }
+
     /// Pixels side by side in the tile of a cell, from a point of it to the right: as many as there is room for in `raws`.
     pub fn get_row(&self, i: usize, k: usize, at: Point, raws: &mut [u32])
         requires tile { IsTrue (is_some (cell_at (all_rows self.now) i k)) }
@@ -177,5 +189,29 @@ impl Cells {
     {
         let tile = self.tile(i, k);
         self.store.put_row(tile, at, raws);
+    }
+
+    /// Puts pixels of a plane side by side into the tile of a cell, from a point of each to the right, and changes nothing else.
+    /// They have no more bits than the plane's channels tell.
+    pub fn copy_row(
+        &mut self,
+        i: usize,
+        k: usize,
+        at: Point,
+        len: usize,
+        plane: &Plane,
+        from: Point,
+    )
+        requires tile { IsTrue (is_some (cell_at (all_rows self.old) i k)) }
+        requires inside { (p : Spot) → IsTrue (holds (strip at len) p) → IsTrue (holds cell p) }
+        requires inside_plane { (n : ℕ) → n < len → IsTrue (holds (rect_of plane.now) (along from n)) }
+        ensures at { (n : ℕ) → n < len → cell_pixel self.new i k (along at n) ≡ pixel_at plane.now (along from n) }
+        ensures below { (n : ℕ) → n < len → pixel_at plane.now (along from n) < 2 ^ depth (chan_of plane.now) }
+        ensures others { (place : CellPlace) → ((n : ℕ) → n < len → place ≢ record { image = i; cell = k; at = along at n }) → place_pixel self.new place ≡ place_pixel self.old place }
+        ensures rows { all_rows self.new ≡ all_rows self.old }
+        ensures spare { spare (tiles_in self.new) ≡ spare (tiles_in self.old) }
+    {
+        let tile = self.tile(i, k);
+        self.store.copy_row(tile, at, len, plane, from);
     }
 }

@@ -9,4 +9,4 @@ mod viewing;
 pub use keeping::Run;
 pub use lists::{Frame, Lists, place_among};
 pub use runs::{along, steady, steady_top, top};
-pub use viewing::{Pixels, inward, read_view, write_view};
+pub use viewing::{Pixels, inward, read_view, save_view, show_own, write_view};

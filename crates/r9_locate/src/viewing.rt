@@ -1,10 +1,10 @@
 //! Pixels read and written by rows, where they are kept.
 
-ghost use Rattle.std.specs.Prelude.{◌≡◌, ◌≢◌, ◌+◌, ◌^◌, ◌<◌, ◌≤◌, ℕ, Bool, true, length, slice_index, IsTrue, Option};
+ghost use Rattle.std.specs.Prelude.{◌≡◌, ◌≢◌, ◌+◌, ◌^◌, ◌<◌, ◌≤◌, ℕ, Bool, true, length, slice_index, IsTrue, Option, Some};
 ghost use Rattle.r9_geom.specs.declared.Point.{Point as Spot};
 ghost use Rattle.r9_geom.specs.Geometry.{holds, strip, IsNear};
 ghost use Rattle.r9_plane.specs.Pixels.{along};
-ghost use Rattle.model_forest.specs.World.{image_at, IsLive};
+ghost use Rattle.model_forest.specs.World.{image_at, parent_of, IsLive};
 ghost use Rattle.model_forest.specs.View as view;
 ghost use Rattle.model_kept.specs.Keeping.{keeping, own, Place};
 ghost use Rattle.r9_locate.specs.Forms.{bits_in, Form, HasBits};
@@ -44,6 +44,28 @@ pub trait Pixels {
         ensures forms { forms self.new ≡ forms self.old }
         ensures spare { spare self.new ≡ spare self.old }
         ensures steps { steps.new ≡ steps.old + length raws.now };
+
+    /// Copies pixels side by side from where one image keeps them to where another one does, whose pixels have as many bits, a
+    /// step for each.
+    fn carry<L: Ledger>(
+        &mut self,
+        from: u32,
+        at: Point,
+        to: u32,
+        p: Point,
+        n: usize,
+        steps: &mut Steps<L>,
+    )
+        requires apart { from ≢ to }
+        requires had { (k : ℕ) → k < n → has self.old (own from (along at k)) ≡ true }
+        requires has { (k : ℕ) → k < n → has self.old (own to (along p k)) ≡ true }
+        requires bits { bits_in (forms self.old) from ≡ bits_in (forms self.old) to }
+        ensures at { (k : ℕ) → k < n → kept self.new (own to (along p k)) ≡ kept self.old (own from (along at k)) }
+        ensures others { (place : Place) → ((k : ℕ) → k < n → place ≢ own to (along p k)) → kept self.new place ≡ kept self.old place }
+        ensures has { has self.new ≡ has self.old }
+        ensures forms { forms self.new ≡ forms self.old }
+        ensures spare { spare self.new ≡ spare self.old }
+        ensures steps { steps.new ≡ steps.old + n };
 }
 
 /// The point of a window that stands at a point of the image below it.
@@ -102,6 +124,78 @@ pub fn write_view<P: Pixels, L: Ledger>(
     while done < raws.len() {
         let run = lists.locate(i, along(at, done), raws.len() - done);
         pixels.write(run.image, run.at, &raws[done..done + run.len], steps);
+        done += run.len;
+    }
+}
+
+/// Copies what an image shows side by side to where a window on it keeps its own pixels, a step for each.
+pub fn save_view<P: Pixels, L: Ledger>(
+    lists: &Lists,
+    pixels: &mut P,
+    i: u32,
+    from: Point,
+    to: u32,
+    p: Point,
+    n: usize,
+    steps: &mut Steps<L>,
+)
+    requires live { IsLive (shape lists.now) i }
+    requires stands { parent_of (shape lists.now) to ≡ Some i }
+    requires from { IsNear from }
+    requires near { IsNear p }
+    requires width { n ≤ 2 ^ 40 }
+    requires inside { (q : Spot) → IsTrue (holds (strip from n) q) → IsTrue (holds (image_at (shape lists.now) i).r q) }
+    requires had { (k : ℕ) → k < n → P.has pixels.old (keeping (shape lists.now) i (along from k)) ≡ true }
+    requires has { (k : ℕ) → k < n → P.has pixels.old (own to (along p k)) ≡ true }
+    requires bits { HasBits (shape lists.now) (P.forms pixels.old) }
+    ensures at { (k : ℕ) → k < n → P.kept pixels.new (own to (along p k)) ≡ P.kept pixels.old (keeping (shape lists.now) i (along from k)) }
+    ensures others { (place : Place) → ((k : ℕ) → k < n → place ≢ own to (along p k)) → P.kept pixels.new place ≡ P.kept pixels.old place }
+    ensures has { P.has pixels.new ≡ P.has pixels.old }
+    ensures forms { P.forms pixels.new ≡ P.forms pixels.old }
+    ensures spare { P.spare pixels.new ≡ P.spare pixels.old }
+    ensures steps { steps.new ≡ steps.old + n }
+{
+    let mut done = 0;
+    while done < n {
+        let run = lists.locate(i, along(from, done), n - done);
+        let there = along(p, done);
+        pixels.carry(run.image, run.at, to, there, run.len, steps);
+        done += run.len;
+    }
+}
+
+/// Copies own pixels of a window side by side to where the image on which it stands shows points side by side, a step for each.
+pub fn show_own<P: Pixels, L: Ledger>(
+    lists: &Lists,
+    pixels: &mut P,
+    from: u32,
+    at: Point,
+    i: u32,
+    p: Point,
+    n: usize,
+    steps: &mut Steps<L>,
+)
+    requires live { IsLive (shape lists.now) i }
+    requires stands { parent_of (shape lists.now) from ≡ Some i }
+    requires from { IsNear at }
+    requires near { IsNear p }
+    requires width { n ≤ 2 ^ 40 }
+    requires inside { (q : Spot) → IsTrue (holds (strip p n) q) → IsTrue (holds (image_at (shape lists.now) i).r q) }
+    requires had { (k : ℕ) → k < n → P.has pixels.old (own from (along at k)) ≡ true }
+    requires has { (k : ℕ) → k < n → P.has pixels.old (keeping (shape lists.now) i (along p k)) ≡ true }
+    requires bits { HasBits (shape lists.now) (P.forms pixels.old) }
+    ensures at { (k : ℕ) → k < n → P.kept pixels.new (keeping (shape lists.now) i (along p k)) ≡ P.kept pixels.old (own from (along at k)) }
+    ensures others { (place : Place) → ((k : ℕ) → k < n → place ≢ keeping (shape lists.now) i (along p k)) → P.kept pixels.new place ≡ P.kept pixels.old place }
+    ensures has { P.has pixels.new ≡ P.has pixels.old }
+    ensures forms { P.forms pixels.new ≡ P.forms pixels.old }
+    ensures spare { P.spare pixels.new ≡ P.spare pixels.old }
+    ensures steps { steps.new ≡ steps.old + n }
+{
+    let mut done = 0;
+    while done < n {
+        let run = lists.locate(i, along(p, done), n - done);
+        let here = along(at, done);
+        pixels.carry(from, here, run.image, run.at, run.len, steps);
         done += run.len;
     }
 }

@@ -1,3 +1,4 @@
+pub mod Copied
 pub mod Coming
 pub mod Owning
 pub mod Points

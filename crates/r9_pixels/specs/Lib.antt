@@ -1,3 +1,4 @@
 pub mod Owns
 pub mod Kept
+pub mod Carried
 pub mod Places

@@ -97,8 +97,8 @@ impl KeptPixels {
         self.cells.write(i as usize, &extent.r, at, raws);
     }
 
-    // Writes pixels side by side where an image keeps them.
-    fn put(&mut self, i: u32, at: Point, raws: &[u32])
+    /// Writes pixels side by side where an image keeps them.
+    pub(crate) fn put(&mut self, i: u32, at: Point, raws: &[u32])
         requires live { i < vec_len self.old.owns }
         requires has { (k : ℕ) → k < length raws.now → has_place self.old (own i (along at k)) ≡ true }
         requires below { (k : ℕ) → k < length raws.now → slice_index raws.now k < 2 ^ bits_in (form_at self.old) i }
@@ -115,6 +115,25 @@ impl KeptPixels {
     }
 }
 
+impl KeptPixels {
+    ghost use Rattle.r9_pixels.specs.Kept.{form_at, has_place, kept_at};
+
+    /// Reads pixels that an image keeps side by side.
+    pub(crate) fn load(&self, i: u32, from: Point, raws: &mut [u32])
+        requires { (k : ℕ) → k < length raws.old → has_place self.now (own i (along from k)) ≡ true }
+        ensures pixels { (k : ℕ) → k < length raws.old → slice_index raws.new k ≡ kept_at self.now (own i (along from k)) }
+        ensures below { (k : ℕ) → k < length raws.old → slice_index raws.new k < 2 ^ bits_in (form_at self.now) i }
+    {
+        if raws.is_empty() {
+            return;
+        }
+        match &self.owns[i as usize] {
+            Some(keeper) => self.get(keeper, i, from, raws),
+            None => unreachable!(),
+        }
+    }
+}
+
 impl Pixels for KeptPixels {
     ghost use Rattle.r9_pixels.specs.Kept.{form_at, has_place, kept_at, spare_in};
 
@@ -127,13 +146,7 @@ impl Pixels for KeptPixels {
     ghost spare = { spare_in };
 
     fn read(&self, i: u32, from: Point, raws: &mut [u32]) {
-        if raws.is_empty() {
-            return;
-        }
-        match &self.owns[i as usize] {
-            Some(keeper) => self.get(keeper, i, from, raws),
-            None => unreachable!(),
-        }
+        self.load(i, from, raws);
     }
 
     fn write<L: Ledger>(&mut self, i: u32, at: Point, raws: &[u32], steps: &mut Steps<L>) {
@@ -141,5 +154,18 @@ impl Pixels for KeptPixels {
             self.put(i, at, raws);
         }
         steps.add(raws.len() as u64);
+    }
+
+    fn carry<L: Ledger>(
+        &mut self,
+        from: u32,
+        at: Point,
+        to: u32,
+        p: Point,
+        n: usize,
+        steps: &mut Steps<L>,
+    ) {
+        self.copy(from, at, to, p, n);
+        steps.add(n as u64);
     }
 }

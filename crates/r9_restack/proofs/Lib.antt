@@ -1,6 +1,11 @@
+pub mod Areas
+pub mod Blocked
+pub mod Changes
+pub mod Cuts
 pub mod Orders
 pub mod Parting
-pub mod Changes
-pub mod Raised
 pub mod Placed
-pub mod Areas
+pub mod Raised
+pub mod Showing
+pub mod Stacked
+pub mod Steady

@@ -1,11 +1,11 @@
 -- What a part of a row asks for when it is moved.
-use Rattle.std.proofs.Common.{◌≡◌, ◌∙◌, ℕ, ℤ, pos, ◌+◌, ◌-◌, ◌*◌, ◌<◌, ◌≤◌, ◌^◌, ◌+ℤ◌, Bool, true, false, List, Option, refl, sym, ap, subst, arith, ⊎_elim}
+use Rattle.std.proofs.Common.{◌≡◌, ◌∙◌, ℕ, ℤ, pos, ◌+◌, ◌-◌, ◌<◌, ◌≤◌, ◌^◌, ◌+ℤ◌, Bool, true, false, List, Option, refl, sym, ap, subst, arith, ⊎_elim}
 use Rattle.std.specs.Prelude.{◌||◌, All}
 use Rattle.std.proofs.lemmas.Int.{ints}
 use Rattle.std.proofs.lemmas.Bool.{cases_lt, false_from_ne_true, false≢true, or_left, or_right}
 use Rattle.r9_geom.specs.declared.Point.{Point}
 use Rattle.r9_geom.specs.declared.Rect.{Rect}
-use Rattle.r9_geom.specs.Geometry.{holds, point_at, strip, width, IsNear}
+use Rattle.r9_geom.specs.Geometry.{holds, point_at, strip, IsNear}
 use Rattle.r9_geom.proofs.GeometryLemmas.{band, bounds_of, same_tests, strip_none}
 use Rattle.r9_plane.specs.Pixels.{along}
 use Rattle.model_forest.specs.declared.Window.{Window}
@@ -102,12 +102,3 @@ row_begins r at row is = (ap (λ (p : Point). p.x) is ∙ plus_none r.min.x, ap 
   where
     plus_none : (x : ℤ) → x +ℤ pos 0 ≡ x
     plus_none x = omega (arith, ints)
-
--- one more row was written
-pub row_grown : (start was now row width n : ℕ) → n ≡ width → now ≤ was + 2 * n → was ≤ start + 2 * (row * width) → now ≤ start + 2 * ((row + 1) * width)
-row_grown start was now row width n same more so_far =
-    let next : (row + 1) * width ≡ row * width + width = mul-suc_left row width in
-    omega (arith, same, more, so_far, next)
-  where
-    mul-suc_left : (a b : ℕ) → (a + 1) * b ≡ a * b + b
-    mul-suc_left a b = grind arith

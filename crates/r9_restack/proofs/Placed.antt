@@ -1,29 +1,27 @@
 -- A window that is put where it stands: pixels of it that are written with it are told apart from those that are moved.
-use Rattle.std.proofs.Common.{◌≡◌, ◌≢◌, ◌∙◌, ℕ, ◌+◌, ◌<◌, ◌≤◌, Bool, true, false, List, Option, Some, None, eq-eqb, refl, sym, ap, arith}
+use Rattle.std.proofs.Common.{◌≡◌, ◌≢◌, ◌∙◌, ℕ, ◌+◌, ◌≤◌, Bool, true, false, List, Option, Some, None, eq-eqb, refl, sym, ap}
 use Rattle.std.specs.Prelude.{◌==◌, ◌&&◌, ◌||◌, not, if◌then◌else◌}
 use Rattle.std.specs.Option.{option_map_or}
 use Rattle.std.proofs.lemmas.Bool.{and_parts, false_from_ne_true, false≢true, ne_eqb, true≢false}
 use Rattle.std.proofs.lemmas.Bool.Decides.{Decides-eqb}
 use Rattle.r9_geom.specs.declared.Point.{Point}
 use Rattle.r9_geom.specs.declared.Rect.{Rect}
-use Rattle.r9_geom.specs.Geometry.{carried, holds, strip}
-use Rattle.r9_geom.proofs.GeometryLemmas.{same_tests}
+use Rattle.r9_geom.specs.Geometry.{carried, holds}
 use Rattle.r9_plane.specs.Pixels.{along}
-use Rattle.r9_plane.proofs.PlaneLemmas.{along_holds}
 use Rattle.model_forest.specs.declared.Window.{Window}
 use Rattle.model_forest.specs.World.{World, image_at, parent_of}
 use Rattle.model_forest.specs.View.{inward, is_bare, top_window}
 use Rattle.model_forest.proofs.Views.{All-top_window}
 use Rattle.model_kept.specs.Keeping.{is_top, keeping, outward, own, place_among, Place}
 use Rattle.model_kept.specs.Restack.{with_own}
-use Rattle.model_kept.proofs.Storing.{carried-back}
-use Rattle.r9_locate.proofs.Locating.{along-along, along-carried, strip_at}
-use Rattle.r9_restack.specs.Moving.{more}
+use Rattle.r9_shown.specs.Shown.{block}
+use Rattle.r9_shown.proofs.Blocks.{block_part, block_split}
+use Rattle.r9_restack.specs.Moving.{more_in}
 use Rattle.r9_restack.specs.Changing.{IsChange, IsChanged}
 use Rattle.r9_restack.specs.Placing.{comes, shows, with_coming, IsComing, IsPlaced}
 use Rattle.r9_restack.proofs.Changes.{inside_w, not_with, not_with_other, stood_new, IsChanging}
 use Rattle.r9_restack.proofs.Orders.{or_cases, top_is}
-use Rattle.r9_restack.proofs.Parting.{fresh_part, strip_two}
+use Rattle.r9_restack.proofs.Blocked.{fresh_right}
 
 -- ---- pixels of one image over others
 
@@ -98,24 +96,20 @@ module _ (world : World) (p : ℕ) (ws : List Window) (w : ℕ) (given fill : Po
 
 -- ---- the points at which it comes
 
--- at none of these side by side
-pub coming_none : (q : Point) (n : ℕ) (coming done : Point → Bool) → ((k : ℕ) → k < n → coming (along q k) ≡ false) → (z : Point) → with_coming q n coming done z ≡ done z
-coming_none q n coming done none z = by_test (holds (strip q n) z) refl
+-- at none of a rectangle
+pub coming_none : (r : Rect) (coming done : Point → Bool) → ((z : Point) → holds r z ≡ true → coming z ≡ false) → (z : Point) → with_coming r coming done z ≡ done z
+coming_none r coming done none z = by_test (holds r z) refl
   where
-    by_test : (b : Bool) → holds (strip q n) z ≡ b → ((b && coming z) || done z) ≡ done z
-    by_test true e =
-        let found = strip_at q z n e in
-        ap (λ b. b || done z) (ap coming found.2 ∙ none found.0 found.1)
+    by_test : (b : Bool) → holds r z ≡ b → ((b && coming z) || done z) ≡ done z
+    by_test true e = ap (λ b. b || done z) (none z e)
     by_test false e = refl
 
--- at all of them
-pub coming_all : (q : Point) (n : ℕ) (coming done : Point → Bool) → ((k : ℕ) → k < n → coming (along q k) ≡ true) → (z : Point) → with_coming q n coming done z ≡ more q n done z
-coming_all q n coming done all z = by_test (holds (strip q n) z) refl
+-- at all of it
+pub coming_all : (r : Rect) (coming done : Point → Bool) → ((z : Point) → holds r z ≡ true → coming z ≡ true) → (z : Point) → with_coming r coming done z ≡ more_in r done z
+coming_all r coming done all z = by_test (holds r z) refl
   where
-    by_test : (b : Bool) → holds (strip q n) z ≡ b → ((b && coming z) || done z) ≡ (b || done z)
-    by_test true e =
-        let found = strip_at q z n e in
-        ap (λ b. b || done z) (ap coming found.2 ∙ all found.0 found.1)
+    by_test : (b : Bool) → holds r z ≡ b → ((b && coming z) || done z) ≡ (b || done z)
+    by_test true e = ap (λ b. b || done z) (all z e)
     by_test false e = refl
 
 or_two : (a b c d : Bool) → (((a || b) && c) || d) ≡ ((a && c) || ((b && c) || d))
@@ -126,42 +120,26 @@ or_two true false false d = refl
 or_two false true c d = refl
 or_two false false c d = refl
 
--- a row of two parts
-pub coming_two : (q : Point) (n m : ℕ) (coming done : Point → Bool) (z : Point) → with_coming q (n + m) coming done z ≡ with_coming (along q n) m coming (with_coming q n coming done) z
-coming_two q n m coming done z =
-    ap (λ b. (b && coming z) || done z) (strip_two q z n m)
-    ∙ or_two (holds (strip (along q n) m) z) (holds (strip q n) z) (coming z) (done z)
+-- a block of two parts
+pub coming_two : (at : Point) (d n rows : ℕ) (coming done : Point → Bool) (z : Point) → with_coming (block at (d + n) rows) coming done z ≡ with_coming (block (along at d) n rows) coming (with_coming (block at d rows) coming done) z
+coming_two at d n rows coming done z =
+    ap (λ b. (b && coming z) || done z) (block_split at d n rows z)
+    ∙ or_two (holds (block (along at d) n rows) z) (holds (block at d rows) z) (coming z) (done z)
 
--- what comes after in the row is not done
-pub coming_part : (q : Point) (n done len : ℕ) (coming also : Point → Bool) → done + len ≤ n → IsComing q n coming also → IsComing (along q done) len coming (with_coming q done coming also)
-coming_part q n done len coming also fits is k below here =
-    let z = along (along q done) k in
-    let before : holds (strip q done) z ≡ false = or_first (holds (strip q done) z) (fresh_part q n done len (λ _. false) fits (λ j short. refl) k below) in
-    let after : also z ≡ false = ap also (along-along q done k) ∙ is (done + k) (omega (arith, below, fits)) (ap coming (sym (along-along q done k)) ∙ here) in
+-- what comes after in the block is not done
+pub coming_part : (at : Point) (d n columns rows : ℕ) (coming done : Point → Bool) → d + n ≤ columns → IsComing (block at columns rows) coming done → IsComing (block (along at d) n rows) coming (with_coming (block at d rows) coming done)
+coming_part at d n columns rows coming done fits is z here seen =
+    let before : holds (block at d rows) z ≡ false = or_first (holds (block at d rows) z) (fresh_right at d n columns rows (λ _. false) fits (λ y h. refl) z here) in
+    let after : done z ≡ false = is z (block_part at d n columns rows z fits here) seen in
     λ j. (before j && coming z) || after j
   where
     or_first : (a : Bool) → (a || false) ≡ false → a ≡ false
     or_first true e = e
     or_first false e = refl
 
--- one row more of points that are told by others
-pub coming_row : (strips rows : Bool) (coming area : Bool) → (((strips || rows) && coming) || area) ≡ ((strips && coming) || ((rows && coming) || area))
-coming_row strips rows coming area = or_two strips rows coming area
-
--- a row that stands elsewhere
-pub strip_carried : (x from to z : Point) (n : ℕ) → holds (strip (carried x from to) n) z ≡ holds (strip x n) (carried z to from)
-strip_carried x from to z n =
-    same_tests (holds (strip (carried x from to) n) z) (holds (strip x n) (carried z to from))
-    (λ h.
-    let found = strip_at (carried x from to) z n h in
-    let is : carried z to from ≡ along x found.0 =
-    ap (λ q. carried q to from) found.2 ∙ along-carried (carried x from to) to from found.0 ∙ ap (λ q. along q found.0) (carried-back x from to) in
-    ap (holds (strip x n)) is ∙ along_holds x n found.0 found.1)
-    (λ h.
-    let found = strip_at x (carried z to from) n h in
-    let is : z ≡ along (carried x from to) found.0 =
-    sym (carried-back z to from) ∙ ap (λ q. carried q from to) found.2 ∙ along-carried x from to found.0 in
-    ap (holds (strip (carried x from to) n)) is ∙ along_holds (carried x from to) n found.0 found.1)
+-- rows more of points that are told by others
+pub coming_rows : (rows above coming area : Bool) → (((rows || above) && coming) || area) ≡ ((rows && coming) || ((above && coming) || area))
+coming_rows rows above coming area = or_two rows above coming area
 
 -- ---- where w is topmost then
 

@@ -2,3 +2,5 @@ pub mod Areas
 pub mod Moving
 pub mod Changing
 pub mod Placing
+pub mod Stacks
+pub mod Showing

@@ -1,6 +1,7 @@
 -- Another order of the windows of an image, what it needs of where pixels lie, and the points that are done.
 use Rattle.std.specs.Prelude.{◌≡◌, ◌<◌, ◌||◌, ℕ, Bool, true, false, List, Some, is_none, All}
 use Rattle.r9_geom.specs.declared.Point.{Point}
+use Rattle.r9_geom.specs.declared.Rect.{Rect}
 use Rattle.r9_geom.specs.Geometry.{holds, strip}
 use Rattle.model_forest.specs.declared.Window.{Window}
 use Rattle.model_forest.specs.World.{World, image_at, parent_of, IsLive, IsWindowOf}
@@ -33,3 +34,11 @@ more q n done z = holds (strip q n) z || done z
 -- of these points side by side none is done
 abbrev pub IsFresh : Point → ℕ → (Point → Bool) → Type 0
 IsFresh q n done = (k : ℕ) → k < n → done (along q k) ≡ false
+
+-- the points that are done, and those of a rectangle besides
+abbrev pub more_in : Rect → (Point → Bool) → Point → Bool
+more_in r done z = holds r z || done z
+
+-- of a rectangle no point is done
+abbrev pub IsFreshIn : Rect → (Point → Bool) → Type 0
+IsFreshIn r done = (z : Point) → holds r z ≡ true → done z ≡ false

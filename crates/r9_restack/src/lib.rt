@@ -5,6 +5,7 @@ mod changing;
 mod ordering;
 mod placing;
 mod restacking;
+mod stacks;
 
 pub use changing::{Source, change};
 pub use ordering::{groups_are_orders, reorder};

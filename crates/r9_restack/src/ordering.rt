@@ -13,6 +13,7 @@ ghost use Rattle.r9_restack.specs.Areas.{AreApartIn};
 ghost use Rattle.r9_restack.specs.Moving.{HasPlaces, IsReordering, IsSameTop};
 
 use super::changing::{Source, change_areas};
+use super::stacks::stacks_of;
 use model_forest::Window;
 use r9_geom::{Point, Rect};
 use r9_locate::{Lists, Pixels};
@@ -58,7 +59,8 @@ pub fn reorder<P: Pixels, L: Ledger>(
     ensures spare { P.spare pixels.new ≡ P.spare pixels.old }
     ensures steps { steps.new ≤ steps.old + 2 * sum_by area_of areas.now }
 {
-    change_areas(lists, pixels, &Nothing, p, p, new, &[], areas, steps);
+    let stacks = stacks_of(&lists.get(p).windows, new, &[], p);
+    change_areas(lists, pixels, &Nothing, p, p, &stacks, areas, steps);
 }
 
 /// A group of windows that is raised, or lowered, is another order at the same places.

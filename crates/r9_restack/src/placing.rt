@@ -1,175 +1,318 @@
 //! A window that came or moved is put where it stands then: what shows of it on the image below, and what is hidden with it.
 
-ghost use Rattle.std.specs.Prelude.{◌≡◌, ◌≢◌, ◌+◌, ◌*◌, ◌^◌, ◌<◌, ◌≤◌, ◌&&◌, ◌||◌, ℕ, Bool, false, true, length, All, IsTrue, Some};
+ghost use Rattle.std.specs.Prelude.{◌≡◌, ◌≢◌, ◌+◌, ◌*◌, ◌^◌, ◌<◌, ◌≤◌, ◌&&◌, ◌||◌, ℕ, Bool, false, true, length, All, IsTrue, Some, None};
 ghost use Rattle.r9_geom.specs.declared.Point.{Point as Spot};
-ghost use Rattle.r9_geom.specs.Geometry.{area_of, carried, holds, IsNear, IsOrdered, IsRectNear};
+ghost use Rattle.r9_geom.specs.Geometry.{area_of, carried, holds, strip, IsNear, IsNearBy, IsOrdered, IsRectNear};
 ghost use Rattle.r9_plane.specs.Pixels.{along};
-ghost use Rattle.model_forest.specs.View.{top_window};
+ghost use Rattle.model_forest.specs.declared.Window.{Window as Stood};
 ghost use Rattle.model_forest.specs.World.{image_at, parent_of};
 ghost use Rattle.model_kept.specs.Keeping.{own, Place};
 ghost use Rattle.r9_locate.specs.Forms.{bits_in, HasBits};
 ghost use Rattle.r9_locate.specs.Table.{shape};
+ghost use Rattle.r9_shown.specs.Shown as spec;
 ghost use Rattle.r9_restack.specs.Changing.{HasPlacesBut, IsChange};
 ghost use Rattle.r9_restack.specs.Placing.{comes, shows, with_coming, IsComing, IsPlaced};
+ghost use Rattle.r9_restack.specs.Stacks.{after_of, IsStacked};
+ghost use Rattle.r9_restack.specs.Showing.{shown_at, shows_in};
 
-use super::changing::{Source, change_part};
-use model_forest::Window;
+use super::changing::{Source, change_block};
+use super::stacks::{Extent, Stacks, Tops, cut, run_of};
 use r9_geom::{Point, Rect};
-use r9_locate::{Lists, Pixels, along, steady, steady_top, top};
+use r9_locate::{Lists, Pixels, along};
+use r9_shown::down;
 use r9_steps::Steps;
 use std::sync::ledger::Ledger;
 
 // How many pixels of a row are put at a time.
 const BLOCK: usize = 256;
 
-// So many points side by side, over which the topmost window, before and then, is the same one: whether it is the one that is
-// put, and whether they lie in an area that is done.
+// Where the window that is put shows: whether that is in an area that is done, and what is topmost.
 #[derive(Clone, Copy)]
-struct Run {
-    shows: bool,
+struct Shown {
     done: bool,
-    len: usize,
+    tops: Option<Tops>,
 }
 
-fn run_of(
-    below: &Rect,
-    area: &Rect,
-    old: &[Window],
-    new: &[Window],
-    w: u32,
-    q: Point,
-    n: usize,
-) -> Run
-    requires { 0 < n }
-    ensures some { 0 < result.len }
-    ensures most { result.len ≤ n }
-    ensures shows { (k : ℕ) → k < result.len → shows below.now new.now w (along q k) ≡ result.shows }
-    ensures done { (k : ℕ) → k < result.len → holds area.now (along q k) ≡ result.done }
-    ensures olds { (k : ℕ) → k < result.len → top_window old.now (along q k) ≡ top_window old.now q }
-    ensures news { (k : ℕ) → k < result.len → top_window new.now (along q k) ≡ top_window new.now q }
+// What is known of a block of its points: nothing where it is hidden.
+#[derive(Clone, Copy)]
+struct Part {
+    shown: Option<Shown>,
+    extent: Extent,
+}
+
+// Whether window w shows at a point of the image below, and over how large a block from there on.
+fn part_of(below: &Rect, area: &Rect, stacks: &Stacks, w: u32, q: Point, most: Extent) -> Part
+    requires columns { 0 < most.columns }
+    requires rows { 0 < most.rows }
+    requires apart { All (λ (v : Stood). v.image ≢ w) stacks.now.front.now }
+    ensures some { 0 < result.extent.columns }
+    ensures some_rows { 0 < result.extent.rows }
+    ensures most { result.extent.columns ≤ most.columns }
+    ensures most_rows { result.extent.rows ≤ most.rows }
+    ensures same { (z : Spot) → IsTrue (holds (spec.block q result.extent.columns result.extent.rows) z) → shown_at below.now area.now stacks.now w z ≡ result.shown }
 {
-    let within = steady(area, q, steady(below, q, n));
-    let len = steady_top(old, q, steady_top(new, q, within));
-    let shows = below.holds(q)
-        && match top(new, q) {
-            Some(v) => v.image == w,
-            None => false,
+    let within = cut(below, q, most);
+    if !below.holds(q) {
+        return Part {
+            shown: None,
+            extent: within,
         };
-    Run {
-        shows,
+    }
+    let run = run_of(stacks, q, within);
+    if !is_after(run.tops, w) {
+        return Part {
+            shown: None,
+            extent: run.extent,
+        };
+    }
+    let shown = Shown {
         done: area.holds(q),
-        len,
+        tops: run.tops,
+    };
+    Part {
+        shown: Some(shown),
+        extent: cut(area, q, run.extent),
     }
 }
 
-// Puts the points of a run of window w, from x to the right, which stand at q on the image below: where they show, on that,
-// unless that is done, and else with the window.
-fn place_part<P: Pixels, S: Source, L: Ledger>(
-    lists: &Lists,
+// Whether window w is topmost after.
+fn is_after(tops: Option<Tops>, w: u32) -> bool
+    ensures { result ≡ shows_in tops w }
+{
+    match tops {
+        None => false,
+        Some(tops) => match tops.after {
+            None => false,
+            Some(v) => v.image == w,
+        },
+    }
+}
+
+// For how many of n rows down that is so as in so many columns of the first one.
+fn steady_band(
+    below: &Rect,
+    area: &Rect,
+    stacks: &Stacks,
+    w: u32,
+    at: Point,
+    columns: usize,
+    n: u64,
+) -> u64
+    requires near { IsNear at }
+    requires columns { columns ≤ 2 ^ 41 }
+    requires rows { 0 < n }
+    requires apart { All (λ (v : Stood). v.image ≢ w) stacks.now.front.now }
+    ensures some { 0 < result }
+    ensures most { result ≤ n }
+    ensures same { (z : Spot) (k : ℕ) → IsTrue (holds (strip at columns) z) → k < result → shown_at below.now area.now stacks.now w (spec.down z k) ≡ shown_at below.now area.now stacks.now w z }
+{
+    let mut rows = n;
+    let mut done = 0;
+    while done < columns {
+        let most = Extent {
+            columns: columns - done,
+            rows,
+        };
+        let extent = part_of(below, area, stacks, w, along(at, done), most).extent;
+        rows = extent.rows;
+        done += extent.columns;
+    }
+    rows
+}
+
+// Writes given pixels of a window side by side with it.
+fn keep_run<P: Pixels, S: Source, L: Ledger>(
     pixels: &mut P,
     source: &S,
-    p: u32,
     w: u32,
-    new: &[Window],
-    area: &Rect,
-    run: Run,
     x: Point,
-    q: Point,
     raws: &mut [u32],
     steps: &mut Steps<L>,
 )
-    requires change { IsChange (shape lists.now) p new.now w }
-    requires above { parent_of (shape lists.now) w ≡ Some p }
-    requires some { 0 < length raws.old }
-    requires width { length raws.old ≤ 2 ^ 40 }
-    requires shows { (k : ℕ) → k < length raws.old → shows (image_at (shape lists.now) p).r new.now w (along q k) ≡ run.shows }
-    requires done { (k : ℕ) → k < length raws.old → holds area.now (along q k) ≡ run.done }
-    requires olds { (k : ℕ) → k < length raws.old → top_window (image_at (shape lists.now) p).windows (along q k) ≡ top_window (image_at (shape lists.now) p).windows q }
-    requires news { (k : ℕ) → k < length raws.old → top_window new.now (along q k) ≡ top_window new.now q }
-    requires near_new { All (λ v. IsNear v.place.min) new.now }
-    requires places { HasPlacesBut (shape lists.now) p new.now w (P.has pixels.old) }
-    requires bits { HasBits (shape lists.now) (P.forms pixels.old) }
-    requires given { (z : Spot) → S.given source.now z < 2 ^ bits_in (P.forms pixels.old) p }
-    requires fill { (z : Spot) → S.fill source.now z < 2 ^ bits_in (P.forms pixels.old) p }
-    requires own { run.shows ≡ false → (k : ℕ) → k < length raws.old → P.has pixels.old (own w (along x k)) ≡ true }
-    ensures moved { (before : Place → ℕ) (done : Spot → Bool) → IsComing q (length raws.old) (comes (image_at (shape lists.now) p).r area.now new.now w) done → IsPlaced (shape lists.now) p new.now w (S.given source.now) (S.fill source.now) before (P.kept pixels.old) done → IsPlaced (shape lists.now) p new.now w (S.given source.now) (S.fill source.now) before (P.kept pixels.new) (with_coming q (length raws.old) (comes (image_at (shape lists.now) p).r area.now new.now w) done) }
-    ensures kept { run.shows ≡ false → (k : ℕ) → k < length raws.old → P.kept pixels.new (own w (along x k)) ≡ S.given source.now (along x k) }
-    ensures others { (z : Spot) → ((k : ℕ) → k < length raws.old → z ≢ along x k) → P.kept pixels.new (own w z) ≡ P.kept pixels.old (own w z) }
+    requires has { (k : ℕ) → k < length raws.old → P.has pixels.old (own w (along x k)) ≡ true }
+    requires below { (z : Spot) → S.given source.now z < 2 ^ bits_in (P.forms pixels.old) w }
+    ensures at { (k : ℕ) → k < length raws.old → P.kept pixels.new (own w (along x k)) ≡ S.given source.now (along x k) }
+    ensures others { (place : Place) → ((k : ℕ) → k < length raws.old → place ≢ own w (along x k)) → P.kept pixels.new place ≡ P.kept pixels.old place }
     ensures has { P.has pixels.new ≡ P.has pixels.old }
     ensures forms { P.forms pixels.new ≡ P.forms pixels.old }
     ensures spare { P.spare pixels.new ≡ P.spare pixels.old }
-    ensures steps { steps.new ≤ steps.old + 2 * length raws.old }
+    ensures steps { steps.new ≡ steps.old + length raws.old }
 {
-    if !run.shows {
-        source.give(x, raws);
-        pixels.write(w, x, raws, steps);
-    } else if !run.done {
-        change_part(lists, pixels, source, p, w, &[], new, q, raws, steps);
+    source.give(x, raws);
+    pixels.write(w, x, raws, steps);
+}
+
+// The same of any number of them, so many at a time.
+fn keep_strip<P: Pixels, S: Source, L: Ledger>(
+    pixels: &mut P,
+    source: &S,
+    w: u32,
+    x: Point,
+    n: usize,
+    steps: &mut Steps<L>,
+)
+    requires near { IsNearBy (2 ^ 42) x }
+    requires width { n ≤ 2 ^ 41 }
+    requires has { (k : ℕ) → k < n → P.has pixels.old (own w (along x k)) ≡ true }
+    requires below { (z : Spot) → S.given source.now z < 2 ^ bits_in (P.forms pixels.old) w }
+    ensures at { (k : ℕ) → k < n → P.kept pixels.new (own w (along x k)) ≡ S.given source.now (along x k) }
+    ensures others { (place : Place) → ((k : ℕ) → k < n → place ≢ own w (along x k)) → P.kept pixels.new place ≡ P.kept pixels.old place }
+    ensures has { P.has pixels.new ≡ P.has pixels.old }
+    ensures forms { P.forms pixels.new ≡ P.forms pixels.old }
+    ensures spare { P.spare pixels.new ≡ P.spare pixels.old }
+    ensures steps { steps.new ≡ steps.old + n }
+{
+    let mut raws = [0; BLOCK];
+    let mut done = 0;
+    while done < n {
+        let len = (n - done).min(BLOCK);
+        keep_run(pixels, source, w, along(x, done), &mut raws[..len], steps);
+        done += len;
     }
 }
 
-// The same of n points side by side.
-fn place_row<P: Pixels, S: Source, L: Ledger>(
+// The same of a block of them.
+fn keep_block<P: Pixels, S: Source, L: Ledger>(
+    pixels: &mut P,
+    source: &S,
+    w: u32,
+    x: Point,
+    columns: usize,
+    rows: u64,
+    steps: &mut Steps<L>,
+)
+    requires near { IsNear x }
+    requires columns { columns ≤ 2 ^ 41 }
+    requires rows { rows ≤ 2 ^ 41 }
+    requires has { (z : Spot) → IsTrue (holds (spec.block x columns rows) z) → P.has pixels.old (own w z) ≡ true }
+    requires below { (z : Spot) → S.given source.now z < 2 ^ bits_in (P.forms pixels.old) w }
+    ensures at { (z : Spot) → IsTrue (holds (spec.block x columns rows) z) → P.kept pixels.new (own w z) ≡ S.given source.now z }
+    ensures others { (place : Place) → ((z : Spot) → IsTrue (holds (spec.block x columns rows) z) → place ≢ own w z) → P.kept pixels.new place ≡ P.kept pixels.old place }
+    ensures has { P.has pixels.new ≡ P.has pixels.old }
+    ensures forms { P.forms pixels.new ≡ P.forms pixels.old }
+    ensures spare { P.spare pixels.new ≡ P.spare pixels.old }
+    ensures steps { steps.new ≡ steps.old + columns * rows }
+{
+    for row in 0..rows {
+        keep_strip(pixels, source, w, down(x, row), columns, steps);
+    }
+}
+
+// Puts the points of a block of window w, from x on, which stand from q on on the image below: where they show, on that, unless
+// that is done, and else with the window.
+fn place_block<P: Pixels, S: Source, L: Ledger>(
     lists: &Lists,
     pixels: &mut P,
     source: &S,
     p: u32,
     w: u32,
-    new: &[Window],
+    stacks: &Stacks,
     area: &Rect,
+    shown: Option<Shown>,
     x: Point,
     q: Point,
-    n: usize,
+    columns: usize,
+    rows: u64,
     steps: &mut Steps<L>,
 )
-    requires change { IsChange (shape lists.now) p new.now w }
+    requires change { IsChange (shape lists.now) p (after_of stacks.now) w }
+    requires stacks { IsStacked (shape lists.now) p w stacks.now }
     requires above { parent_of (shape lists.now) w ≡ Some p }
     requires near { IsNear x }
-    requires q_near { IsNear q }
-    requires width { n ≤ 2 ^ 41 }
-    requires near_new { All (λ v. IsNear v.place.min) new.now }
-    requires places { HasPlacesBut (shape lists.now) p new.now w (P.has pixels.old) }
+    requires some { 0 < columns }
+    requires some_rows { 0 < rows }
+    requires columns { columns ≤ 2 ^ 41 }
+    requires rows { rows ≤ 2 ^ 41 }
+    requires shown { (z : Spot) → IsTrue (holds (spec.block q columns rows) z) → shown_at (image_at (shape lists.now) p).r area.now stacks.now w z ≡ shown }
+    requires near_new { All (λ v. IsNear v.place.min) (after_of stacks.now) }
+    requires places { HasPlacesBut (shape lists.now) p (after_of stacks.now) w (P.has pixels.old) }
     requires bits { HasBits (shape lists.now) (P.forms pixels.old) }
     requires given { (z : Spot) → S.given source.now z < 2 ^ bits_in (P.forms pixels.old) p }
     requires fill { (z : Spot) → S.fill source.now z < 2 ^ bits_in (P.forms pixels.old) p }
-    requires own { (k : ℕ) → k < n → shows (image_at (shape lists.now) p).r new.now w (along q k) ≡ false → P.has pixels.old (own w (along x k)) ≡ true }
-    ensures moved { (before : Place → ℕ) (done : Spot → Bool) → IsComing q n (comes (image_at (shape lists.now) p).r area.now new.now w) done → IsPlaced (shape lists.now) p new.now w (S.given source.now) (S.fill source.now) before (P.kept pixels.old) done → IsPlaced (shape lists.now) p new.now w (S.given source.now) (S.fill source.now) before (P.kept pixels.new) (with_coming q n (comes (image_at (shape lists.now) p).r area.now new.now w) done) }
-    ensures kept { (k : ℕ) → k < n → shows (image_at (shape lists.now) p).r new.now w (along q k) ≡ false → P.kept pixels.new (own w (along x k)) ≡ S.given source.now (along x k) }
-    ensures others { (z : Spot) → ((k : ℕ) → k < n → z ≢ along x k) → P.kept pixels.new (own w z) ≡ P.kept pixels.old (own w z) }
+    requires own { shown ≡ None → (z : Spot) → IsTrue (holds (spec.block x columns rows) z) → P.has pixels.old (own w z) ≡ true }
+    ensures moved { (before : Place → ℕ) (done : Spot → Bool) → IsComing (spec.block q columns rows) (comes (image_at (shape lists.now) p).r area.now (after_of stacks.now) w) done → IsPlaced (shape lists.now) p (after_of stacks.now) w (S.given source.now) (S.fill source.now) before (P.kept pixels.old) done → IsPlaced (shape lists.now) p (after_of stacks.now) w (S.given source.now) (S.fill source.now) before (P.kept pixels.new) (with_coming (spec.block q columns rows) (comes (image_at (shape lists.now) p).r area.now (after_of stacks.now) w) done) }
+    ensures kept { shown ≡ None → (z : Spot) → IsTrue (holds (spec.block x columns rows) z) → P.kept pixels.new (own w z) ≡ S.given source.now z }
+    ensures others { (z : Spot) → holds (spec.block x columns rows) z ≡ false → P.kept pixels.new (own w z) ≡ P.kept pixels.old (own w z) }
     ensures has { P.has pixels.new ≡ P.has pixels.old }
     ensures forms { P.forms pixels.new ≡ P.forms pixels.old }
     ensures spare { P.spare pixels.new ≡ P.spare pixels.old }
-    ensures steps { steps.new ≤ steps.old + 2 * n }
+    ensures steps { steps.new ≤ steps.old + 2 * (columns * rows) }
 {
-    let mut block = [0; BLOCK];
-    let below = lists.get(p);
-    let mut done = 0;
-    while done < n {
-        let from = along(q, done);
-        let run = run_of(
-            &below.r,
-            area,
-            &below.windows,
-            new,
-            w,
-            from,
-            (n - done).min(BLOCK),
+    let Some(shown) = shown else {
+        keep_block(pixels, source, w, x, columns, rows, steps);
+        return;
+    };
+    if !shown.done {
+        change_block(
+            lists, pixels, source, p, w, stacks, shown.tops, q, columns, rows, steps,
         );
-        place_part(
+    }
+}
+
+// The same of rows in each column of which that is known.
+fn place_band<P: Pixels, S: Source, L: Ledger>(
+    lists: &Lists,
+    pixels: &mut P,
+    source: &S,
+    p: u32,
+    w: u32,
+    stacks: &Stacks,
+    area: &Rect,
+    x: Point,
+    q: Point,
+    columns: usize,
+    rows: u64,
+    steps: &mut Steps<L>,
+)
+    requires change { IsChange (shape lists.now) p (after_of stacks.now) w }
+    requires stacks { IsStacked (shape lists.now) p w stacks.now }
+    requires above { parent_of (shape lists.now) w ≡ Some p }
+    requires near { (z : Spot) → IsTrue (holds (spec.block x columns rows) z) → IsNear z }
+    requires q_near { IsNear q }
+    requires columns { columns ≤ 2 ^ 41 }
+    requires rows { rows ≤ 2 ^ 41 }
+    requires some { 0 < rows }
+    requires shown { (z : Spot) (k : ℕ) → IsTrue (holds (strip q columns) z) → k < rows → shown_at (image_at (shape lists.now) p).r area.now stacks.now w (spec.down z k) ≡ shown_at (image_at (shape lists.now) p).r area.now stacks.now w z }
+    requires near_new { All (λ v. IsNear v.place.min) (after_of stacks.now) }
+    requires places { HasPlacesBut (shape lists.now) p (after_of stacks.now) w (P.has pixels.old) }
+    requires bits { HasBits (shape lists.now) (P.forms pixels.old) }
+    requires given { (z : Spot) → S.given source.now z < 2 ^ bits_in (P.forms pixels.old) p }
+    requires fill { (z : Spot) → S.fill source.now z < 2 ^ bits_in (P.forms pixels.old) p }
+    requires own { (z : Spot) → IsTrue (holds (spec.block x columns rows) z) → shows (image_at (shape lists.now) p).r (after_of stacks.now) w (carried z x q) ≡ false → P.has pixels.old (own w z) ≡ true }
+    ensures moved { (before : Place → ℕ) (done : Spot → Bool) → IsComing (spec.block q columns rows) (comes (image_at (shape lists.now) p).r area.now (after_of stacks.now) w) done → IsPlaced (shape lists.now) p (after_of stacks.now) w (S.given source.now) (S.fill source.now) before (P.kept pixels.old) done → IsPlaced (shape lists.now) p (after_of stacks.now) w (S.given source.now) (S.fill source.now) before (P.kept pixels.new) (with_coming (spec.block q columns rows) (comes (image_at (shape lists.now) p).r area.now (after_of stacks.now) w) done) }
+    ensures kept { (z : Spot) → IsTrue (holds (spec.block x columns rows) z) → shows (image_at (shape lists.now) p).r (after_of stacks.now) w (carried z x q) ≡ false → P.kept pixels.new (own w z) ≡ S.given source.now z }
+    ensures others { (z : Spot) → holds (spec.block x columns rows) z ≡ false → P.kept pixels.new (own w z) ≡ P.kept pixels.old (own w z) }
+    ensures has { P.has pixels.new ≡ P.has pixels.old }
+    ensures forms { P.forms pixels.new ≡ P.forms pixels.old }
+    ensures spare { P.spare pixels.new ≡ P.spare pixels.old }
+    ensures steps { steps.new ≤ steps.old + 2 * (columns * rows) }
+{
+    let below = lists.get(p).r;
+    let mut done = 0;
+    while done < columns {
+        let from = along(q, done);
+        let most = Extent {
+            columns: columns - done,
+            rows,
+        };
+        let part = part_of(&below, area, stacks, w, from, most);
+        let len = part.extent.columns;
+        place_block(
             lists,
             pixels,
             source,
             p,
             w,
-            new,
+            stacks,
             area,
-            run,
+            part.shown,
             along(x, done),
             from,
-            &mut block[..run.len],
+            len,
+            rows,
             steps,
         );
-        done += run.len;
+        done += len;
     }
 }
 
@@ -180,38 +323,46 @@ pub(crate) fn place<P: Pixels, S: Source, L: Ledger>(
     source: &S,
     p: u32,
     w: u32,
-    new: &[Window],
+    stacks: &Stacks,
     area: &Rect,
     r: &Rect,
     corner: Point,
     steps: &mut Steps<L>,
 )
-    requires change { IsChange (shape lists.now) p new.now w }
+    requires change { IsChange (shape lists.now) p (after_of stacks.now) w }
+    requires stacks { IsStacked (shape lists.now) p w stacks.now }
     requires above { parent_of (shape lists.now) w ≡ Some p }
     requires near { IsRectNear r.now }
     requires ordered { IsOrdered r.now }
     requires corner { IsNear corner }
     requires stands { (z : Spot) → IsTrue (holds r.now z) → IsNear (carried z r.now.min corner) }
-    requires near_new { All (λ v. IsNear v.place.min) new.now }
-    requires places { HasPlacesBut (shape lists.now) p new.now w (P.has pixels.old) }
+    requires near_new { All (λ v. IsNear v.place.min) (after_of stacks.now) }
+    requires places { HasPlacesBut (shape lists.now) p (after_of stacks.now) w (P.has pixels.old) }
     requires bits { HasBits (shape lists.now) (P.forms pixels.old) }
     requires given { (z : Spot) → S.given source.now z < 2 ^ bits_in (P.forms pixels.old) p }
     requires fill { (z : Spot) → S.fill source.now z < 2 ^ bits_in (P.forms pixels.old) p }
-    requires own { (z : Spot) → IsTrue (holds r.now z) → shows (image_at (shape lists.now) p).r new.now w (carried z r.now.min corner) ≡ false → P.has pixels.old (own w z) ≡ true }
-    ensures moved { (before : Place → ℕ) → IsPlaced (shape lists.now) p new.now w (S.given source.now) (S.fill source.now) before (P.kept pixels.old) (holds area.now) → IsPlaced (shape lists.now) p new.now w (S.given source.now) (S.fill source.now) before (P.kept pixels.new) (λ z. (holds r.now (carried z corner r.now.min) && comes (image_at (shape lists.now) p).r area.now new.now w z) || holds area.now z) }
-    ensures kept { (z : Spot) → IsTrue (holds r.now z) → shows (image_at (shape lists.now) p).r new.now w (carried z r.now.min corner) ≡ false → P.kept pixels.new (own w z) ≡ S.given source.now z }
+    requires own { (z : Spot) → IsTrue (holds r.now z) → shows (image_at (shape lists.now) p).r (after_of stacks.now) w (carried z r.now.min corner) ≡ false → P.has pixels.old (own w z) ≡ true }
+    ensures moved { (before : Place → ℕ) → IsPlaced (shape lists.now) p (after_of stacks.now) w (S.given source.now) (S.fill source.now) before (P.kept pixels.old) (holds area.now) → IsPlaced (shape lists.now) p (after_of stacks.now) w (S.given source.now) (S.fill source.now) before (P.kept pixels.new) (λ z. (holds r.now (carried z corner r.now.min) && comes (image_at (shape lists.now) p).r area.now (after_of stacks.now) w z) || holds area.now z) }
+    ensures kept { (z : Spot) → IsTrue (holds r.now z) → shows (image_at (shape lists.now) p).r (after_of stacks.now) w (carried z r.now.min corner) ≡ false → P.kept pixels.new (own w z) ≡ S.given source.now z }
     ensures has { P.has pixels.new ≡ P.has pixels.old }
     ensures forms { P.forms pixels.new ≡ P.forms pixels.old }
     ensures spare { P.spare pixels.new ≡ P.spare pixels.old }
     ensures steps { steps.new ≤ steps.old + 2 * area_of r.now }
 {
-    let width = r.width() as usize;
-    if width == 0 {
+    let columns = r.width() as usize;
+    if columns == 0 {
         return;
     }
-    for row in 0..r.height() {
+    let height = r.height();
+    let below = lists.get(p).r;
+    let mut row = 0;
+    while row < height {
         let x = r.point_at(0, row);
         let q = x.carried(r.min, corner);
-        place_row(lists, pixels, source, p, w, new, area, x, q, width, steps);
+        let rows = steady_band(&below, area, stacks, w, q, columns, height - row);
+        place_band(
+            lists, pixels, source, p, w, stacks, area, x, q, columns, rows, steps,
+        );
+        row += rows;
     }
 }

@@ -16,6 +16,7 @@ ghost use Rattle.r9_restack.specs.Placing.{shows};
 
 use super::changing::{Source, change, change_area};
 use super::placing::place;
+use super::stacks::stacks_of;
 use model_forest::Window;
 use r9_geom::Rect;
 use r9_locate::{Lists, Pixels, place_among};
@@ -56,10 +57,13 @@ pub fn restack<P: Pixels, S: Source, L: Ledger>(
     ensures spare { P.spare pixels.new ≡ P.spare pixels.old }
     ensures steps { steps.new ≤ steps.old + 2 * area_of area.now + 2 * area_of (image_at (shape lists.now) w).r }
 {
-    change_area(lists, pixels, source, p, w, &[], new, area, steps);
+    let stacks = stacks_of(&lists.get(p).windows, new, &[], w);
+    change_area(lists, pixels, source, p, w, &stacks, area, steps);
     let r = lists.get(w).r;
     let corner = place_among(new, w).min;
-    place(lists, pixels, source, p, w, new, area, &r, corner, steps);
+    place(
+        lists, pixels, source, p, w, &stacks, area, &r, corner, steps,
+    );
 }
 
 /// Moves all pixels to where they are kept when window w leaves the list, which leaves two parts of it: its own are asked for

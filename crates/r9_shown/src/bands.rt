@@ -10,8 +10,8 @@ ghost use Rattle.r9_shown.specs.Shown.{down};
 use model_forest::Window;
 use r9_geom::{Point, Rect, distance};
 
-// For how many of n rows down no row of a rectangle begins or ends.
-fn steady_down(r: &Rect, q: Point, n: u64) -> u64
+/// For how many of n rows from that of a point down no row of a rectangle begins or ends.
+pub fn steady_down(r: &Rect, q: Point, n: u64) -> u64
     requires { 0 < n }
     ensures some { 0 < result }
     ensures most { result ≤ n }

@@ -12,7 +12,7 @@ ghost use Rattle.r9_shown.specs.Shown.{IsKeptIn};
 
 mod bands;
 
-pub use bands::{block, steady_rows};
+pub use bands::{block, down, steady_down, steady_rows};
 use model_forest::Window;
 use r9_geom::Rect;
 use r9_lists::carried_rect;

@@ -11,4 +11,4 @@ returns-else-any c =
     let r = c.args.r.now in
     let min : Point = record { x = r.min.x +ℤ pos (32 * (c.args.k % cells_across r)); y = r.min.y +ℤ pos (32 * (c.args.k / cells_across r)) } in
     let square : Rect = record { min = min; max = record { x = min.x +ℤ pos 32; y = min.y +ℤ pos 32 } } in
-    c.if-any.false ∙ sym (part_shown c.args.below.now c.args.windows.now c.args.i r square (sym c.requires.any ∙ c.if-any.false))
+    c.if-any.false ∙ sym (part_shown c.args.below.now c.args.upper.now r c.args.to square (sym c.requires.any ∙ c.if-any.false))

@@ -1,12 +1,27 @@
-use Rattle.std.proofs.Common.{◌∙◌, sym, ap}
-use Rattle.std.specs.Prelude.{not}
+use Rattle.std.proofs.Common.{◌≡◌, ◌∙◌, ◌-◌, ◌<◌, suc, false, get_or, length, take, sym, ap, arith}
+use Rattle.std.specs.Prelude.{◌||◌, not}
+use Rattle.std.specs.List.{list_any}
 use Rattle.r9_geom.specs.Geometry.{is_empty, meet}
 use Rattle.model_forest.specs.declared.Window.{Window}
-use Rattle.r9_cells.proofs.Covering.{above_here}
+use Rattle.r9_cells.proofs.Covering.{any_take}
+use Rattle.r9_cells.proofs.Listed.{no_window}
+use Rattle.r9_cells.proofs.Steps.{or_none}
 use Rattle.r9_cells.proofs.hiding.is_covered.Goals as goal
 
-pub returns-then-not-is_empty : goal.returns-then-not-is_empty
-returns-then-not-is_empty c =
-    sym (c.loop-w.invariant.rest
-    ∙ above_here (λ (w : Window). not (is_empty (meet w.place c.args.out.now))) c.args.i c.args.windows.now c.loop-w.w-index _ c.loop-w-test.true c.if-w-i.false
-    (ap not (sym (ap is_empty c.meet.ensures.exact) ∙ sym c.is_empty.ensures.exact ∙ c.if-not-is_empty.true)))
+pub loop-left-preserved : goal.loop-left-preserved
+loop-left-preserved c =
+    let ws = c.args.upper.now in
+    let covers = λ (w : Window). not (is_empty (meet w.place c.args.out.now)) in
+    let k = c.loop-left.left - 1 in
+    let is : c.loop-left.left ≡ suc k = omega (arith, c.loop-left-test.true) in
+    let below : k < length ws = omega (arith, c.loop-left-test.true, c.loop-left.invariant.within) in
+    let clear : covers (get_or ws k no_window) ≡ false = ap not (sym (ap is_empty c.meet.ensures.exact) ∙ sym c.is_empty.ensures.exact ∙ c.if-not-is_empty.false) in
+    record {
+      within = omega (arith, c.loop-left.invariant.within);
+      rest =
+          c.loop-left.invariant.rest
+          ∙ ap (λ n. list_any covers (take n ws)) is
+          ∙ any_take covers ws k no_window below
+          ∙ ap (λ b. list_any covers (take k ws) || b) clear
+          ∙ or_none (list_any covers (take k ws));
+    }

@@ -1,12 +1,12 @@
-use Rattle.std.proofs.Common.{◌≡◌, ◌∙◌, ◌+◌, ◌*◌, ◌<◌, ◌≤◌, ◌^◌, ◌++◌, ℕ, Bool, Option, true, List, take, refl, sym, ap, subst, arith}
+use Rattle.std.proofs.Common.{◌∙◌, ◌+◌, ◌<◌, ◌^◌, ℕ, Option, List, take, refl, sym, ap, subst, arith}
 use Rattle.std.specs.Prelude.{sum_by}
 use Rattle.std.proofs.lemmas.List.{take_all}
-use Rattle.r9_geom.specs.declared.Point.{Point}
 use Rattle.r9_geom.specs.declared.Rect.{Rect}
-use Rattle.r9_geom.specs.Geometry.{area_of, holds}
+use Rattle.r9_geom.specs.Geometry.{area_of}
 use Rattle.r9_region.specs.Region.{covers}
 use Rattle.r9_locate.specs.Forms.{bits_in, Form, HasBits}
 use Rattle.r9_locate.specs.Table.{shape}
+use Rattle.r9_restack.specs.Stacks.{after_of}
 use Rattle.r9_restack.specs.Changing.{IsChanged}
 use Rattle.r9_restack.proofs.Areas.{areas_grown, covers_at, covers_more, fresh_area}
 use Rattle.r9_restack.proofs.Changes.{changed-none, changed-same}
@@ -14,7 +14,7 @@ use Rattle.r9_restack.proofs.changing.change_areas.Goals as goal
 
 pub loop-area-init : goal.loop-area-init
 loop-area-init g c = record {
-  moved = changed-none (shape c.args.lists.now) c.args.p (c.args.upper.now ++ c.args.lower.now) c.args.w (g.S.Source.given c.args.source.now) (g.S.Source.fill c.args.source.now) (g.P.Pixels.kept c.args.pixels.now) (covers (take 0 c.args.areas.now)) (λ z. refl);
+  moved = changed-none (shape c.args.lists.now) c.args.p (after_of c.args.stacks.now) c.args.w (g.S.Source.given c.args.source.now) (g.S.Source.fill c.args.source.now) (g.P.Pixels.kept c.args.pixels.now) (covers (take 0 c.args.areas.now)) (λ z. refl);
   has = refl;
   forms = refl;
   spare = refl;
@@ -46,7 +46,7 @@ loop-area-preserved g c =
     let k = c.loop-area.area-index in
     record {
       moved =
-          changed-same (shape c.args.lists.now) c.args.p (c.args.upper.now ++ c.args.lower.now) c.args.w (g.S.Source.given c.args.source.now) (g.S.Source.fill c.args.source.now) (kept c.args.pixels.now) (kept c.change_within.new.pixels) _ (covers (take (k + 1) areas))
+          changed-same (shape c.args.lists.now) c.args.p (after_of c.args.stacks.now) c.args.w (g.S.Source.given c.args.source.now) (g.S.Source.fill c.args.source.now) (kept c.args.pixels.now) (kept c.change_within.new.pixels) _ (covers (take (k + 1) areas))
           (λ z. covers_more areas k _ z c.loop-area-test.true)
           (c.change_within.ensures.moved (kept c.args.pixels.now) (covers (take k areas)) (λ z h. fresh_area areas k _ z (c.requires.areas.apart z) c.loop-area-test.true h) c.loop-area.invariant.moved);
       has = c.change_within.ensures.has ∙ c.loop-area.invariant.has;
@@ -57,7 +57,7 @@ loop-area-preserved g c =
 
 pub returns-clause-moved : goal.returns-clause-moved
 returns-clause-moved g c =
-    subst (λ (areas : List Rect). IsChanged (shape c.args.lists.now) c.args.p (c.args.upper.now ++ c.args.lower.now) c.args.w (g.S.Source.given c.args.source.now) (g.S.Source.fill c.args.source.now) (g.P.Pixels.kept c.args.pixels.now) (g.P.Pixels.kept c.loop-area.pixels) (covers areas))
+    subst (λ (areas : List Rect). IsChanged (shape c.args.lists.now) c.args.p (after_of c.args.stacks.now) c.args.w (g.S.Source.given c.args.source.now) (g.S.Source.fill c.args.source.now) (g.P.Pixels.kept c.args.pixels.now) (g.P.Pixels.kept c.loop-area.pixels) (covers areas))
     (take_all c.loop-area.area-index c.args.areas.now c.loop-area-test.false) c.loop-area.invariant.moved
 
 pub returns-clause-steps : goal.returns-clause-steps

@@ -1,88 +1,115 @@
-use Rattle.std.proofs.Common.{◌≡◌, ◌∙◌, ◌+◌, ◌<◌, ◌||◌, refl, sym, ap, arith, ℕ, ◌^◌, subst, Option, ◌++◌, Bool, true, false}
-use Rattle.r9_geom.specs.declared.Point.{Point}
-use Rattle.r9_geom.specs.declared.Rect.{Rect}
-use Rattle.r9_geom.specs.Geometry.{height, holds, point_at, strip, width, IsOrdered}
-use Rattle.r9_geom.proofs.GeometryLemmas.{band, band_all, band_more, band_none, row_inside, width_most}
+use Rattle.std.proofs.Common.{◌≡◌, ◌∙◌, ℕ, ◌+◌, ◌*◌, ◌<◌, ◌≤◌, ◌^◌, ◌||◌, Option, refl, sym, subst, ap, arith}
+use Rattle.r9_geom.specs.Geometry.{height, holds, width, IsNear}
+use Rattle.r9_geom.proofs.GeometryLemmas.{band, band_all, band_none, distance_below, height_most, width_most}
+use Rattle.std.proofs.lemmas.Int.{ints}
 use Rattle.r9_locate.specs.Forms.{bits_in, Form, HasBits}
 use Rattle.r9_locate.specs.Table.{shape}
-use Rattle.r9_plane.specs.Pixels.{along}
-use Rattle.r9_plane.proofs.PlaneLemmas.{along_holds}
-use Rattle.r9_restack.specs.Moving.{more, IsFresh}
+use Rattle.r9_restack.specs.Stacks.{after_of}
+use Rattle.r9_shown.specs.Shown.{block}
+use Rattle.r9_shown.proofs.Blocks.{band_part}
+use Rattle.r9_restack.specs.Moving.{more_in, IsFreshIn}
+use Rattle.r9_restack.proofs.Blocked.{done_below, fresh_below}
 use Rattle.r9_restack.proofs.Changes.{changed-same}
-use Rattle.r9_restack.proofs.Parting.{fresh_row, row_begins, row_grown}
+use Rattle.r9_restack.proofs.Parting.{row_begins}
+use Rattle.r9_restack.proofs.changing.change_within.Given.{Over}
 use Rattle.r9_restack.proofs.changing.change_within.Goals as goal
+use Rattle.r9_restack.proofs.changing.change_within.Goals.{After-point_at-at}
 
 pub loop-row-init : goal.loop-row-init
 loop-row-init g c = record {
-  moved = λ before done fresh m.
-      changed-same (shape c.args.lists.now) c.args.p (c.args.upper.now ++ c.args.lower.now) c.args.w (g.S.Source.given c.args.source.now) (g.S.Source.fill c.args.source.now) before (g.P.Pixels.kept c.args.pixels.now) done (λ z. holds (band c.args.area.now 0) z || done z)
-      (λ z. ap (λ b. b || done z) (band_none c.args.area.now z)) m;
+  within = omega arith;
+  moved = λ before done fresh m. changed-same (shape c.args.lists.now) c.args.p (after_of c.args.stacks.now) c.args.w (g.S.Source.given c.args.source.now) (g.S.Source.fill c.args.source.now) before (g.P.Pixels.kept c.args.pixels.now) done (more_in (band c.args.area.now 0) done) (λ z. ap (λ b. b || done z) (band_none c.args.area.now z)) m;
   has = refl;
   forms = refl;
   spare = refl;
   steps = omega arith;
 }
 
-pub change_row-requires-clause-width : goal.change_row-requires-clause-width
-change_row-requires-clause-width g c = omega (arith, c.width-width.ensures, width_most c.args.area.now c.requires.near c.requires.ordered)
+pub point_at-at-requires-clause-row : goal.point_at-at-requires-clause-row
+point_at-at-requires-clause-row g c = omega (arith, height_most c.args.area.now c.requires.near c.requires.ordered, c.loop-row.invariant.within)
 
-pub change_row-requires-clause-inside : goal.change_row-requires-clause-inside
-change_row-requires-clause-inside g c z h =
+-- a row begins near
+begins_near : (g : Over) (c : After-point_at-at g) → IsNear c.point_at-at.result
+begins_near g c =
     let area = c.args.area.now in
-    let below : c.loop-row.row < height area = omega (arith, c.loop-row-test.true, c.height-row-end.ensures) in
-    let is = row_begins area c.point_at.result c.loop-row.row c.point_at.ensures in
-    c.requires.inside z (row_inside area c.point_at.result z c.loop-row.row c.requires.ordered is.0 is.1 below (ap (λ n. holds (strip c.point_at.result n) z) (sym c.width-width.ensures) ∙ h))
+    let is = row_begins area c.point_at-at.result c.loop-row.row c.point_at-at.ensures in
+    let bottom = distance_below area.min.y area.max.y c.loop-row.row (omega (arith, c.loop-row-test.true, c.height-height.ensures)) in
+    record {
+      left = omega (arith, ints, is.0, c.requires.near.min.left);
+      right = omega (arith, ints, is.0, c.requires.near.min.right);
+      top = omega (arith, ints, is.1, c.requires.near.min.top);
+      bottom = omega (arith, ints, is.1, bottom, c.requires.near.max.bottom);
+    }
 
-pub change_row-requires-clause-bits : goal.change_row-requires-clause-bits
-change_row-requires-clause-bits g c = subst (HasBits (shape c.args.lists.now)) (sym c.loop-row.invariant.forms) c.requires.bits
+pub steady_rows_of-rows-requires-clause-near : goal.steady_rows_of-rows-requires-clause-near
+steady_rows_of-rows-requires-clause-near g c = begins_near g (goal.at.steady_rows_of-rows-requires-clause-near g c).After-point_at-at
 
-pub change_row-requires-clause-given : goal.change_row-requires-clause-given
-change_row-requires-clause-given g c x = subst (λ (forms : ℕ → Option Form). g.S.Source.given c.args.source.now x < 2 ^ bits_in forms c.args.p) (sym c.loop-row.invariant.forms) (c.requires.given x)
+pub steady_rows_of-rows-requires-clause-columns : goal.steady_rows_of-rows-requires-clause-columns
+steady_rows_of-rows-requires-clause-columns g c = omega (arith, c.width-columns.ensures, width_most c.args.area.now c.requires.near c.requires.ordered)
 
-pub change_row-requires-clause-fill : goal.change_row-requires-clause-fill
-change_row-requires-clause-fill g c z = subst (λ (forms : ℕ → Option Form). g.S.Source.fill c.args.source.now z < 2 ^ bits_in forms c.args.p) (sym c.loop-row.invariant.forms) (c.requires.fill z)
+pub change_band-requires-clause-near : goal.change_band-requires-clause-near
+change_band-requires-clause-near g c = begins_near g (goal.at.change_band-requires-clause-near g c).After-point_at-at
 
--- the points of a row of the area lie in it
-in_area : (area : Rect) (at : Point) (row n : ℕ) → at ≡ point_at area 0 row → row < height area → IsOrdered area → n ≡ width area → (k : ℕ) → k < n → holds area (along at k) ≡ true
-in_area area at row n at_is below ordered wide k inside =
-    let is = row_begins area at row at_is in
-    row_inside area at (along at k) row ordered is.0 is.1 below (ap (λ m. holds (strip at m) (along at k)) (sym wide) ∙ along_holds at n k inside)
+pub change_band-requires-clause-columns : goal.change_band-requires-clause-columns
+change_band-requires-clause-columns g c = omega (arith, c.width-columns.ensures, width_most c.args.area.now c.requires.near c.requires.ordered)
 
-or_assoc : (a b c : Bool) → ((a || b) || c) ≡ (a || (b || c))
-or_assoc true b c = refl
-or_assoc false b c = refl
+pub change_band-requires-clause-rows : goal.change_band-requires-clause-rows
+change_band-requires-clause-rows g c = omega (arith, c.steady_rows_of-rows.ensures.most, c.height-height.ensures, height_most c.args.area.now c.requires.near c.requires.ordered)
 
-fresh_both : (area : Rect) (at : Point) (row n : ℕ) (done : Point → Bool) → at ≡ point_at area 0 row → row < height area → IsOrdered area → n ≡ width area → ((z : Point) → holds area z ≡ true → done z ≡ false) → IsFresh at n (λ z. holds (band area row) z || done z)
-fresh_both area at row n done at_is below ordered wide fresh k inside =
-    ap (λ b. b || done (along at k)) (fresh_row area at row n at_is k inside) ∙ fresh (along at k) (in_area area at row n at_is below ordered wide k inside)
+pub change_band-requires-clause-inside : goal.change_band-requires-clause-inside
+change_band-requires-clause-inside g c z h =
+    let area = c.args.area.now in
+    let row = c.loop-row.row in
+    let is = row_begins area c.point_at-at.result row c.point_at-at.ensures in
+    c.requires.inside z
+    (band_part area c.point_at-at.result z row c.steady_rows_of-rows.result c.requires.ordered is.0 is.1 (omega (arith, c.steady_rows_of-rows.ensures.most, c.height-height.ensures, c.loop-row-test.true))
+    (ap (λ n. holds (block c.point_at-at.result n c.steady_rows_of-rows.result) z) (sym c.width-columns.ensures) ∙ h))
+
+pub change_band-requires-clause-bits : goal.change_band-requires-clause-bits
+change_band-requires-clause-bits g c = subst (HasBits (shape c.args.lists.now)) (sym c.loop-row.invariant.forms) c.requires.bits
+
+pub change_band-requires-clause-given : goal.change_band-requires-clause-given
+change_band-requires-clause-given g c x = subst (λ (forms : ℕ → Option Form). g.S.Source.given c.args.source.now x < 2 ^ bits_in forms c.args.p) (sym c.loop-row.invariant.forms) (c.requires.given x)
+
+pub change_band-requires-clause-fill : goal.change_band-requires-clause-fill
+change_band-requires-clause-fill g c z = subst (λ (forms : ℕ → Option Form). g.S.Source.fill c.args.source.now z < 2 ^ bits_in forms c.args.p) (sym c.loop-row.invariant.forms) (c.requires.fill z)
 
 pub loop-row-preserved : goal.loop-row-preserved
 loop-row-preserved g c =
     let area = c.args.area.now in
     let row = c.loop-row.row in
-    let at = c.point_at.result in
-    let n = c.width-width.result in
-    let below : row < height area = omega (arith, c.loop-row-test.true, c.height-row-end.ensures) in
-    let is = row_begins area at row c.point_at.ensures in
-    let kept = g.P.Pixels.kept in
+    let rows = c.steady_rows_of-rows.result in
+    let at = c.point_at-at.result in
+    let is = row_begins area at row c.point_at-at.ensures in
+    let fits : row + rows ≤ height area = omega (arith, c.steady_rows_of-rows.ensures.most, c.height-height.ensures, c.loop-row-test.true) in
+    let more_steps : width area * (row + rows) ≡ width area * row + width area * rows = grind arith in
+    let wide : c.width-columns.result * rows ≡ width area * rows = ap (λ n. n * rows) c.width-columns.ensures in
     record {
+      within = fits;
       moved = λ before done fresh m.
-          changed-same (shape c.args.lists.now) c.args.p (c.args.upper.now ++ c.args.lower.now) c.args.w (g.S.Source.given c.args.source.now) (g.S.Source.fill c.args.source.now) before (kept c.change_row.new.pixels) (more at n (λ z. holds (band area row) z || done z)) (λ z. holds (band area (row + 1)) z || done z)
-          (λ z.
-          ap (λ b. b || done z) (band_more area at z row c.requires.ordered is.0 is.1 ∙ ap (λ m. holds (strip at m) z || holds (band area row) z) (sym c.width-width.ensures))
-          ∙ or_assoc (holds (strip at n) z) (holds (band area row) z) (done z))
-          (c.change_row.ensures.moved before (λ z. holds (band area row) z || done z) (fresh_both area at row n done c.point_at.ensures below c.requires.ordered c.width-width.ensures fresh) (c.loop-row.invariant.moved before done fresh m));
-      has = c.change_row.ensures.has ∙ c.loop-row.invariant.has;
-      forms = c.change_row.ensures.forms ∙ c.loop-row.invariant.forms;
-      spare = c.change_row.ensures.spare ∙ c.loop-row.invariant.spare;
-      steps = row_grown _ _ _ row (width area) c.width-width.result c.width-width.ensures c.change_row.ensures.steps c.loop-row.invariant.steps;
+          let so_far = c.loop-row.invariant.moved before done fresh m in
+          let until = more_in (band area row) done in
+          let ready : IsFreshIn (block at c.width-columns.result rows) until = subst (λ n. IsFreshIn (block at n rows) until) (sym c.width-columns.ensures) (fresh_below area at row rows done c.requires.ordered is.0 is.1 fits fresh) in
+          changed-same (shape c.args.lists.now) c.args.p (after_of c.args.stacks.now) c.args.w (g.S.Source.given c.args.source.now) (g.S.Source.fill c.args.source.now) before (g.P.Pixels.kept c.change_band.new.pixels) (more_in (block at c.width-columns.result rows) until) (more_in (band area (row + rows)) done)
+          (λ z. done_below area at row rows done z c.requires.ordered is.0 is.1 ∙ ap (λ n. more_in (block at n rows) until z) (sym c.width-columns.ensures))
+          (c.change_band.ensures.moved before until ready so_far);
+      has = c.change_band.ensures.has ∙ c.loop-row.invariant.has;
+      forms = c.change_band.ensures.forms ∙ c.loop-row.invariant.forms;
+      spare = c.change_band.ensures.spare ∙ c.loop-row.invariant.spare;
+      steps = omega (arith, c.change_band.ensures.steps, c.loop-row.invariant.steps, more_steps, wide);
     }
 
 pub returns-clause-moved : goal.returns-clause-moved
-returns-clause-moved g c = λ before done fresh m.
+returns-clause-moved g c before done fresh m =
     let area = c.args.area.now in
-    let kept = g.P.Pixels.kept in
-    let end : c.loop-row.row ≡ height area = omega (arith, c.loop-row-test.false, c.loop-row.auto.row-end, c.height-row-end.ensures) in
-    changed-same (shape c.args.lists.now) c.args.p (c.args.upper.now ++ c.args.lower.now) c.args.w (g.S.Source.given c.args.source.now) (g.S.Source.fill c.args.source.now) before (kept c.loop-row.pixels) (λ z. holds (band area c.loop-row.row) z || done z) (λ z. holds area z || done z)
+    let end : c.loop-row.row ≡ height area = omega (arith, c.loop-row-test.false, c.loop-row.invariant.within, c.height-height.ensures) in
+    changed-same (shape c.args.lists.now) c.args.p (after_of c.args.stacks.now) c.args.w (g.S.Source.given c.args.source.now) (g.S.Source.fill c.args.source.now) before (g.P.Pixels.kept c.loop-row.pixels) (more_in (band area c.loop-row.row) done) (λ z. holds area z || done z)
     (λ z. ap (λ b. b || done z) (sym (ap (λ n. holds (band area n) z) end ∙ band_all area z c.requires.ordered.down)))
     (c.loop-row.invariant.moved before done fresh m)
+
+pub returns-clause-steps : goal.returns-clause-steps
+returns-clause-steps g c =
+    let area = c.args.area.now in
+    let end : c.loop-row.row ≡ height area = omega (arith, c.loop-row-test.false, c.loop-row.invariant.within, c.height-height.ensures) in
+    let all : width area * c.loop-row.row ≡ width area * height area = ap (λ n. width area * n) end in
+    omega (arith, c.loop-row.invariant.steps, all)

@@ -10,17 +10,12 @@ use Rattle.r9_locate.specs.Table.{shape}
 use Rattle.r9_locate.proofs.Apart.{own-apart}
 use Rattle.r9_restack.proofs.changing.show.Goals as goal
 
-pub save-requires-clause-below : goal.save-requires-clause-below
-save-requires-clause-below g c v a_is apart k below =
-    let same = ap (λ n. 2 ^ n) (c.requires.bits v.image c.args.p (c.requires.a_live v a_is) (c.requires.a_stands v a_is)) in
-    omega (arith, same, c.read_view.ensures.below k (omega (arith, below, c.read_view.auto.raws)))
-
 pub write_view-requires-clause-bits : goal.write_view-requires-clause-bits
 write_view-requires-clause-bits g c = subst (HasBits (shape c.args.lists.now)) (sym c.save.ensures.forms) c.requires.bits
 
 pub write_view-requires-clause-below : goal.write_view-requires-clause-below
 write_view-requires-clause-below g c k below =
-    let short : k < length c.read_view.new.raws = omega (arith, below, c.fetch.auto.raws) in
+    let short : k < length c.save.new.raws = omega (arith, below, c.fetch.auto.raws) in
     let same : 2 ^ bits_in (g.P.Pixels.forms c.save.new.pixels) c.args.p ≡ 2 ^ bits_in (g.P.Pixels.forms c.args.pixels.now) c.args.p = ap (λ forms. 2 ^ bits_in forms c.args.p) c.save.ensures.forms in
     let by_window : (b : Option Window) → c.args.b ≡ b → slice_index c.fetch.new.raws k < 2 ^ bits_in (g.P.Pixels.forms c.save.new.pixels) c.args.p = λ b. elim b as (λ o. c.args.b ≡ o → slice_index c.fetch.new.raws k < 2 ^ bits_in (g.P.Pixels.forms c.save.new.pixels) c.args.p) [
       | None ↦ λ is. omega (arith, same, c.fetch.ensures.none is k short, c.requires.fill (along c.args.q k))
@@ -42,20 +37,19 @@ returns-clause-shown g c =
     let q = c.args.q in
     record {
       none = λ b_is k below.
-          c.write_view.ensures.at k (omega (arith, below, c.fetch.auto.raws, c.read_view.auto.raws))
-          ∙ c.fetch.ensures.none b_is k (omega (arith, below, c.read_view.auto.raws));
+          c.write_view.ensures.at k (omega (arith, below, c.fetch.auto.raws, c.save.auto.raws))
+          ∙ c.fetch.ensures.none b_is k (omega (arith, below, c.save.auto.raws));
       of_w = λ v b_is is_w k below.
-          c.write_view.ensures.at k (omega (arith, below, c.fetch.auto.raws, c.read_view.auto.raws))
-          ∙ c.fetch.ensures.of_w v b_is is_w k (omega (arith, below, c.read_view.auto.raws));
+          c.write_view.ensures.at k (omega (arith, below, c.fetch.auto.raws, c.save.auto.raws))
+          ∙ c.fetch.ensures.of_w v b_is is_w k (omega (arith, below, c.save.auto.raws));
       owned = λ v b_is apart k below.
-          c.write_view.ensures.at k (omega (arith, below, c.fetch.auto.raws, c.read_view.auto.raws))
-          ∙ c.fetch.ensures.owned v b_is apart k (omega (arith, below, c.read_view.auto.raws))
+          c.write_view.ensures.at k (omega (arith, below, c.fetch.auto.raws, c.save.auto.raws))
+          ∙ c.fetch.ensures.owned v b_is apart k (omega (arith, below, c.save.auto.raws))
           ∙ c.save.ensures.others (own v.image (along (inward w v q) k)) (λ u a_is other j lower same. c.requires.apart u v a_is b_is apart (sym (ap (λ (l : Place). l.image) same)));
       saved = λ v a_is apart k below.
           c.write_view.ensures.others (own v.image (along (inward w v q) k)) (λ j lower same. own-apart w c.args.lists.now.standing c.args.p v.image (along (inward w v q) k) (along q j) c.requires.live (c.requires.a_stands v a_is) same)
-          ∙ c.save.ensures.saved v a_is apart k (omega (arith, below, c.read_view.auto.raws))
-          ∙ c.read_view.ensures.pixels k below;
+          ∙ c.save.ensures.saved v a_is apart k below;
       others = λ place apart own_apart.
-          c.write_view.ensures.others place (λ k lower. apart k (omega (arith, lower, c.fetch.auto.raws, c.read_view.auto.raws)))
-          ∙ c.save.ensures.others place (λ v a_is other k lower. own_apart v a_is other k (omega (arith, lower, c.read_view.auto.raws)));
+          c.write_view.ensures.others place (λ k lower. apart k (omega (arith, lower, c.fetch.auto.raws, c.save.auto.raws)))
+          ∙ c.save.ensures.others place (λ v a_is other k lower. own_apart v a_is other k lower);
     }

@@ -1,11 +1,12 @@
 use Rattle.std.proofs.Common.{◌≡◌, ◌∙◌, sym, ap, arith}
 use Rattle.std.specs.Prelude.{◌==◌, ◌&&◌, not, nat_lt, is_some, if◌then◌else◌}
 use Rattle.std.proofs.lemmas.Bool.Decides.{Decides-eqb}
-use Rattle.model_kept.specs.Cells.{cell_count}
+use Rattle.model_kept.specs.Cells.{cell_count, cell_part}
 use Rattle.r9_cells.specs.Rows.{cell_at}
 use Rattle.r9_cells.specs.Cells.{all_rows, cell_pixel}
 use Rattle.r9_cells.specs.Fitting.{hides_cell}
 use Rattle.r9_cells.proofs.Changed.{row_long}
+use Rattle.r9_cells.proofs.Covering.{under}
 use Rattle.r9_cells.proofs.Steps.{below_more, given_more, kept_twice}
 use Rattle.r9_cells.proofs.table.Cells.give_window.Goals as goal
 
@@ -15,7 +16,7 @@ loop-k-preserved c =
     let h = hides_cell c.args.below.now c.args.windows.now c.args.i c.args.r.now in
     let k = c.loop-k.k in
     let is = c.hides_part-is.result in
-    let hid : is ≡ h k = c.hides_part-is.ensures in
+    let hid : is ≡ h k = c.hides_part-is.ensures ∙ under c.args.below.now c.args.windows.now c.standing.result.0.now c.args.i c.args.r.now c.standing.result.1 (cell_part c.args.r.now k) c.standing.ensures.above c.standing.ensures.to in
     record {
       pixels = λ j n p.
           let now = is_some (cell_at (all_rows c.give_unless.new.self) j n) in

@@ -1,11 +1,12 @@
 use Rattle.std.proofs.Common.{◌≡◌, ◌∙◌, ◌<◌, sym, ap, arith}
 use Rattle.std.specs.Prelude.{◌==◌, ◌&&◌, ◌||◌, not, nat_lt, is_some}
 use Rattle.std.proofs.lemmas.Bool.Decides.{Decides-eqb}
-use Rattle.model_kept.specs.Cells.{cell_count}
+use Rattle.model_kept.specs.Cells.{cell_count, cell_part}
 use Rattle.r9_cells.specs.Rows.{cell_at}
 use Rattle.r9_cells.specs.Cells.{all_rows}
 use Rattle.r9_cells.specs.Fitting.{hides_cell, wants}
 use Rattle.r9_cells.proofs.Changed.{row_long}
+use Rattle.r9_cells.proofs.Covering.{under}
 use Rattle.r9_cells.proofs.Steps.{below_more, below_self, rest, rest_more, rest_none, taken_more, taken_next, weight}
 use Rattle.r9_cells.proofs.table.Cells.take_window.Goals as goal
 use Rattle.r9_cells.proofs.table.Cells.take_window.Goals.{After-hides_part-is}
@@ -17,13 +18,18 @@ inside c =
     let long = row_long c.args.self.now.rows.items c.args.i row c.requires.celled.image c.index.ensures in
     omega (arith, long, c.requires.celled.cells, c.len-cells.ensures, row.cells.ok.0, c.loop-k-test.true)
 
+hid : (c : After-hides_part-is) → c.hides_part-is.result ≡ hides_cell c.args.below.now c.args.windows.now c.args.i c.args.r.now c.loop-k.k
+hid c =
+    c.hides_part-is.ensures
+    ∙ under c.args.below.now c.args.windows.now c.standing.result.0.now c.args.i c.args.r.now c.standing.result.1 (cell_part c.args.r.now c.loop-k.k) c.standing.ensures.above c.standing.ensures.to
+
 want : (c : After-hides_part-is) → (c.hides_part-is.result && not (is_some (cell_at (all_rows c.loop-k.self) c.args.i c.loop-k.k))) ≡ wants (all_rows c.args.self.now) c.args.below.now c.args.windows.now c.args.i c.args.r.now c.loop-k.k
 want c =
     let k = c.loop-k.k in
     let h = hides_cell c.args.below.now c.args.windows.now c.args.i c.args.r.now k in
     let some = is_some (cell_at (all_rows c.args.self.now) c.args.i k) in
     let next = c.loop-k.invariant.taken c.args.i k ∙ taken_next (c.args.i == c.args.i) (nat_lt k k) h some (below_self k) in
-    λ j. c.hides_part-is.ensures j && not (next j)
+    λ j. hid c j && not (next j)
 
 pub take_for-requires-clause-room : goal.take_for-requires-clause-room
 take_for-requires-clause-room c =
@@ -47,7 +53,7 @@ loop-k-preserved c =
       taken = λ j n.
           c.take_for.ensures.taken j n
           ∙ ap (λ b. (((j == c.args.i) && (n == k)) && c.hides_part-is.result) || b) (c.loop-k.invariant.taken j n)
-          ∙ taken_more (j == c.args.i) (nat_lt n k) (n == k) c.hides_part-is.result (h n) (is_some (cell_at rows j n)) (λ e. now.hides_part-is.ensures ∙ ap h (sym ((Decides-eqb n k).0 e)))
+          ∙ taken_more (j == c.args.i) (nat_lt n k) (n == k) c.hides_part-is.result (h n) (is_some (cell_at rows j n)) (λ e. hid now ∙ ap h (sym ((Decides-eqb n k).0 e)))
           ∙ ap (λ b. ((j == c.args.i) && (b && h n)) || is_some (cell_at rows j n)) (sym (below_more n k));
       rows = c.take_for.ensures.rows ∙ c.loop-k.invariant.rows;
       lengths = λ j. c.take_for.ensures.lengths j ∙ c.loop-k.invariant.lengths j;

@@ -1,11 +1,11 @@
-use Rattle.std.proofs.Common.{◌≡◌, ◌∙◌, ℕ, ◌<◌, false, length, List, Option, Some, sym, ap, subst, arith}
+use Rattle.std.proofs.Common.{rules, ◌≡◌, ◌∙◌, ℕ, ◌<◌, false, length, List, Option, Some, sym, ap, subst, arith}
 use Rattle.std.specs.Prelude.{option_map, slice_set}
 use Rattle.r9_cells.specs.Cells.{all_rows}
 use Rattle.r9_locate.specs.Forms.{Form}
 use Rattle.r9_pixels.specs.declared.own.Own.{Own}
 use Rattle.r9_pixels.specs.declared.own.Own.TheVariants.{Whole}
 use Rattle.r9_pixels.specs.Owns.{form_in, own_at, IsTabled, IsWithinBits}
-use Rattle.r9_pixels.proofs.Owning.{hidden_set, no_window, own_there, set_each, tabled_set, whole_of, IsNoWindow}
+use Rattle.r9_pixels.proofs.Owning.{hidden_set, no_window, own_is, own_there, set_each, tabled_set, whole_of, IsNoWindow}
 use Rattle.r9_pixels.proofs.Telling.{kept_of, place_of}
 use Rattle.r9_pixels.proofs.keeping.KeptPixels.replace_whole.Goals as goal
 
@@ -47,3 +47,10 @@ returns-clause-forms c =
     let owns = c.args.self.now.owns.items in
     (λ j n. option_map form_in (own_at (slice_set owns c.args.i (c.replace.ensures.after j)) n))
     ∙ (λ j n. set_each owns c.args.i (Some (Whole c.args.plane)) (option_map form_in) (there owns c.args.i c.requires) n j)
+
+pub returns-clause-form : goal.returns-clause-form
+returns-clause-form c =
+    let owns = c.args.self.now.owns.items in
+    let kept : c.in-Some-Whole.field-0 ≡ Whole c.in-Some-Whole.had = search rules in
+    let was : own_at owns c.args.i ≡ c.index_mut.result.now = own_is owns c.args.i c.index_mut.result.now (there owns c.args.i c.requires) c.index_mut.ensures.value in
+    ap (λ (slot : Option Own). option_map form_in slot) (was ∙ sym c.replace.ensures.value ∙ c.in-Some-Whole.is ∙ ap (λ (own : Own). Some own) kept)

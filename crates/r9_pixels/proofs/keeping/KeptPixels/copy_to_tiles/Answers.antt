@@ -1,0 +1,21 @@
+use Rattle.std.proofs.Common.{arith}
+use Rattle.r9_plane.specs.Pixels.{along}
+use Rattle.r9_pixels.proofs.Copied.{whole_place}
+use Rattle.r9_pixels.proofs.Owning.{own_below}
+use Rattle.r9_pixels.proofs.keeping.KeptPixels.copy_to_tiles.Goals as goal
+
+pub extent-requires : goal.extent-requires
+extent-requires c =
+    let self = c.args.self.now in
+    omega (arith, own_below self.owns.items self.cells c.args.from (along c.args.at 0) (c.requires.can.had 0 c.requires.some), self.owns.ok.0)
+
+pub hide-requires-clause-whole : goal.hide-requires-clause-whole
+hide-requires-clause-whole c =
+    let self = c.args.self.now in
+    whole_place self.owns.items self.cells c.args.from (along c.args.at 0) (c.extent.ensures.none c.in-None.is) (c.requires.can.had 0 c.requires.some)
+
+pub returns-in-Some : goal.returns-in-Some
+returns-in-Some c = c.copy_blocks.ensures
+
+pub returns-in-None : goal.returns-in-None
+returns-in-None c = record { pixels = c.hide.ensures.pixels; others = c.hide.ensures.others; has = c.hide.ensures.has; forms = c.hide.ensures.forms; spare = c.hide.ensures.spare }

@@ -1,0 +1,23 @@
+-- Pixels side by side that are copied from where one image keeps them to where another one does.
+use Rattle.std.specs.Prelude.{◌≡◌, ◌≢◌, ◌<◌, ℕ, true}
+use Rattle.r9_geom.specs.declared.Point.{Point}
+use Rattle.r9_plane.specs.Pixels.{along}
+use Rattle.model_kept.specs.Keeping.{own, Place}
+use Rattle.r9_locate.specs.Forms.{bits_in}
+use Rattle.r9_pixels.specs.declared.keeping.KeptPixels.{KeptPixels}
+use Rattle.r9_pixels.specs.Kept.{form_at, has_place, kept_at, spare_in}
+
+-- there are places for them, of as many bits
+pub record CanCarry (kept : KeptPixels) (from : ℕ) (at : Point) (to : ℕ) (p : Point) (n : ℕ) : Type 0 where
+  pub apart : from ≢ to
+  pub had : (k : ℕ) → k < n → has_place kept (own from (along at k)) ≡ true
+  pub has : (k : ℕ) → k < n → has_place kept (own to (along p k)) ≡ true
+  pub bits : bits_in (form_at kept) from ≡ bits_in (form_at kept) to
+
+-- they are there, and nothing else has changed
+pub record IsCarried (old new : KeptPixels) (from : ℕ) (at : Point) (to : ℕ) (p : Point) (n : ℕ) : Type 0 where
+  pub pixels : (k : ℕ) → k < n → kept_at new (own to (along p k)) ≡ kept_at old (own from (along at k))
+  pub others : (place : Place) → ((k : ℕ) → k < n → place ≢ own to (along p k)) → kept_at new place ≡ kept_at old place
+  pub has : has_place new ≡ has_place old
+  pub forms : form_at new ≡ form_at old
+  pub spare : spare_in new ≡ spare_in old

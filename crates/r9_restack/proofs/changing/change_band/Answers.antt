@@ -1,0 +1,98 @@
+use Rattle.std.proofs.Common.{◌≡◌, ◌∙◌, ℕ, ◌+◌, ◌*◌, ◌<◌, ◌≤◌, ◌^◌, ◌||◌, Option, refl, sym, subst, ap, arith}
+use Rattle.r9_geom.specs.declared.Point.{Point}
+use Rattle.r9_geom.specs.Geometry.{holds}
+use Rattle.r9_geom.proofs.GeometryLemmas.{near_point}
+use Rattle.model_forest.specs.World.{image_at}
+use Rattle.r9_locate.specs.Forms.{bits_in, Form, HasBits}
+use Rattle.r9_locate.specs.Table.{shape}
+use Rattle.r9_restack.specs.Stacks.{after_of, tops_at}
+use Rattle.r9_shown.specs.Shown.{block}
+use Rattle.r9_shown.proofs.Blocks.{block_none, block_part, corner_in}
+use Rattle.r9_restack.specs.Moving.{more_in, IsFreshIn}
+use Rattle.r9_restack.specs.Changing.{IsChanged}
+use Rattle.r9_restack.proofs.Changes.{changed-same}
+use Rattle.r9_restack.proofs.Parting.{nearby}
+use Rattle.r9_restack.proofs.Blocked.{done_right, fresh_right}
+use Rattle.r9_restack.proofs.Steady.{across_first, steady_block}
+use Rattle.r9_restack.proofs.changing.change_band.Goals as goal
+
+pub loop-done-init : goal.loop-done-init
+loop-done-init g c = record {
+  within = omega arith;
+  moved = λ before done fresh m. changed-same (shape c.args.lists.now) c.args.p (after_of c.args.stacks.now) c.args.w (g.S.Source.given c.args.source.now) (g.S.Source.fill c.args.source.now) before (g.P.Pixels.kept c.args.pixels.now) done (more_in (block c.args.at 0 c.args.rows) done) (λ z. ap (λ b. b || done z) (block_none c.args.at c.args.rows z)) m;
+  has = refl;
+  forms = refl;
+  spare = refl;
+  steps = omega arith;
+}
+
+pub change_block-requires-clause-near : goal.change_block-requires-clause-near
+change_block-requires-clause-near g c =
+    let r = (image_at (shape c.args.lists.now) c.args.p).r in
+    let len = c.run_of-run.result.extent.columns in
+    let q = c.along-q.result in
+    let here = block_part c.args.at c.loop-done.done len c.args.columns c.args.rows q (omega (arith, c.run_of-run.ensures.most, c.loop-done-test.true))
+    (ap (λ (p : Point). holds (block p len c.args.rows) q) (sym c.along-q.ensures) ∙ corner_in q len c.args.rows c.run_of-run.ensures.some c.requires.some) in
+    near_point (2 ^ 40) r q (nearby c.args.lists.now c.args.p c.requires.change.live).0 (c.requires.inside q here)
+
+pub change_block-requires-clause-columns : goal.change_block-requires-clause-columns
+change_block-requires-clause-columns g c = omega (arith, c.run_of-run.ensures.most, c.requires.columns)
+
+pub change_block-requires-clause-inside : goal.change_block-requires-clause-inside
+change_block-requires-clause-inside g c z h =
+    let len = c.run_of-run.result.extent.columns in
+    c.requires.inside z (block_part c.args.at c.loop-done.done len c.args.columns c.args.rows z (omega (arith, c.run_of-run.ensures.most, c.loop-done-test.true)) (ap (λ p. holds (block p len c.args.rows) z) (sym c.along-q.ensures) ∙ h))
+
+-- what is told of its row is told of all of the block
+pub change_block-requires-clause-tops : goal.change_block-requires-clause-tops
+change_block-requires-clause-tops g c =
+    let run = c.run_of-run.result in
+    let extent = run.extent in
+    steady_block (tops_at c.args.stacks.now) c.args.at c.along-q.result c.loop-done.done extent.columns c.args.columns c.args.rows run.tops c.along-q.ensures
+    (omega (arith, c.run_of-run.ensures.most, c.loop-done-test.true))
+    c.requires.tops
+    (across_first (tops_at c.args.stacks.now) c.along-q.result extent.columns extent.rows run.tops c.run_of-run.ensures.some_rows c.run_of-run.ensures.same)
+
+pub change_block-requires-clause-bits : goal.change_block-requires-clause-bits
+change_block-requires-clause-bits g c = subst (HasBits (shape c.args.lists.now)) (sym c.loop-done.invariant.forms) c.requires.bits
+
+pub change_block-requires-clause-given : goal.change_block-requires-clause-given
+change_block-requires-clause-given g c x = subst (λ (forms : ℕ → Option Form). g.S.Source.given c.args.source.now x < 2 ^ bits_in forms c.args.p) (sym c.loop-done.invariant.forms) (c.requires.given x)
+
+pub change_block-requires-clause-fill : goal.change_block-requires-clause-fill
+change_block-requires-clause-fill g c z = subst (λ (forms : ℕ → Option Form). g.S.Source.fill c.args.source.now z < 2 ^ bits_in forms c.args.p) (sym c.loop-done.invariant.forms) (c.requires.fill z)
+
+pub loop-done-preserved : goal.loop-done-preserved
+loop-done-preserved g c =
+    let at = c.args.at in
+    let rows = c.args.rows in
+    let done_so = c.loop-done.done in
+    let len = c.run_of-run.result.extent.columns in
+    let q = c.along-q.result in
+    let fits : done_so + len ≤ c.args.columns = omega (arith, c.run_of-run.ensures.most, c.loop-done-test.true) in
+    let more_steps : (done_so + len) * rows ≡ done_so * rows + len * rows = grind arith in
+    record {
+      within = fits;
+      moved = λ before done fresh m.
+          let so_far = c.loop-done.invariant.moved before done fresh m in
+          let until = more_in (block at done_so rows) done in
+          let ready : IsFreshIn (block q len rows) until = subst (λ (p : Point). IsFreshIn (block p len rows) until) (sym c.along-q.ensures) (fresh_right at done_so len c.args.columns rows done fits fresh) in
+          changed-same (shape c.args.lists.now) c.args.p (after_of c.args.stacks.now) c.args.w (g.S.Source.given c.args.source.now) (g.S.Source.fill c.args.source.now) before (g.P.Pixels.kept c.change_block.new.pixels) (more_in (block q len rows) until) (more_in (block at (done_so + len) rows) done)
+          (λ z. done_right at done_so len rows done z ∙ ap (λ p. more_in (block p len rows) until z) (sym c.along-q.ensures))
+          (c.change_block.ensures.moved before until ready so_far);
+      has = c.change_block.ensures.has ∙ c.loop-done.invariant.has;
+      forms = c.change_block.ensures.forms ∙ c.loop-done.invariant.forms;
+      spare = c.change_block.ensures.spare ∙ c.loop-done.invariant.spare;
+      steps = omega (arith, c.change_block.ensures.steps, c.loop-done.invariant.steps, more_steps);
+    }
+
+pub returns-clause-moved : goal.returns-clause-moved
+returns-clause-moved g c before done fresh m =
+    let end : c.loop-done.done ≡ c.args.columns = omega (arith, c.loop-done-test.false, c.loop-done.invariant.within) in
+    subst (λ (n : ℕ). IsChanged (shape c.args.lists.now) c.args.p (after_of c.args.stacks.now) c.args.w (g.S.Source.given c.args.source.now) (g.S.Source.fill c.args.source.now) before (g.P.Pixels.kept c.loop-done.pixels) (more_in (block c.args.at n c.args.rows) done)) end (c.loop-done.invariant.moved before done fresh m)
+
+pub returns-clause-steps : goal.returns-clause-steps
+returns-clause-steps g c =
+    let end : c.loop-done.done ≡ c.args.columns = omega (arith, c.loop-done-test.false, c.loop-done.invariant.within) in
+    let all : c.loop-done.done * c.args.rows ≡ c.args.columns * c.args.rows = ap (λ n. n * c.args.rows) end in
+    omega (arith, c.loop-done.invariant.steps, all)

@@ -1,0 +1,18 @@
+use Rattle.std.proofs.Common.{◌≡◌, ◌+◌, ◌*◌, ◌≤◌, ℕ, Bool}
+use Rattle.r9_geom.specs.declared.Point.{Point}
+use Rattle.model_kept.specs.Keeping.{Place}
+use Rattle.r9_locate.specs.Table.{shape}
+use Rattle.r9_restack.specs.Stacks.{after_of}
+use Rattle.r9_shown.specs.Shown.{block}
+use Rattle.r9_restack.specs.Moving.{more_in, IsFreshIn}
+use Rattle.r9_restack.specs.Changing.{IsChanged}
+use Rattle.r9_restack.proofs.changing.change_block.Given as goal
+
+abbrev pub invariant-loop-row : goal.invariant-loop-row
+invariant-loop-row g l = record {
+  moved : (before : Place → ℕ) (done : Point → Bool) → IsFreshIn (block l.q l.columns l.rows) done → IsChanged (shape l.lists) l.p (after_of l.stacks) l.w (g.S.Source.given l.source) (g.S.Source.fill l.source) before (g.P.Pixels.kept l.fn.pixels) done → IsChanged (shape l.lists) l.p (after_of l.stacks) l.w (g.S.Source.given l.source) (g.S.Source.fill l.source) before (g.P.Pixels.kept l.pixels) (more_in (block l.q l.columns l.row) done);
+  has : g.P.Pixels.has l.pixels ≡ g.P.Pixels.has l.fn.pixels;
+  forms : g.P.Pixels.forms l.pixels ≡ g.P.Pixels.forms l.fn.pixels;
+  spare : g.P.Pixels.spare l.pixels ≡ g.P.Pixels.spare l.fn.pixels;
+  steps : l.steps ≤ l.fn.steps + 2 * (l.columns * l.row);
+}

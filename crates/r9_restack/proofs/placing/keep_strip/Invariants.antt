@@ -1,0 +1,19 @@
+use Rattle.std.proofs.Common.{◌≡◌, ◌≢◌, ◌+◌, ◌-◌, ◌<◌, ◌≤◌, ℕ, length}
+use Rattle.r9_plane.specs.Pixels.{along}
+use Rattle.model_kept.specs.Keeping.{own, Place}
+use Rattle.r9_restack.proofs.placing.keep_strip.Given as goal
+
+abbrev pub invariant-loop-done : goal.invariant-loop-done
+invariant-loop-done g l = record {
+  within : l.done ≤ l.n;
+  at : (k : ℕ) → k < l.done → g.P.Pixels.kept l.pixels (own l.w (along l.x k)) ≡ g.S.Source.given l.source (along l.x k);
+  others : (place : Place) → ((k : ℕ) → k < l.done → place ≢ own l.w (along l.x k)) → g.P.Pixels.kept l.pixels place ≡ g.P.Pixels.kept l.fn.pixels place;
+  long : length l.raws ≡ 256;
+  has : g.P.Pixels.has l.pixels ≡ g.P.Pixels.has l.fn.pixels;
+  forms : g.P.Pixels.forms l.pixels ≡ g.P.Pixels.forms l.fn.pixels;
+  spare : g.P.Pixels.spare l.pixels ≡ g.P.Pixels.spare l.fn.pixels;
+  steps : l.steps ≡ l.fn.steps + l.done;
+}
+
+abbrev pub decreases-loop-done : goal.decreases-loop-done
+decreases-loop-done g l = l.n - l.done
