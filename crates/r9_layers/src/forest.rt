@@ -13,6 +13,7 @@ ghost use Rattle.model_forest.specs.Stack.{after_lower, after_raise, after_windo
 ghost use Rattle.model_forest.specs.Paint.{paint};
 ghost use Rattle.model_forest.specs.View as model;
 ghost use Rattle.model_forest.specs.World.{image_at, parent_of, CanGo, IsForest, IsLive, SameSize};
+ghost use Rattle.model_resize.specs.Resize.{after_resize, CanResize};
 ghost use Rattle.r9_layers.specs.Area.{drawing_of, IsTaskOf};
 ghost use Rattle.r9_layers.specs.Told.{info_of};
 
@@ -115,6 +116,19 @@ impl Forest {
     {
         self.images.origin(i.0, min, corner);
         Ok(())
+    }
+
+    /// Gives an image that stands nowhere, such as the display, another size, and all of it as its clip rectangle. Its windows
+    /// stay where they stand; points that it had keep their pixels, and each other one has a raw pixel.
+    pub fn resize(&mut self, i: ImageNo, width: u32, height: u32, raw: u32) -> Result<(), Memory>
+        requires can { CanResize (world self.old) i.0 }
+        requires raw { raw < 2 ^ channels.depth (image_at (world self.old) i.0).chan }
+        ensures resized { OnOk result (world self.new ≡ after_resize (world self.old) i.0 width height raw) }
+        ensures numbers { numbers self.new ≡ numbers self.old }
+        ensures room { room self.old ≤ room self.new }
+        ensures err { OnErr result (IsUnchanged self.old self.new) }
+    {
+        self.images.resize(i.0, width, height, raw)
     }
 
     /// Raises windows of one image above its others, in their order.

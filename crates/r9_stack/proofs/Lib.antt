@@ -12,6 +12,7 @@ mod Planes
 mod Raws
 mod Repeats
 mod Replaced
+mod Resized
 mod Rows
 mod Runs
 mod Shifts

@@ -1,6 +1,6 @@
 //! One image and its pixels.
 
-ghost use Rattle.std.specs.Prelude.{◌≡◌, ◌*◌, ◌^◌, ◌<◌, ◌≤◌, ◌≤ℤ◌, neg_ℤ, pos, ℕ, [], true, length, map, slice_index, vec_len, All, EachIndex, IfOk, IsTrue, if◌then◌else◌};
+ghost use Rattle.std.specs.Prelude.{◌≡◌, ◌*◌, ◌^◌, ◌<◌, ◌≤◌, ◌≤ℤ◌, neg_ℤ, pos, ℕ, [], false, true, length, map, slice_index, vec_len, All, EachIndex, IfOk, IsTrue, OnErr, OnOk, if◌then◌else◌};
 ghost use Rattle.r9_geom.specs.declared.Point.{Point as Spot};
 ghost use Rattle.r9_geom.specs.Geometry as geometry;
 ghost use Rattle.r9_geom.specs.Geometry.{carried, height, holds, strip, width, HasPoints, IsNear, IsNearBy, IsOrdered, IsRectNear, IsRectNearBy};
@@ -8,6 +8,7 @@ ghost use Rattle.model_pixel.specs.Channels as channels;
 ghost use Rattle.model_pixel.specs.Rows.{row_bytes, row_pixel, rows_of};
 ghost use Rattle.r9_plane.specs.Pixels.{along, chan_of, number_of, pixel_at, rect_of};
 ghost use Rattle.model_forest.specs.Steps as steps;
+ghost use Rattle.model_resize.specs.Resize.{resized_image};
 ghost use Rattle.r9_stack.specs.Planes.{IsImagePlane};
 ghost use Rattle.r9_stack.specs.Told.{info_of};
 
@@ -107,6 +108,24 @@ fn put_rows(plane: &mut Plane, r: &Rect, pixels: &[u32])
         let start = row as usize * width;
         plane.put_row(r.point_at(0, row), &pixels[start..start + width]);
     }
+}
+
+// A plane of another rectangle: points of both have the pixels that they had, and each other one has a raw pixel.
+fn resized(alloc: Global, plane: &Plane, r: Rect, raw: u32) -> Result<Plane, Memory>
+    requires near { IsRectNearBy (2 ^ 34) r }
+    requires ordered { IsOrdered r }
+    requires raw { raw < 2 ^ channels.depth (chan_of plane.now) }
+    ensures rect { IfOk result (λ next. rect_of next ≡ r) }
+    ensures chan { IfOk result (λ next. chan_of next ≡ chan_of plane.now) }
+    ensures pixels { IfOk result (λ next. (p : Spot) → pixel_at next p ≡ (if holds r p then (if holds (rect_of plane.now) p then pixel_at plane.now p else raw) else 0)) }
+{
+    let mut next = Plane::new(alloc, r, plane.chan(), raw)?;
+    let part = r.meet(&plane.rect());
+    if part.is_empty() {
+        return Ok(next);
+    }
+    next.copy(part, plane, part.min);
+    Ok(next)
 }
 
 impl Kept {
@@ -269,6 +288,21 @@ impl Kept {
         self.clipr = clamped_rect(&carried_rect(&self.clipr, from, min));
         carry_windows(&mut self.windows, from, min);
         self.plane.shift(min);
+    }
+
+    /// Gives it another rectangle, all of it as its clip rectangle. Points that it had keep their pixels, and each other one has
+    /// a raw pixel. After Memory it is as before.
+    pub fn resize(&mut self, alloc: Global, r: Rect, raw: u32) -> Result<(), Memory>
+        requires whole { (image_of self.old).repl ≡ false }
+        requires near { IsRectNearBy (2 ^ 34) r }
+        requires ordered { IsOrdered r }
+        requires raw { raw < 2 ^ channels.depth (image_of self.old).chan }
+        ensures resized { OnOk result (image_of self.new ≡ resized_image (image_of self.old) r raw) }
+        ensures err { OnErr result (image_of self.new ≡ image_of self.old) }
+    {
+        self.plane = resized(alloc, &self.plane, r, raw)?;
+        self.clipr = r;
+        Ok(())
     }
 
     /// Writes pixels side by side, from a point of it to the right.

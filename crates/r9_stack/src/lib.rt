@@ -10,6 +10,7 @@ mod leaving;
 mod lists;
 mod reading;
 mod replacing;
+mod resizing;
 mod slots;
 mod stacking;
 mod writing;

@@ -1,15 +1,18 @@
 //! Changes of one image of a table. Between two of them a window may be missing in the list of its parent.
 
-ghost use Rattle.std.specs.Prelude.{◌≡◌, ◌^◌, ◌<◌, ℕ, [], List, Some, vec_len, All};
-ghost use Rattle.r9_geom.specs.Geometry.{IsNearBy, IsRectNear};
+ghost use Rattle.std.specs.Prelude.{◌≡◌, ◌^◌, ◌<◌, ℕ, [], false, List, Some, vec_len, All, OnErr, OnOk};
+ghost use Rattle.r9_geom.specs.Geometry.{IsNearBy, IsOrdered, IsRectNear, IsRectNearBy};
+ghost use Rattle.model_pixel.specs.Channels as channels;
 ghost use Rattle.model_forest.specs.World.{image_at, with_image, IsLive};
 ghost use Rattle.model_forest.specs.Steps.{shifted_image};
+ghost use Rattle.model_resize.specs.Resize.{resized_image};
 ghost use Rattle.r9_stack.specs.Images.{pixels_at, world_of, IsTable};
 ghost use Rattle.r9_stack.specs.Lists.{relisted};
 
 use super::kept::Kept;
 use model_forest::{Standing, Window};
-use r9_geom::Point;
+use r9_geom::{Point, Rect};
+use r9_memory::Memory;
 use std::alloc::Global;
 
 /// Takes the list of the windows of an image away, to be changed and set again.
@@ -66,5 +69,30 @@ pub fn shift(slots: &mut Vec<Option<Kept>>, i: u32, min: Point)
 {
     if let Some(kept) = &mut slots[i as usize] {
         kept.shift(min);
+    }
+}
+
+/// Gives an image another rectangle, all of it as its clip rectangle. Points that it had keep their pixels, and each other one
+/// has a raw pixel. After Memory all is as before.
+pub fn resize(
+    alloc: Global,
+    slots: &mut Vec<Option<Kept>>,
+    i: u32,
+    r: Rect,
+    raw: u32,
+) -> Result<(), Memory>
+    requires live { IsLive (world_of slots.old.items) i }
+    requires whole { (image_at (world_of slots.old.items) i).repl ≡ false }
+    requires near { IsRectNearBy (2 ^ 34) r }
+    requires ordered { IsOrdered r }
+    requires raw { raw < 2 ^ channels.depth (image_at (world_of slots.old.items) i).chan }
+    ensures world { OnOk result (world_of slots.new.items ≡ with_image (world_of slots.old.items) i (Some (resized_image (image_at (world_of slots.old.items) i) r raw))) }
+    ensures err { OnErr result (world_of slots.new.items ≡ world_of slots.old.items) }
+    ensures table { (spare : List ℕ) → IsTable slots.old.items spare → IsTable slots.new.items spare }
+    ensures len { vec_len slots.new ≡ vec_len slots.old }
+{
+    match &mut slots[i as usize] {
+        Some(kept) => kept.resize(alloc, r, raw),
+        None => unreachable!(),
     }
 }

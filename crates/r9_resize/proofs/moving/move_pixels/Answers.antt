@@ -16,13 +16,21 @@ use Rattle.r9_resize.proofs.Moved.{moved_all}
 use Rattle.r9_resize.proofs.Shapes.{form_chan, root_form}
 use Rattle.r9_resize.proofs.moving.move_pixels.Given.{Over}
 use Rattle.r9_resize.proofs.moving.move_pixels.Goals as goal
-use Rattle.r9_resize.proofs.moving.move_pixels.Goals.{After-common}
+use Rattle.r9_resize.proofs.moving.move_pixels.Goals.{After-common, After-get}
 
 -- what both rectangles hold
 both : (g : Over) (c : After-common g) (p : Point) → holds c.common.result p ≡ (holds (rect_of c.args.had.now) p && holds (image_at (shape c.args.lists.now) c.args.i).r p)
 both g c p =
     c.common.ensures.points p
     ∙ (λ j. holds (c.rect-from.ensures.value j) p && holds (sym (ap (λ (im : Image). im.r) c.get.ensures) j) p)
+
+-- the rectangle that the image has is near
+near : (g : Over) (c : After-get g) → IsRectNear c.get.result.now.r
+near g c =
+    subst (λ (im : Image). IsRectNear im.r) c.get.ensures (nearby (shape c.args.lists.now) c.requires.forest c.args.i c.requires.live).0
+
+pub common-requires-clause-also : goal.common-requires-clause-also
+common-requires-clause-also g c = near g (goal.at.common-requires-clause-also g c).After-get
 
 pub copy_whole-requires-clause-whole : goal.copy_whole-requires-clause-whole
 copy_whole-requires-clause-whole g c =
@@ -43,8 +51,7 @@ copy_whole-requires-clause-chan g c =
     ∙ ap (λ n. Some n) (sym c.requires.chan)
 
 pub move_area-requires-2-clause-near : goal.move_area-requires-2-clause-near
-move_area-requires-2-clause-near g c =
-    subst (λ (im : Image). IsRectNear im.r) c.get.ensures (nearby (shape c.args.lists.now) c.requires.forest c.args.i c.requires.live).0
+move_area-requires-2-clause-near g c = near g (goal.at.move_area-requires-2-clause-near g c).After-get
 
 pub returns-clause-resized : goal.returns-clause-resized
 returns-clause-resized g c before raw fresh was others =

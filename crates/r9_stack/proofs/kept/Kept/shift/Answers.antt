@@ -1,13 +1,24 @@
 use Rattle.std.proofs.Common.{◌≡◌, ◌∙◌, length, map, sym, ap, subst, arith}
+use Rattle.std.specs.Prelude.{◌^◌}
 use Rattle.std.proofs.lemmas.List.{with_items_is}
 use Rattle.r9_geom.specs.declared.Point.{Point as Spot}
 use Rattle.r9_geom.specs.declared.Rect.{Rect}
 use Rattle.r9_geom.specs.Geometry.{HasPoints}
+use Rattle.r9_geom.proofs.GeometryLemmas.{near_wider, rect_near_wider}
 use Rattle.r9_plane.specs.Pixels.{pixel_at, rect_of}
 use Rattle.model_forest.specs.Stack.{seen}
 use Rattle.model_forest.specs.Steps.{carried_rect, clamped_rect}
 use Rattle.r9_stack.proofs.Shifts.{at_min-carried, carried_window, near-at_min, points-at_min, seen-carried, IsImagePlane-shifted}
 use Rattle.r9_stack.proofs.kept.Kept.shift.Goals as goal
+
+pub carried_rect-requires-clause-rect : goal.carried_rect-requires-clause-rect
+carried_rect-requires-clause-rect c = rect_near_wider (2 ^ 34) (2 ^ 40) c.args.self.now.clipr (omega arith) c.args.self.now.clip
+
+pub carried_rect-requires-clause-to : goal.carried_rect-requires-clause-to
+carried_rect-requires-clause-to c = near_wider (2 ^ 34) (2 ^ 40) c.args.min (omega arith) c.requires.min
+
+pub carry_windows-requires-clause-to : goal.carry_windows-requires-clause-to
+carry_windows-requires-clause-to c = near_wider (2 ^ 34) (2 ^ 40) c.args.min (omega arith) c.requires.min
 
 pub shift-requires-clause-near : goal.shift-requires-clause-near
 shift-requires-clause-near c = near-at_min c.args.self.now.plane c.args.min c.requires.min c.args.self.now.sound
