@@ -1,14 +1,13 @@
 -- Orders that end no connection leave all connections as they are.
-use Rattle.std.proofs.Common.{◌≡◌, ◌∙◌, ℕ, Bool, true, false, cond, List, [], ◌∷◌, fold, All, refl}
+use Rattle.std.proofs.Common.{◌≡◌, ◌∙◌, ℕ, Bool, List, [], ◌∷◌, fold, refl}
 use Rattle.std.specs.Prelude.{if◌then◌else◌}
 use Rattle.std.proofs.lemmas.Bool.{cond_both}
 use Rattle.std.proofs.lemmas.List.Elements.{All-head, All-tail}
 use Rattle.r9_geom.specs.declared.Point.{Point}
 use Rattle.r9_geom.specs.declared.Rect.{Rect}
 use Rattle.r9_event.specs.declared.rio.Order.{Order}
-use Rattle.r9_event.specs.declared.rio.Order.TheVariants.{Make, Place, Replace, Raise, Lower, Drop, Host, Leave}
+use Rattle.r9_event.specs.declared.rio.Order.TheVariants.{Make, Place, Replace, Raise, Lower, Drop, Host, Leave, Size}
 use Rattle.r9_event.specs.Orders.{EndsNoConnection, EndNoConnection}
-use Rattle.model_forest.specs.World.{World as Images}
 use Rattle.model_images.specs.declared.Thing.{Thing}
 use Rattle.model_images.specs.declared.Thing.TheVariants.{Image, Screen}
 use Rattle.model_images.specs.Release.{Freed}
@@ -17,7 +16,7 @@ use Rattle.model_forest.specs.Draw.{after_fill}
 use Rattle.model_forest.specs.Steps.{outside}
 use Rattle.model_draw.specs.World.{World, after_freed, at_number, next_image, with_book, with_images, without_thing}
 use Rattle.model_draw.specs.Making.{with_made}
-use Rattle.model_draw.specs.Orders.{after_order, carried_out, bordered, drop_window, fits, host_rio, image_freed, image_shown, inside_border, make_window, next_white, ordered, place_window, replace_window, rio_screen, screen_freed}
+use Rattle.model_draw.specs.Orders.{after_order, carried_out, bordered, drop_window, fits, host_rio, image_freed, image_shown, inside_border, make_window, next_white, ordered, place_window, replace_window, resize_display, rio_screen, screen_freed}
 
 pub gone-clients : (things : List Thing) (world : World) → (fold without_thing world things).clients ≡ world.clients
 gone-clients [] world = refl
@@ -58,6 +57,10 @@ host-clients world window fill =
     let filled = if fill then after_fill world.images i (inside_border image.r) grey else world.images in
     freed-clients (with_images world filled) (screen_freed world.book window)
 
+size-clients : (world : World) (width height : ℕ) → (resize_display world width height).clients ≡ world.clients
+unfolding resize_display
+size-clients world width height = refl
+
 after-clients : (world : World) (order : Order) → EndsNoConnection order → (after_order world order).clients ≡ world.clients
 after-clients world (Make window host r name hide depth) none = make-clients world window host r name hide
 after-clients world (Place window at) none = place-clients world window at
@@ -67,6 +70,7 @@ after-clients world (Lower window) none = refl
 after-clients world (Drop window) none = drop-clients world window
 after-clients world (Host window fill) none = host-clients world window fill
 after-clients world (Leave client) none = absurd none
+after-clients world (Size width height) none = size-clients world width height
 
 ordered-clients : (world : World) (order : Order) → EndsNoConnection order → (ordered world order).clients ≡ world.clients
 ordered-clients world order none =

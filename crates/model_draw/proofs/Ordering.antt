@@ -1,19 +1,23 @@
 -- Worked cases of orders, which the check computes, on a display of 64 by 48, x8r8g8b8, with one connection.
 use Rattle.std.specs.Prelude.{◌≡◌, ℕ, Bool, true, false, List, [], ◌∷◌, ◌++◌, Ok, Err, pos, codes, is_some, refl}
+use Rattle.std.specs.Fmt.{digits}
 use Rattle.r9_geom.specs.declared.Point.{Point}
 use Rattle.r9_geom.specs.declared.Rect.{Rect}
 use Rattle.r9_event.specs.declared.rio.Order.{Order}
-use Rattle.r9_event.specs.declared.rio.Order.TheVariants.{Make, Place, Replace, Raise, Lower, Drop, Host, Leave}
+use Rattle.r9_event.specs.declared.rio.Order.TheVariants.{Make, Place, Replace, Raise, Lower, Drop, Host, Leave, Size}
+use Rattle.model_text.specs.Field.{field}
 use Rattle.model_text.specs.Outcome.{Outcome, ◌>>=◌}
 use Rattle.model_dmsg.specs.Message.{LowN, LowB, LowD}
 use Rattle.model_images.specs.Book.{named}
 use Rattle.model_draw.specs.World.{World, look, next_image, started, after_connect}
 use Rattle.model_draw.specs.Act.{act}
+use Rattle.model_draw.specs.Files.{read_ctl}
 use Rattle.model_draw.specs.Orders.{carried_out, image_shown, with_root_rio}
 use Rattle.model_draw.specs.Act as a
 use Rattle.model_draw.specs.Making as m
 use Rattle.model_draw.specs.Drawing as d
 use Rattle.model_draw.specs.Naming as n
+use Rattle.model_draw.specs.Files as f
 use Rattle.model_draw.specs.Orders as o
 use Rattle.model_draw.specs.World as w
 use Rattle.model_images.specs.Book as b
@@ -23,13 +27,14 @@ use Rattle.model_forest.specs.Steps as steps
 use Rattle.model_forest.specs.Stack as stack
 use Rattle.model_forest.specs.Draw as drawing
 use Rattle.model_forest.specs.View as views
+use Rattle.model_resize.specs.Resize as resize
 use Rattle.model_pixel.specs.Channels as channels
 use Rattle.model_pixel.specs.Composition as composition
 use Rattle.model_pixel.specs.Rows as rows
 
 -- all that the cases compute with
 everything : ℕ
-unfolding a.act m.allocate m.make_screen n.use_name d.draw d.drawing_of w.started o.bordered o.with_root_rio o.make_window o.replace_window o.place_window o.drop_window o.host_rio b.image b.screen b.named b.add_id b.add_named b.new_screen b.tie r.free_id r.free_screen r.leave forest.deepest steps.after_image steps.after_set steps.after_release steps.after_origin steps.after_replace steps.after_replace_on stack.after_window stack.after_raise stack.after_lower drawing.after_draw drawing.after_fill views.view channels.channels channels.promoted channels.expand channels.pack channels.mask composition.composed composition.comp composition.composed_raw rows.row_bytes
+unfolding a.act m.allocate m.make_screen n.use_name d.draw d.drawing_of w.started o.bordered o.with_root_rio o.make_window o.replace_window o.place_window o.drop_window o.host_rio o.resize_display resize.after_resize f.read_ctl b.image b.screen b.named b.add_id b.add_named b.new_screen b.tie r.free_id r.free_screen r.leave forest.deepest steps.after_image steps.after_set steps.after_release steps.after_origin steps.after_replace steps.after_replace_on stack.after_window stack.after_raise stack.after_lower drawing.after_draw drawing.after_fill views.view channels.channels channels.promoted channels.expand channels.pack channels.mask composition.composed composition.comp composition.composed_raw rows.row_bytes
 everything = 0
 
 abbrev rect : (a b c d : ℕ) → Rect
@@ -273,3 +278,60 @@ host_dropped = refl
 nothing_left : next_image (after (hosting ++ Drop 2 ∷ Drop 1 ∷ [])) ≡ 2
 unfolding everything
 nothing_left = refl
+
+-- ---- another size of the display
+
+-- a display of 32 by 24, and then as large as before
+abbrev smaller : List Order
+smaller = Size 32 24 ∷ []
+
+abbrev smaller_once : List Order
+smaller_once = Size 32 24 ∷ Size 64 48 ∷ []
+
+first_shows_in_smaller : shows (after (first ∷ smaller)) (at 14 14) ≡ 0xffffff
+unfolding everything
+first_shows_in_smaller = refl
+
+beside_smaller : shows (after (first ∷ smaller)) (at 40 40) ≡ 0
+unfolding everything
+beside_smaller = refl
+
+-- windows keep what they showed, and what shows newly of the display is grey
+first_shows_again : shows (after (first ∷ smaller_once)) (at 46 36) ≡ 0x55aaaa
+unfolding everything
+first_shows_again = refl
+
+newly_grey : shows (after (first ∷ smaller_once)) (at 63 47) ≡ 0x777777
+unfolding everything
+newly_grey = refl
+
+-- what was drawn on the display stays where it was within both
+abbrev on_display : Outcome World
+on_display =
+    act 1 (after []) (LowB 6 0 0 0x68081828 1 (rect 0 0 1 1) (rect 0 0 64 64) 0xff0000ff) [] >>= λ world.
+    act 1 world (LowB 7 0 0 0x31 1 (rect 0 0 1 1) (rect 0 0 64 64) 0xffffffff) [] >>= λ world.
+    act 1 world (LowD 0 6 7 (rect 30 20 34 21) (at 0 0) (at 0 0)) []
+
+drawn_stays : shown_at (then_orders on_display smaller_once) (at 31 20) ≡ 0xff0000
+unfolding everything
+drawn_stays = refl
+
+drawn_goes : shown_at (then_orders on_display smaller_once) (at 33 20) ≡ 0x777777
+unfolding everything
+drawn_goes = refl
+
+-- the root rio stays on the display, and a window comes to it
+second_in_smaller : shows (after (smaller ++ Make 2 0 (rect 10 10 30 26) (codes "window.2.1") false 1 ∷ [])) (at 14 14) ≡ 0xffffff
+unfolding everything
+second_in_smaller = refl
+
+-- `ctl` tells the present rectangle
+told_of_display : read_ctl 1 (after smaller) 1
+    ≡ Ok (codes "          1           0    x8r8g8b8           0           0           0          32          24           0           0          32          24 ")
+unfolding everything field digits channels.name
+told_of_display = refl
+
+-- a size that is none changes nothing
+no_size : shows (after (Size 0 24 ∷ Size 32 2049 ∷ [])) (at 63 47) ≡ 0x777777
+unfolding everything
+no_size = refl

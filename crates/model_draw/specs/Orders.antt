@@ -1,24 +1,25 @@
 -- What the window manager orders of the draw device (rio(4)). It is connection 0: the image of a window has the window's
 -- serial as its image id, and the screen of a rio has the serial of its host as its screen id, 0 for the root rio.
-use Rattle.std.specs.Prelude.{ℕ, ◌==◌, ◌^◌, pos, neg_ℤ, ◌+ℤ◌, ◌-ℤ◌, Bool, true, false, not, is_none, is_some, ◌&&◌, ◌||◌, List, [], ◌∷◌, Some, if◌then◌else◌}
+use Rattle.std.specs.Prelude.{ℕ, ◌==◌, ◌^◌, pos, neg_ℤ, ◌+ℤ◌, ◌-ℤ◌, Bool, true, false, not, is_none, is_some, ◌&&◌, ◌||◌, nat_le, List, [], ◌∷◌, Some, if◌then◌else◌}
 use Rattle.std.specs.List.{fold}
 use Rattle.std.specs.Option.{option_map_or}
 use Rattle.std.specs.Ordering.{int_eq}
 use Rattle.std.specs.Result.{result_unwrap_or}
 use Rattle.r9_geom.specs.declared.Point.{Point}
 use Rattle.r9_geom.specs.declared.Rect.{Rect}
-use Rattle.r9_geom.specs.Geometry.{at_min, holds, is_empty}
+use Rattle.r9_geom.specs.Geometry.{at_min, holds, is_empty, is_point}
 use Rattle.r9_event.specs.declared.rio.Order.{Order}
-use Rattle.r9_event.specs.declared.rio.Order.TheVariants.{Make, Place, Replace, Raise, Lower, Drop, Host, Leave}
+use Rattle.r9_event.specs.declared.rio.Order.TheVariants.{Make, Place, Replace, Raise, Lower, Drop, Host, Leave, Size}
 use Rattle.model_pixel.specs.Channels.{colour_of, depth, pack}
 use Rattle.model_pixel.specs.Rows.{rows_of}
 use Rattle.model_imgfile.specs.ImageFile.{image_file}
 use Rattle.model_forest.specs.Paint.{paint}
 use Rattle.model_text.specs.Map.{lookup}
-use Rattle.model_forest.specs.World.{World as Images, image_at}
+use Rattle.model_forest.specs.World.{World as Images, image_at, origin_point}
 use Rattle.model_forest.specs.Draw.{after_fill, with_canvas}
 use Rattle.model_forest.specs.Stack.{after_lower, after_raise, after_window}
 use Rattle.model_forest.specs.Steps.{after_image, after_origin, after_replace, after_replace_on, after_set, outside}
+use Rattle.model_resize.specs.Resize.{after_resize}
 use Rattle.model_images.specs.Book.{Book, add_id, fill_of, image_id, image_of, new_screen, screen_id, screen_of, tie}
 use Rattle.model_images.specs.Release.{Freed, free_id, free_screen, nothing_freed}
 use Rattle.model_draw.specs.World.{World, after_freed, after_leave, at_number, background, next_image, with_book, with_images}
@@ -180,6 +181,13 @@ host_rio world window fill =
     let root_fill = fill_of left.book (rio_screen left 0) in
     with_book left (result_unwrap_or (new_screen left.book manager window false i root_fill) left.book)
 
+-- The display has another size: all that stands on it stays, and what shows newly of it is grey.
+unfoldable pub resize_display : World → (width height : ℕ) → World
+resize_display world width height =
+    let i = image_shown world 0 in
+    let grey = pack (at_number world i).chan (colour_of 0x777777ff) in
+    with_images world (after_resize world.images i width height grey)
+
 -- ---- what fits
 
 -- there is a rio in a window, or the root's
@@ -205,6 +213,17 @@ can_keep world window s r =
     int_eq (r.max.x -ℤ r.min.x) (old.r.max.x -ℤ old.r.min.x) && int_eq (r.max.y -ℤ r.min.y) (old.r.max.y -ℤ old.r.min.y)
     && (old.chan == (at_number world (image_of world.book s)).chan)
 
+-- a side of the display
+abbrev pub is_side : ℕ → Bool
+is_side n = nat_le 1 n && nat_le n 2048
+
+-- the display is there, stands nowhere, begins at 0 and does not repeat
+abbrev pub has_display : World → Bool
+has_display world =
+    let i = image_shown world 0 in
+    is_some (image_id world.book manager 0) && not (is_window world i) && is_point (at_number world i).r.min origin_point
+    && not (at_number world i).repl
+
 -- The order is about windows and rios that are there, as each order of a step of the window manager is.
 abbrev pub fits : World → Order → Bool
 fits world (Make window host r name hide depth) =
@@ -219,6 +238,7 @@ fits world (Drop window) = has_window world window
 fits world (Host window fill) =
     has_window world window && has_rio world 0 && is_window_rect (at_number world (image_shown world window)).r
 fits world (Leave client) = is_some (lookup world.clients client)
+fits world (Size width height) = is_side width && is_side height && has_display world
 
 -- ---- carrying out
 
@@ -232,6 +252,7 @@ after_order world (Lower window) = with_images world (after_lower world.images (
 after_order world (Drop window) = drop_window world window
 after_order world (Host window fill) = host_rio world window fill
 after_order world (Leave client) = after_leave world client
+after_order world (Size width height) = resize_display world width height
 
 -- An order that does not fit changes nothing.
 abbrev pub ordered : World → Order → World

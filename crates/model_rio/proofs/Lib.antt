@@ -8,6 +8,7 @@ mod Inputs
 mod Makings
 mod Movings
 mod Goings
+mod Sizes
 pub mod Paths
 pub mod Listing
 pub mod Soundness

@@ -1,5 +1,5 @@
 -- An act takes no window away and makes none without a note to it.
-use Rattle.std.proofs.Common.{◌≡◌, ◌∙◌, ℕ, zero, suc, ◌==◌, ◌&&◌, ◌||◌, Bool, true, false, cond, not, List, [], ◌∷◌, ◌++◌, find, fold, reverse, length, nat_le, Option, Some, None, is_some, option_map, Ok, Err, refl, sym, ap, subst, eq-eqb, eqb-true}
+use Rattle.std.proofs.Common.{◌≡◌, ◌∙◌, ℕ, zero, suc, pos, ◌==◌, ◌&&◌, ◌||◌, Bool, true, false, cond, not, List, [], ◌∷◌, ◌++◌, find, fold, reverse, length, nat_le, Option, Some, None, is_some, option_map, Ok, Err, refl, sym, ap, subst, eq-eqb, eqb-true}
 use Rattle.std.proofs.lemmas.Bool.{eqb-false, cond_both}
 use Rattle.std.proofs.lemmas.List.Folds.{list_any-append}
 use Rattle.r9_geom.specs.declared.Rect.{Rect}
@@ -14,14 +14,14 @@ use Rattle.model_mouse.specs.declared.Mouse.{Mouse}
 use Rattle.model_wctl.specs.declared.Choice.{Choice}
 use Rattle.model_wctl.specs.Command.{Wctl}
 use Rattle.model_wctl.specs.Command as wctl
-use Rattle.model_wctl.specs.Rectangle.{applied, is_near}
+use Rattle.model_wctl.specs.Rectangle.{applied, box, is_near}
 use Rattle.model_rio.specs.Table.{Window, Table, Hold, Free, Held, Nobody, rio_of, window_of, path_of, name_by, rectangle_of, is_host, windows_in, made_in, deepest, current_of, hold_of, topmost}
 use Rattle.model_rio.specs.Act.{Act}
 use Rattle.model_rio.specs.Act as act
 use Rattle.model_rio.specs.Step.{Step, begun, ordered, noted, with_rio, with_hold, with_windows, with_current, told_current, in_place, without, raised, lowered, is_same, is_held, not_current, retired}
 use Rattle.model_rio.specs.Moving.{next_name, renewed, replaced, each, carried, followed, moved, forgotten, dropped, deleted}
 use Rattle.model_rio.specs.Routing.{moused, reacted, given, pressed, point_of, receiver, focus, keyed, keys_of}
-use Rattle.model_rio.specs.Rio.{is_full, new_window, entered, made, new_in, first_rectangle, hidden, shown, to_top, to_bottom, made_current, hosted, moved_by, commanded, command_to, outside, rio}
+use Rattle.model_rio.specs.Rio.{is_full, new_window, entered, made, new_in, first_rectangle, hidden, shown, to_top, to_bottom, made_current, hosted, moved_by, windows_off, to_corner, resized, commanded, command_to, outside, rio}
 use Rattle.model_rio.specs.Sound.{window_in}
 use Rattle.model_rio.specs.Notes.{is_told}
 use Rattle.model_rio.proofs.Refusals.{same_Ok, refuse_ok, value_ok, then_ok}
@@ -224,18 +224,21 @@ replaced_keeps table keep w r step keeps =
 abbrev Moves : Table → (Window → Rect → Step → Outcome Step) → Type 0
 Moves table move = (w : Window) (r : Rect) (step out : Step) → Keeps table step → move w r step ≡ Ok out → Keeps table out
 
-carried_keeps : (table : Table) (move : Window → Rect → Step → Outcome Step) → Moves table move → (by : Point) (w : Window) (step out : Step) → Keeps table step → carried move by w step ≡ Ok out → Keeps table out
+abbrev Changes : Table → (Window → Step → Outcome Step) → Type 0
+Changes table change = (w : Window) (step out : Step) → Keeps table step → change w step ≡ Ok out → Keeps table out
+
+carried_keeps : (table : Table) (move : Window → Rect → Step → Outcome Step) → Moves table move → (by : Point) → Changes table (carried move by)
 carried_keeps table move moves by w step out keeps e = by_test (is_near (shifted w.r by)) e
   where
     by_test : (b : Bool) → cond b (move w (shifted w.r by) step) (Err 47) ≡ Ok out → Keeps table out
     by_test true e = moves w (shifted w.r by) step out keeps e
     by_test false e = absurd (let f : ◌≡◌ {A = Outcome Step} (Err 47) (Ok out) = e in cc)
 
-each_keeps : (table : Table) (move : Window → Rect → Step → Outcome Step) → Moves table move → (by : Point) (ws : List Window) (step out : Step) → Keeps table step → each (carried move by) ws step ≡ Ok out → Keeps table out
-each_keeps table move moves by [] step out keeps e = subst (Keeps table) (same_Ok step out e) keeps
-each_keeps table move moves by (w ∷ ws) step out keeps e =
-    let first = then_ok (carried move by w step) (each (carried move by) ws) out e in
-    each_keeps table move moves by ws first.0 out (carried_keeps table move moves by w step first.0 keeps first.1) first.2
+each_keeps : (table : Table) (change : Window → Step → Outcome Step) → Changes table change → (ws : List Window) (step out : Step) → Keeps table step → each change ws step ≡ Ok out → Keeps table out
+each_keeps table change changes [] step out keeps e = subst (Keeps table) (same_Ok step out e) keeps
+each_keeps table change changes (w ∷ ws) step out keeps e =
+    let first = then_ok (change w step) (each change ws) out e in
+    each_keeps table change changes ws first.0 out (changes w step first.0 keeps first.1) first.2
 
 followed_keeps : (table : Table) (move : Window → Rect → Step → Outcome Step) → Moves table move → (host : ℕ) (fill : Bool) (by : Point) (step out : Step) → Keeps table step → followed move host fill by step ≡ Ok out
     → Keeps table out
@@ -244,7 +247,7 @@ followed_keeps table move moves host fill by step out keeps e = by_test (is_host
     by_test : (b : Bool) → is_host step.table host ≡ b → Keeps table out
     by_test true at =
         let all : each (carried move by) (reverse (windows_in step.table host)) (ordered (order.Host host fill) step) ≡ Ok out = rw at at e in
-        each_keeps table move moves by (reverse (windows_in step.table host)) (ordered (order.Host host fill) step) out keeps all
+        each_keeps table (carried move by) (carried_keeps table move moves by) (reverse (windows_in step.table host)) (ordered (order.Host host fill) step) out keeps all
     by_test false at =
         let same : ◌≡◌ {A = Outcome Step} (Ok step) (Ok out) = rw at at e in
         subst (Keeps table) (same_Ok step out same) keeps
@@ -294,6 +297,12 @@ moved_by_keeps table keep options w step out keeps e =
     let place = value_ok (applied keep options w.r) 47 _ out e in
     moved_keeps table deepest keep w place.0 step out keeps place.2
 
+resized_keeps : (table : Table) (width height : ℕ) (step out : Step) → Keeps table step → resized width height step ≡ Ok out → Keeps table out
+unfolding resized
+resized_keeps table width height step out keeps e =
+    let r = box (pos 0) (pos 0) (pos width) (pos height) in
+    each_keeps table (moved_by true to_corner) (moved_by_keeps table true to_corner) (windows_off r step.table) (ordered (order.Size width height) (record step { table = record step.table { r = r } })) out keeps e
+
 hosted_keeps : (table : Table) (w : Window) (step out : Step) → Keeps table step → hosted w step ≡ Ok out → Keeps table out
 unfolding hosted
 hosted_keeps table w step out keeps e =
@@ -331,6 +340,7 @@ act_keeps table (act.Mouse pointer) out e = done_keeps table (moused deepest poi
 act_keeps table (act.Keys bytes) out e =
     done_keeps table (keyed (focus deepest table 0) (keys_of bytes) (begun table)) out (keyed_keeps table (focus deepest table 0) (keys_of bytes) (begun table) (λ window _. refl)) e
 act_keeps table (act.Gone window) out e = command_to_keeps table window wctl.Delete (begun table) out (λ window _. refl) e
+act_keeps table (act.Size width height) out e = resized_keeps table width height (begun table) out (λ window _. refl) e
 
 pub acts_tell : (table : Table) (a : Act) (out : Step) (window : ℕ) → rio table a ≡ Ok out → is_told window out.notes ≡ false → is_some (window_of out.table window) ≡ is_some (window_of table window)
 acts_tell table a out window e none = act_keeps table a out e window none

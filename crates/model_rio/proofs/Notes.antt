@@ -147,18 +147,21 @@ replaced_upto false w r step is = noted_upto 1 w.serial (note.Resized (next_name
 abbrev pub Tells : (Window → Rect → Step → Outcome Step) → Type 0
 Tells move = (w : Window) (r : Rect) (step out : Step) → IsUpto 1 step → move w r step ≡ Ok out → IsUpto 1 out
 
-carried_upto : (move : Window → Rect → Step → Outcome Step) → Tells move → (by : Point) (w : Window) (step out : Step) → IsUpto 1 step → carried move by w step ≡ Ok out → IsUpto 1 out
+abbrev pub TellsEach : (Window → Step → Outcome Step) → Type 0
+TellsEach change = (w : Window) (step out : Step) → IsUpto 1 step → change w step ≡ Ok out → IsUpto 1 out
+
+carried_upto : (move : Window → Rect → Step → Outcome Step) → Tells move → (by : Point) → TellsEach (carried move by)
 carried_upto move tells by w step out is e = by_test (is_near (shifted w.r by)) e
   where
     by_test : (b : Bool) → cond b (move w (shifted w.r by) step) (Err 47) ≡ Ok out → IsUpto 1 out
     by_test true e = tells w (shifted w.r by) step out is e
     by_test false e = absurd (let f : ◌≡◌ {A = Outcome Step} (Err 47) (Ok out) = e in cc)
 
-each_upto : (move : Window → Rect → Step → Outcome Step) → Tells move → (by : Point) (ws : List Window) (step out : Step) → IsUpto 1 step → each (carried move by) ws step ≡ Ok out → IsUpto 1 out
-each_upto move tells by [] step out is e = subst (IsUpto 1) (same_Ok step out e) is
-each_upto move tells by (w ∷ ws) step out is e =
-    let first = then_ok (carried move by w step) (each (carried move by) ws) out e in
-    each_upto move tells by ws first.0 out (carried_upto move tells by w step first.0 is first.1) first.2
+pub each_upto : (change : Window → Step → Outcome Step) → TellsEach change → (ws : List Window) (step out : Step) → IsUpto 1 step → each change ws step ≡ Ok out → IsUpto 1 out
+each_upto change tells [] step out is e = subst (IsUpto 1) (same_Ok step out e) is
+each_upto change tells (w ∷ ws) step out is e =
+    let first = then_ok (change w step) (each change ws) out e in
+    each_upto change tells ws first.0 out (tells w step first.0 is first.1) first.2
 
 followed_upto : (move : Window → Rect → Step → Outcome Step) → Tells move → (host : ℕ) (fill : Bool) (by : Point) (step out : Step) → IsUpto 1 step → followed move host fill by step ≡ Ok out → IsUpto 1 out
 followed_upto move tells host fill by step out is e = by_test (is_host step.table host) refl
@@ -166,7 +169,7 @@ followed_upto move tells host fill by step out is e = by_test (is_host step.tabl
     by_test : (b : Bool) → is_host step.table host ≡ b → IsUpto 1 out
     by_test true at =
         let all : each (carried move by) (reverse (windows_in step.table host)) (ordered (order.Host host fill) step) ≡ Ok out = rw at at e in
-        each_upto move tells by (reverse (windows_in step.table host)) (ordered (order.Host host fill) step) out (record { sorted = is.sorted; within = is.within }) all
+        each_upto (carried move by) (carried_upto move tells by) (reverse (windows_in step.table host)) (ordered (order.Host host fill) step) out (record { sorted = is.sorted; within = is.within }) all
     by_test false at =
         let same : ◌≡◌ {A = Outcome Step} (Ok step) (Ok out) = rw at at e in
         subst (IsUpto 1) (same_Ok step out same) is

@@ -1,5 +1,5 @@
 -- No act ends a connection to the draw device.
-use Rattle.std.proofs.Common.{◌≡◌, ℕ, zero, suc, ◌==◌, Bool, true, false, cond, not, List, [], ◌∷◌, ◌++◌, fold, reverse, length, nat_le, Option, Some, None, Ok, Err, All, refl, subst}
+use Rattle.std.proofs.Common.{◌≡◌, ℕ, zero, suc, pos, ◌==◌, Bool, true, false, cond, not, List, [], ◌∷◌, ◌++◌, fold, reverse, length, nat_le, Option, Some, None, Ok, Err, refl, subst}
 use Rattle.std.proofs.lemmas.Bool.{cond_both}
 use Rattle.std.proofs.lemmas.List.Elements.{All-nil, All-push}
 use Rattle.r9_geom.specs.declared.Rect.{Rect}
@@ -14,14 +14,14 @@ use Rattle.model_mouse.specs.declared.Mouse.{Mouse}
 use Rattle.model_wctl.specs.declared.Choice.{Choice}
 use Rattle.model_wctl.specs.Command.{Wctl}
 use Rattle.model_wctl.specs.Command as wctl
-use Rattle.model_wctl.specs.Rectangle.{applied, is_near}
+use Rattle.model_wctl.specs.Rectangle.{applied, box, is_near}
 use Rattle.model_rio.specs.Table.{Window, Table, Hold, Free, Held, Nobody, rio_of, window_of, path_of, name_by, rectangle_of, is_host, windows_in, made_in, deepest, current_of, hold_of, topmost}
 use Rattle.model_rio.specs.Act.{Act}
 use Rattle.model_rio.specs.Act as act
 use Rattle.model_rio.specs.Step.{Step, begun, ordered, noted, with_rio, with_hold, with_windows, with_current, told_current, in_place, raised, lowered, is_same, is_held, not_current, retired}
 use Rattle.model_rio.specs.Moving.{next_name, renewed, replaced, each, carried, followed, moved, forgotten, dropped, deleted}
 use Rattle.model_rio.specs.Routing.{moused, reacted, given, pressed, point_of, receiver, focus, keyed, keys_of}
-use Rattle.model_rio.specs.Rio.{is_full, new_window, entered, made, new_in, first_rectangle, hidden, shown, to_top, to_bottom, made_current, hosted, moved_by, commanded, command_to, outside, rio}
+use Rattle.model_rio.specs.Rio.{is_full, new_window, entered, made, new_in, first_rectangle, hidden, shown, to_top, to_bottom, made_current, hosted, moved_by, windows_off, to_corner, resized, commanded, command_to, outside, rio}
 use Rattle.r9_event.specs.Orders.{EndsNoConnection, EndNoConnection}
 use Rattle.model_rio.proofs.Refusals.{same_Ok, refuse_ok, value_ok, then_ok}
 
@@ -139,18 +139,21 @@ replaced_keeps keep w r step keeps = ordered_keeps (order.Replace w.serial w.hos
 abbrev Moves : (Window → Rect → Step → Outcome Step) → Type 0
 Moves move = (w : Window) (r : Rect) (step out : Step) → Keeps step → move w r step ≡ Ok out → Keeps out
 
-carried_keeps : (move : Window → Rect → Step → Outcome Step) → Moves move → (by : Point) (w : Window) (step out : Step) → Keeps step → carried move by w step ≡ Ok out → Keeps out
+abbrev Changes : (Window → Step → Outcome Step) → Type 0
+Changes change = (w : Window) (step out : Step) → Keeps step → change w step ≡ Ok out → Keeps out
+
+carried_keeps : (move : Window → Rect → Step → Outcome Step) → Moves move → (by : Point) → Changes (carried move by)
 carried_keeps move moves by w step out keeps e = by_test (is_near (shifted w.r by)) e
   where
     by_test : (b : Bool) → cond b (move w (shifted w.r by) step) (Err 47) ≡ Ok out → Keeps out
     by_test true e = moves w (shifted w.r by) step out keeps e
     by_test false e = absurd (let f : ◌≡◌ {A = Outcome Step} (Err 47) (Ok out) = e in cc)
 
-each_keeps : (move : Window → Rect → Step → Outcome Step) → Moves move → (by : Point) (ws : List Window) (step out : Step) → Keeps step → each (carried move by) ws step ≡ Ok out → Keeps out
-each_keeps move moves by [] step out keeps e = subst Keeps (same_Ok step out e) keeps
-each_keeps move moves by (w ∷ ws) step out keeps e =
-    let first = then_ok (carried move by w step) (each (carried move by) ws) out e in
-    each_keeps move moves by ws first.0 out (carried_keeps move moves by w step first.0 keeps first.1) first.2
+each_keeps : (change : Window → Step → Outcome Step) → Changes change → (ws : List Window) (step out : Step) → Keeps step → each change ws step ≡ Ok out → Keeps out
+each_keeps change changes [] step out keeps e = subst Keeps (same_Ok step out e) keeps
+each_keeps change changes (w ∷ ws) step out keeps e =
+    let first = then_ok (change w step) (each change ws) out e in
+    each_keeps change changes ws first.0 out (changes w step first.0 keeps first.1) first.2
 
 followed_keeps : (move : Window → Rect → Step → Outcome Step) → Moves move → (host : ℕ) (fill : Bool) (by : Point) (step out : Step) → Keeps step → followed move host fill by step ≡ Ok out → Keeps out
 followed_keeps move moves host fill by step out keeps e = by_test (is_host step.table host) refl
@@ -158,7 +161,7 @@ followed_keeps move moves host fill by step out keeps e = by_test (is_host step.
     by_test : (b : Bool) → is_host step.table host ≡ b → Keeps out
     by_test true at =
         let all : each (carried move by) (reverse (windows_in step.table host)) (ordered (order.Host host fill) step) ≡ Ok out = rw at at e in
-        each_keeps move moves by (reverse (windows_in step.table host)) (ordered (order.Host host fill) step) out (ordered_keeps (order.Host host fill) step tt keeps) all
+        each_keeps (carried move by) (carried_keeps move moves by) (reverse (windows_in step.table host)) (ordered (order.Host host fill) step) out (ordered_keeps (order.Host host fill) step tt keeps) all
     by_test false at =
         let same : ◌≡◌ {A = Outcome Step} (Ok step) (Ok out) = rw at at e in
         subst Keeps (same_Ok step out same) keeps
@@ -203,6 +206,13 @@ moved_by_keeps keep options w step out keeps e =
     let place = value_ok (applied keep options w.r) 47 _ out e in
     moved_keeps deepest keep w place.0 step out keeps place.2
 
+resized_keeps : (width height : ℕ) (step out : Step) → Keeps step → resized width height step ≡ Ok out → Keeps out
+unfolding resized
+resized_keeps width height step out keeps e =
+    let r = box (pos 0) (pos 0) (pos width) (pos height) in
+    let next : Step = record step { table = record step.table { r = r } } in
+    each_keeps (moved_by true to_corner) (moved_by_keeps true to_corner) (windows_off r step.table) (ordered (order.Size width height) next) out (ordered_keeps (order.Size width height) next tt keeps) e
+
 hosted_keeps : (w : Window) (step out : Step) → Keeps step → hosted w step ≡ Ok out → Keeps out
 unfolding hosted
 hosted_keeps w step out keeps e =
@@ -239,3 +249,4 @@ acts_keep_connections table (act.Command window what) out e = command_to_keeps w
 acts_keep_connections table (act.Mouse pointer) out e = done_keeps (moused deepest pointer 0 (begun table)) out (moused_keeps deepest pointer 0 (begun table) (begun_keeps table)) e
 acts_keep_connections table (act.Keys bytes) out e = done_keeps (keyed (focus deepest table 0) (keys_of bytes) (begun table)) out (keyed_keeps (focus deepest table 0) (keys_of bytes) (begun table) (begun_keeps table)) e
 acts_keep_connections table (act.Gone window) out e = command_to_keeps window wctl.Delete (begun table) out (begun_keeps table) e
+acts_keep_connections table (act.Size width height) out e = resized_keeps width height (begun table) out (begun_keeps table) e

@@ -1,5 +1,5 @@
 -- What some acts do, by computing.
-use Rattle.std.specs.Prelude.{◌≡◌, refl, replicate, Some, None, ℕ, ◌+◌, true, false, pos, List, [], ◌∷◌, codes, Ok, Err}
+use Rattle.std.specs.Prelude.{◌≡◌, refl, replicate, Some, None, ℕ, ◌+◌, true, false, pos, neg_ℤ, List, [], ◌∷◌, codes, Ok, Err}
 use Rattle.std.specs.List.{flat_map, last_or}
 use Rattle.std.specs.Fmt.{digits}
 use Rattle.std.specs.Str.{chars}
@@ -20,7 +20,7 @@ use Rattle.model_rio.specs.Act as act
 use Rattle.model_rio.specs.Step.{Step, with_current, retired}
 use Rattle.model_rio.specs.Moving.{replaced, moved, dropped, deleted}
 use Rattle.model_rio.specs.Routing.{moused, reacted, focus}
-use Rattle.model_rio.specs.Rio.{made, hidden, shown, new_in, hosted, moved_by, command_to, rio}
+use Rattle.model_rio.specs.Rio.{made, hidden, shown, new_in, hosted, moved_by, resized, command_to, rio}
 
 -- the orders and notes of a step, or its refusal
 abbrev Told : Type 0
@@ -193,6 +193,60 @@ a_host_gets_another_size : told_all display
     Ok ((order.Replace 1 0 (on 13 10 45 36) (codes "window.1.3") true false ∷ order.Host 1 false ∷ order.Replace 2 1 (on 23 20 43 36) (codes "window.1/1.3") true false ∷ order.Replace 3 1 (on 999903 0 1000003 90) (codes "window.1/2.3") true true ∷ []), ((1, note.Moved (codes "window.1.3") (on 13 10 45 36)) ∷ (2, note.Moved (codes "window.1/1.3") (on 23 20 43 36)) ∷ (3, note.Moved (codes "window.1/2.3") (on 999903 0 1000003 90)) ∷ [])) ∷ [])
 unfolding made new_in hosted moved_by command_to hidden shown moved replaced dropped deleted moused reacted focus with_current retired name_by path_up applied digits chars lib.Utf8.encode
 a_host_gets_another_size = refl
+
+-- a smaller display: the window that has no point of it moves to its corner; then the display is as it was
+a_smaller_display : told_all display
+    (
+    act.New 0 (choice.R (on 10 10 50 40) ∷ []) false ∷
+    act.New 0 (choice.R (on 40 30 60 46) ∷ []) false ∷
+    act.Size 32 24 ∷
+    act.Size 64 48 ∷ [])
+    ≡ (
+    Ok ((order.Make 1 0 (on 10 10 50 40) (codes "window.1.1") false 1 ∷ []), ((1, note.Made 1 1 (codes "window.1.1") (on 10 10 50 40) 1) ∷ (1, note.Current true) ∷ [])) ∷
+    Ok ((order.Make 2 0 (on 40 30 60 46) (codes "window.2.1") false 1 ∷ []), ((2, note.Made 2 2 (codes "window.2.1") (on 40 30 60 46) 1) ∷ (1, note.Current false) ∷ (2, note.Current true) ∷ [])) ∷
+    Ok ((order.Size 32 24 ∷ order.Replace 2 0 (on 0 0 20 16) (codes "window.2.2") true false ∷ []), ((2, note.Moved (codes "window.2.2") (on 0 0 20 16)) ∷ [])) ∷
+    Ok ((order.Size 64 48 ∷ []), ([])) ∷ [])
+unfolding made new_in hosted moved_by command_to hidden shown resized moved replaced dropped deleted moused reacted focus with_current retired name_by path_up applied digits chars lib.Utf8.encode
+a_smaller_display = refl
+
+-- Also where the display has that size already, windows move: the lowest first, a hidden one by its rectangle, and a window
+-- with those in it. What only touches the display has no point of it.
+windows_off_the_display : told_all display
+    (
+    act.New 0 (choice.R (on 64 0 80 20) ∷ []) false ∷
+    act.New 0 (choice.R (on 70 10 90 30) ∷ []) true ∷
+    act.New 0 (choice.R (on 63 47 80 60) ∷ []) false ∷
+    act.Command 1 wctl.Host ∷
+    act.New 1 (choice.R (on 66 2 78 14) ∷ []) false ∷
+    act.Size 64 48 ∷
+    act.New 0 [] true ∷ [])
+    ≡ (
+    Ok ((order.Make 1 0 (on 64 0 80 20) (codes "window.1.1") false 1 ∷ []), ((1, note.Made 1 1 (codes "window.1.1") (on 64 0 80 20) 1) ∷ (1, note.Current true) ∷ [])) ∷
+    Ok ((order.Make 2 0 (on 70 10 90 30) (codes "window.2.1") true 1 ∷ []), ((2, note.Made 2 2 (codes "window.2.1") (on 70 10 90 30) 1) ∷ (2, note.Hidden true) ∷ [])) ∷
+    Ok ((order.Make 3 0 (on 63 47 80 60) (codes "window.3.1") false 1 ∷ []), ((3, note.Made 3 3 (codes "window.3.1") (on 63 47 80 60) 1) ∷ (1, note.Current false) ∷ (3, note.Current true) ∷ [])) ∷
+    Ok ((order.Host 1 true ∷ []), ([])) ∷
+    Ok ((order.Make 4 1 (on 66 2 78 14) (codes "window.1/1.1") false 2 ∷ []), ((4, note.Made 1 4 (codes "window.1/1.1") (on 66 2 78 14) 2) ∷ (4, note.Current true) ∷ [])) ∷
+    Ok ((order.Size 64 48 ∷ order.Replace 1 0 (on 0 0 16 20) (codes "window.1.2") true false ∷ order.Host 1 false ∷ order.Replace 4 1 (on 2 2 14 14) (codes "window.1/1.2") true false ∷ order.Replace 2 0 (on 0 0 20 20) (codes "window.2.2") true true ∷ []), ((1, note.Moved (codes "window.1.2") (on 0 0 16 20)) ∷ (4, note.Moved (codes "window.1/1.2") (on 2 2 14 14)) ∷ (2, note.Moved (codes "window.2.2") (on 0 0 20 20)) ∷ [])) ∷
+    Ok ((order.Make 5 0 (on 10 10 42 34) (codes "window.4.1") true 1 ∷ []), ((5, note.Made 4 5 (codes "window.4.1") (on 10 10 42 34) 1) ∷ (5, note.Hidden true) ∷ [])) ∷ [])
+unfolding made new_in hosted moved_by command_to hidden shown resized moved replaced dropped deleted moused reacted focus with_current retired name_by path_up applied digits chars lib.Utf8.encode
+windows_off_the_display = refl
+
+-- where a window in one that moves would come too far out, nothing changes
+a_refused_size : told_all display
+    (
+    act.New 0 (choice.R (on 100 0 140 40) ∷ []) true ∷
+    act.Command 1 wctl.Host ∷
+    act.New 1 (choice.R (box (neg_ℤ (pos 1048500)) (pos 0) (neg_ℤ (pos 1048480)) (pos 20)) ∷ []) true ∷
+    act.Size 32 24 ∷
+    act.New 0 [] true ∷ [])
+    ≡ (
+    Ok ((order.Make 1 0 (on 100 0 140 40) (codes "window.1.1") true 1 ∷ []), ((1, note.Made 1 1 (codes "window.1.1") (on 100 0 140 40) 1) ∷ (1, note.Hidden true) ∷ [])) ∷
+    Ok ((order.Host 1 true ∷ []), ([])) ∷
+    Ok ((order.Make 2 1 (box (neg_ℤ (pos 1048500)) (pos 0) (neg_ℤ (pos 1048480)) (pos 20)) (codes "window.1/1.1") true 2 ∷ []), ((2, note.Made 1 2 (codes "window.1/1.1") (box (neg_ℤ (pos 1048500)) (pos 0) (neg_ℤ (pos 1048480)) (pos 20)) 2) ∷ (2, note.Hidden true) ∷ [])) ∷
+    Err 47 ∷
+    Ok ((order.Make 3 0 (on 10 10 42 34) (codes "window.2.1") true 1 ∷ []), ((3, note.Made 2 3 (codes "window.2.1") (on 10 10 42 34) 1) ∷ (3, note.Hidden true) ∷ [])) ∷ [])
+unfolding made new_in hosted moved_by command_to hidden shown resized moved replaced dropped deleted moused reacted focus with_current retired name_by path_up applied digits chars lib.Utf8.encode
+a_refused_size = refl
 
 -- a press beside all windows holds the mouse for nobody, and so does a holder that goes; a number is given once
 nobody_holds : told_all display

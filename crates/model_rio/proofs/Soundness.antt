@@ -19,7 +19,7 @@ use Rattle.model_rio.proofs.Puts.{has_serial}
 use Rattle.model_rio.proofs.Tables.{found_sound}
 use Rattle.model_rio.proofs.Inputs.{moused-sound, keyed-table}
 use Rattle.model_rio.proofs.Makings.{Stands, made_sound, room_from, raised_sound, lowered_sound, shown-sound, hidden-sound, made_current-sound, hosted-sound}
-use Rattle.model_rio.proofs.Movings.{moved-moves}
+use Rattle.model_rio.proofs.Movings.{moved_by-moved, resized-sound}
 use Rattle.model_rio.proofs.Goings.{MayGo, deleted-left}
 
 pub opened_sound : (r : Rect) → IsSound (opened r)
@@ -44,10 +44,7 @@ new_in-sound host options hide step out ok e =
     subst (λ s. IsSound s.table) (same_Ok _ out room.1) (made_sound w home.0 step ok (omega arith) (room_from step.table room.0).0 (room_from step.table room.0).1 home.1 refl)
 
 moved_by-sound : (keep : Bool) (options : List Choice) (w : Window) (step out : Step) → IsSound step.table → Stands w step → moved_by keep options w step ≡ Ok out → IsSound out.table
-unfolding moved_by
-moved_by-sound keep options w step out ok stands e =
-    let place = value_ok (applied keep options w.r) 47 _ out e in
-    (moved-moves deepest keep w place.0 step out ok (rw stands refl) place.2).sound
+moved_by-sound keep options w step out ok stands e = (moved_by-moved keep options w step out ok (rw stands refl) e).sound
 
 -- a window of the table may go
 pub may_go : (w : Window) (step : Step) → IsSound step.table → Stands w step → MayGo deepest step.table.windows w
@@ -95,3 +92,4 @@ step_sound table (act.Mouse pointer) out ok e = subst (λ s. IsSound s.table) (s
 step_sound table (act.Keys bytes) out ok e =
     subst (λ s. IsSound s.table) (same_Ok _ out e) (subst IsSound (sym (keyed-table (focus deepest table 0) (keys_of bytes) (begun table))) ok)
 step_sound table (act.Gone window) out ok e = command_to-sound window wctl.Delete (begun table) out ok e
+step_sound table (act.Size width height) out ok e = resized-sound width height (begun table) out ok e

@@ -1,21 +1,22 @@
 -- The notes of each act stand in turn.
-use Rattle.std.proofs.Common.{◌≡◌, ◌∙◌, ℕ, zero, suc, ◌≤◌, ◌==◌, Bool, true, false, cond, List, [], ◌∷◌, ◌++◌, fold, Option, Some, None, Ok, All, IfSome, ⊎_elim, length, nat_le, option_and_then, refl, sym, ap, subst, arith, eqb-true}
+use Rattle.std.proofs.Common.{◌≡◌, ◌∙◌, ℕ, zero, suc, pos, ◌≤◌, ◌==◌, Bool, true, false, cond, List, [], ◌∷◌, ◌++◌, fold, Option, Some, None, Ok, All, IfSome, ⊎_elim, length, nat_le, option_and_then, refl, sym, ap, subst, arith, eqb-true}
 use Rattle.std.proofs.lemmas.Bool.{cond_both, cases_eq}
 use Rattle.std.proofs.lemmas.List.Elements.{All-nil, All-head, All-tail, All-weaker, All-push}
 use Rattle.std.proofs.lemmas.List.Quantifiers.{all_pairs_push}
 use Rattle.r9_event.specs.declared.rio.Note.{Note}
 use Rattle.r9_event.specs.declared.rio.Note.TheVariants as note
+use Rattle.r9_event.specs.declared.rio.Order.TheVariants as order
 use Rattle.model_wctl.specs.declared.Choice.{Choice}
 use Rattle.model_wctl.specs.Command.{Wctl}
 use Rattle.model_wctl.specs.Command as wctl
-use Rattle.model_wctl.specs.Rectangle.{applied}
+use Rattle.model_wctl.specs.Rectangle.{applied, box}
 use Rattle.model_rio.specs.Table.{Window, Rio, Table, Nobody, rio_of, window_of, path_of, rectangle_of, is_host, deepest, made_in, current_of, hold_of}
 use Rattle.model_rio.specs.Act.{Act}
 use Rattle.model_rio.specs.Act as act
-use Rattle.model_rio.specs.Step.{Step, begun, with_hold, with_current, without, is_same, is_held, not_current, retired}
+use Rattle.model_rio.specs.Step.{Step, begun, ordered, with_hold, with_current, without, is_same, is_held, not_current, retired}
 use Rattle.model_rio.specs.Moving.{dropped, deleted}
 use Rattle.model_rio.specs.Routing.{moused, focus, keyed, keys_of}
-use Rattle.model_rio.specs.Rio.{is_full, new_window, made, new_in, first_rectangle, hidden, shown, made_current, hosted, moved_by, commanded, command_to, rio}
+use Rattle.model_rio.specs.Rio.{is_full, new_window, made, new_in, first_rectangle, hidden, shown, made_current, hosted, moved_by, windows_off, to_corner, resized, commanded, command_to, rio}
 use Rattle.model_rio.specs.Sound.{window_in, IsSeenIn, IsSound, IsSoundRio}
 use Rattle.model_rio.specs.Notes.{rank, IsInTurn, AreInTurn}
 use Rattle.model_rio.proofs.Lookups.{find-all, found_of}
@@ -26,7 +27,7 @@ use Rattle.model_rio.proofs.Inputs.{retired-windows}
 use Rattle.model_rio.proofs.Makings.{Stands}
 use Rattle.model_rio.proofs.Goings.{MayGo, may_still, fewer, inner_may, all_deleted, deleted-left}
 use Rattle.model_rio.proofs.Soundness.{may_go, found_stands}
-use Rattle.model_rio.proofs.Notes.{IsUpto, begun_upto, upto_more, made_upto, hidden_upto, shown_upto, made_current_upto, moused_upto, keyed_upto, moved_upto}
+use Rattle.model_rio.proofs.Notes.{IsUpto, TellsEach, begun_upto, upto_more, made_upto, hidden_upto, shown_upto, made_current_upto, moused_upto, keyed_upto, moved_upto, each_upto}
 
 upto_turn : (most : ℕ) (step : Step) → IsUpto most step → AreInTurn step.notes
 upto_turn most step is = λ i j d before within same. is.sorted i j d before within
@@ -163,11 +164,24 @@ new_in_turn host options hide table out e =
     let w = new_window table host home.0.next hide place.0 in
     subst (λ s. AreInTurn s.notes) (same_Ok _ out room.1) (upto_turn 3 (made w (begun table)) (made_upto w (begun table) (begun_upto table)))
 
-moved_by_turn : (keep : Bool) (options : List Choice) (w : Window) (table : Table) (out : Step) → moved_by keep options w (begun table) ≡ Ok out → AreInTurn out.notes
+moved_by_upto : (keep : Bool) (options : List Choice) → TellsEach (moved_by keep options)
 unfolding moved_by
-moved_by_turn keep options w table out e =
+moved_by_upto keep options w step out is e =
     let place = value_ok (applied keep options w.r) 47 _ out e in
-    upto_turn 1 out (moved_upto deepest keep w place.0 (begun table) out (upto_more 0 1 (begun table) (omega arith) (begun_upto table)) place.2)
+    moved_upto deepest keep w place.0 step out is place.2
+
+begun_upto_one : (table : Table) → IsUpto 1 (begun table)
+begun_upto_one table = upto_more 0 1 (begun table) (omega arith) (begun_upto table)
+
+moved_by_turn : (keep : Bool) (options : List Choice) (w : Window) (table : Table) (out : Step) → moved_by keep options w (begun table) ≡ Ok out → AreInTurn out.notes
+moved_by_turn keep options w table out e = upto_turn 1 out (moved_by_upto keep options w (begun table) out (begun_upto_one table) e)
+
+resized_turn : (width height : ℕ) (table : Table) (out : Step) → resized width height (begun table) ≡ Ok out → AreInTurn out.notes
+unfolding resized
+resized_turn width height table out e =
+    let r = box (pos 0) (pos 0) (pos width) (pos height) in
+    let upto = begun_upto_one table in
+    upto_turn 1 out (each_upto (moved_by true to_corner) (moved_by_upto true to_corner) (windows_off r table) (ordered (order.Size width height) (begun (record table { r = r }))) out (record { sorted = upto.sorted; within = upto.within }) e)
 
 hosted_turn : (w : Window) (table : Table) (out : Step) → hosted w (begun table) ≡ Ok out → AreInTurn out.notes
 unfolding hosted
@@ -205,3 +219,4 @@ acts_turn table (act.Mouse pointer) out ok e =
 acts_turn table (act.Keys bytes) out ok e =
     subst (λ s. AreInTurn s.notes) (same_Ok _ out e) (upto_turn 5 (keyed (focus deepest table 0) (keys_of bytes) (begun table)) (keyed_upto (focus deepest table 0) (keys_of bytes) (begun table) (upto_more 0 5 (begun table) (omega arith) (begun_upto table))))
 acts_turn table (act.Gone window) out ok e = command_to_turn window wctl.Delete table out ok e
+acts_turn table (act.Size width height) out ok e = resized_turn width height table out e

@@ -14,3 +14,5 @@ pub data Act : Type 0 where
   Keys : (bytes : List ℕ) → Act
   -- nobody uses the window any more
   Gone : (window : ℕ) → Act
+  -- the display has another size
+  Size : (width height : ℕ) → Act

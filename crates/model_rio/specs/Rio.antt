@@ -1,21 +1,23 @@
 -- What each act does to the windows, or the number of its refusal (rio(4)): 42 the window is gone, 47 a bad command,
 -- 49 too many windows, 50 nested too deep.
-use Rattle.std.specs.Prelude.{ℕ, ◌+◌, ◌-◌, ◌/◌, ◌^◌, pos, ◌+ℤ◌, Bool, true, false, ◌||◌, nat_le, min, List, [], ◌∷◌, ◌++◌, length, Some, Ok, if◌then◌else◌}
+use Rattle.std.specs.Prelude.{ℕ, ◌+◌, ◌-◌, ◌/◌, ◌^◌, pos, ◌+ℤ◌, Bool, true, false, ◌||◌, nat_le, min, List, [], ◌∷◌, ◌++◌, length, reverse, filter, Some, Ok, if◌then◌else◌}
 use Rattle.r9_geom.specs.declared.Rect.{Rect}
 use Rattle.r9_geom.specs.declared.Point.{Point}
-use Rattle.r9_geom.specs.Geometry.{width, height}
+use Rattle.r9_geom.specs.Geometry.{width, height, is_empty, meet}
 use Rattle.r9_event.specs.declared.rio.Note.TheVariants as note
 use Rattle.r9_event.specs.declared.rio.Order.TheVariants as order
 use Rattle.model_text.specs.Outcome.{Outcome, ◌>>=◌, refuse_if, value_or_refuse}
 use Rattle.model_wctl.specs.declared.Choice.{Choice}
+use Rattle.model_wctl.specs.declared.Choice.TheVariants.{Minx, Miny}
+use Rattle.model_wctl.specs.declared.Amount.TheVariants.{Is}
 use Rattle.model_wctl.specs.Command.{Wctl}
 use Rattle.model_wctl.specs.Command as wctl
 use Rattle.model_wctl.specs.Rectangle.{applied, box}
-use Rattle.model_rio.specs.Table.{Window, Table, rio_of, window_of, path_of, name_by, rectangle_of, is_host, no_windows, deepest}
+use Rattle.model_rio.specs.Table.{Window, Table, rio_of, window_of, path_of, name_by, rectangle_of, is_host, no_windows, windows_in, deepest}
 use Rattle.model_rio.specs.Act.{Act}
 use Rattle.model_rio.specs.Act as act
 use Rattle.model_rio.specs.Step.{Step, begun, ordered, noted, with_rio, with_windows, in_place, with_current, raised, lowered, retired}
-use Rattle.model_rio.specs.Moving.{moved, deleted}
+use Rattle.model_rio.specs.Moving.{each, moved, deleted}
 use Rattle.model_rio.specs.Routing.{moused, focus, keyed, keys_of}
 
 -- ---- a new window
@@ -123,6 +125,23 @@ command_to serial what step = do
   w ← value_or_refuse (window_of step.table serial) 42
   commanded what w step
 
+-- ---- another size of the display
+
+-- the windows of the root rio whose rectangles have no point of this one, from the bottom up
+abbrev pub windows_off : Rect → Table → List Window
+windows_off r table = reverse (filter (λ w. is_empty (meet w.r r)) (windows_in table 0))
+
+-- the options of a move to the corner of the display
+abbrev pub to_corner : List Choice
+to_corner = Minx (Is (pos 0)) ∷ Miny (Is (pos 0)) ∷ []
+
+-- The display has another size, and then the windows that have no point of it move to its corner. Hidden ones stay hidden.
+unfoldable pub resized : (width height : ℕ) → Step → Outcome Step
+resized width height step =
+    let r = box (pos 0) (pos 0) (pos width) (pos height) in
+    each (moved_by true to_corner) (windows_off r step.table)
+    (ordered (order.Size width height) (record step { table = record step.table { r = r } }))
+
 -- ---- each act
 
 abbrev pub acted : Act → Step → Outcome Step
@@ -131,6 +150,7 @@ acted (act.Command window what) step = command_to window what step
 acted (act.Mouse pointer) step = Ok (moused deepest pointer 0 step)
 acted (act.Keys bytes) step = Ok (keyed (focus deepest step.table 0) (keys_of bytes) step)
 acted (act.Gone window) step = command_to window wctl.Delete step
+acted (act.Size width height) step = resized width height step
 
 -- what an act makes of the table, with its orders and notes, or its refusal
 abbrev pub rio : Table → Act → Outcome Step

@@ -1,6 +1,6 @@
 //! What the definitions say of the mouse, of the order of windows and of notes, and of what each table keeps.
 
-ghost use Rattle.std.specs.Prelude.{◌≡◌, ◌==◌, ◌<◌, ◌≤◌, All, AllPairs, Contains, IsSomeAnd, length, ℕ, true, false, not, List, [], ◌∷◌, map, Some, is_some, Ok};
+ghost use Rattle.std.specs.Prelude.{◌≡◌, ◌==◌, ◌<◌, ◌≤◌, All, AllPairs, Contains, IsSomeAnd, length, ℕ, true, false, not, List, [], ◌∷◌, map, Some, is_some, Ok, Err};
 ghost use Rattle.r9_geom.specs.declared.Point.{Point};
 ghost use Rattle.r9_geom.specs.declared.Rect.{Rect};
 ghost use Rattle.r9_geom.specs.Geometry.{holds};
@@ -73,4 +73,9 @@ pub fn acts_end_no_connection()
 /// A window that an act does not tell anything lives after it exactly where it lived before.
 pub fn windows_come_and_go_with_notes()
     ensures { (table : Table) (a : Act) (step : Step) (window : ℕ) → rio table a ≡ Ok step → is_told window step.notes ≡ false → is_some (window_of step.table window) ≡ is_some (window_of table window) }
+{}
+
+/// Another size of the display is refused by 47 alone, where a window in one that would move would come too far out.
+pub fn sizes_are_refused_as_bad_commands()
+    ensures { (table : Table) (width height n : ℕ) → rio table (act.Size width height) ≡ Err n → n ≡ 47 }
 {}

@@ -5,7 +5,7 @@ use Rattle.std.specs.Fmt.{digits}
 use Rattle.model_text.specs.Outcome.{Outcome}
 use Rattle.model_text.specs.Hex.{hex}
 use Rattle.model_wire.specs.Spelling.{sized, qid_bytes, stat_body}
-use Rattle.model_tree.specs.declared.Kind.TheVariants.{Draw, Connection, Ctl, Snarf, Wsys, Listed, Label, Mousein, Picture}
+use Rattle.model_tree.specs.declared.Kind.TheVariants.{Draw, Connection, Ctl, Snarf, Wsys, Listed, Label, Mousein, Picture, Hwsize}
 use Rattle.model_tree.specs.Node.{Node, row, kinds, kind_numbered, qid, may}
 use Rattle.model_tree.specs.Tree.{View, files, kinds_in, stat_named, name_of, walk, check_live, root_of}
 use Rattle.model_tree.specs.Listing.{stats, fitting}
@@ -48,7 +48,7 @@ tree : names view device ∷ names view (record { kind = Draw; connection = 0; s
     ∷ names view (record { kind = Wsys; connection = 0; serial = 0; root = 0 })
     ∷ names inner (record { kind = Wsys; connection = 0; serial = 4; root = 4 }) ∷ names view (root_of 4)
     ∷ names view (record { kind = Listed; connection = 0; serial = 4; root = 0 }) ∷ names view (record { kind = Label; connection = 0; serial = 4; root = 0 }) ∷ []
-    ≡ words (codes "draw kbdin mousein screen snarf wctl wsys") ∷ words (codes "new 1 3") ∷ words (codes "ctl data refresh")
+    ≡ words (codes "draw hwsize kbdin mousein screen snarf wctl wsys") ∷ words (codes "new 1 3") ∷ words (codes "ctl data refresh")
     ∷ words (codes "1 2") ∷ words (codes "10")
     ∷ words (codes "cons consctl draw label mouse screen snarf text wctl winid winname window wsys")
     ∷ words (codes "cons consctl label mouse screen snarf text wctl winid winname window") ∷ [] ∷ []
@@ -62,9 +62,9 @@ walked seen (Err n) (name ∷ rest) = Err n
 walked seen (Ok node) (name ∷ rest) = walked seen (walk seen node name) rest
 
 walks : map (λ text. walked view (Ok device) (words text))
-    (codes "draw 3 ctl" ∷ codes "draw 2" ∷ codes "draw 03" ∷ codes "draw 3 ctl .." ∷ codes "draw 3 .. .." ∷ codes ".." ∷ codes "wsys 2 label"
+    (codes "hwsize" ∷ codes "draw 3 ctl" ∷ codes "draw 2" ∷ codes "draw 03" ∷ codes "draw 3 ctl .." ∷ codes "draw 3 .. .." ∷ codes ".." ∷ codes "wsys 2 label"
     ∷ codes "wsys 2 draw" ∷ codes "wsys 2 .." ∷ codes "nope" ∷ codes "snarf x" ∷ [])
-    ≡ Ok (record { kind = Ctl; connection = 3; serial = 0; root = 0 }) ∷ Err 34 ∷ Err 34 ∷ Err 35 ∷ Ok device ∷ Ok device
+    ≡ Ok (record { kind = Hwsize; connection = 0; serial = 0; root = 0 }) ∷ Ok (record { kind = Ctl; connection = 3; serial = 0; root = 0 }) ∷ Err 34 ∷ Err 34 ∷ Err 35 ∷ Ok device ∷ Ok device
     ∷ Ok (record { kind = Label; connection = 0; serial = 4; root = 0 }) ∷ Err 34
     ∷ Ok (record { kind = Wsys; connection = 0; serial = 0; root = 0 }) ∷ Err 34 ∷ Err 35 ∷ []
 unfolding words walk check_live files kinds_in row digits
@@ -90,8 +90,8 @@ unfolding walk check_live row
 ended = refl
 
 -- a qid names a file within a session
-qids : map qid (device ∷ record { kind = Ctl; connection = 3; serial = 0; root = 0 } ∷ root_of 4 ∷ [])
-    ≡ record { kind = 0x80; vers = 0; path = 1 } ∷ record { kind = 0; vers = 0; path = 197 } ∷ record { kind = 0x80; vers = 0; path = 0x4_0000_000e } ∷ []
+qids : map qid (device ∷ record { kind = Hwsize; connection = 0; serial = 0; root = 0 } ∷ record { kind = Ctl; connection = 3; serial = 0; root = 0 } ∷ root_of 4 ∷ [])
+    ≡ record { kind = 0x80; vers = 0; path = 1 } ∷ record { kind = 0; vers = 0; path = 25 } ∷ record { kind = 0; vers = 0; path = 197 } ∷ record { kind = 0x80; vers = 0; path = 0x4_0000_000e } ∷ []
 unfolding qid row
 qids = refl
 
@@ -102,8 +102,8 @@ unfolding name_of row digits
 titles = refl
 
 -- a directory is opened to be read; a file as its permissions say; 16 has no meaning, and other bits are no mode
-modes : map (may device) (0 ∷ 1 ∷ 2 ∷ 16 ∷ 3 ∷ 17 ∷ 20 ∷ []) ++ map (may (record { kind = Mousein; connection = 0; serial = 0; root = 0 })) (0 ∷ 1 ∷ 17 ∷ 2 ∷ 33 ∷ [])
-    ≡ true ∷ false ∷ false ∷ true ∷ false ∷ false ∷ false ∷ false ∷ true ∷ true ∷ false ∷ false ∷ []
+modes : map (may device) (0 ∷ 1 ∷ 2 ∷ 16 ∷ 3 ∷ 17 ∷ 20 ∷ []) ++ map (may (record { kind = Mousein; connection = 0; serial = 0; root = 0 })) (0 ∷ 1 ∷ 17 ∷ 2 ∷ 33 ∷ []) ++ map (may (record { kind = Hwsize; connection = 0; serial = 0; root = 0 })) (0 ∷ 1 ∷ 18 ∷ [])
+    ≡ true ∷ false ∷ false ∷ true ∷ false ∷ false ∷ false ∷ false ∷ true ∷ true ∷ false ∷ false ∷ true ∷ true ∷ true ∷ []
 unfolding may row
 modes = refl
 

@@ -3,7 +3,7 @@ use Rattle.std.specs.Prelude.{ℕ, ◌+◌, ◌*◌, ◌-◌, ◌/◌, ◌%◌, 
 use Rattle.std.specs.List.{slice_index_or}
 use Rattle.model_wire.specs.Message.{Qid}
 use Rattle.model_tree.specs.declared.Kind.{Kind}
-use Rattle.model_tree.specs.declared.Kind.TheVariants.{Device, Draw, New, Connection, Ctl, Data, Refresh, Mousein, Kbdin, Screen, Snarf, DeviceWctl, Wsys, Window, Cons, Consctl, Label, Mouse, Text, Wctl, Winid, Winname, Picture, Listed}
+use Rattle.model_tree.specs.declared.Kind.TheVariants.{Device, Draw, New, Connection, Ctl, Data, Refresh, Mousein, Kbdin, Screen, Snarf, DeviceWctl, Wsys, Window, Cons, Consctl, Label, Mouse, Text, Wctl, Winid, Winname, Picture, Listed, Hwsize}
 
 -- A file: its kind; the connection of a connection's directory and files; the serial of the window that it tells of, for
 -- what belongs to a rio that of the rio's host; and the serial of the window whose attach led to it. 0 stands for none.
@@ -62,11 +62,12 @@ row Winid = file 21 (codes "winid") 0x100 OfWindow
 row Winname = file 22 (codes "winname") 0x100 OfWindow
 row Picture = file 23 (codes "window") 0x100 OfWindow
 row Listed = directory 24 (codes "") OfWindow
+row Hwsize = file 25 (codes "hwsize") 0x180 OfSession
 
 -- the kinds in the order of their numbers, from 1 on
 abbrev pub kinds : List Kind
 kinds = Device ∷ Draw ∷ New ∷ Connection ∷ Ctl ∷ Data ∷ Refresh ∷ Mousein ∷ Kbdin ∷ Screen ∷ Snarf ∷ DeviceWctl
-    ∷ Wsys ∷ Window ∷ Cons ∷ Consctl ∷ Label ∷ Mouse ∷ Text ∷ Wctl ∷ Winid ∷ Winname ∷ Picture ∷ Listed ∷ []
+    ∷ Wsys ∷ Window ∷ Cons ∷ Consctl ∷ Label ∷ Mouse ∷ Text ∷ Wctl ∷ Winid ∷ Winname ∷ Picture ∷ Listed ∷ Hwsize ∷ []
 
 -- the kind of a number
 unfoldable pub kind_numbered : ℕ → Kind

@@ -8,7 +8,7 @@ use Rattle.std.specs.Str.{bytes_eq}
 use Rattle.model_text.specs.Outcome.{Outcome, ◌>>=◌, refuse_if, value_or_refuse}
 use Rattle.model_wire.specs.Message.{Stat}
 use Rattle.model_tree.specs.declared.Kind.{Kind}
-use Rattle.model_tree.specs.declared.Kind.TheVariants.{Device, Draw, New, Connection, Ctl, Data, Refresh, Mousein, Kbdin, Screen, Snarf, DeviceWctl, Wsys, Window, Cons, Consctl, Label, Mouse, Text, Wctl, Winid, Winname, Picture, Listed}
+use Rattle.model_tree.specs.declared.Kind.TheVariants.{Device, Draw, New, Connection, Ctl, Data, Refresh, Mousein, Kbdin, Screen, Snarf, DeviceWctl, Wsys, Window, Cons, Consctl, Label, Mouse, Text, Wctl, Winid, Winname, Picture, Listed, Hwsize}
 use Rattle.model_tree.specs.Node.{Node, Owner, OfSession, OfConnection, OfRio, OfWindow, row, qid, is_directory}
 
 -- What of the world a node's walks and listings depend on: the session's connections, in ascending order; the host of
@@ -35,7 +35,7 @@ placed view node kind = owned view node kind (row kind).owner
 
 -- the kinds of the files that a directory always has, in the order of its listing
 unfoldable pub kinds_in : Kind → List Kind
-kinds_in Device = Draw ∷ Kbdin ∷ Mousein ∷ Screen ∷ Snarf ∷ DeviceWctl ∷ Wsys ∷ []
+kinds_in Device = Draw ∷ Hwsize ∷ Kbdin ∷ Mousein ∷ Screen ∷ Snarf ∷ DeviceWctl ∷ Wsys ∷ []
 kinds_in Draw = New ∷ []
 kinds_in Connection = Ctl ∷ Data ∷ Refresh ∷ []
 kinds_in Window = Cons ∷ Consctl ∷ Draw ∷ Label ∷ Mouse ∷ Screen ∷ Snarf ∷ Text ∷ Wctl ∷ Winid ∷ Winname ∷ Picture ∷ Wsys ∷ []

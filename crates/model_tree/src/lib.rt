@@ -52,4 +52,6 @@ pub enum Kind {
     Picture,
     /// A window in the directory of windows, named by its number.
     Listed,
+    /// `hwsize`, the size of the display.
+    Hwsize,
 }

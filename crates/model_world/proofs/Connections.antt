@@ -32,7 +32,7 @@ use Rattle.r9_event.specs.declared.rio.Order.TheVariants as order
 use Rattle.model_pixel.specs.Channels.{colour_of, pack}
 use Rattle.model_forest.specs.Draw.{after_fill}
 use Rattle.model_forest.specs.Steps.{outside}
-use Rattle.model_draw.specs.Orders.{after_order, bordered, carried_out, drop_window, fits, host_rio, image_freed, image_shown, inside_border, make_window, next_white, ordered, place_window, replace_window, rio_screen, screen_freed}
+use Rattle.model_draw.specs.Orders.{after_order, bordered, carried_out, drop_window, fits, host_rio, image_freed, image_shown, inside_border, make_window, next_white, ordered, place_window, replace_window, resize_display, rio_screen, screen_freed}
 use Rattle.model_world.proofs.Orders.{EndNone, ends}
 
 -- the numbers of a device's connections
@@ -236,7 +236,7 @@ write_ctl_kept k world bytes = grind (arith, common_steps, keys-set_value)
 
 -- what an order that ends no connection leaves, where it fits
 after_kept : (world : World) (o : Order) → ends o ≡ false → (after_order world o).clients ≡ world.clients
-unfolding make_window place_window replace_window drop_window host_rio
+unfolding make_window place_window replace_window drop_window host_rio resize_display
 after_kept world (order.Make window host r name hide depth) none = refl
 after_kept world (order.Place window at) none = refl
 after_kept world (order.Replace window host r name keep hidden) none =
@@ -255,6 +255,7 @@ after_kept world (order.Host window fill) none =
     let filled = if fill then after_fill world.images i (inside_border image.r) (pack image.chan (colour_of 0x777777ff)) else world.images in
     freed_kept (with_images world filled) (screen_freed world.book window)
 after_kept world (order.Leave client) none = absurd (cc none)
+after_kept world (order.Size width height) none = refl
 
 ordered_kept : (world : World) (o : Order) → ends o ≡ false → (ordered world o).clients ≡ world.clients
 ordered_kept world o none = cond_both (fits world o) (after_order world o) world (λ (w : World). w.clients ≡ world.clients) (λ _. after_kept world o none) (λ _. refl)

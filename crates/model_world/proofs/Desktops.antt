@@ -6,6 +6,7 @@ use Rattle.std.specs.List.{fold}
 use Rattle.std.specs.Map.{keys_of}
 use Rattle.std.proofs.lemmas.Bool.{cond_both}
 use Rattle.model_text.specs.Outcome.{Outcome, ◌>>=◌, refuse_if, value_or_refuse}
+use Rattle.model_words.specs.declared.Size.{Size}
 use Rattle.model_wctl.specs.Command.{Wctl}
 use Rattle.model_wctl.specs.Command as wctl
 use Rattle.model_wctl.specs.Reading.{command_of}
@@ -20,7 +21,7 @@ use Rattle.model_draw.specs.World as draw
 use Rattle.model_draw.specs.Act.{no_memory}
 use Rattle.model_draw.specs.Files.{is_known, read_ctl, read_data, write_ctl}
 use Rattle.model_world.specs.Desktop.{Desktop, is_user, stepped, stepped_if, stepped_or, users_of, without_user}
-use Rattle.model_world.specs.Whole.{attached, client, commanded, ctl_written, data_read, desktop_for, device_commanded, device_commanded_by, host_of, left_one, made_by, moused, serial_of, typed, window_made, with_device, written_data}
+use Rattle.model_world.specs.Whole.{attached, client, commanded, ctl_written, data_read, desktop_for, device_commanded, device_commanded_by, host_of, left_one, made_by, moused, resized, serial_of, typed, window_made, with_device, written_data}
 use Rattle.model_world.proofs.Others.{IsOther, IsTold, behind_known, behind_step, refused_by, value_by}
 use Rattle.model_world.proofs.Orders.{IsFair, rio_fair}
 use Rattle.model_world.proofs.Kept.{KeepsConnections}
@@ -122,6 +123,10 @@ typed_same : (desktop : Desktop) (keys : List ℕ) → IsSame desktop (typed des
 unfolding typed
 typed_same desktop keys = stepped_if_same desktop (rio desktop.table (act.Keys keys)) (rio_fair desktop.table (act.Keys keys))
 
+resized_same : (desktop : Desktop) (size : Size) → IsOther (IsSame desktop) (resized desktop size)
+unfolding resized
+resized_same desktop size = stepped_or_same desktop (rio desktop.table (act.Size size.width size.height)) (rio_fair desktop.table (act.Size size.width size.height))
+
 -- ---- the draw device
 
 written_data_same : (k : ℕ) (desktop : Desktop) (bytes : List ℕ) (mark : Option ℕ) → IsSame desktop (written_data k desktop bytes mark).0
@@ -183,6 +188,7 @@ keeps_connections c = record {
   device_command = device_commanded_same;
   mouse = moused_same;
   keys = typed_same;
+  with_size = resized_same;
   with_snarf = λ desktop host bytes. refl;
   connect = λ desktop n. refl;
   leave = λ desktop n. refl;

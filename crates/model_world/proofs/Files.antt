@@ -4,6 +4,7 @@ use Rattle.std.specs.Prelude.{◌+◌, ◌==◌, ◌&&◌, ◌||◌, codes, nat_
 use Rattle.std.specs.Option.{option_map}
 use Rattle.std.specs.Str.{bytes_eq}
 use Rattle.model_text.specs.Outcome.{Outcome, ◌>>=◌, refuse_if, value_or_refuse}
+use Rattle.model_words.specs.Values.{sides_of}
 use Rattle.model_mouse.specs.Pointer.{pointer_of}
 use Rattle.model_mouse.specs.Queue.{answer_text}
 use Rattle.model_console.specs.Console as console
@@ -73,6 +74,7 @@ module _ {S : Type 0} (c : ℕ) (outside : Outside S) (device : S → draw.World
       behind_known _ (IsReadSame c outside device rest) (outside.read_data rest fid.node.connection count) _ (keeps.read_data rest fid.node.connection count) (λ got same. same)
   file_read_same rest fid offset count kind.Screen = refl
   file_read_same rest fid offset count kind.Snarf = refl
+  file_read_same rest fid offset count kind.Hwsize = refl
   file_read_same rest fid offset count kind.Label = refl
   file_read_same rest fid offset count kind.Text = refl
   file_read_same rest fid offset count kind.Winid = refl
@@ -126,6 +128,9 @@ module _ {S : Type 0} (c : ℕ) (outside : Outside S) (device : S → draw.World
   file_written_same rest node offset bytes mark kind.Kbdin =
       whole_same rest (refuse_if (not (are_keys bytes)) 51 >>= λ _. Ok (outside.keys rest bytes))
       (behind_step _ (refuse_if (not (are_keys bytes)) 51) _ (refused_by _ 51 (λ e. omega (arith, e))) (λ _. keeps.keys rest bytes))
+  file_written_same rest node offset bytes mark kind.Hwsize =
+      whole_same rest (value_or_refuse (sides_of (line_of bytes)) 51 >>= λ size. outside.with_size rest size)
+      (behind_step _ (value_or_refuse (sides_of (line_of bytes)) 51) _ (value_by _ 51 (λ e. omega (arith, e))) (λ size. keeps.with_size rest size))
   file_written_same rest node offset bytes mark kind.Snarf =
       let old = outside.snarf rest node.serial in
       whole_same rest (snarf_written old offset bytes >>= λ new. Ok (outside.with_snarf rest node.serial new))

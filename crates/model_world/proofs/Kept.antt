@@ -2,6 +2,7 @@
 use Rattle.std.proofs.Common.{◌≡◌, ℕ, Bool, true, false, List, [], ◌∷◌, Option, refl, ap, ◌∙◌}
 use Rattle.std.specs.Prelude.{is_some, if◌then◌else◌}
 use Rattle.std.specs.List.{fold}
+use Rattle.model_words.specs.declared.Size.{Size}
 use Rattle.model_mouse.specs.declared.Mouse.{Mouse as Pointer}
 use Rattle.model_tree.specs.declared.Kind.TheVariants as kind
 use Rattle.model_tree.specs.Attach.{Attach}
@@ -37,6 +38,7 @@ module _ {S : Type 0} (c : ℕ) (outside : Outside S) (device : S → draw.World
     pub device_command : (rest : S) (text : List ℕ) → IsOther (IsSame rest) (outside.device_command rest text)
     pub mouse : (rest : S) (e : Pointer) → IsSame rest (outside.mouse rest e)
     pub keys : (rest : S) (typed : List ℕ) → IsSame rest (outside.keys rest typed)
+    pub with_size : (rest : S) (size : Size) → IsOther (IsSame rest) (outside.with_size rest size)
     pub with_snarf : (rest : S) (host : ℕ) (bytes : List ℕ) → IsSame rest (outside.with_snarf rest host bytes)
     pub connect : (rest : S) (n : ℕ) → device (outside.connect rest n) ≡ draw.after_connect (device rest) (client c n)
     pub leave : (rest : S) (n : ℕ) → device (outside.leave rest n) ≡ draw.after_leave (device rest) (client c n)

@@ -1,5 +1,5 @@
 -- An act of the windows orders no end of a connection, and is not refused for want of memory.
-use Rattle.std.proofs.Common.{◌≡◌, ◌∙◌, ℕ, zero, suc, Bool, true, false, not, ◌||◌, List, [], ◌∷◌, ◌++◌, reverse, length, Option, Some, None, Err, refl, ap, arith}
+use Rattle.std.proofs.Common.{◌≡◌, ◌∙◌, ℕ, zero, suc, pos, Bool, true, false, not, ◌||◌, List, [], ◌∷◌, ◌++◌, reverse, length, Option, Some, None, Err, refl, ap, arith}
 use Rattle.std.specs.Prelude.{◌==◌, nat_le}
 use Rattle.std.specs.List.{fold, list_any}
 use Rattle.std.proofs.lemmas.Bool.{cond_both}
@@ -16,14 +16,14 @@ use Rattle.model_mouse.specs.declared.Mouse.{Mouse}
 use Rattle.model_wctl.specs.declared.Choice.{Choice}
 use Rattle.model_wctl.specs.Command.{Wctl}
 use Rattle.model_wctl.specs.Command as wctl
-use Rattle.model_wctl.specs.Rectangle.{applied, is_near}
+use Rattle.model_wctl.specs.Rectangle.{applied, box, is_near}
 use Rattle.model_rio.specs.Table.{Window, Table, Hold, Free, Held, Nobody, current_of, deepest, hold_of, is_host, made_in, name_by, path_of, rectangle_of, rio_of, topmost, window_of, windows_in}
 use Rattle.model_rio.specs.Act.{Act}
 use Rattle.model_rio.specs.Act as act
 use Rattle.model_rio.specs.Step.{Step, begun, in_place, is_held, is_same, not_current, noted, ordered, raised, retired, told_current, with_current, with_hold, with_rio, with_windows}
 use Rattle.model_rio.specs.Moving.{carried, deleted, dropped, each, followed, moved, replaced}
 use Rattle.model_rio.specs.Routing.{focus, given, keyed, keys_of, moused, point_of, pressed, reacted, receiver}
-use Rattle.model_rio.specs.Rio.{command_to, commanded, entered, first_rectangle, hidden, hosted, is_full, made, made_current, moved_by, new_in, new_window, outside, rio, shown, to_top}
+use Rattle.model_rio.specs.Rio.{command_to, commanded, entered, first_rectangle, hidden, hosted, is_full, made, made_current, moved_by, new_in, new_window, outside, resized, rio, shown, to_corner, to_top, windows_off}
 use Rattle.model_world.proofs.Others.{IsOther, behind_known, behind_step, by_case, refused_by, value_by}
 
 -- the order ends a connection
@@ -121,19 +121,22 @@ replaced_fair keep w r step fair = one_more step.orders _ refl fair
 abbrev Keeps : (Window → Rect → Step → Outcome Step) → Type 0
 Keeps move = (w : Window) (r : Rect) (step : Step) → IsFair step → IsOther IsFair (move w r step)
 
-carried_fair : (move : Window → Rect → Step → Outcome Step) → Keeps move → (by : Point) (w : Window) (step : Step) → IsFair step → IsOther IsFair (carried move by w step)
+abbrev KeepsEach : (Window → Step → Outcome Step) → Type 0
+KeepsEach change = (w : Window) (step : Step) → IsFair step → IsOther IsFair (change w step)
+
+carried_fair : (move : Window → Rect → Step → Outcome Step) → Keeps move → (by : Point) → KeepsEach (carried move by)
 carried_fair move keeps by w step fair = by_case IsFair (is_near (shifted w.r by)) (move w (shifted w.r by) step) (Err 47) (keeps w (shifted w.r by) step fair) (λ e. omega (arith, e))
 
-each_fair : (move : Window → Rect → Step → Outcome Step) → Keeps move → (by : Point) (ws : List Window) (step : Step) → IsFair step → IsOther IsFair (each (carried move by) ws step)
-each_fair move keeps by [] step fair = fair
-each_fair move keeps by (w ∷ ws) step fair =
-    behind_known IsFair IsFair (carried move by w step) (each (carried move by) ws) (carried_fair move keeps by w step fair) (λ next more. each_fair move keeps by ws next more)
+each_fair : (change : Window → Step → Outcome Step) → KeepsEach change → (ws : List Window) (step : Step) → IsFair step → IsOther IsFair (each change ws step)
+each_fair change keeps [] step fair = fair
+each_fair change keeps (w ∷ ws) step fair =
+    behind_known IsFair IsFair (change w step) (each change ws) (keeps w step fair) (λ next more. each_fair change keeps ws next more)
 
 followed_fair : (move : Window → Rect → Step → Outcome Step) → Keeps move → (host : ℕ) (fill : Bool) (by : Point) (step : Step) → IsFair step → IsOther IsFair (followed move host fill by step)
 followed_fair move keeps host fill by step fair = by_test (is_host step.table host) refl
   where
     by_test : (b : Bool) → is_host step.table host ≡ b → IsOther IsFair (followed move host fill by step)
-    by_test true at = rw at (each_fair move keeps by (reverse (windows_in step.table host)) (ordered (order.Host host fill) step) (one_more step.orders (order.Host host fill) refl fair))
+    by_test true at = rw at (each_fair (carried move by) (carried_fair move keeps by) (reverse (windows_in step.table host)) (ordered (order.Host host fill) step) (one_more step.orders (order.Host host fill) refl fair))
     by_test false at = rw at fair
 
 moved_fair : (levels : ℕ) (keep : Bool) → Keeps (moved levels keep)
@@ -146,6 +149,12 @@ moved_by_fair : (keep : Bool) (options : List Choice) (w : Window) (step : Step)
 unfolding moved_by
 moved_by_fair keep options w step fair =
     behind_step _ (value_or_refuse (applied keep options w.r) 47) _ (value_by _ 47 (λ e. omega (arith, e))) (λ r. moved_fair deepest keep w r step fair)
+
+resized_fair : (width height : ℕ) (step : Step) → IsFair step → IsOther IsFair (resized width height step)
+unfolding resized
+resized_fair width height step fair =
+    let r = box (pos 0) (pos 0) (pos width) (pos height) in
+    each_fair (moved_by true to_corner) (moved_by_fair true to_corner) (windows_off r step.table) (ordered (order.Size width height) (record step { table = record step.table { r = r } })) (one_more step.orders (order.Size width height) refl fair)
 
 -- ---- windows that are deleted
 
@@ -233,3 +242,4 @@ rio_fair table (act.Command window what) = command_to_fair window what (begun ta
 rio_fair table (act.Mouse pointer) = moused_fair deepest pointer 0 (begun table) refl
 rio_fair table (act.Keys bytes) = keyed_fair (focus deepest table 0) (keys_of bytes) (begun table) refl
 rio_fair table (act.Gone window) = command_to_fair window wctl.Delete (begun table) refl
+rio_fair table (act.Size width height) = resized_fair width height (begun table) refl

@@ -6,6 +6,7 @@ use Rattle.model_text.specs.Outcome.{Outcome, ◌>>=◌, refuse_if, value_or_ref
 use Rattle.model_text.specs.Map.{lookup}
 use Rattle.model_wire.specs.Message.{T, Tversion, Tauth, Tattach, Tflush, Twalk, Topen, Tcreate, Tread, Twrite, Tclunk, Tremove, Tstat, Twstat, R, no_fid, no_tag, tag_of_t}
 use Rattle.model_wire.specs.Reading.{message_of, tag_of}
+use Rattle.model_words.specs.Values.{sides_of}
 use Rattle.model_mouse.specs.Pointer.{pointer_of}
 use Rattle.model_tree.specs.declared.Kind.{Kind}
 use Rattle.model_tree.specs.declared.Kind.TheVariants.{New}
@@ -106,6 +107,7 @@ plain-file {S = S} outside session rest tag node offset bytes mark k other = by 
     by kind.Data other = absurd (cc other)
     by kind.Mousein other = whole (value_or_refuse (pointer_of bytes) 51 >>= λ e. Ok (outside.mouse rest e))
     by kind.Kbdin other = whole (refuse_if (not (are_keys bytes)) 51 >>= λ _. Ok (outside.keys rest bytes))
+    by kind.Hwsize other = whole (value_or_refuse (sides_of (line_of bytes)) 51 >>= λ size. outside.with_size rest size)
     by kind.Snarf other = whole (snarf_written (outside.snarf rest node.serial) offset bytes >>= λ new. Ok (outside.with_snarf rest node.serial new))
     by kind.DeviceWctl other = whole (outside.device_command rest bytes)
     by kind.Cons other = refl

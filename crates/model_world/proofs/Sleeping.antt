@@ -8,6 +8,7 @@ use Rattle.model_text.specs.Outcome.{Outcome, ◌>>=◌, refuse_if, value_or_ref
 use Rattle.model_text.specs.Map.{lookup, without}
 use Rattle.model_wire.specs.Message.{T, R, Tversion, Tauth, Tattach, Tflush, Twalk, Topen, Tcreate, Tread, Twrite, Tclunk, Tremove, Tstat, Twstat, Rclunk, no_fid, no_tag, tag_of_t}
 use Rattle.model_wire.specs.Reading.{message_of, tag_of}
+use Rattle.model_words.specs.Values.{sides_of}
 use Rattle.model_mouse.specs.Pointer.{pointer_of}
 use Rattle.model_mouse.specs.Queue.{answer_text}
 use Rattle.model_console.specs.Console as console
@@ -21,7 +22,7 @@ use Rattle.model_tree.specs.Tree.{check_live}
 use Rattle.model_draw.specs.Files.{read_data, write_ctl}
 use Rattle.model_world.specs.Session.{Fid, Wait, Session}
 use Rattle.model_world.specs.Desktop.{Desktop}
-use Rattle.model_world.specs.Whole.{attached, client, commanded, ctl_written, data_read, desktop_for, device_commanded, left_one, moused, typed, written_data}
+use Rattle.model_world.specs.Whole.{attached, client, commanded, ctl_written, data_read, desktop_for, device_commanded, left_one, moused, resized, typed, written_data}
 use Rattle.model_world.specs.Refusal.{refusal}
 use Rattle.model_world.specs.Fids.{Done, Left, beside, cleared, fid_of, fids_gone, is_bound, is_full, is_kept, is_kind, left_by, let_go, settled, with_held}
 use Rattle.model_world.specs.Walking.{attach_answer, is_taken, most_made, open_answer, opened, opened_new, walk_answer}
@@ -31,7 +32,7 @@ use Rattle.model_world.specs.Waiting.{answered_or, awaited, first_of, given_or_r
 use Rattle.model_world.specs.Answer.{Taking, Ignored, TooLong, Closes, Reads, agreed_on, answer, answer_read, answer_to, asks_for_9p, clunk_answer, denied, is_version, read_or_not, replied, stat_answer, taken, taking, version_answer}
 use Rattle.model_world.specs.Sleeping.{written_at, written_in, written_to}
 use Rattle.model_world.proofs.Others.{after_if, after_step}
-use Rattle.model_world.proofs.Windows.{IsQuiet, Leaves, LeavesBut, LeavesMade, attached_leaves, beside_leaves, but, commanded_leaves, device_commanded_leaves, device_leaves, hear_others, hear_quiet, left_leaves, leaves_same, leaves_then, moused_leaves, quiet_leaves, sleeps_same, typed_leaves}
+use Rattle.model_world.proofs.Windows.{IsQuiet, Leaves, LeavesBut, LeavesMade, attached_leaves, beside_leaves, but, commanded_leaves, device_commanded_leaves, device_leaves, hear_others, hear_quiet, left_leaves, leaves_same, leaves_then, moused_leaves, quiet_leaves, resized_leaves, sleeps_same, typed_leaves}
 
 -- ---- files that one fid at a time has open
 
@@ -118,6 +119,7 @@ file_read_leaves c desktop fid offset count kind.Data =
     after_if _ (λ (got : List ℕ × Desktop). Leaves desktop got.1) (data_read (client c fid.node.connection) desktop count) _ (data_leaves (client c fid.node.connection) desktop count) (λ got leaves. leaves)
 file_read_leaves c desktop fid offset count kind.Screen = leaves_same desktop
 file_read_leaves c desktop fid offset count kind.Snarf = leaves_same desktop
+file_read_leaves c desktop fid offset count kind.Hwsize = leaves_same desktop
 file_read_leaves c desktop fid offset count kind.Label = leaves_same desktop
 file_read_leaves c desktop fid offset count kind.Text = leaves_same desktop
 file_read_leaves c desktop fid offset count kind.Winid = leaves_same desktop
@@ -170,6 +172,9 @@ file_written_leaves c desktop node offset bytes mark kind.Mousein =
 file_written_leaves c desktop node offset bytes mark kind.Kbdin =
     whole_but node.serial desktop (refuse_if (not (are_keys bytes)) 51 >>= λ _. Ok (typed desktop bytes))
     (after_step _ (refuse_if (not (are_keys bytes)) 51) _ (λ _ _. typed_leaves desktop bytes))
+file_written_leaves c desktop node offset bytes mark kind.Hwsize =
+    whole_but node.serial desktop (value_or_refuse (sides_of (line_of bytes)) 51 >>= λ size. resized desktop size)
+    (after_step _ (value_or_refuse (sides_of (line_of bytes)) 51) _ (λ size _. resized_leaves desktop size))
 file_written_leaves c desktop node offset bytes mark kind.Snarf =
     let old = (desktop_for c).snarf desktop node.serial in
     whole_but node.serial desktop (snarf_written old offset bytes >>= λ new. Ok ((desktop_for c).with_snarf desktop node.serial new))

@@ -14,6 +14,7 @@ use Rattle.model_mouse.specs.declared.Mouse.{Mouse as Pointer}
 use Rattle.model_console.specs.Console.{Console, after_read, read, with_raw}
 use Rattle.model_window.specs.Heard.{Heard, Noted, Raw, Written, Labelled, MouseRead, ConsoleRead, MouseHeld, ConsctlHeld}
 use Rattle.model_window.specs.Pane.{Pane, new_pane, pane_heard}
+use Rattle.model_words.specs.declared.Size.{Size}
 use Rattle.model_wctl.specs.Command.{Wctl}
 use Rattle.model_wctl.specs.Command as wctl
 use Rattle.model_wctl.specs.Reading.{command_of}
@@ -27,7 +28,7 @@ use Rattle.model_rio.proofs.Lives.{acts_tell, told_parts}
 use Rattle.model_tree.specs.Attach.{Attach, Whole, Existing, Fresh, Unknown}
 use Rattle.model_draw.specs.World as draw
 use Rattle.model_world.specs.Desktop.{Desktop, is_user, pane_of, pane_told, panes_told, stepped, stepped_if, stepped_or, users_of, without_user}
-use Rattle.model_world.specs.Whole.{attached, commanded, desktop_for, device_commanded, device_commanded_by, host_of, left_one, made_by, moused, serial_of, typed, used_by, window_made, with_device}
+use Rattle.model_world.specs.Whole.{attached, commanded, desktop_for, device_commanded, device_commanded_by, host_of, left_one, made_by, moused, resized, serial_of, typed, used_by, window_made, with_device}
 use Rattle.model_world.specs.Sleeping.{SleepsOn, stirs}
 use Rattle.model_world.proofs.Others.{after_if, after_step}
 
@@ -278,3 +279,9 @@ moused_leaves desktop e = stepped_if_leaves desktop (act.Mouse e)
 pub typed_leaves : (desktop : Desktop) (keys : List ℕ) → Leaves desktop (typed desktop keys)
 unfolding typed
 typed_leaves desktop keys = stepped_if_leaves desktop (act.Keys keys)
+
+-- ---- the size of the display
+
+pub resized_leaves : (desktop : Desktop) (size : Size) → IfOk (resized desktop size) (Leaves desktop)
+unfolding resized
+resized_leaves desktop size = stepped_or_leaves desktop (act.Size size.width size.height)

@@ -1,7 +1,9 @@
 -- What all sessions share: the draw device, and the windows with what their files have (draw(3), rio(4)).
-use Rattle.std.specs.Prelude.{ℕ, ◌==◌, not, List, [], ◌∷◌, ◌++◌, filter, is_some, Ok, Err, if◌then◌else◌, Bool}
+use Rattle.std.specs.Prelude.{ℕ, ◌==◌, ◌&&◌, ◌||◌, Bool, false, not, List, [], ◌∷◌, ◌++◌, filter, is_some, Ok, Err, if◌then◌else◌}
 use Rattle.std.specs.List.{fold, list_any}
 use Rattle.std.specs.Option.{unwrap_or}
+use Rattle.r9_geom.specs.declared.Rect.{Rect}
+use Rattle.r9_geom.specs.Geometry.{width, height}
 use Rattle.r9_event.specs.declared.rio.Note.{Note}
 use Rattle.r9_event.specs.declared.rio.Note.TheVariants as note
 use Rattle.r9_event.specs.declared.rio.Order.{Order}
@@ -16,12 +18,13 @@ use Rattle.model_draw.specs.World as draw
 use Rattle.model_draw.specs.Orders.{carried_out, with_root_rio}
 use Rattle.model_world.specs.Fids.{put}
 
--- The draw device; the windows of all rios; what the files of each live window have, by its serial; the sessions that have a fid
--- whose attach named a window, in ascending order, by the window's serial; the snarf of each rio, by the serial of its host; and
--- what the windows were told in this turn.
+-- The draw device; the windows of all rios; whether the display has changed its size; what the files of each live window have, by
+-- its serial; the sessions that have a fid whose attach named a window, in ascending order, by the window's serial; the snarf of
+-- each rio, by the serial of its host; and what the windows were told in this turn.
 pub record Desktop : Type 0 where
   pub device : draw.World
   pub table : rio.Table
+  pub sized : Bool
   pub panes : List (ℕ × Pane)
   pub users : List (ℕ × List ℕ)
   pub snarfs : List (ℕ × List ℕ)
@@ -31,6 +34,7 @@ abbrev pub first_desktop : draw.Opening → Desktop
 first_desktop opening = record {
   device = with_root_rio (draw.started opening);
   table = rio.opened opening.r;
+  sized = false;
   panes = [];
   users = [];
   snarfs = (0, []) ∷ [];
@@ -66,11 +70,16 @@ snarfs_ordered snarfs _ = snarfs
 
 -- ---- steps of the windows
 
+-- two rectangles have one size
+abbrev pub is_as_large : Rect → Rect → Bool
+is_as_large a b = (width a == width b) && (height a == height b)
+
 -- what a step of the window manager leaves
 unfoldable pub stepped : Desktop → Step → Desktop
 stepped desktop step = record {
   device = carried_out desktop.device step.orders;
   table = step.table;
+  sized = desktop.sized || not (is_as_large desktop.table.r step.table.r);
   panes = fold panes_told desktop.panes step.notes;
   users = fold users_told desktop.users step.notes;
   snarfs = fold snarfs_ordered desktop.snarfs step.orders;

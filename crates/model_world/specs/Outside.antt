@@ -2,6 +2,7 @@
 -- does is defined once, over any.
 use Rattle.std.specs.Prelude.{ℕ, List, Option}
 use Rattle.model_text.specs.Outcome.{Outcome}
+use Rattle.model_words.specs.declared.Size.{Size}
 use Rattle.model_tree.specs.Attach.{Attach}
 use Rattle.model_tree.specs.Node.{Node}
 use Rattle.model_tree.specs.Tree.{View}
@@ -29,6 +30,9 @@ pub record Outside (S : Type 0) : Type 0 where
   pub keys : S → List ℕ → S
   -- the image file of a window, and for 0 of the display
   pub picture : S → (window : ℕ) → List ℕ
+  -- the sides of the display, and another size of it
+  pub size : S → Size
+  pub with_size : S → Size → Outcome S
   -- what was cut last in the rio of a host, and other such text
   pub snarf : S → (host : ℕ) → List ℕ
   pub with_snarf : S → (host : ℕ) → List ℕ → S

@@ -1,9 +1,11 @@
 -- Reading what is open (read(5), draw(3), rio(4)).
-use Rattle.std.specs.Prelude.{ℕ, ◌+◌, ◌-◌, ◌==◌, ◌&&◌, Bool, false, not, min, nat_le, nat_lt, is_none, List, [], ◌∷◌, ◌++◌, length, take, drop, Option, Some, None, Ok, Err, if◌then◌else◌}
+use Rattle.std.specs.Prelude.{ℕ, ◌+◌, ◌-◌, ◌==◌, ◌&&◌, pos, Bool, false, not, min, nat_le, nat_lt, is_none, List, [], ◌∷◌, ◌++◌, length, take, drop, Option, Some, None, Ok, Err, if◌then◌else◌}
 use Rattle.std.specs.List.{concat}
 use Rattle.std.specs.Option.{option_map, option_map_or}
 use Rattle.model_imgfile.specs.ImageFile.{file_part}
+use Rattle.model_text.specs.Field.{number_field}
 use Rattle.model_text.specs.Outcome.{Outcome, ◌>>=◌, refuse_if}
+use Rattle.model_words.specs.declared.Size.{Size}
 use Rattle.model_wire.specs.Message.{Rread}
 use Rattle.model_mouse.specs.Queue.{answer_text}
 use Rattle.model_console.specs.Console as console
@@ -60,6 +62,10 @@ ctl_read outside rest node offset count =
     if not (offset == 0) then Ok []
     else refuse_if (nat_lt count ctl_len) 25 >>= λ _. outside.read_ctl rest node.connection
 
+-- both sides of the display
+abbrev pub size_text : Size → List ℕ
+size_text size = number_field (pos size.width) ++ number_field (pos size.height)
+
 -- the bytes of what a file has, from an offset on
 abbrev pub at_offset : (contents : List ℕ) → (offset count : ℕ) → List ℕ
 at_offset contents offset count = take count (drop offset contents)
@@ -113,6 +119,8 @@ file_read outside rest fid offset count kind.Screen =
     told_now fid rest (file_part (outside.picture rest fid.node.serial) offset count)
 file_read outside rest fid offset count kind.Snarf =
     told_now fid rest (at_offset (outside.snarf rest fid.node.serial) offset count)
+file_read outside rest fid offset count kind.Hwsize =
+    told_now fid rest (at_offset (size_text (outside.size rest)) offset count)
 file_read outside rest fid offset count kind.Label =
     told_now fid rest (at_offset (outside.pane rest fid.node.serial).label offset count)
 file_read outside rest fid offset count kind.Text =

@@ -4,6 +4,8 @@ use Rattle.std.specs.List.{fold}
 use Rattle.std.specs.Option.{option_map_or, unwrap_or}
 use Rattle.model_text.specs.Map.{lookup, with}
 use Rattle.model_text.specs.Outcome.{Outcome, ◌>>=◌, refuse_if, value_or_refuse}
+use Rattle.model_words.specs.declared.Size.{Size}
+use Rattle.r9_geom.specs.Geometry.{width, height}
 use Rattle.model_wctl.specs.Command.{Wctl}
 use Rattle.model_wctl.specs.Command as wctl
 use Rattle.model_wctl.specs.Reading.{command_of}
@@ -90,6 +92,14 @@ moused desktop e = stepped_if desktop (rio desktop.table (act.Mouse e))
 unfoldable pub typed : Desktop → (keys : List ℕ) → Desktop
 typed desktop keys = stepped_if desktop (rio desktop.table (act.Keys keys))
 
+-- ---- the size of the display
+
+abbrev pub size_of : Table → Size
+size_of table = record { width = width table.r; height = height table.r }
+
+unfoldable pub resized : Desktop → Size → Outcome Desktop
+resized desktop size = stepped_or desktop (rio desktop.table (act.Size size.width size.height))
+
 -- ---- attaching, and leaving
 
 -- a new window, whose serial is the last that was given
@@ -149,6 +159,8 @@ desktop_for session = record {
   mouse = moused;
   keys = typed;
   picture = λ desktop window. picture_of desktop.device window;
+  size = λ desktop. size_of desktop.table;
+  with_size = resized;
   snarf = λ desktop host. unwrap_or (lookup desktop.snarfs host) [];
   with_snarf = λ desktop host bytes. record desktop { snarfs = with desktop.snarfs host bytes };
   connect = λ desktop n. with_device desktop (draw.after_connect desktop.device (client session n));

@@ -3,6 +3,7 @@ use Rattle.std.specs.Prelude.{ℕ, ◌+◌, ◌-◌, ◌==◌, ◌^◌, ◌&&◌
 use Rattle.std.specs.List.{list_any}
 use Rattle.std.specs.Str.{bytes_eq, is_utf8, chars}
 use Rattle.model_text.specs.Outcome.{Outcome, ◌>>=◌, refuse_if, value_or_refuse}
+use Rattle.model_words.specs.Values.{sides_of}
 use Rattle.model_wire.specs.Message.{R, Rwrite}
 use Rattle.model_mouse.specs.Pointer.{pointer_of}
 use Rattle.model_window.specs.Heard.{Raw, Written, Labelled}
@@ -65,6 +66,8 @@ file_written outside rest node offset bytes mark kind.Mousein =
     whole_or_refused (value_or_refuse (pointer_of bytes) 51 >>= λ e. Ok (outside.mouse rest e))
 file_written outside rest node offset bytes mark kind.Kbdin =
     whole_or_refused (refuse_if (not (are_keys bytes)) 51 >>= λ _. Ok (outside.keys rest bytes))
+file_written outside rest node offset bytes mark kind.Hwsize =
+    whole_or_refused (value_or_refuse (sides_of (line_of bytes)) 51 >>= λ size. outside.with_size rest size)
 file_written outside rest node offset bytes mark kind.Snarf =
     whole_or_refused (snarf_written (outside.snarf rest node.serial) offset bytes >>= λ new. Ok (outside.with_snarf rest node.serial new))
 file_written outside rest node offset bytes mark kind.DeviceWctl = whole_or_refused (outside.device_command rest bytes)

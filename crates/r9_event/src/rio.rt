@@ -90,4 +90,9 @@ pub enum Order {
     Leave {
         client: u64,
     },
+    /// The display has another size, in pixels.
+    Size {
+        width: u32,
+        height: u32,
+    },
 }
