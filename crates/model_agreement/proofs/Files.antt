@@ -1,7 +1,7 @@
 -- Over outsides that are alike, files give and take alike.
-use Rattle.std.proofs.Common.{◌≡◌, ℕ, Bool, List, Option, Some, None, Ok, refl}
-use Rattle.std.specs.Prelude.{IsTrue, nat_lt}
-use Rattle.model_text.specs.Outcome.{refuse_if}
+use Rattle.std.proofs.Common.{◌≡◌, ℕ, Bool, true, false, List, [], Option, Some, None, Ok, refl}
+use Rattle.std.specs.Prelude.{◌==◌, IsTrue, nat_lt, not, if◌then◌else◌}
+use Rattle.model_text.specs.Outcome.{Outcome, ◌>>=◌, refuse_if}
 use Rattle.model_mouse.specs.Queue.{answer_text}
 use Rattle.model_console.specs.Console as console
 use Rattle.model_window.specs.Heard.{ConsoleRead, Labelled, MouseRead, Raw, Written, wctl_answer, wctl_text}
@@ -12,9 +12,9 @@ use Rattle.model_tree.specs.Tree.{check_live}
 use Rattle.model_tree.specs.Listing.{stats}
 use Rattle.model_world.specs.Session.{Fid}
 use Rattle.model_world.specs.Outside.{Outside}
-use Rattle.model_world.specs.Reading.{Given, ctl_read, directory_read, file_read, given_in, given_now, mouse_len, node_read, told_now, wctl_len}
+use Rattle.model_world.specs.Reading.{Given, ctl_len, ctl_read, directory_read, file_read, given_in, given_now, mouse_len, node_read, told_now, wctl_len}
 use Rattle.model_world.specs.Writing.{file_written, line_of, raw_asked, with_raw_asked}
-use Rattle.model_agreement.specs.Agreement.{Alike, Ask, IsPlain, MayWrite, SameOption, SameOutcome, TellsOf, is_own}
+use Rattle.model_agreement.specs.Agreement.{Alike, Ask, Describes, IsPlain, MayRead, MayWrite, SameOption, SameOutcome, TellsOf, is_own}
 use Rattle.model_agreement.proofs.Relations.{bind_alike, check_alike, equal_alike, if_alike, map_alike}
 use Rattle.model_agreement.proofs.Trees.{lives_where_fine, stats_same}
 
@@ -47,44 +47,53 @@ module _ {S T : Type 0} (outer : Outside S) (inner : Outside T) (Same Later : S 
   given_in_alike s t fid least count of same has some =
       check_alike Gives (refuse_if (nat_lt count least) 46) _ _ (λ _ _. given_alike s t fid count of same has some)
 
-  ctl_same : (s : S) (t : T) (node : Node) (offset count : ℕ) → Same s t → HasConnection node.connection → ctl_read outer s node offset count ≡ ctl_read inner t node offset count
+  ctl_same : (s : S) (t : T) (node : Node) (offset count : ℕ) → Same s t → HasConnection node.connection → MayRead outer HasWindow HasConnection May s node offset count kind.Ctl
+      → ctl_read outer s node offset count ≡ ctl_read inner t node offset count
   unfolding ctl_read
-  ctl_same s t node offset count same has = rw (alike.read_ctl s t same node.connection has) refl
+  ctl_same s t node offset count same has may = by (offset == 0) (nat_lt count ctl_len) may
+    where
+      -- at the front, where there is room
+      by : (front short : Bool) → (front ≡ true → short ≡ false → May s (Describes node.connection))
+          → ◌≡◌ {A = Outcome (List ℕ)} (if not front then Ok [] else refuse_if short 25 >>= λ _. outer.read_ctl s node.connection) (if not front then Ok [] else refuse_if short 25 >>= λ _. inner.read_ctl t node.connection)
+      by false short may = refl
+      by true true may = refl
+      by true false may = alike.read_ctl s t same node.connection has (may refl refl)
 
   -- a window of a kind of files that tell of one lives, where a node of them was not refused
   abbrev Lives : S → List ℕ → Node → Kind → Type 0
   Lives s connections node of = TellsOf (row of).owner node.serial × ((u : Unit {0}) × (check_live (outer.view s connections node) node ≡ Ok u))
 
   file_alike : (connections : List ℕ) (s : S) (t : T) (fid : Fid) (offset count : ℕ) (of : Kind) → Same s t → IsTrue (is_own of) → IsPlain HasWindow HasConnection fid.node
-      → Lives s connections fid.node of → SameOutcome Gives (file_read outer s fid offset count of) (file_read inner t fid offset count of)
+      → Lives s connections fid.node of → MayRead outer HasWindow HasConnection May s fid.node offset count of → SameOutcome Gives (file_read outer s fid offset count of) (file_read inner t fid offset count of)
   unfolding row
-  file_alike connections s t fid offset count kind.Ctl same own plain lives =
-      equal_alike Gives _ _ (told_now fid s) (told_now fid t) (ctl_same s t fid.node offset count same plain.connection) (λ bytes. record { fid = refl; bytes = refl; rest = same })
-  file_alike connections s t fid offset count kind.Data same own plain lives =
+  file_alike connections s t fid offset count kind.Ctl same own plain lives may =
+      equal_alike Gives _ _ (told_now fid s) (told_now fid t) (ctl_same s t fid.node offset count same plain.connection may) (λ bytes. record { fid = refl; bytes = refl; rest = same })
+  file_alike connections s t fid offset count kind.Data same own plain lives may =
       bind_alike (λ a b. (a.0 ≡ b.0) × Same a.1 b.1) Gives (outer.read_data s fid.node.connection count) (inner.read_data t fid.node.connection count) _ _
       (alike.read_data s t same fid.node.connection count plain.connection) (λ a b p. record { fid = refl; bytes = p.0; rest = p.1 })
-  file_alike connections s t fid offset count kind.Screen same own plain lives = absurd cc
-  file_alike connections s t fid offset count kind.Snarf same own plain lives = absurd cc
-  file_alike connections s t fid offset count kind.Label same own plain lives = rw (alike.pane s t same fid.node.serial plain.window lives.0) (record { fid = refl; bytes = refl; rest = same })
-  file_alike connections s t fid offset count kind.Text same own plain lives = rw (alike.pane s t same fid.node.serial plain.window lives.0) (record { fid = refl; bytes = refl; rest = same })
-  file_alike connections s t fid offset count kind.Winid same own plain lives = rw (alike.pane s t same fid.node.serial plain.window lives.0) (record { fid = refl; bytes = refl; rest = same })
-  file_alike connections s t fid offset count kind.Winname same own plain lives = rw (alike.pane s t same fid.node.serial plain.window lives.0) (record { fid = refl; bytes = refl; rest = same })
-  file_alike connections s t fid offset count kind.Picture same own plain lives =
+  file_alike connections s t fid offset count kind.Screen same own plain lives may = absurd cc
+  file_alike connections s t fid offset count kind.Snarf same own plain lives may = absurd cc
+  file_alike connections s t fid offset count kind.Hwsize same own plain lives may = absurd cc
+  file_alike connections s t fid offset count kind.Label same own plain lives may = rw (alike.pane s t same fid.node.serial plain.window lives.0) (record { fid = refl; bytes = refl; rest = same })
+  file_alike connections s t fid offset count kind.Text same own plain lives may = rw (alike.pane s t same fid.node.serial plain.window lives.0) (record { fid = refl; bytes = refl; rest = same })
+  file_alike connections s t fid offset count kind.Winid same own plain lives may = rw (alike.pane s t same fid.node.serial plain.window lives.0) (record { fid = refl; bytes = refl; rest = same })
+  file_alike connections s t fid offset count kind.Winname same own plain lives may = rw (alike.pane s t same fid.node.serial plain.window lives.0) (record { fid = refl; bytes = refl; rest = same })
+  file_alike connections s t fid offset count kind.Picture same own plain lives may =
       rw (alike.picture s t same connections fid.node plain.window (lives_where_fine (outer.view s connections fid.node) fid.node lives.1.0 lives.0 lives.1.1)) (record { fid = refl; bytes = refl; rest = same })
-  file_alike connections s t fid offset count kind.Mouse same own plain lives = given_in_alike s t fid mouse_len count kind.Mouse same plain.window lives.0
-  file_alike connections s t fid offset count kind.Wctl same own plain lives = given_in_alike s t fid wctl_len count kind.Wctl same plain.window lives.0
-  file_alike connections s t fid offset count kind.Cons same own plain lives = given_alike s t fid count kind.Cons same plain.window lives.0
-  file_alike connections s t fid offset count _ same own plain lives = tt
+  file_alike connections s t fid offset count kind.Mouse same own plain lives may = given_in_alike s t fid mouse_len count kind.Mouse same plain.window lives.0
+  file_alike connections s t fid offset count kind.Wctl same own plain lives may = given_in_alike s t fid wctl_len count kind.Wctl same plain.window lives.0
+  file_alike connections s t fid offset count kind.Cons same own plain lives may = given_alike s t fid count kind.Cons same plain.window lives.0
+  file_alike connections s t fid offset count _ same own plain lives may = tt
 
   pub node_alike : (connections : List ℕ) (s : S) (t : T) (fid : Fid) (offset count : ℕ) → Same s t → IsTrue (is_own fid.node.kind) → IsPlain HasWindow HasConnection fid.node
-      → (u : Unit {0}) → check_live (outer.view s connections fid.node) fid.node ≡ Ok u
+      → (u : Unit {0}) → check_live (outer.view s connections fid.node) fid.node ≡ Ok u → MayRead outer HasWindow HasConnection May s fid.node offset count fid.node.kind
       → SameOutcome Gives (node_read outer connections s fid offset count) (node_read inner connections t fid offset count)
-  node_alike connections s t fid offset count same own plain u fine =
+  node_alike connections s t fid offset count same own plain u fine may =
       if_alike Gives (is_directory fid.node) _ _ _ _
       (rw (stats_same _ _ fid.node (alike.view s t same connections fid.node plain) plain.kind)
       (check_alike Gives (directory_read (stats (inner.view t connections fid.node) fid.node) fid offset count) _ _ (λ got _.
       record { fid = refl; bytes = refl; rest = same })))
-      (file_alike connections s t fid offset count fid.node.kind same own plain (plain.place, (u, fine)))
+      (file_alike connections s t fid offset count fid.node.kind same own plain (plain.place, (u, fine)) may)
 
   -- ---- writes
 
@@ -119,4 +128,5 @@ module _ {S T : Type 0} (outer : Outside S) (inner : Outside T) (Same Later : S 
   written_alike connections s t node offset bytes mark told kind.Kbdin same own plain lives may = absurd cc
   written_alike connections s t node offset bytes mark told kind.Snarf same own plain lives may = absurd cc
   written_alike connections s t node offset bytes mark told kind.DeviceWctl same own plain lives may = absurd cc
+  written_alike connections s t node offset bytes mark told kind.Hwsize same own plain lives may = absurd cc
   written_alike connections s t node offset bytes mark told _ same own plain lives may = refl

@@ -26,7 +26,7 @@ use Rattle.model_world.specs.Reading.{Given, count_within, is_open_for, most_wai
 use Rattle.model_world.specs.Writing.{file_written, write_answer, write_reply}
 use Rattle.model_world.specs.Waiting.{answered_or, awaited, first_of, given_or_refused, late_reply, one_answered, wait_answer}
 use Rattle.model_world.specs.Answer.{Taking, Ignored, TooLong, Closes, Reads, agreed_on, answer, answer_read, answer_to, asks_for_9p, clunk_answer, denied, is_version, read_or_not, replied, stat_answer, taken, taking, version_answer}
-use Rattle.model_agreement.specs.Agreement.{Alike, ArePrivate, Ask, Attaches, IsOwnFid, IsPlain, IsPrivate, IsPrivateIf, KeepsToItself, MayWrite, SameLeft, SameOption, SameOutcome, TellsOf}
+use Rattle.model_agreement.specs.Agreement.{Alike, ArePrivate, Ask, Attaches, IsOwnFid, IsPlain, IsPrivate, IsPrivateIf, KeepsToItself, MayRead, MayWrite, SameLeft, SameOption, SameOutcome, TellsOf}
 use Rattle.model_agreement.proofs.Relations.{bind_alike, check_alike, equal_alike, fold_alike, if_so, known_alike, not_refused, weaken}
 use Rattle.model_agreement.proofs.Trees.{check_live_same, stat_same, walked_same}
 use Rattle.model_agreement.proofs.Files.{SameGiven, given_alike, node_alike, written_alike}
@@ -228,16 +228,19 @@ module _ {S T : Type 0} (outer : Outside S) (inner : Outside T) (Same Later : S 
   read_done session s t tag number count None (Some b) same p = absurd p
 
   read_alike : (session : Session) (s : S) (t : T) (tag number offset count : ℕ) → Same s t → Keeps session
+      → ((f : Fid) → fid_of session number ≡ Ok f → is_none f.mode ≡ false → is_open_for reads f ≡ true
+      → check_live (outer.view s session.connections f.node) f.node ≡ Ok tt → MayRead outer HasWindow HasConnection May s f.node offset (count_within session count) f.node.kind)
       → SameOutcome (SameLeft Same) (read_answer outer session s tag number offset count) (read_answer inner session t tag number offset count)
   unfolding read_answer
-  read_alike session s t tag number offset count same keeps =
+  read_alike session s t tag number offset count same keeps asks =
       check_alike (SameLeft Same) (fid_of session number) _ _ (λ fid is.
       let own = own_of session keeps number fid is in
-      check_alike (SameLeft Same) (refuse_if (is_none fid.mode) 37) _ _ (λ _ fine.
-      check_alike (SameLeft Same) (refuse_if (not (is_open_for reads fid)) 38) _ _ (λ _ _.
+      check_alike (SameLeft Same) (refuse_if (is_none fid.mode) 37) _ _ (λ v fine.
+      check_alike (SameLeft Same) (refuse_if (not (is_open_for reads fid)) 38) _ _ (λ w opened.
       known_alike (SameLeft Same) _ _ _ _ (live_same session s t fid same own) (λ u live.
       bind_alike (SameOption (SameGiven Same)) (SameLeft Same) (node_read outer session.connections s fid offset (count_within session count)) (node_read inner session.connections t fid offset (count_within session count)) _ _
-      (node_alike outer inner Same Later HasWindow HasConnection May alike session.connections s t fid offset (count_within session count) same (own.own (is_opened fid.mode fine)) own.plain u live) (λ a b p.
+      (node_alike outer inner Same Later HasWindow HasConnection May alike session.connections s t fid offset (count_within session count) same (own.own (is_opened fid.mode fine)) own.plain u live
+      (asks fid is (not_refused (is_none fid.mode) 37 v fine) (is_so (is_open_for reads fid) (not_refused (not (is_open_for reads fid)) 38 w opened)) live)) (λ a b p.
       read_done session s t tag number (count_within session count) a b same p)))))
 
   write_alike : (session : Session) (s : S) (t : T) (tag number offset : ℕ) (bytes : List ℕ) (mark told : Option ℕ) → Same s t → Keeps session
@@ -277,7 +280,7 @@ module _ {S T : Type 0} (outer : Outside S) (inner : Outside T) (Same Later : S 
       beside_alike s t (walk_answer outer session s tag fid newfid names) (walk_answer inner session t tag fid newfid names) same (walk_same session s t tag fid newfid names same keeps private)
   to_alike session s t mark told (wire.Topen tag fid mode) same keeps private = soon _ _ (open_alike session s t tag fid mode same keeps)
   to_alike session s t mark told (wire.Tcreate tag fid name perm mode) same keeps private = beside_alike s t (denied session fid) (denied session fid) same refl
-  to_alike session s t mark told (wire.Tread tag fid offset count) same keeps private = soon _ _ (read_alike session s t tag fid offset count same keeps)
+  to_alike session s t mark told (wire.Tread tag fid offset count) same keeps private = soon _ _ (read_alike session s t tag fid offset count same keeps private)
   to_alike session s t mark told (wire.Twrite tag fid offset bytes) same keeps private = write_alike session s t tag fid offset bytes mark told same keeps private
   to_alike session s t mark told (wire.Tclunk tag fid) same keeps private = clunk_alike session s t fid (Rclunk tag) same keeps
   to_alike session s t mark told (wire.Tremove tag fid) same keeps private = clunk_alike session s t fid (refusal tag 38) same keeps

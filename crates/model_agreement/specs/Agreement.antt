@@ -1,19 +1,19 @@
 -- When two outsides answer a session alike.
-use Rattle.std.specs.Prelude.{◌≡◌, ◌≤◌, ◌==◌, ◌&&◌, ℕ, Bool, true, false, not, All, IsTrue, is_none, is_some, List, Option, Some, None, Ok, Err}
+use Rattle.std.specs.Prelude.{◌≡◌, ◌≤◌, ◌==◌, ◌&&◌, ℕ, Bool, true, false, not, nat_lt, All, IsTrue, is_none, is_some, List, Option, Some, None, Ok, Err}
 use Rattle.model_text.specs.Outcome.{Outcome}
-use Rattle.model_wire.specs.Message.{T, Tattach, Twalk, Twrite, no_fid, no_tag, tag_of_t}
+use Rattle.model_wire.specs.Message.{T, Tattach, Twalk, Tread, Twrite, no_fid, no_tag, tag_of_t}
 use Rattle.model_wire.specs.Reading.{message_of}
 use Rattle.model_window.specs.Heard.{Heard, Noted, Raw, Written, Labelled, MouseRead, ConsoleRead, MouseHeld, ConsctlHeld}
 use Rattle.model_tree.specs.declared.Kind.{Kind}
 use Rattle.model_tree.specs.declared.Kind.TheVariants as kind
-use Rattle.model_tree.specs.Node.{Node, Owner, OfSession, OfConnection, OfRio, OfWindow, row, writes}
+use Rattle.model_tree.specs.Node.{Node, Owner, OfSession, OfConnection, OfRio, OfWindow, row, reads, writes}
 use Rattle.model_tree.specs.Tree.{View, check_live}
 use Rattle.model_tree.specs.Attach.{Attach, attach_of}
 use Rattle.model_world.specs.Session.{Session, Fid}
 use Rattle.model_world.specs.Outside.{Outside}
 use Rattle.model_world.specs.Fids.{Left, fid_of, is_bound, is_full}
 use Rattle.model_world.specs.Walking.{most_made, walked}
-use Rattle.model_world.specs.Reading.{is_open_for}
+use Rattle.model_world.specs.Reading.{count_within, ctl_len, is_open_for}
 use Rattle.model_world.specs.Answer.{Reads, is_version, taking}
 
 -- both are refused by the same number, or neither is and the values are so related
@@ -54,6 +54,7 @@ is_own kind.Snarf = false
 is_own kind.Mousein = false
 is_own kind.Kbdin = false
 is_own kind.DeviceWctl = false
+is_own kind.Hwsize = false
 is_own _ = true
 
 -- a window's files tell of a window, and other files of none
@@ -84,6 +85,8 @@ pub data Ask : Type 0 where
   Draws : (n : ℕ) (bytes : List ℕ) (mark told : Option ℕ) → Ask
   -- what the ctl of a connection is to describe
   Chooses : (n : ℕ) (bytes : List ℕ) → Ask
+  -- what it tells
+  Describes : (n : ℕ) → Ask
 
 -- `HasWindow` are the serials of the session's windows, and 0, and `HasConnection` the numbers of its connections, and 0.
 module _ (HasWindow HasConnection : ℕ → Type 0) where
@@ -112,6 +115,10 @@ module _ {S : Type 0} (outside : Outside S) (HasWindow HasConnection : ℕ → T
   MayWrite s node bytes mark told kind.Wctl = May s (Commands bytes)
   MayWrite s node bytes mark told _ = Unit {0}
 
+  abbrev pub MayRead : S → Node → (offset count : ℕ) → Kind → Type 0
+  MayRead s node offset count kind.Ctl = (offset == 0) ≡ true → nat_lt count ctl_len ≡ false → May s (Describes node.connection)
+  MayRead s node offset count _ = Unit {0}
+
   -- A message keeps to what its session has for itself, as far as it is not refused before that matters.
   abbrev pub IsPrivate : Session → S → (mark told : Option ℕ) → T → Type 0
   IsPrivate session s mark told (Tattach tag fid afid uname aname) =
@@ -120,6 +127,9 @@ module _ {S : Type 0} (outside : Outside S) (HasWindow HasConnection : ℕ → T
       (from : Fid) → fid_of session fid ≡ Ok from → is_some from.mode ≡ false → (not (newfid == fid) && is_bound session newfid) ≡ false
       → (not (newfid == fid) && is_full session) ≡ false
       → All (IsPlain HasWindow HasConnection) (walked (outside.view s session.connections) from.node names).0
+  IsPrivate session s mark told (Tread tag fid offset count) =
+      (f : Fid) → fid_of session fid ≡ Ok f → is_none f.mode ≡ false → is_open_for reads f ≡ true
+      → check_live (outside.view s session.connections f.node) f.node ≡ Ok tt → MayRead s f.node offset (count_within session count) f.node.kind
   IsPrivate session s mark told (Twrite tag fid offset bytes) =
       (f : Fid) → fid_of session fid ≡ Ok f → is_none f.mode ≡ false → is_open_for writes f ≡ true
       → check_live (outside.view s session.connections f.node) f.node ≡ Ok tt → MayWrite s f.node bytes mark told f.node.kind
@@ -167,7 +177,7 @@ pub record Alike {S T : Type 0} (outer : Outside S) (inner : Outside T) (Same La
   pub read_data :
       (s : S) (t : T) → Same s t → (n most : ℕ) → HasConnection n
       → SameOutcome (λ a b. (a.0 ≡ b.0) × Same a.1 b.1) (outer.read_data s n most) (inner.read_data t n most)
-  pub read_ctl : (s : S) (t : T) → Same s t → (n : ℕ) → HasConnection n → outer.read_ctl s n ≡ inner.read_ctl t n
+  pub read_ctl : (s : S) (t : T) → Same s t → (n : ℕ) → HasConnection n → May s (Describes n) → outer.read_ctl s n ≡ inner.read_ctl t n
   pub write_ctl :
       (s : S) (t : T) → Same s t → (n : ℕ) (bytes : List ℕ) → HasConnection n → May s (Chooses n bytes)
       → SameOutcome Same (outer.write_ctl s n bytes) (inner.write_ctl t n bytes)

@@ -163,6 +163,10 @@ module _ (k : ℕ) (other : (k == manager) ≡ false) where
       by more (Ok next) is = leaves_then w next.0 _ is (more next.0 next.1 is.settled)
       by more (Err refusal) is = leaves_itself w settled
 
+  pub marked_leaves : (w : World) → IsSettled w → (bytes : List ℕ) (mark : Option ℕ) → Leaves w (written k w bytes mark).world
+  unfolding written
+  marked_leaves w settled bytes mark = within_leaves (length bytes) w settled mark 0 bytes
+
   pub written_leaves : (w : World) → IsSettled w → (bytes : List ℕ) (mark : Option ℕ) → Leaves w (written_alone k w bytes mark).0
   unfolding written
   written_leaves w settled bytes None = within_leaves (length bytes) w settled None 0 bytes

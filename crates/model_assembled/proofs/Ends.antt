@@ -14,8 +14,9 @@ use Rattle.model_holding.proofs.Rooting.{leave_rooted, leave_tied}
 use Rattle.model_assembled.specs.Assembled.{AreAlike, IsSettled}
 use Rattle.model_assembled.proofs.Alone.{alone_still, leave_leaves}
 use Rattle.model_assembled.proofs.Settling.{leave_settled}
+use Rattle.model_assembled.proofs.Sizes.{size_kept}
 
-module _ (c : ℕ) (window : Option (ℕ × List ℕ)) (a b : World) (alike : AreAlike c window a b) (n : ℕ) (few : n < 2 ^ 26) where
+module _ (c : ℕ) (size : Option (ℕ × ℕ)) (window : Option (ℕ × List ℕ)) (a b : World) (alike : AreAlike c size window a b) (n : ℕ) (few : n < 2 ^ 26) where
   own : (client c n == manager) ≡ false
   own = no_manager c n alike.is.like.counted
 
@@ -30,13 +31,16 @@ module _ (c : ℕ) (window : Option (ℕ × List ℕ)) (a b : World) (alike : Ar
       leave_like c window a b alike.is alike.left.steady.whole.standing alike.right.steady.whole.standing alike.left.steady.orderly.ties alike.right.steady.orderly.ties
       alike.left.steady.whole.listed alike.right.steady.whole.listed n few
 
+  left : IsSettled (after_leave a (client c n))
+  left = leave_settled (client c n) a own alike.left
+
   right : IsSettled (after_leave b (client 1 n))
   right = leave_settled (client 1 n) b lone alike.right
 
-  pub leave_alike : AreAlike c window (after_leave a (client c n)) (after_leave b (client 1 n))
+  pub leave_alike : AreAlike c size window (after_leave a (client c n)) (after_leave b (client 1 n))
   leave_alike = record {
     is = ended;
-    left = leave_settled (client c n) a own alike.left;
+    left = left;
     right = right;
     name = alike.name;
     holds = record {
@@ -45,4 +49,6 @@ module _ (c : ℕ) (window : Option (ℕ × List ℕ)) (a b : World) (alike : Ar
     };
     alone = alone_still (client 1 n) lone window b (after_leave b (client 1 n)) (leave_leaves (client 1 n) lone b alike.right right)
         (λ m d lt at. ended.like.books.untied_right m d lt (record { number = n; few = few; is = at })) alike.alone;
+    size_left = size_kept size a (after_leave a (client c n)) (leave_leaves (client c n) own a alike.left left).stays.shape alike.size_left;
+    size_right = size_kept size b (after_leave b (client 1 n)) (leave_leaves (client 1 n) lone b alike.right right).stays.shape alike.size_right;
   }

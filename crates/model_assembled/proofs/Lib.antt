@@ -1,4 +1,5 @@
 pub mod Settling
+pub mod Sizes
 pub mod Alone
 pub mod Own
 pub mod Ends

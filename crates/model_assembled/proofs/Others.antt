@@ -3,7 +3,7 @@
 use Rattle.std.proofs.Common.{◌≡◌, ◌<◌, ◌≤◌, ◌^◌, ℕ, false, true, List, Option, Ok, arith}
 use Rattle.std.specs.Prelude.{◌==◌, All, slice_index_or}
 use Rattle.r9_event.specs.declared.rio.Order.{Order}
-use Rattle.r9_event.specs.declared.rio.Order.TheVariants.{Make, Place, Replace, Raise, Lower, Drop, Host, Leave}
+use Rattle.r9_event.specs.declared.rio.Order.TheVariants.{Make, Place, Replace, Raise, Lower, Drop, Host, Leave, Size}
 use Rattle.model_dmsg.specs.Message.{Message, LowN}
 use Rattle.model_draw.specs.World.{World, after_connect, after_leave}
 use Rattle.model_draw.specs.Act.{written}
@@ -17,18 +17,20 @@ use Rattle.model_making.specs.Likes.{Matched}
 use Rattle.model_told.specs.Telling.{IsBeside}
 use Rattle.model_followed.specs.Devices.{LeavesName, serial_in}
 use Rattle.model_apart.specs.Apart.{IsApart, IsOutside, LooksBeside, Part, Stays}
-use Rattle.model_others.specs.Others.{part_of}
-use Rattle.model_others.proofs.Display.{IsCounted}
+use Rattle.model_sized.specs.Sizes.{IsForSize}
+use Rattle.model_others.specs.Others.{IsNoSize, part_of}
+use Rattle.model_others.proofs.Display.{IsCounted, has_counted, new_counted}
 use Rattle.model_others.proofs.Likeness.{like_apart, like_still, others_outside}
 use Rattle.model_others.proofs.Messages.{connect_stays, leave_stays, read_data_stays, write_ctl_stays}
 use Rattle.model_others.proofs.Writes.{written_stays}
 use Rattle.model_managed.specs.Ending.{LeavesManager}
-use Rattle.model_beside.proofs.Ordering.{has_counted, new_counted, ordered_beside}
+use Rattle.model_beside.proofs.Ordering.{ordered_beside}
 use Rattle.model_beside.proofs.Rooting.{name_still, rooted_still}
 use Rattle.model_assembled.specs.Assembled.{AreAlike, IsSettled}
 use Rattle.model_assembled.proofs.Settling.{choose_settled, connect_settled, if_ok, leave_settled, ordered_settled, read_settled, written_settled}
+use Rattle.model_assembled.proofs.Sizes.{resized_alike, size_kept}
 
-module _ (c : ℕ) (window : Option (ℕ × List ℕ)) (a b : World) (alike : AreAlike c window a b) where
+module _ (c : ℕ) (size : Option (ℕ × ℕ)) (window : Option (ℕ × List ℕ)) (a b : World) (alike : AreAlike c size window a b) where
   abbrev S : ℕ → ℕ → Type 0
   S i j = Matched alike.is.images i j
 
@@ -39,7 +41,7 @@ module _ (c : ℕ) (window : Option (ℕ × List ℕ)) (a b : World) (alike : Ar
   part = part_of S T c window
 
   -- the devices are the same to the session still, where its part stays
-  still : (next : World) → Stays part a next → IsSettled next → AreAlike c window next b
+  still : (next : World) → Stays part a next → IsSettled next → AreAlike c size window next b
   still next stays settled = record {
     is = record { images = alike.is.images; screens = alike.is.screens; like = like_still S T c window a b next alike.is.like stays };
     left = settled;
@@ -50,6 +52,8 @@ module _ (c : ℕ) (window : Option (ℕ × List ℕ)) (a b : World) (alike : Ar
       tied = name_still S T c window a b alike.is.like alike.left.furnished.bare alike.holds.rooted next stays alike.holds.tied;
       rooted = rooted_still S T c window a b alike.is.like alike.left.furnished.bare alike.holds.rooted next stays;
     };
+    size_left = size_kept size a next stays.shape alike.size_left;
+    size_right = alike.size_right;
   }
 
   -- ---- the window manager
@@ -63,6 +67,7 @@ module _ (c : ℕ) (window : Option (ℕ × List ℕ)) (a b : World) (alike : Ar
   on_manager (Drop serial) beside = tt
   on_manager (Host serial fill) beside = tt
   on_manager (Leave k) beside = absurd beside
+  on_manager (Size columns rows) beside = tt
 
   counted : (order : Order) → fits a order ≡ true → IsBeside (serial_in window) order → IsCounted a alike.left.furnished order
   counted (Make serial host r name hide depth) may beside = new_counted a serial alike.left.furnished.named (split _ _ (split _ _ may).0).1
@@ -73,12 +78,24 @@ module _ (c : ℕ) (window : Option (ℕ × List ℕ)) (a b : World) (alike : Ar
   counted (Drop serial) may beside = has_counted a serial may
   counted (Host serial fill) may beside = has_counted a serial (split _ _ (split _ _ may).0).0
   counted (Leave k) may beside = absurd beside
+  counted (Size columns rows) may beside = tt
 
-  pub beside_alike : (order : Order) → fits a order ≡ true → IsBeside (serial_in window) order → AreAlike c window (ordered a order) b
-  beside_alike order may beside =
+  stay_alike : (order : Order) → IsNoSize order → fits a order ≡ true → IsBeside (serial_in window) order → AreAlike c size window (ordered a order) b
+  stay_alike order sizeless may beside =
       still (ordered a order)
-      (ordered_beside S T c window a b alike.is.like alike.left.steady.whole alike.left.steady.orderly alike.left.furnished.bare alike.holds.tied alike.holds.rooted order may beside)
+      (ordered_beside S T c window a b alike.is.like alike.left.steady.whole alike.left.steady.orderly alike.left.furnished.bare alike.holds.tied alike.holds.rooted order may beside sizeless)
       (ordered_settled a order alike.left (on_manager order beside) (counted order may beside))
+
+  pub beside_alike : (order : Order) → fits a order ≡ true → IsBeside (serial_in window) order → IsForSize size order → AreAlike c size window (ordered a order) b
+  beside_alike (Make serial host r name hide depth) may beside known = stay_alike (Make serial host r name hide depth) tt may beside
+  beside_alike (Place serial at) may beside known = stay_alike (Place serial at) tt may beside
+  beside_alike (Replace serial host r name keep hidden) may beside known = stay_alike (Replace serial host r name keep hidden) tt may beside
+  beside_alike (Raise serial) may beside known = stay_alike (Raise serial) tt may beside
+  beside_alike (Lower serial) may beside known = stay_alike (Lower serial) tt may beside
+  beside_alike (Drop serial) may beside known = stay_alike (Drop serial) tt may beside
+  beside_alike (Host serial fill) may beside known = stay_alike (Host serial fill) tt may beside
+  beside_alike (Leave k) may beside known = absurd beside
+  beside_alike (Size columns rows) may beside known = resized_alike c size window a b alike columns rows may known
 
   -- ---- other sessions
 
@@ -101,27 +118,27 @@ module _ (c : ℕ) (window : Option (ℕ × List ℕ)) (a b : World) (alike : Ar
     apart : IsApart part a
     apart = like_apart S T c window a b alike.is.like alike.left.steady.whole alike.left.steady.orderly alike.left.furnished.bare
 
-    pub others_connect : AreAlike c window (after_connect a (client d n)) b
+    pub others_connect : AreAlike c size window (after_connect a (client d n)) b
     others_connect =
         still _ (connect_stays part (client d n) outside a apart alike.left.furnished.numbers) (connect_settled (client d n) a theirs alike.left)
 
-    pub others_leave : AreAlike c window (after_leave a (client d n)) b
+    pub others_leave : AreAlike c size window (after_leave a (client d n)) b
     others_leave = still _ (leave_stays part (client d n) outside a apart alike.left.furnished.numbers) (leave_settled (client d n) a theirs alike.left)
 
-    pub others_write : (bytes : List ℕ) (mark : Option ℕ) → All (LeavesName window) (looked_at (client d n) a bytes mark) → AreAlike c window (written (client d n) a bytes mark).world b
+    pub others_write : (bytes : List ℕ) (mark : Option ℕ) → All (LeavesName window) (looked_at (client d n) a bytes mark) → AreAlike c size window (written (client d n) a bytes mark).world b
     others_write bytes mark leaves =
         still _
         (written_stays part (client d n) outside a bytes mark apart alike.left.furnished.numbers alike.left.steady.orderly
         (λ i m h. looks_beside (slice_index_or (looked_at (client d n) a bytes mark) i m) (leaves i m h)))
         (written_settled (client d n) a theirs alike.left bytes mark)
 
-    pub others_read : (most : ℕ) (got : List ℕ × World) → read_data (client d n) a most ≡ Ok got → AreAlike c window got.1 b
+    pub others_read : (most : ℕ) (got : List ℕ × World) → read_data (client d n) a most ≡ Ok got → AreAlike c size window got.1 b
     others_read most got is =
         still got.1
         (if_ok _ (read_data (client d n) a most) got (read_data_stays part (client d n) outside a apart alike.left.furnished.numbers most) is)
         (read_settled (client d n) a theirs alike.left most got is)
 
-    pub others_choose : (bytes : List ℕ) (next : World) → write_ctl (client d n) a bytes ≡ Ok next → AreAlike c window next b
+    pub others_choose : (bytes : List ℕ) (next : World) → write_ctl (client d n) a bytes ≡ Ok next → AreAlike c size window next b
     others_choose bytes next is =
         still next
         (if_ok _ (write_ctl (client d n) a bytes) next (write_ctl_stays part (client d n) outside a apart alike.left.furnished.numbers bytes) is)

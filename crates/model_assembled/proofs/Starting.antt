@@ -1,14 +1,15 @@
 -- Both devices when they start, and what a session's window looks like on both.
-use Rattle.std.proofs.Common.{◌≡◌, ◌<◌, ◌≤◌, ◌&&◌, ℕ, Bool, true, false, cond, List, [], Option, Some, None, refl, ap, ◌∙◌, arith}
+use Rattle.std.proofs.Common.{◌≡◌, ◌≤◌, ◌&&◌, ℕ, Bool, true, false, cond, List, [], Option, Some, None, refl, ap, ◌∙◌, arith}
 use Rattle.std.specs.Prelude.{◌==◌, All, is_some}
-use Rattle.std.proofs.lemmas.List.Elements.{All-cons, All-nil}
+use Rattle.std.proofs.lemmas.List.Elements.{All-nil}
 use Rattle.r9_geom.specs.declared.Point.{Point}
 use Rattle.model_pixel.specs.Channels.{depth}
 use Rattle.model_pixel.specs.Rows.{rows_of}
 use Rattle.model_imgfile.specs.ImageFile.{image_file}
 use Rattle.model_forest.specs.Paint.{paint}
-use Rattle.model_forest.specs.World.{IsLive}
-use Rattle.model_images.specs.declared.ImageId.{ImageId}
+use Rattle.model_forest.specs.Steps.{after_image, after_set}
+use Rattle.model_forest.specs.World.{IsLive, origin_point}
+use Rattle.model_resize.specs.Resize.{sized}
 use Rattle.model_images.specs.declared.Tie.{Tie}
 use Rattle.model_text.specs.Map.{lookup}
 use Rattle.model_images.specs.Book.{add_id, image_id, new_screen, owner, screen_id}
@@ -19,17 +20,18 @@ use Rattle.model_shown.proofs.Tests.{turned}
 use Rattle.model_fitting.proofs.Opening.{first_orderly}
 use Rattle.model_agreement.specs.Agreement.{SameOption}
 use Rattle.model_alone.specs.Lone.{started_alone}
-use Rattle.model_likeness.specs.Likeness.{AreLike, AreLikeBooks, AreNumbered, IsNamed, IsOfSession, display_id}
+use Rattle.model_likeness.specs.Likeness.{AreLike, AreLikeBooks, IsNamed, IsOfSession, display_id}
 use Rattle.model_likeness.proofs.Ids.{no_manager}
 use Rattle.model_renamed.specs.Renamed.{AreRenamed}
 use Rattle.model_renamed.proofs.Views.{paint_same}
 use Rattle.model_making.specs.Likes.{Matched}
 use Rattle.model_making.specs.Standing.{IsWhole}
+use Rattle.model_others.proofs.Display.{first_furnished}
 use Rattle.model_managed.proofs.Starting.{first_whole}
 use Rattle.model_grounded.proofs.Keeping.{first_grounded}
 use Rattle.model_holding.proofs.Rooting.{window_known}
 use Rattle.model_granted.proofs.Freed.{are_known, both_shown}
-use Rattle.model_assembled.specs.Assembled.{AreAlike, IsAlone, IsSettled}
+use Rattle.model_assembled.specs.Assembled.{AreAlike, HasSize, IsAlone, IsSettled}
 use Rattle.model_assembled.proofs.Writing.{holds_nothing}
 
 abbrev first : Opening → World
@@ -44,7 +46,7 @@ none_of false b x is = refl
 none_first : {X : Type 0} (a b : Bool) (x : X) → a ≡ false → cond (a && b) (Some x) None ≡ None
 none_first a b x is = rw is refl
 
-module _ (opening : Opening) where
+module _ (opening : Opening) (corner : opening.r.min ≡ origin_point) where
   none_image : (k id : ℕ) → (id == 0) ≡ false → image_id (first opening).book k id ≡ None
   unfolding started with_root_rio add_id new_screen
   none_image k id other = none_of (0 == owner k id) (0 == id) display_id (turned 0 id ∙ other)
@@ -61,22 +63,17 @@ module _ (opening : Opening) where
   unfolding started with_root_rio add_id new_screen
   live = (let whole : IsWhole (first opening) = first_whole opening in whole.standing.live 0 refl)
 
-  numbered : AreNumbered (first opening).book
-  unfolding started with_root_rio add_id new_screen
-  numbered = record {
-    given = All-nil (λ (t : Tie). t.number < 0);
-    once = All-nil _;
-    known = All-cons (λ (e : ImageId). (n : ℕ) → e.tie ≡ Some n → n < 0) display_id [] (λ n is. absurd cc) (All-nil (λ (e : ImageId). (n : ℕ) → e.tie ≡ Some n → n < 0));
-    shown = All-cons (λ (e : ImageId). All (λ (t : Tie). e.tie ≡ Some t.number → t.image ≡ e.image) []) display_id [] (All-nil _) (All-nil _);
-  }
-
   settled : IsSettled (first opening)
   unfolding started with_root_rio add_id new_screen
   settled = record {
     steady = record { whole = first_whole opening; orderly = first_orderly opening };
-    furnished = record { named = refl; out = (first_orderly opening).images 0 refl; bare = refl; numbers = numbered };
+    furnished = first_furnished opening corner;
     grounded = first_grounded opening;
   }
+
+  has_size : (columns rows : ℕ) → opening.r ≡ sized columns rows → HasSize (Some (columns, rows)) (first opening)
+  unfolding started with_root_rio add_id new_screen after_image after_set
+  has_size columns rows is = (is, is)
 
   alone : IsAlone None (first opening)
   unfolding started with_root_rio add_id new_screen
@@ -125,8 +122,8 @@ module _ (opening : Opening) where
       untied_right = untied 1;
       names_left = named;
       names_right = named;
-      numbers_left = numbered;
-      numbers_right = numbered;
+      numbers_left = settled.furnished.numbers;
+      numbers_right = settled.furnished.numbers;
     }
 
     renamed : AreRenamed Nothing (first opening).images (first opening).images
@@ -148,7 +145,7 @@ module _ (opening : Opening) where
       display = record {
         named = settled.furnished.named;
         named_alone = settled.furnished.named;
-        shape = record { r = refl; clipr = refl; repl = refl; chan = refl };
+        look = record { repl = refl; chan = refl };
         live_left = live;
         live_right = live;
         left = λ i j is. absurd is;
@@ -157,20 +154,22 @@ module _ (opening : Opening) where
       clients = λ n few. no_client c n;
     }
 
-    pub start_alike : AreAlike c None (with_root_rio (started opening)) (started_alone opening)
+    pub start_alike : (columns rows : ℕ) → opening.r ≡ sized columns rows → AreAlike c (Some (columns, rows)) None (with_root_rio (started opening)) (started_alone opening)
     unfolding started_alone
-    start_alike = record {
+    start_alike columns rows is = record {
       is = record { images = []; screens = []; like = like };
       left = settled;
       right = settled;
       name = λ serial name is. absurd cc;
       holds = holds_nothing (first opening);
       alone = alone;
+      size_left = has_size columns rows is;
+      size_right = has_size columns rows is;
     }
 
 -- ---- what the window shows
 
-module _ (c serial : ℕ) (name : List ℕ) (a b : World) (alike : AreAlike c (Some (serial, name)) a b) where
+module _ (c : ℕ) (size : Option (ℕ × ℕ)) (serial : ℕ) (name : List ℕ) (a b : World) (alike : AreAlike c size (Some (serial, name)) a b) where
   abbrev S : ℕ → ℕ → Type 0
   S i j = Matched alike.is.images i j
 

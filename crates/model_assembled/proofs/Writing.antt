@@ -24,8 +24,9 @@ use Rattle.model_written.proofs.Writing.{write_like}
 use Rattle.model_followed.specs.Devices.{KeepsWithin, told_mark}
 use Rattle.model_grounded.proofs.Keeping.{act_grounded}
 use Rattle.model_assembled.specs.Assembled.{AreAlike, HoldsWindow, IsSettled}
-use Rattle.model_assembled.proofs.Alone.{alone_still, written_leaves}
-use Rattle.model_assembled.proofs.Settling.{if_ok, written_settled}
+use Rattle.model_assembled.proofs.Alone.{alone_still, marked_leaves, written_leaves}
+use Rattle.model_assembled.proofs.Settling.{if_ok}
+use Rattle.model_assembled.proofs.Sizes.{size_kept}
 use Rattle.model_assembled.proofs.Spelled.{spelled_near}
 
 -- one message that was done
@@ -120,7 +121,7 @@ holds_nothing w = record { tied = λ serial name is. absurd cc; rooted = λ seri
 
 -- ---- both devices
 
-module _ (c : ℕ) (window : Option (ℕ × List ℕ)) (a b : World) (alike : AreAlike c window a b) (n : ℕ) (few : n < 2 ^ 26) where
+module _ (c : ℕ) (size : Option (ℕ × ℕ)) (window : Option (ℕ × List ℕ)) (a b : World) (alike : AreAlike c size window a b) (n : ℕ) (few : n < 2 ^ 26) where
   own : (client c n == manager) ≡ false
   own = no_manager c n alike.is.like.counted
 
@@ -138,20 +139,23 @@ module _ (c : ℕ) (window : Option (ℕ × List ℕ)) (a b : World) (alike : Ar
       by (Some w) is = written_holds window w.0 w.1 is (client c n) own a bytes mark (record { settled = alike.left; untied = untied; holds = alike.holds }) keeps
 
   pub write_alike : (bytes : List ℕ) (mark : Option ℕ) → All (KeepsWithin window) (looked_at (client c n) a bytes mark)
-      → AreAlike c window (written (client c n) a bytes mark).world (written_alone (client 1 n) b bytes (told_mark mark (written (client c n) a bytes mark).refusal)).0
+      → AreAlike c size window (written (client c n) a bytes mark).world (written_alone (client 1 n) b bytes (told_mark mark (written (client c n) a bytes mark).refusal)).0
       × ((written (client c n) a bytes mark).refusal ≡ (written_alone (client 1 n) b bytes (told_mark mark (written (client c n) a bytes mark).refusal)).1)
   write_alike bytes mark keeps =
       let told = told_mark mark (written (client c n) a bytes mark).refusal in
       let both = write_like c window n few alike.is.like.counted a b alike.is alike.left.steady alike.right.steady bytes mark keeps in
       let leaves = written_leaves (client 1 n) lone b alike.right bytes told in
+      let leaves_left = marked_leaves (client c n) own a alike.left bytes mark in
       let like = both.0 in (
         record {
           is = both.0;
-          left = written_settled (client c n) a own alike.left bytes mark;
+          left = leaves_left.settled;
           right = leaves.settled;
           name = alike.name;
           holds = holds_after bytes mark keeps;
           alone = alone_still (client 1 n) lone window b (written_alone (client 1 n) b bytes told).0 leaves (λ m d lt at. like.like.books.untied_right m d lt (record { number = n; few = few; is = at })) alike.alone;
+          size_left = size_kept size a (written (client c n) a bytes mark).world leaves_left.stays.shape alike.size_left;
+          size_right = size_kept size b (written_alone (client 1 n) b bytes told).0 leaves.stays.shape alike.size_right;
         },
         both.1,
       )

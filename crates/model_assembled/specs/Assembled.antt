@@ -1,7 +1,8 @@
 -- Two draw devices that are the same to a session, with all that each keeps so that they stay so (draw(3)).
 use Rattle.std.specs.Prelude.{◌≡◌, ◌==◌, ℕ, false, All, List, Option, Some, None}
 use Rattle.model_images.specs.Book.{image_id, screen_id}
-use Rattle.model_draw.specs.World.{World}
+use Rattle.model_resize.specs.Resize.{sized}
+use Rattle.model_draw.specs.World.{World, at_number}
 use Rattle.model_draw.specs.Orders.{manager}
 use Rattle.model_making.specs.Likes.{IsLike}
 use Rattle.model_whole.specs.Steady.{IsSteady}
@@ -26,12 +27,19 @@ pub record IsAlone (window : Option (ℕ × List ℕ)) (device : World) : Type 0
   pub screens : (id : ℕ) → (id == 0) ≡ false → screen_id device.book manager id ≡ None
   pub ties : All (λ t. (t.client ≡ manager) × ((name : List ℕ) × (window ≡ Some (t.id, name)))) device.book.ties
 
--- `window`: the serial and the name of the session's window, where it has one. The session is session c of one device and session 1
--- of the other, which is a world of its own.
-pub record AreAlike (c : ℕ) (window : Option (ℕ × List ℕ)) (a b : World) : Type 0 where
+-- the display has these sides, and shows all within them, where they are known
+abbrev pub HasSize : (size : Option (ℕ × ℕ)) → World → Type 0
+HasSize None device = Unit {0}
+HasSize (Some sides) device = ((at_number device 0).r ≡ sized sides.0 sides.1) × ((at_number device 0).clipr ≡ sized sides.0 sides.1)
+
+-- `size`: the width and the height of the displays of both, where they are known. `window`: the serial and the name of the session's
+-- window, where it has one. The session is session c of one device and session 1 of the other, which is a world of its own.
+pub record AreAlike (c : ℕ) (size : Option (ℕ × ℕ)) (window : Option (ℕ × List ℕ)) (a b : World) : Type 0 where
   pub is : IsLike c window a b
   pub left : IsSettled a
   pub right : IsSettled b
   pub name : HasKeptName window
   pub holds : HoldsWindow window a
   pub alone : IsAlone window b
+  pub size_left : HasSize size a
+  pub size_right : HasSize size b

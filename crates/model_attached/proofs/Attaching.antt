@@ -166,7 +166,7 @@ root_mine window counted = rw counted (record {
   counted = counted;
 })
 
-module _ (c : ℕ) (begin : 0 < c) (Like : Option (ℕ × List ℕ) → draw.World → draw.World → Type 0) (Named : draw.World → Table → List (ℕ × Pane) → Type 0) (laws : IsDeviceLike c Like) (names : AreNamesFree Named) where
+module _ (c : ℕ) (begin : 0 < c) (Like : Option (ℕ × ℕ) → Option (ℕ × List ℕ) → draw.World → draw.World → Type 0) (Named : draw.World → Table → List (ℕ × Pane) → Type 0) (laws : IsDeviceLike c Like) (names : AreNamesFree Named) where
   module _ (seen : Watched) (world : World) (lone : LoneWorld) (is : IsWith c begin Like Named laws names seen world lone) (none : seen.window ≡ None) (quiet : world.desktop.notes ≡ []) (well : IsWell world) where
     module _ (bytes : List ℕ) (mark : Option ℕ) (tag fid afid : ℕ) (uname aname : List ℕ) (attach : IsAttach lone.session bytes tag fid afid uname aname) (path text : List ℕ) (asked : attach_of aname ≡ Fresh path text)
         (root : Desktop × ℕ) (given : whole.attached c world.desktop (attach_of aname) ≡ Ok root) (fresh : IsFresh c world.desktop root) where

@@ -1,22 +1,20 @@
 -- The window manager's orders that give the session's window no other image and take none away leave the session's part as it is.
 use Rattle.std.proofs.Common.{◌≡◌, ℕ, Bool, true, false, List, Option, Some, None, refl, sym, ap, ◌∙◌, eq-eqb}
-use Rattle.std.specs.Prelude.{◌==◌, is_none, not, option_map}
+use Rattle.std.specs.Prelude.{◌==◌, option_map}
 use Rattle.std.proofs.lemmas.Bool.{eqb-true}
 use Rattle.r9_geom.specs.declared.Point.{Point}
 use Rattle.r9_event.specs.declared.rio.Order.{Order}
-use Rattle.r9_event.specs.declared.rio.Order.TheVariants.{Make, Place, Replace, Raise, Lower, Drop, Host, Leave}
-use Rattle.model_images.specs.declared.ImageId.{ImageId}
-use Rattle.model_images.specs.Book.{image_id}
+use Rattle.r9_event.specs.declared.rio.Order.TheVariants.{Make, Place, Replace, Raise, Lower, Drop, Host, Leave, Size}
 use Rattle.model_draw.specs.World.{World}
-use Rattle.model_draw.specs.Making.{is_window}
-use Rattle.model_draw.specs.Orders.{after_order, fits, has_window, image_shown, manager, ordered, place_window}
+use Rattle.model_draw.specs.Orders.{after_order, fits, image_shown, ordered, place_window}
 use Rattle.model_shown.specs.Showing.{IsOrderly}
-use Rattle.model_shown.proofs.Tests.{not-true, not_both, split}
-use Rattle.model_likeness.specs.Likeness.{AreLike, display_id}
+use Rattle.model_shown.proofs.Tests.{not_both, split}
+use Rattle.model_likeness.specs.Likeness.{AreLike}
 use Rattle.model_making.specs.Standing.{IsWhole}
 use Rattle.model_told.specs.Telling.{IsBeside, is_own}
 use Rattle.model_apart.specs.Apart.{IsApart, Part, Stays}
-use Rattle.model_others.specs.Others.{IsAnother, IsBare, IsOtherOrder, part_of}
+use Rattle.model_others.specs.Others.{IsAnother, IsBare, IsNoSize, IsOtherOrder, part_of}
+use Rattle.model_others.proofs.Display.{has_counted, new_counted}
 use Rattle.model_others.proofs.Likeness.{like_apart, other_window, part_managed}
 use Rattle.model_others.proofs.Orders.{ordered_stays}
 use Rattle.model_beside.specs.Rooted.{IsRooted, IsRootedWindow, IsTiedWindow}
@@ -27,10 +25,6 @@ use Rattle.model_beside.proofs.Rooting.{shown_same}
 abbrev serial_in : Option (ℕ × List ℕ) → Option ℕ
 serial_in window = option_map (λ w. w.0) window
 
-not_set : (x : Bool) → not x ≡ true → x ≡ false
-not_set true is = absurd cc
-not_set false is = refl
-
 -- a window that the test finds is the session's, and another is not
 own_is : (window : Option (ℕ × List ℕ)) (serial : ℕ) → is_own (serial_in window) serial ≡ true → (name : List ℕ) × (window ≡ Some (serial, name))
 own_is None serial own = absurd cc
@@ -40,16 +34,6 @@ other_is : (window : Option (ℕ × List ℕ)) (serial : ℕ) → is_own (serial
 other_is None serial own n name is same = absurd cc
 other_is (Some (m, named)) serial own n name is same =
     let at : m ≡ n = cc in not_both (m == serial) (eq-eqb m serial (at ∙ sym same)) own
-
--- a window that is there has a serial, and so does a new one
-pub has_counted : (w : World) (serial : ℕ) → has_window w serial ≡ true → (serial == 0) ≡ false
-has_counted w serial has = not_set (serial == 0) (split (not (serial == 0)) _ (split _ (is_window w (image_shown w serial)) has).0).0
-
-pub new_counted : (w : World) (serial : ℕ) → image_id w.book manager 0 ≡ Some display_id → is_none (image_id w.book manager serial) ≡ true → (serial == 0) ≡ false
-new_counted w serial named none =
-    not-true (serial == 0) (λ zero.
-    not_both (is_none (image_id w.book manager serial)) none
-    (ap (λ (n : ℕ). is_none (image_id w.book manager n)) (eqb-true serial 0 zero) ∙ ap (λ (o : Option ImageId). is_none o) named))
 
 module _ (Same SameScreen : ℕ → ℕ → Type 0) (c : ℕ) (window : Option (ℕ × List ℕ)) (a b : World) (like : AreLike Same SameScreen c window a b) (whole : IsWhole a) (orderly : IsOrderly a) (bare : IsBare a)
     (tied : IsTiedWindow window a.book) (rooted : IsRootedWindow window a) where
@@ -99,17 +83,18 @@ module _ (Same SameScreen : ℕ → ℕ → Type 0) (c : ℕ) (window : Option (
 
   -- ---- each order
 
-  pub ordered_beside : (order : Order) → fits a order ≡ true → IsBeside (serial_in window) order → Stays part a (ordered a order)
-  ordered_beside (Make serial host r name hide depth) may own =
+  pub ordered_beside : (order : Order) → fits a order ≡ true → IsBeside (serial_in window) order → IsNoSize order → Stays part a (ordered a order)
+  ordered_beside (Make serial host r name hide depth) may own fixed =
       on_other (Make serial host r name hide depth)
       (other_window Same SameScreen c window like.counted serial (another serial (new_counted a serial like.display.named (split _ _ (split _ _ may).0).1) own))
-  ordered_beside (Place serial at) may own = place serial at (is_own (serial_in window) serial) refl may
-  ordered_beside (Replace serial host r name keep hidden) may own =
+  ordered_beside (Place serial at) may own fixed = place serial at (is_own (serial_in window) serial) refl may
+  ordered_beside (Replace serial host r name keep hidden) may own fixed =
       on_other (Replace serial host r name keep hidden)
       (other_window Same SameScreen c window like.counted serial (another serial (has_counted a serial (split _ _ (split _ _ (split _ _ may).0).0).0) own))
-  ordered_beside (Raise serial) may own = raise serial (is_own (serial_in window) serial) refl may
-  ordered_beside (Lower serial) may own = lower serial (is_own (serial_in window) serial) refl may
-  ordered_beside (Drop serial) may own = on_other (Drop serial) (other_window Same SameScreen c window like.counted serial (another serial (has_counted a serial may) own))
-  ordered_beside (Host serial fill) may own =
+  ordered_beside (Raise serial) may own fixed = raise serial (is_own (serial_in window) serial) refl may
+  ordered_beside (Lower serial) may own fixed = lower serial (is_own (serial_in window) serial) refl may
+  ordered_beside (Drop serial) may own fixed = on_other (Drop serial) (other_window Same SameScreen c window like.counted serial (another serial (has_counted a serial may) own))
+  ordered_beside (Host serial fill) may own fixed =
       on_other (Host serial fill) (other_window Same SameScreen c window like.counted serial (another serial (has_counted a serial (split _ _ (split _ _ may).0).0) own))
-  ordered_beside (Leave client) may own = absurd own
+  ordered_beside (Leave client) may own fixed = absurd own
+  ordered_beside (Size width height) may own fixed = absurd fixed

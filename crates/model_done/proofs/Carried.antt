@@ -5,10 +5,10 @@ use Rattle.model_mouse.specs.declared.Mouse.{Mouse}
 use Rattle.model_rio.specs.Act as act
 use Rattle.model_rio.specs.Rio.{rio}
 use Rattle.model_draw.specs.Orders.{carried_out}
-use Rattle.model_fitting.specs.Fitting.{Shows}
+use Rattle.model_fitting.specs.Fitting.{FindsDisplay, Shows}
 use Rattle.model_fitting.proofs.Acts.{act_fits}
 use Rattle.model_desk.specs.declared.Act.{Act}
-use Rattle.model_desk.specs.declared.Act.TheVariants.{New, Nothing}
+use Rattle.model_desk.specs.declared.Act.TheVariants.{Delete, Hide, Move, New, Nothing, Pass, Resize}
 use Rattle.model_desk.specs.Table.{Desk}
 use Rattle.model_desk.specs.Asked.{asked}
 use Rattle.model_draw.specs.World as draw
@@ -21,6 +21,16 @@ use Rattle.model_steered.proofs.Event.{steered}
 use Rattle.model_inked.specs.Carried.{IsCarried}
 use Rattle.model_done.proofs.Fine.{none_fine}
 use Rattle.model_done.proofs.Orders.{acts_fine, new_orders}
+
+-- none of them gives the display another size
+finds_display : (device : draw.World) (asks : Act) (how : act.Act) → IsActOf asks how → FindsDisplay device how
+finds_display device Nothing how is = absurd is
+finds_display device (Pass raised) how is = subst (FindsDisplay device) (sym is.1) tt
+finds_display device (New r) how is = subst (FindsDisplay device) (sym is) tt
+finds_display device (Resize window r) how is = subst (FindsDisplay device) (sym is) tt
+finds_display device (Move pane by) how is = subst (FindsDisplay device) (sym is.1) tt
+finds_display device (Delete window) how is = subst (FindsDisplay device) (sym is) tt
+finds_display device (Hide pane) how is = subst (FindsDisplay device) (sym is) tt
 
 carries : (d : Desk) (e : Mouse) (world : World) → IsDeskIn d world → (is : IsSteered d e world) → Takes (asked d e).act world.desktop is.left.desktop → IsCarried d e world
 carries d e world at is (rests none same) = record {
@@ -45,7 +55,7 @@ carries d e world at is (takes taken) =
       on = fine.on;
       named = fine.named;
       shows = λ orderly shown.
-          let fits = act_fits world.desktop.device world.desktop.table taken.how taken.step at.follows.sound orderly shown taken.spelled taken.acted in
+          let fits = act_fits world.desktop.device world.desktop.table taken.how taken.step at.follows.sound orderly shown taken.spelled (finds_display world.desktop.device (asked d e).act taken.how taken.is) taken.acted in
           subst (λ (device : draw.World). Shows device is.left.desktop.table) (sym taken.device) (subst (Shows (carried_out world.desktop.device taken.step.orders)) (sym taken.table) fits.shows);
       made = λ r new.
           let how : taken.how ≡ act.New 0 (R r ∷ []) false = subst (λ (asks : Act). IsActOf asks taken.how) new taken.is in

@@ -197,6 +197,7 @@ module _ {S : Type 0} (outside : Outside S) (Such : Node → Type 0) (connects :
   file_such rest fid offset count kind.Data such = after_step GivesSome (outside.read_data rest fid.node.connection count) _ (λ _ _. such)
   file_such rest fid offset count kind.Screen such = such
   file_such rest fid offset count kind.Snarf such = such
+  file_such rest fid offset count kind.Hwsize such = such
   file_such rest fid offset count kind.Label such = such
   file_such rest fid offset count kind.Text such = such
   file_such rest fid offset count kind.Winid such = such

@@ -27,7 +27,7 @@ use Rattle.model_followed.specs.Following.{SameDesktops, named_in}
 use Rattle.model_private.proofs.Reasons.{each_fine, others_message}
 use Rattle.model_strangers.proofs.Strangers.{LeavesNames, LeavesNamesIf}
 
-module _ (c : ℕ) (begin : 0 < c) (Like : Option (ℕ × List ℕ) → draw.World → draw.World → Type 0) (Named : draw.World → Table → List (ℕ × Pane) → Type 0) (laws : IsDeviceLike c Like) (names : AreNamesFree Named) (seen : Watched) (d : ℕ) (first : 1 ≤ d) (other : d ≡ c → ⊥) (t : LoneDesktop) where
+module _ (c : ℕ) (begin : 0 < c) (Like : Option (ℕ × ℕ) → Option (ℕ × List ℕ) → draw.World → draw.World → Type 0) (Named : draw.World → Table → List (ℕ × Pane) → Type 0) (laws : IsDeviceLike c Like) (names : AreNamesFree Named) (seen : Watched) (d : ℕ) (first : 1 ≤ d) (other : d ≡ c → ⊥) (t : LoneDesktop) where
   file_leaves : (s : Desktop) → SameDesktops Like Named seen.window s t → (node : Node) (bytes : List ℕ) (mark : Option ℕ) (of : Kind) → of ≡ kind.Data → reasons_from false seen (file_used d s node bytes mark of) ≡ []
       → All (LeavesName (named_in s seen.window)) (looked_at (client d node.connection) s.device bytes mark)
   file_leaves s same node bytes mark kind.Data is fine =

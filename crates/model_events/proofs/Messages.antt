@@ -53,7 +53,7 @@ notes_same seen (n ∷ notes) = by (option_map_or (λ window. window == n.0) see
     by true same = ap (λ (rest : List Note). n.1 ∷ rest) same
     by false same = same
 
-module _ (c : ℕ) (begin : 0 < c) (Like : Option (ℕ × List ℕ) → draw.World → draw.World → Type 0) (Named : draw.World → Table → List (ℕ × Pane) → Type 0) (laws : IsDeviceLike c Like) (names : AreNamesFree Named) (seen : Watched) where
+module _ (c : ℕ) (begin : 0 < c) (Like : Option (ℕ × ℕ) → Option (ℕ × List ℕ) → draw.World → draw.World → Type 0) (Named : draw.World → Table → List (ℕ × Pane) → Type 0) (laws : IsDeviceLike c Like) (names : AreNamesFree Named) (seen : Watched) where
   abbrev Have : Desktop → LoneDesktop → Type 0
   Have s t = SameDesktops Like Named seen.window s t
 

@@ -6,17 +6,18 @@ use Rattle.model_rio.specs.Table.{Table}
 use Rattle.model_rio.proofs.Soundness.{opened_sound}
 use Rattle.model_draw.specs.World as draw
 use Rattle.model_fitting.proofs.Opening.{first_orderly, first_shows}
+use Rattle.model_others.proofs.Display.{first_furnished}
 use Rattle.model_world.specs.World.{display_of, opened}
 use Rattle.model_alone.specs.Lone.{first_lone_world}
 use Rattle.model_followed.specs.Devices.{AreNamesFree, IsDeviceLike}
 use Rattle.model_followed.specs.Following.{SameDesktops}
 
-pub first_same : (c : ℕ) (Like : Option (ℕ × List ℕ) → draw.World → draw.World → Type 0) (Named : draw.World → Table → List (ℕ × Pane) → Type 0) → IsDeviceLike c Like → AreNamesFree Named → (opening : Opening)
+pub first_same : (c : ℕ) (Like : Option (ℕ × ℕ) → Option (ℕ × List ℕ) → draw.World → draw.World → Type 0) (Named : draw.World → Table → List (ℕ × Pane) → Type 0) → IsDeviceLike c Like → AreNamesFree Named → (opening : Opening)
     → SameDesktops Like Named None (opened opening).desktop (first_lone_world opening).desktop
 first_same c Like Named laws names opening = record {
-  drawn = record { sound = opened_sound (display_of opening).r; orderly = first_orderly (display_of opening); shows = first_shows (display_of opening) };
+  drawn = record { sound = opened_sound (display_of opening).r; orderly = first_orderly (display_of opening); furnished = first_furnished (display_of opening) refl; shows = first_shows (display_of opening) };
   order = tt;
   names = names.start (display_of opening);
   window = refl;
-  device = laws.start (display_of opening);
+  device = laws.start opening;
 }

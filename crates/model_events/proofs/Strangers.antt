@@ -44,7 +44,7 @@ nothing_sent seen (n ∷ notes) world = by (option_map_or (λ window. window == 
     by true more = refl
     by false more = more
 
-module _ (c : ℕ) (begin : 0 < c) (Like : Option (ℕ × List ℕ) → draw.World → draw.World → Type 0) (Named : draw.World → Table → List (ℕ × Pane) → Type 0) (laws : IsDeviceLike c Like) (names : AreNamesFree Named) (seen : Watched) where
+module _ (c : ℕ) (begin : 0 < c) (Like : Option (ℕ × ℕ) → Option (ℕ × List ℕ) → draw.World → draw.World → Type 0) (Named : draw.World → Table → List (ℕ × Pane) → Type 0) (laws : IsDeviceLike c Like) (names : AreNamesFree Named) (seen : Watched) where
   abbrev Have : Desktop → LoneDesktop → Type 0
   Have s t = SameDesktops Like Named seen.window s t
 

@@ -319,8 +319,11 @@ abbrev KeepsMoving : World → (Window → Rect → Step → Outcome Step) → T
 KeepsMoving device move =
     (w : Window) (r : Rect) (step out : Step) → IsFit device step → ShowsWindow (now device step) w.serial w.r → ShowsRio (now device step) w.host → is_window_rect r ≡ true → SameSize r w.r → move w r step ≡ Ok out → Moves device step out
 
-carried_moves : (device : World) (move : Window → Rect → Step → Outcome Step) → KeepsMoving device move → (by : Point) (w : Window) (step out : Step) → IsFit device step → ShowsWindow (now device step) w.serial w.r
-    → ShowsRio (now device step) w.host → carried move by w step ≡ Ok out → Moves device step out
+abbrev pub KeepsEach : World → (Window → Step → Outcome Step) → Type 0
+KeepsEach device change =
+    (w : Window) (step out : Step) → IsFit device step → ShowsWindow (now device step) w.serial w.r → ShowsRio (now device step) w.host → change w step ≡ Ok out → Moves device step out
+
+carried_moves : (device : World) (move : Window → Rect → Step → Outcome Step) → KeepsMoving device move → (by : Point) → KeepsEach device (carried move by)
 carried_moves device move keeps by w step out fit stands home e = by_test (is_near (shifted w.r by)) refl e
   where
     by_test : (b : Bool) → is_near (shifted w.r by) ≡ b → cond b (move w (shifted w.r by) step) (Err 47) ≡ Ok out → Moves device step out
@@ -328,20 +331,20 @@ carried_moves device move keeps by w step out fit stands home e = by_test (is_ne
     by_test false near e = absurd (let f : ◌≡◌ {A = Outcome Step} (Err 47) (Ok out) = e in cc)
 
 -- a window of the rio of a host is shown
-abbrev IsIn : World → ℕ → Window → Type 0
+abbrev pub IsIn : World → ℕ → Window → Type 0
 IsIn device host v = ShowsWindow device v.serial v.r × (v.host ≡ host)
 
-each_moves : (device : World) (move : Window → Rect → Step → Outcome Step) → KeepsMoving device move → (by : Point) (host : ℕ) (ws : List Window) (step out : Step) → IsFit device step → ShowsRio (now device step) host
-    → Each (IsIn (now device step) host) ws → each (carried move by) ws step ≡ Ok out → Moves device step out
-each_moves device move keeps by host [] step out fit home stand e = subst (Moves device step) (same_Ok step out e) (moves_itself device step fit)
-each_moves device move keeps by host (w ∷ ws) step out fit home stand e =
-    let first = then_ok (carried move by w step) (each (carried move by) ws) out e in
-    let one = carried_moves device move keeps by w step first.0 fit stand.0.0 (subst (ShowsRio (now device step)) (sym stand.0.1) home) first.1 in
-    let rest = each_moves device move keeps by host ws first.0 out one.fit (one.rios host home)
+pub each_moves : (device : World) (change : Window → Step → Outcome Step) → KeepsEach device change → (host : ℕ) (ws : List Window) (step out : Step) → IsFit device step → ShowsRio (now device step) host
+    → Each (IsIn (now device step) host) ws → each change ws step ≡ Ok out → Moves device step out
+each_moves device change keeps host [] step out fit home stand e = subst (Moves device step) (same_Ok step out e) (moves_itself device step fit)
+each_moves device change keeps host (w ∷ ws) step out fit home stand e =
+    let first = then_ok (change w step) (each change ws) out e in
+    let one = keeps w step first.0 fit stand.0.0 (subst (ShowsRio (now device step)) (sym stand.0.1) home) first.1 in
+    let rest = each_moves device change keeps host ws first.0 out one.fit (one.rios host home)
     (each_then (IsIn (now device step) host) (IsIn (now device first.0) host) (λ v is. (one.windows v.serial v.r is.0, is.1)) ws stand.1) first.2 in
     moves_then device step first.0 out one rest
 
-each_reverse : (P : Window → Type 0) (ws : List Window) → Each P ws → Each P (reverse ws)
+pub each_reverse : (P : Window → Type 0) (ws : List Window) → Each P ws → Each P (reverse ws)
 each_reverse P ws each = each_of P (reverse ws) (All-permutation P ws (reverse ws) (IsPermutation-reverse ws) (all_of P ws each))
 
 inner_in : (w : World) (table : Table) (host : ℕ) → Shows w table → Each (IsIn w host) (reverse (windows_in table host))
@@ -373,7 +376,7 @@ followed_moves device move keeps host r fill by step out fit stands e = by_test 
           rios = λ at is. subst (λ (w : World). ShowsRio w at) there (rio_hosted old new host at f shown is);
         } in
         moves_then device step led out one
-        (each_moves device move keeps by host (reverse (windows_in step.table host)) led out next (subst (λ (w : World). ShowsRio w host) there shown) (inner_in (now device led) step.table host next.shows) all)
+        (each_moves device (carried move by) (carried_moves device move keeps by) host (reverse (windows_in step.table host)) led out next (subst (λ (w : World). ShowsRio w host) there shown) (inner_in (now device led) step.table host next.shows) all)
     by_test false is =
         let same : ◌≡◌ {A = Outcome Step} (Ok step) (Ok out) = rw is at e in
         subst (Moves device step) (same_Ok step out same) (moves_itself device step fit)

@@ -18,11 +18,12 @@ use Rattle.model_rio.specs.Sound.{IsSound, IsSoundWindow, window_in}
 use Rattle.model_rio.proofs.Paths.{path_whole}
 use Rattle.model_draw.specs.World.{World}
 use Rattle.model_shown.specs.Showing.{IsOrderly, ShowsRio, ShowsWindow}
-use Rattle.model_fitting.specs.Fitting.{IsSpelled, Shows}
+use Rattle.model_fitting.specs.Fitting.{FindsDisplay, IsSpelled, Shows}
 use Rattle.model_shown.proofs.Tests.{same_Ok, value_ok}
 use Rattle.model_fitting.proofs.Lists.{Each, apart_of, each_found, each_of, each_own, each_then}
 use Rattle.model_fitting.proofs.Stepping.{IsFit, current_fit, hold_fit, now, windows_of}
 use Rattle.model_fitting.proofs.Acting.{bottom_fit, hidden_fit, host_shown, hosted_fit, made_current_fit, moved_by_fit, new_in_fit, shown_fit, top_fit}
+use Rattle.model_fitting.proofs.Sizing.{resized_fit}
 use Rattle.model_fitting.proofs.Deleting.{IsRanked, deleted_goes}
 
 -- ---- the mouse and the keys
@@ -116,15 +117,16 @@ command_to_fit device serial what step out ok fit spelled e =
     let sound = each_found (IsSoundWindow step.table) (λ (v : Window). v.serial == serial) step.table.windows w (each_of (IsSoundWindow step.table) step.table.windows ok.windows) found.1 in
     commanded_fit device serial what w step out ok fit spelled stands (host_shown (now device step) step.table w.host fit.shows sound.housed) found.2
 
-pub act_fits : (device : World) (table : Table) (a : Act) (out : Step) → IsSound table → IsOrderly device → Shows device table → IsSpelled a → rio table a ≡ Ok out → IsFit device out
+pub act_fits : (device : World) (table : Table) (a : Act) (out : Step) → IsSound table → IsOrderly device → Shows device table → IsSpelled a → FindsDisplay device a → rio table a ≡ Ok out → IsFit device out
 act_fits device table a out ok orderly shows = by a
   where
     first : IsFit device (begun table)
-    first = record { all = tt; orderly = orderly; shows = shows }
+    first = record { all = tt; before = tt; orderly = orderly; shows = shows }
 
-    by : (a : Act) → IsSpelled a → rio table a ≡ Ok out → IsFit device out
-    by (act.New host options hide) spelled e = new_in_fit device host options hide (begun table) out first e
-    by (act.Command window what) spelled e = command_to_fit device window what (begun table) out ok first spelled e
-    by (act.Mouse pointer) spelled e = done_fit device (moused deepest pointer 0 (begun table)) out (moused_fit device deepest pointer 0 (begun table) first) e
-    by (act.Keys bytes) spelled e = done_fit device (keyed (focus deepest table 0) (keys_of bytes) (begun table)) out (keyed_fit device (focus deepest table 0) (keys_of bytes) (begun table) first) e
-    by (act.Gone window) spelled e = command_to_fit device window wctl.Delete (begun table) out ok first tt e
+    by : (a : Act) → IsSpelled a → FindsDisplay device a → rio table a ≡ Ok out → IsFit device out
+    by (act.New host options hide) spelled finds e = new_in_fit device host options hide (begun table) out first e
+    by (act.Command window what) spelled finds e = command_to_fit device window what (begun table) out ok first spelled e
+    by (act.Mouse pointer) spelled finds e = done_fit device (moused deepest pointer 0 (begun table)) out (moused_fit device deepest pointer 0 (begun table) first) e
+    by (act.Keys bytes) spelled finds e = done_fit device (keyed (focus deepest table 0) (keys_of bytes) (begun table)) out (keyed_fit device (focus deepest table 0) (keys_of bytes) (begun table) first) e
+    by (act.Gone window) spelled finds e = command_to_fit device window wctl.Delete (begun table) out ok first tt e
+    by (act.Size width height) spelled finds e = resized_fit device width height (begun table) out first spelled.0 spelled.1 finds e

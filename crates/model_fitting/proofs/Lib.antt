@@ -2,6 +2,7 @@ pub mod Lists
 pub mod Stepping
 pub mod Rects
 pub mod Acting
+pub mod Sizing
 pub mod Deleting
 pub mod Acts
 pub mod Opening

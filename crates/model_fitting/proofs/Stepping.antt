@@ -13,9 +13,15 @@ use Rattle.model_fitting.specs.Fitting.{AllFit, Shows}
 use Rattle.model_fitting.proofs.Lists.{Each, all_of, each_append, each_filter, each_map, each_of, each_then}
 use Rattle.model_shown.proofs.Following.{Follows, none}
 
+-- each order is carried out to an orderly device
+abbrev pub AllOrderly : World → List Order → Type 0
+AllOrderly device [] = Unit {0}
+AllOrderly device (o ∷ orders) = IsOrderly device × AllOrderly (draw.ordered device o) orders
+
 -- Orders that fit, and a table that the device shows to which they are carried out.
 pub record Fits (device : World) (orders : List Order) (table : Table) : Type 0 where
   pub all : AllFit device orders
+  pub before : AllOrderly device orders
   pub orderly : IsOrderly (carried_out device orders)
   pub shows : Shows (carried_out device orders) table
 
@@ -32,6 +38,10 @@ all_more : (device : World) (orders : List Order) (o : Order) → AllFit device 
 all_more device [] o all fit = (fit, tt)
 all_more device (p ∷ orders) o all fit = (all.0, all_more (draw.ordered device p) orders o all.1 fit)
 
+orderly_more : (device : World) (orders : List Order) (o : Order) → AllOrderly device orders → IsOrderly (carried_out device orders) → AllOrderly device (orders ++ o ∷ [])
+orderly_more device [] o before orderly = (orderly, tt)
+orderly_more device (p ∷ orders) o before orderly = (before.0, orderly_more (draw.ordered device p) orders o before.1 orderly)
+
 pub one_more : (device : World) (orders : List Order) (o : Order) → fits (carried_out device orders) o ≡ true → carried_out device (orders ++ o ∷ []) ≡ after_order (carried_out device orders) o
 one_more device [] o fit = ap (λ (b : Bool). if b then after_order device o else device) fit
 one_more device (p ∷ orders) o fit = one_more (draw.ordered device p) orders o fit
@@ -42,13 +52,14 @@ fits_more device orders o table next are fit orderly shows =
     let is = sym (one_more device orders o fit) in
     record {
       all = all_more device orders o are.all fit;
+      before = orderly_more device orders o are.before are.orderly;
       orderly = subst IsOrderly is orderly;
       shows = subst (λ (w : World). Shows w next) is shows;
     }
 
 -- another table that the device shows
 pub fits_other : (device : World) (orders : List Order) (table next : Table) → Fits device orders table → Shows (carried_out device orders) next → Fits device orders next
-fits_other device orders table next are shows = record { all = are.all; orderly = are.orderly; shows = shows }
+fits_other device orders table next are shows = record { all = are.all; before = are.before; orderly = are.orderly; shows = shows }
 
 -- ---- tables that change
 

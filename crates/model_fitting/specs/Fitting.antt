@@ -9,7 +9,7 @@ use Rattle.model_rio.specs.Act.{Act}
 use Rattle.model_rio.specs.Act as act
 use Rattle.model_images.specs.Book.{image_id}
 use Rattle.model_draw.specs.World.{World}
-use Rattle.model_draw.specs.Orders.{fits, manager, ordered}
+use Rattle.model_draw.specs.Orders.{fits, has_display, is_side, manager, ordered}
 use Rattle.model_shown.specs.Showing.{ShowsRio, ShowsWindow}
 
 -- The windows and the rios of a table are there, and no serial that was not given has an image.
@@ -32,7 +32,13 @@ IsWay (Minx amount) = Unit {0}
 IsWay (Miny amount) = Unit {0}
 IsWay _ = ⊥
 
--- a command to move has only such options, as those have that texts spell
+-- a command to move has only such options, and another size of the display such sides, as those have that texts spell
 abbrev pub IsSpelled : Act → Type 0
 IsSpelled (act.Command window (wctl.Move options)) = All IsWay options
+IsSpelled (act.Size width height) = (is_side width ≡ true) × (is_side height ≡ true)
 IsSpelled _ = Unit {0}
+
+-- where an act gives the display another size, the display can get one
+abbrev pub FindsDisplay : World → Act → Type 0
+FindsDisplay device (act.Size width height) = has_display device ≡ true
+FindsDisplay device _ = Unit {0}

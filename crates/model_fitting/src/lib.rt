@@ -16,7 +16,7 @@ ghost use Rattle.model_rio.specs.Sound.{IsSound};
 ghost use Rattle.model_rio.specs.Step.{Step};
 ghost use Rattle.model_rio.specs.Table.{Table, opened};
 ghost use Rattle.model_shown.specs.Showing.{IsOrderly};
-ghost use Rattle.model_fitting.specs.Fitting.{AllFit, IsSpelled, Shows};
+ghost use Rattle.model_fitting.specs.Fitting.{AllFit, FindsDisplay, IsSpelled, Shows};
 
 /// A device that starts, with the root rio, is orderly and shows a table with no windows.
 pub fn devices_start_with_their_tables()
@@ -25,11 +25,12 @@ pub fn devices_start_with_their_tables()
 {}
 
 /// Where a device shows a sound table, each order of an act that is not refused fits the device to which those before it were
-/// carried out, and in the end the device shows the table that the act leaves.
+/// carried out, and in the end the device shows the table that the act leaves. For another size of its display it has one that
+/// stands nowhere, begins at 0 and does not repeat.
 pub fn orders_of_acts_fit()
-    ensures fit { (device : World) (table : Table) (a : Act) (step : Step) → IsSound table → IsOrderly device → Shows device table → IsSpelled a → rio table a ≡ Ok step → AllFit device step.orders }
-    ensures orderly { (device : World) (table : Table) (a : Act) (step : Step) → IsSound table → IsOrderly device → Shows device table → IsSpelled a → rio table a ≡ Ok step → IsOrderly (carried_out device step.orders) }
-    ensures shows { (device : World) (table : Table) (a : Act) (step : Step) → IsSound table → IsOrderly device → Shows device table → IsSpelled a → rio table a ≡ Ok step → Shows (carried_out device step.orders) step.table }
+    ensures fit { (device : World) (table : Table) (a : Act) (step : Step) → IsSound table → IsOrderly device → Shows device table → IsSpelled a → FindsDisplay device a → rio table a ≡ Ok step → AllFit device step.orders }
+    ensures orderly { (device : World) (table : Table) (a : Act) (step : Step) → IsSound table → IsOrderly device → Shows device table → IsSpelled a → FindsDisplay device a → rio table a ≡ Ok step → IsOrderly (carried_out device step.orders) }
+    ensures shows { (device : World) (table : Table) (a : Act) (step : Step) → IsSound table → IsOrderly device → Shows device table → IsSpelled a → FindsDisplay device a → rio table a ≡ Ok step → Shows (carried_out device step.orders) step.table }
 {}
 
 /// Orders that fit are all carried out.

@@ -1,6 +1,6 @@
 -- A session that has its window already is answered alike in the server and in a world of its own.
 use Rattle.std.proofs.Common.{◌≡◌, ◌∙◌, ℕ, ◌==◌, ◌<◌, Bool, true, false, List, [], ◌∷◌, fold, length, Option, Some, None, is_some, Ok, Err, refl, sym, ap, subst, arith, inl, inr, eqb-true}
-use Rattle.std.specs.Prelude.{not}
+use Rattle.std.specs.Prelude.{◌&&◌, is_none, not, if◌then◌else◌}
 use Rattle.std.specs.Option.{option_map}
 use Rattle.std.proofs.lemmas.Bool.{cond_both}
 use Rattle.std.proofs.lemmas.List.Sums.{fold-append}
@@ -22,10 +22,11 @@ use Rattle.model_rio.specs.Step.{Step, begun}
 use Rattle.model_rio.specs.Moving.{moved, replaced}
 use Rattle.model_rio.specs.Rio.{command_to, commanded, moved_by, rio}
 use Rattle.model_draw.specs.World as draw
+use Rattle.model_draw.specs.World.{client_of}
 use Rattle.model_tree.specs.Node.{Node}
 use Rattle.model_world.specs.Desktop.{Desktop, is_user, stepped, stepped_if, stepped_or, users_of, without_user}
 use Rattle.model_world.specs.Whole as whole
-use Rattle.model_world.specs.Whole.{desktop_for, left_one}
+use Rattle.model_world.specs.Whole.{client, desktop_for, left_one}
 use Rattle.model_shown.proofs.Tests.{find-passes}
 use Rattle.model_fitting.specs.Fitting.{IsSpelled}
 use Rattle.model_fitting.proofs.Spelled.{command_spelled}
@@ -35,14 +36,23 @@ use Rattle.model_agreement.proofs.Relations.{check_alike, weaken}
 use Rattle.model_alone.specs.Uses.{asks_for_windows}
 use Rattle.model_alone.specs.Lone.{LoneDesktop, commanded_alone, lone_desktop, noted_alone, pane_alone, refused_by_rectangle}
 use Rattle.model_told.specs.Telling.{notes_of}
+use Rattle.model_sized.specs.Sizes.{sides_of}
 use Rattle.model_followed.specs.Devices.{AreNamesFree, IsDeviceLike}
-use Rattle.model_followed.specs.Following.{HasConnection, HasWindow, May, SameAtFirst, SameDesktops, SameOnceTold, SameWindow, SameWindows, named_in}
+use Rattle.model_followed.specs.Following.{HasConnection, HasWindow, May, SameAtFirst, SameDesktops, SameOnceTold, SameWindow, SameWindows, known_size, named_in}
 use Rattle.model_followed.proofs.Noted.{own_note}
 use Rattle.model_followed.proofs.Stepping.{SparesOwn, act_same}
 use Rattle.model_followed.proofs.Commands.{IsOwnCommand, own_command}
 use Rattle.model_followed.proofs.Outsides.{choose_same, connect_same, heard_same, leave_same, no_window_zero, pane_is, pane_same, picture_same, read_same, view_same, write_same}
 
-module _ (c : ℕ) (begin : 0 < c) (Like : Option (ℕ × List ℕ) → draw.World → draw.World → Type 0) (Named : draw.World → Table → List (ℕ × Pane) → Type 0) (laws : IsDeviceLike c Like) (names : AreNamesFree Named) where
+-- the display's size is known unless it has changed
+pub known_told : (s : Desktop) (other : Bool) → (s.sized && other) ≡ false → (is_none (known_size s) && other) ≡ false
+known_told s other is = by s.sized (sides_of s.table.r) is
+  where
+    by : (sized : Bool) (sides : ℕ × ℕ) → (sized && other) ≡ false → (let size : Option (ℕ × ℕ) = if sized then None else Some sides in is_none size && other) ≡ false
+    by true sides is = is
+    by false sides is = refl
+
+module _ (c : ℕ) (begin : 0 < c) (Like : Option (ℕ × ℕ) → Option (ℕ × List ℕ) → draw.World → draw.World → Type 0) (Named : draw.World → Table → List (ℕ × Pane) → Type 0) (laws : IsDeviceLike c Like) (names : AreNamesFree Named) where
   module _ (own : Option ℕ) where
     abbrev Have : Desktop → LoneDesktop → Type 0
     Have s t = SameDesktops Like Named own s t
@@ -231,7 +241,7 @@ module _ (c : ℕ) (begin : 0 < c) (Like : Option (ℕ × List ℕ) → draw.Wor
       leave = λ s t is n few. record { quiet = is.quiet; same = leave_same c begin Like Named laws names own s t is.same n few };
       write_data = λ s t is n bytes mark told few may. (let same = write_same c begin Like Named laws names own s t is.same n bytes mark told few may in (record { quiet = quiet_write s n bytes mark ∙ is.quiet; same = same.0 }, same.1));
       read_data = quiet_read;
-      read_ctl = λ s t is n few. laws.tell (named_in s own) s.device t.device is.same.device n few;
+      read_ctl = λ s t is n few may. laws.tell (known_size s) (named_in s own) s.device t.device is.same.device n few (known_told s ((client_of s.device (client c n)).described == 0) may);
       write_ctl = λ s t is n bytes few may. quiet_choice s t is n bytes few;
       left = λ s t is windows. all_left_told c windows s t (unchanged s t is);
       attached = λ s t is asked may. absurd may;

@@ -1,10 +1,10 @@
 -- What the orders and the notes of a step make of the session's window in both worlds.
 use Rattle.std.proofs.Common.{◌≡◌, ◌∙◌, ℕ, Bool, true, false, eqb, List, [], ◌∷◌, ◌++◌, fold, Option, Some, None, refl, sym, ap, subst}
-use Rattle.std.specs.Prelude.{◌==◌, if◌then◌else◌}
+use Rattle.std.specs.Prelude.{◌==◌, All, if◌then◌else◌}
 use Rattle.std.specs.Option.{option_map, option_map_or, unwrap_or}
 use Rattle.std.proofs.lemmas.Bool.{eqb-true, eqb-false}
 use Rattle.std.proofs.lemmas.List.Sums.{fold-append}
-use Rattle.std.proofs.lemmas.List.Elements.{filter_map-append}
+use Rattle.std.proofs.lemmas.List.Elements.{All-cons, All-head, All-nil, All-tail, filter_map-append}
 use Rattle.std.specs.Map.{keys_of}
 use Rattle.r9_geom.specs.declared.Rect.{Rect}
 use Rattle.r9_event.specs.declared.rio.Note.{Note}
@@ -24,6 +24,7 @@ use Rattle.model_world.specs.Desktop.{pane_of, pane_told, panes_told}
 use Rattle.model_fitting.specs.Fitting.{AllFit}
 use Rattle.model_alone.specs.Lone.{LoneDesktop, noted_alone, window_heard, window_noted}
 use Rattle.model_told.specs.Telling.{IsBeside, IsSmall, Tells, begins, beside, drops, is_own, makes, notes_of, replaces, small, told_image}
+use Rattle.model_sized.specs.Sizes.{IsForSize}
 use Rattle.model_followed.specs.Devices.{AllFree, IsDeviceLike, IsFree, NamesFree, serial_in}
 use Rattle.model_followed.specs.Following.{named_pane, pane_noted}
 
@@ -117,12 +118,19 @@ free_parts : (window : ℕ) (orders : List Order) (o : Order) (device : draw.Wor
 free_parts window [] o device all = (tt, all.0)
 free_parts window (p ∷ orders) o device all = let rest = free_parts window orders o (ordered device p) all.1 in ((all.0, rest.0), rest.1)
 
-module _ (c : ℕ) (Like : Option (ℕ × List ℕ) → draw.World → draw.World → Type 0) (laws : IsDeviceLike c Like) (window : ℕ) (counted : (window == 0) ≡ false) where
+-- so do sizes
+size_parts : (size : Option (ℕ × ℕ)) (orders : List Order) (o : Order) → All (IsForSize size) (orders ++ o ∷ []) → All (IsForSize size) orders × IsForSize size o
+size_parts size [] o all = (All-nil (IsForSize size), All-head (IsForSize size) o [] all)
+size_parts size (p ∷ orders) o all =
+    let rest = size_parts size orders o (All-tail (IsForSize size) p (orders ++ o ∷ []) all) in
+    (All-cons (IsForSize size) p orders (All-head (IsForSize size) p (orders ++ o ∷ []) all) rest.0, rest.1)
+
+module _ (c : ℕ) (Like : Option (ℕ × ℕ) → Option (ℕ × List ℕ) → draw.World → draw.World → Type 0) (laws : IsDeviceLike c Like) (size : Option (ℕ × ℕ)) (window : ℕ) (counted : (window == 0) ≡ false) where
   -- the window with this rectangle and pane, in the server's device and in a world of the session's own
   pub record IsHeld (now : Option Rect) (device : draw.World) (pane : Option Pane) (t : LoneDesktop) : Type 0 where
     pub alone : t.window ≡ option_map (λ p. (window, p)) pane
     pub rect : now ≡ option_map (λ p. p.known.r) pane
-    pub like : Like (named_pane window pane) device t.device
+    pub like : Like size (named_pane window pane) device t.device
 
   -- ---- an order that is beside
 
@@ -135,14 +143,15 @@ module _ (c : ℕ) (Like : Option (ℕ × List ℕ) → draw.World → draw.Worl
   beside_none own (order.Drop at) is = refl
   beside_none own (order.Host at fill) is = refl
   beside_none own (order.Leave client) is = absurd is
+  beside_none own (order.Size width height) is = tt
 
   beside_pane : (pane : Option Pane) (o : Order) → IsBeside (Some window) o → IsBeside (serial_in (named_pane window pane)) o
   beside_pane None o is = beside_none (Some window) o is
   beside_pane (Some p) o is = is
 
-  beside_held : (now : Option Rect) (device : draw.World) (pane : Option Pane) (t : LoneDesktop) (o : Order) → IsHeld now device pane t → fits device o ≡ true → IsBeside (Some window) o → IsHeld now (ordered device o) pane t
-  beside_held now device pane t o is fit other =
-      record { alone = is.alone; rect = is.rect; like = laws.beside (named_pane window pane) device t.device is.like o fit (beside_pane pane o other) }
+  beside_held : (now : Option Rect) (device : draw.World) (pane : Option Pane) (t : LoneDesktop) (o : Order) → IsHeld now device pane t → fits device o ≡ true → IsBeside (Some window) o → IsForSize size o → IsHeld now (ordered device o) pane t
+  beside_held now device pane t o is fit other sized =
+      record { alone = is.alone; rect = is.rect; like = laws.beside size (named_pane window pane) device t.device is.like o fit (beside_pane pane o other) sized }
 
   -- ---- notes that tell of no image
 
@@ -204,7 +213,7 @@ module _ (c : ℕ) (Like : Option (ℕ × List ℕ) → draw.World → draw.Worl
   small_held now device pane t n little is = record {
     alone = small_alone t.window pane n little is.alone;
     rect = is.rect ∙ small_rect pane n little;
-    like = subst (λ (w : Option (ℕ × List ℕ)). Like w device (noted_alone t n).device) (small_name pane n little) (subst (Like (named_pane window pane) device) (sym (small_device t n little)) is.like);
+    like = subst (λ (w : Option (ℕ × List ℕ)). Like size w device (noted_alone t n).device) (small_name pane n little) (subst (Like size (named_pane window pane) device) (sym (small_device t n little)) is.like);
   }
 
   -- ---- an image comes, is replaced, and goes
@@ -215,46 +224,46 @@ module _ (c : ℕ) (Like : Option (ℕ × List ℕ) → draw.World → draw.Worl
   unfolding pane_heard
   made_held device pane t number depth name r hide is fit free = by pane is.rect is.like
     where
-      by : (p : Option Pane) → None ≡ option_map (λ p. p.known.r) p → Like (named_pane window p) device t.device
+      by : (p : Option Pane) → None ≡ option_map (λ p. p.known.r) p → Like size (named_pane window p) device t.device
           → IsHeld (Some r) (ordered device (order.Make window 0 r name hide depth)) (pane_noted pane (note.Made number window name r depth)) (noted_alone t (note.Made number window name r depth))
-      by None none like = record { alone = refl; rect = refl; like = laws.made device t.device like window depth name r hide counted fit free }
+      by None none like = record { alone = refl; rect = refl; like = laws.made size device t.device like window depth name r hide counted fit free }
       by (Some p) none like = absurd cc
 
   replaced_held : (old : Rect) (device : draw.World) (pane : Option Pane) (t : LoneDesktop) (keep hidden : Bool) (name : List ℕ) (r : Rect) → IsHeld (Some old) device pane t
       → fits device (order.Replace window 0 r name keep hidden) ≡ true → IsFree device.book window name
       → IsHeld (Some r) (ordered device (order.Replace window 0 r name keep hidden)) (pane_noted pane (told_image keep name r)) (noted_alone t (told_image keep name r))
   unfolding pane_heard
-  replaced_held old device pane t keep hidden name r is fit free = by pane is.alone is.rect is.like keep (λ p like. laws.replaced window p.known.name device t.device like name r keep hidden fit free)
+  replaced_held old device pane t keep hidden name r is fit free = by pane is.alone is.rect is.like keep (λ p like. laws.replaced size window p.known.name device t.device like name r keep hidden fit free)
     where
       serial_of : Option (ℕ × Pane) → ℕ
       serial_of w = option_map_or (λ w. w.0) w 0
 
-      by : (p : Option Pane) → t.window ≡ option_map (λ p. (window, p)) p → Some old ≡ option_map (λ p. p.known.r) p → Like (named_pane window p) device t.device → (k : Bool)
-          → ((q : Pane) → Like (Some (window, q.known.name)) device t.device → Like (Some (window, name)) (ordered device (order.Replace window 0 r name keep hidden)) (ordered t.device (order.Replace window 0 r name k false)))
+      by : (p : Option Pane) → t.window ≡ option_map (λ p. (window, p)) p → Some old ≡ option_map (λ p. p.known.r) p → Like size (named_pane window p) device t.device → (k : Bool)
+          → ((q : Pane) → Like size (Some (window, q.known.name)) device t.device → Like size (Some (window, name)) (ordered device (order.Replace window 0 r name keep hidden)) (ordered t.device (order.Replace window 0 r name k false)))
           → IsHeld (Some r) (ordered device (order.Replace window 0 r name keep hidden)) (pane_noted p (told_image k name r)) (noted_alone t (told_image k name r))
       by None alone some like k law = absurd cc
       by (Some p) alone some like true law = record {
         alone = ap (λ (o : Option (ℕ × Pane)). window_noted o (note.Moved name r)) alone;
         rect = refl;
-        like = subst (λ (n : ℕ). Like (Some (window, name)) (ordered device (order.Replace window 0 r name keep hidden)) (ordered t.device (order.Replace n 0 r name true false))) (sym (ap serial_of alone)) (law p like);
+        like = subst (λ (n : ℕ). Like size (Some (window, name)) (ordered device (order.Replace window 0 r name keep hidden)) (ordered t.device (order.Replace n 0 r name true false))) (sym (ap serial_of alone)) (law p like);
       }
       by (Some p) alone some like false law = record {
         alone = ap (λ (o : Option (ℕ × Pane)). window_noted o (note.Resized name r)) alone;
         rect = refl;
-        like = subst (λ (n : ℕ). Like (Some (window, name)) (ordered device (order.Replace window 0 r name keep hidden)) (ordered t.device (order.Replace n 0 r name false false))) (sym (ap serial_of alone)) (law p like);
+        like = subst (λ (n : ℕ). Like size (Some (window, name)) (ordered device (order.Replace window 0 r name keep hidden)) (ordered t.device (order.Replace n 0 r name false false))) (sym (ap serial_of alone)) (law p like);
       }
 
   dropped_held : (old : Rect) (device : draw.World) (pane : Option Pane) (t : LoneDesktop) → IsHeld (Some old) device pane t → fits device (order.Drop window) ≡ true
       → IsHeld None (ordered device (order.Drop window)) (pane_noted pane note.Deleted) (noted_alone t note.Deleted)
   dropped_held old device pane t is fit = by pane is.alone is.rect is.like
     where
-      by : (p : Option Pane) → t.window ≡ option_map (λ p. (window, p)) p → Some old ≡ option_map (λ p. p.known.r) p → Like (named_pane window p) device t.device
+      by : (p : Option Pane) → t.window ≡ option_map (λ p. (window, p)) p → Some old ≡ option_map (λ p. p.known.r) p → Like size (named_pane window p) device t.device
           → IsHeld None (ordered device (order.Drop window)) None (noted_alone t note.Deleted)
       by None alone some like = absurd cc
       by (Some p) alone some like = record {
         alone = refl;
         rect = refl;
-        like = subst (λ (n : ℕ). Like None (ordered device (order.Drop window)) (ordered t.device (order.Drop n))) (sym (ap (λ (o : Option (ℕ × Pane)). option_map_or (λ w. w.0) o 0) alone)) (laws.dropped window p.known.name device t.device like fit);
+        like = subst (λ (n : ℕ). Like size None (ordered device (order.Drop window)) (ordered t.device (order.Drop n))) (sym (ap (λ (o : Option (ℕ × Pane)). option_map_or (λ w. w.0) o 0) alone)) (laws.dropped size window p.known.name device t.device like fit);
       }
 
   -- ---- all of a step
@@ -286,15 +295,16 @@ module _ (c : ℕ) (Like : Option (ℕ × List ℕ) → draw.World → draw.Worl
         (with_note now (orders ++ o ∷ []) (notes_of (Some window) notes) n
         (subst (λ (d : draw.World). IsHeld now d (pane_noted (fold pane_noted pane (notes_of (Some window) notes)) n) (noted_alone (fold noted_alone t (notes_of (Some window) notes)) n)) (sym (last_order orders o device)) held))
 
-    pub tells_held : (now : Option Rect) (orders : List Order) (notes : List (ℕ × Note)) → Tells window start now orders notes → AllFit device orders → AllFree window device orders → After now orders (notes_of (Some window) notes)
-    tells_held now orders notes begins fit free = is
-    tells_held now all notes (beside _ orders _ tells o other) fit free =
+    pub tells_held : (now : Option Rect) (orders : List Order) (notes : List (ℕ × Note)) → Tells window start now orders notes → AllFit device orders → AllFree window device orders → All (IsForSize size) orders → After now orders (notes_of (Some window) notes)
+    tells_held now orders notes begins fit free sizes = is
+    tells_held now all notes (beside _ orders _ tells o other) fit free sizes =
         let fits = fit_parts orders o device fit in
         let frees = free_parts window orders o device free in
-        let before = tells_held now orders notes tells fits.0 frees.0 in
-        with_order now orders o (notes_of (Some window) notes) (beside_held now (carried_out device orders) (fold pane_noted pane (notes_of (Some window) notes)) (fold noted_alone t (notes_of (Some window) notes)) o before fits.1 other)
-    tells_held now orders all (small _ _ notes tells at n little) fit free =
-        by (window == at) refl (tells_held now orders notes tells fit free)
+        let sized = size_parts size orders o sizes in
+        let before = tells_held now orders notes tells fits.0 frees.0 sized.0 in
+        with_order now orders o (notes_of (Some window) notes) (beside_held now (carried_out device orders) (fold pane_noted pane (notes_of (Some window) notes)) (fold noted_alone t (notes_of (Some window) notes)) o before fits.1 other sized.1)
+    tells_held now orders all (small _ _ notes tells at n little) fit free sizes =
+        by (window == at) refl (tells_held now orders notes tells fit free sizes)
       where
         by : (b : Bool) → (window == at) ≡ b → After now orders (notes_of (Some window) notes) → After now orders (notes_of (Some window) (notes ++ (at, n) ∷ []))
         by true same before =
@@ -303,23 +313,23 @@ module _ (c : ℕ) (Like : Option (ℕ × List ℕ) → draw.World → draw.Worl
             (subst (After now orders) (sym (own_more window notes n))
             (with_note now orders (notes_of (Some window) notes) n (small_held now (carried_out device orders) (fold pane_noted pane (notes_of (Some window) notes)) (fold noted_alone t (notes_of (Some window) notes)) n (little (sym here)) before)))
         by false other before = subst (After now orders) (sym (others_more window notes at n other)) before
-    tells_held now all others (makes orders notes tells number depth name r hide) fit free =
+    tells_held now all others (makes orders notes tells number depth name r hide) fit free sizes =
         let o = order.Make window 0 r name hide depth in
         let fits = fit_parts orders o device fit in
         let frees = free_parts window orders o device free in
-        let before = tells_held None orders notes tells fits.0 frees.0 in
+        let before = tells_held None orders notes tells fits.0 frees.0 (size_parts size orders o sizes).0 in
         with_both (Some r) orders o notes (note.Made number window name r depth)
         (made_held (carried_out device orders) (fold pane_noted pane (notes_of (Some window) notes)) (fold noted_alone t (notes_of (Some window) notes)) number depth name r hide before fits.1 (frees.1 refl))
-    tells_held now all others (replaces old orders notes tells keep hidden name r) fit free =
+    tells_held now all others (replaces old orders notes tells keep hidden name r) fit free sizes =
         let o = order.Replace window 0 r name keep hidden in
         let fits = fit_parts orders o device fit in
         let frees = free_parts window orders o device free in
-        let before = tells_held (Some old) orders notes tells fits.0 frees.0 in
+        let before = tells_held (Some old) orders notes tells fits.0 frees.0 (size_parts size orders o sizes).0 in
         with_both (Some r) orders o notes (told_image keep name r)
         (replaced_held old (carried_out device orders) (fold pane_noted pane (notes_of (Some window) notes)) (fold noted_alone t (notes_of (Some window) notes)) keep hidden name r before fits.1 (frees.1 refl))
-    tells_held now all others (drops old orders notes tells) fit free =
+    tells_held now all others (drops old orders notes tells) fit free sizes =
         let o = order.Drop window in
         let fits = fit_parts orders o device fit in
         let frees = free_parts window orders o device free in
-        let before = tells_held (Some old) orders notes tells fits.0 frees.0 in
+        let before = tells_held (Some old) orders notes tells fits.0 frees.0 (size_parts size orders o sizes).0 in
         with_both None orders o notes note.Deleted (dropped_held old (carried_out device orders) (fold pane_noted pane (notes_of (Some window) notes)) (fold noted_alone t (notes_of (Some window) notes)) before fits.1)

@@ -31,7 +31,7 @@ use Rattle.model_agreement.specs.Agreement.{Draws, IsDone, IsPlain, SameOutcome,
 use Rattle.model_alone.specs.Lone as alone
 use Rattle.model_alone.specs.Lone.{LoneDesktop, heard_alone, is_window, lone_desktop, pane_alone, window_heard, written_alone}
 use Rattle.model_followed.specs.Devices.{AreNamesFree, IsDeviceLike}
-use Rattle.model_followed.specs.Following.{HasConnection, HasWindow, May, SameDesktops, SameWindow, SameWindows, named_in, named_pane}
+use Rattle.model_followed.specs.Following.{HasConnection, HasWindow, May, SameDesktops, SameWindow, SameWindows, known_size, named_in, named_pane}
 use Rattle.model_followed.proofs.Noted.{heard_here}
 
 -- ---- windows, and window 0
@@ -121,7 +121,7 @@ heard_device t serial h = cond_both (is_window t serial) (record t { window = wi
 heard_none : (t : LoneDesktop) (serial : ℕ) (h : Heard) → is_window t serial ≡ false → (heard_alone t serial h).window ≡ t.window
 heard_none t serial h none = rw none refl
 
-module _ (c : ℕ) (begun : 0 < c) (Like : Option (ℕ × List ℕ) → draw.World → draw.World → Type 0) (Named : draw.World → Table → List (ℕ × Pane) → Type 0) (laws : IsDeviceLike c Like) (names : AreNamesFree Named) (own : Option ℕ) where
+module _ (c : ℕ) (begun : 0 < c) (Like : Option (ℕ × ℕ) → Option (ℕ × List ℕ) → draw.World → draw.World → Type 0) (Named : draw.World → Table → List (ℕ × Pane) → Type 0) (laws : IsDeviceLike c Like) (names : AreNamesFree Named) (own : Option ℕ) where
   abbrev pub Have : Desktop → LoneDesktop → Type 0
   Have s t = SameDesktops Like Named own s t
 
@@ -193,8 +193,8 @@ module _ (c : ℕ) (begun : 0 < c) (Like : Option (ℕ × List ℕ) → draw.Wor
       by : (o : Option Pane) → lookup s.panes node.serial ≡ o → picture_of s.device node.serial ≡ picture_of t.device node.serial
       by None at = absurd (let two : true ≡ false = sym there ∙ there_alone t node.serial (lookup s.panes node.serial) w.alone ∙ ap is_some at in cc)
       by (Some p) at =
-          laws.picture node.serial p.known.name s.device t.device
-          (subst (λ (o : Option Pane). Like (named_pane node.serial o) s.device t.device) at (subst (λ (o : Option ℕ). Like (named_in s o) s.device t.device) is same.device))
+          laws.picture (known_size s) node.serial p.known.name s.device t.device
+          (subst (λ (o : Option Pane). Like (known_size s) (named_pane node.serial o) s.device t.device) at (subst (λ (o : Option ℕ). Like (known_size s) (named_in s o) s.device t.device) is same.device))
 
   -- ---- what is done at the window
 
@@ -204,7 +204,7 @@ module _ (c : ℕ) (begun : 0 < c) (Like : Option (ℕ × List ℕ) → draw.Wor
     order = ascend-with s.panes window _ same.order;
     names = names.heard s.device s.table s.panes window h done same.names;
     window = windows own same.window has;
-    device = subst (Like (named_in (record s { panes = panes }) own) s.device) (sym (heard_device t window h)) (subst (λ (w : Option (ℕ × List ℕ)). Like w s.device t.device) (name own same.window has) same.device);
+    device = subst (Like (known_size s) (named_in (record s { panes = panes }) own) s.device) (sym (heard_device t window h)) (subst (λ (w : Option (ℕ × List ℕ)). Like (known_size s) w s.device t.device) (name own same.window has) same.device);
   }
     where
       panes : List (ℕ × Pane)
@@ -252,7 +252,7 @@ module _ (c : ℕ) (begun : 0 < c) (Like : Option (ℕ × List ℕ) → draw.Wor
   windows_beside None s t d e is = is
   windows_beside (Some n) s t d e is = record { alone = is.alone; rect = is.rect; root = is.root; bare = is.bare; counted = is.counted }
 
-  pub device_same : (s : Desktop) (t : LoneDesktop) (d e : draw.World) → Have s t → IsDrawn (whole.with_device s d) → Uses s.device d → Like (named_in s own) d e → Have (whole.with_device s d) (alone.with_device t e)
+  pub device_same : (s : Desktop) (t : LoneDesktop) (d e : draw.World) → Have s t → IsDrawn (whole.with_device s d) → Uses s.device d → Like (known_size s) (named_in s own) d e → Have (whole.with_device s d) (alone.with_device t e)
   device_same s t d e same drawn used like = record {
     drawn = drawn;
     order = same.order;
@@ -264,19 +264,19 @@ module _ (c : ℕ) (begun : 0 < c) (Like : Option (ℕ × List ℕ) → draw.Wor
   pub connect_same : (s : Desktop) (t : LoneDesktop) → Have s t → (n : ℕ) → HasConnection n → Have ((desktop_for c).connect s n) (lone_desktop.connect t n)
   connect_same s t same n few =
       device_same s t (draw.after_connect s.device (client c n)) (draw.after_connect t.device (client 1 n)) same (connect_drawn s s (client c n) (led_itself s same.drawn)).drawn (begins (client c n))
-      (laws.connect (named_in s own) s.device t.device same.device n few)
+      (laws.connect (known_size s) (named_in s own) s.device t.device same.device n few)
 
   pub leave_same : (s : Desktop) (t : LoneDesktop) → Have s t → (n : ℕ) → HasConnection n → Have ((desktop_for c).leave s n) (lone_desktop.leave t n)
   leave_same s t same n few =
       device_same s t (draw.after_leave s.device (client c n)) (draw.after_leave t.device (client 1 n)) same (leave_drawn s s (client c n) (client_other s c n begun) (led_itself s same.drawn)).drawn (ends (client c n) (client_other s c n begun))
-      (laws.leave (named_in s own) s.device t.device same.device n few)
+      (laws.leave (known_size s) (named_in s own) s.device t.device same.device n few)
 
   pub write_same : (s : Desktop) (t : LoneDesktop) → Have s t → (n : ℕ) (bytes : List ℕ) (mark told : Option ℕ) → HasConnection n → May c own s (Draws n bytes mark told)
       → Have ((desktop_for c).write_data s n bytes mark).0 (lone_desktop.write_data t n bytes told).0 × (((desktop_for c).write_data s n bytes mark).1 ≡ (lone_desktop.write_data t n bytes told).1)
   unfolding whole.written_data
   write_same s t same n bytes mark told few may =
       let after = written (client c n) s.device bytes mark in
-      let law = laws.write (named_in s own) s.device t.device same.device n bytes mark few may.0 in
+      let law = laws.write (known_size s) (named_in s own) s.device t.device same.device n bytes mark few may.0 in
       let drawn : IsDrawn (whole.with_device s after.world) = (written_data_drawn s (client c n) s bytes mark (client_other s c n begun) (led_itself s same.drawn)).drawn in
       subst (λ (m : Option ℕ). Have (whole.with_device s after.world) (alone.with_device t (written_alone (client 1 n) t.device bytes m).0) × (after.refusal ≡ (written_alone (client 1 n) t.device bytes m).1)) (sym may.1)
       (device_same s t after.world _ same drawn (writes (client c n) bytes mark (client_other s c n begun)) law.0, law.1)
@@ -284,9 +284,9 @@ module _ (c : ℕ) (begun : 0 < c) (Like : Option (ℕ × List ℕ) → draw.Wor
   pub read_same : (s : Desktop) (t : LoneDesktop) → Have s t → (n most : ℕ) → HasConnection n
       → SameOutcome (λ (a : List ℕ × Desktop) (b : List ℕ × LoneDesktop). (a.0 ≡ b.0) × Have a.1 b.1 × (a.1.notes ≡ s.notes)) ((desktop_for c).read_data s n most) (lone_desktop.read_data t n most)
   unfolding whole.data_read
-  read_same s t same n most few = by (read_data (client c n) s.device most) refl (read_data (client 1 n) t.device most) (laws.read (named_in s own) s.device t.device same.device n most few)
+  read_same s t same n most few = by (read_data (client c n) s.device most) refl (read_data (client 1 n) t.device most) (laws.read (known_size s) (named_in s own) s.device t.device same.device n most few)
     where
-      by : (x : Outcome (List ℕ × draw.World)) → read_data (client c n) s.device most ≡ x → (y : Outcome (List ℕ × draw.World)) → SameOutcome (λ (a b : List ℕ × draw.World). (a.0 ≡ b.0) × Like (named_in s own) a.1 b.1) x y
+      by : (x : Outcome (List ℕ × draw.World)) → read_data (client c n) s.device most ≡ x → (y : Outcome (List ℕ × draw.World)) → SameOutcome (λ (a b : List ℕ × draw.World). (a.0 ≡ b.0) × Like (known_size s) (named_in s own) a.1 b.1) x y
           → SameOutcome (λ (a : List ℕ × Desktop) (b : List ℕ × LoneDesktop). (a.0 ≡ b.0) × Have a.1 b.1 × (a.1.notes ≡ s.notes)) (x >>= λ got. Ok (got.0, whole.with_device s got.1)) (y >>= λ got. Ok (got.0, alone.with_device t got.1))
       by (Ok got) at (Ok given) law = (law.0, device_same s t got.1 given.1 same (drawn got at) (reads (client c n) most got at) law.1, refl)
         where
@@ -299,9 +299,9 @@ module _ (c : ℕ) (begun : 0 < c) (Like : Option (ℕ × List ℕ) → draw.Wor
   pub choose_same : (s : Desktop) (t : LoneDesktop) → Have s t → (n : ℕ) (bytes : List ℕ) → HasConnection n
       → SameOutcome (λ (a : Desktop) (b : LoneDesktop). Have a b × (a.notes ≡ s.notes)) ((desktop_for c).write_ctl s n bytes) (lone_desktop.write_ctl t n bytes)
   unfolding whole.ctl_written
-  choose_same s t same n bytes few = by (write_ctl (client c n) s.device bytes) refl (write_ctl (client 1 n) t.device bytes) (laws.choose (named_in s own) s.device t.device same.device n bytes few)
+  choose_same s t same n bytes few = by (write_ctl (client c n) s.device bytes) refl (write_ctl (client 1 n) t.device bytes) (laws.choose (known_size s) (named_in s own) s.device t.device same.device n bytes few)
     where
-      by : (x : Outcome draw.World) → write_ctl (client c n) s.device bytes ≡ x → (y : Outcome draw.World) → SameOutcome (Like (named_in s own)) x y
+      by : (x : Outcome draw.World) → write_ctl (client c n) s.device bytes ≡ x → (y : Outcome draw.World) → SameOutcome (Like (known_size s) (named_in s own)) x y
           → SameOutcome (λ (a : Desktop) (b : LoneDesktop). Have a b × (a.notes ≡ s.notes)) (x >>= λ d. Ok (whole.with_device s d)) (y >>= λ d. Ok (alone.with_device t d))
       by (Ok d) at (Ok e) law =
           (device_same s t d e same (led_by s s d (led_itself s same.drawn) (chooses (client c n) bytes d at) (choice_is (client c n) s.device bytes d same.drawn.orderly at)).drawn (chooses (client c n) bytes d at) law, refl)

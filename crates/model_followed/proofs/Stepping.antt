@@ -1,11 +1,12 @@
 -- Each act of the window manager keeps both worlds the same to the session, once its own world takes the notes of its window.
 use Rattle.std.proofs.Common.{◌≡◌, ◌∙◌, ℕ, zero, suc, ◌==◌, ◌+◌, ◌<◌, ◌≤◌, Bool, true, false, List, [], ◌∷◌, ◌++◌, fold, Option, Some, None, Ok, refl, sym, ap, subst, arith, eqb-true, ne_eqb}
-use Rattle.std.specs.Prelude.{IsSomeAnd}
+use Rattle.std.specs.Prelude.{◌||◌, All, IsSomeAnd, not, if◌then◌else◌}
 use Rattle.std.specs.Option.{option_map}
 use Rattle.std.specs.Map.{keys_of}
-use Rattle.std.proofs.lemmas.List.Elements.{All-head, All-tail}
+use Rattle.std.proofs.lemmas.List.Elements.{All-head, All-tail, All-weaker}
 use Rattle.std.proofs.lemmas.List.Sums.{fold-append}
 use Rattle.r9_geom.specs.declared.Rect.{Rect}
+use Rattle.r9_geom.specs.Geometry.{height, width}
 use Rattle.r9_event.specs.declared.rio.Note.{Note}
 use Rattle.r9_event.specs.declared.rio.Note.TheVariants as note
 use Rattle.r9_event.specs.declared.rio.Order.{Order}
@@ -24,20 +25,23 @@ use Rattle.model_rio.specs.Rio.{rio}
 use Rattle.model_rio.proofs.Orders.{acts_keep_connections}
 use Rattle.model_draw.specs.World as draw
 use Rattle.model_draw.specs.Orders.{carried_out, ordered}
-use Rattle.model_world.specs.Desktop.{Desktop, panes_told, stepped}
+use Rattle.model_world.specs.Desktop.{Desktop, is_as_large, panes_told, stepped}
 use Rattle.model_fitting.specs.Fitting.{AllFit, IsSpelled}
-use Rattle.model_shown.proofs.Tests.{find-passes}
+use Rattle.model_shown.proofs.Tests.{find-passes, split}
 use Rattle.model_fitting.proofs.Acts.{act_fits}
 use Rattle.model_fitting.proofs.Lists.{each_found, each_of, each_then}
 use Rattle.model_orders.specs.Leading.{IsDrawn}
+use Rattle.model_orders.proofs.Furnished.{finds_display}
 use Rattle.model_orders.proofs.Leading.{led_itself}
 use Rattle.model_orders.proofs.Desktops.{step_drawn}
 use Rattle.model_alone.specs.Lone.{LoneDesktop, noted_alone}
 use Rattle.model_told.specs.Telling.{IsBeside, Tells, begins, beside, drops, makes, notes_of, rect_in, replaces, small, told_image}
 use Rattle.model_told.proofs.Standing.{no_host}
 use Rattle.model_told.proofs.Acts.{IfHosts, Leads, MakesOther, act_leads, led_root, led_to, next_leads}
+use Rattle.model_sized.specs.Sizes.{IsForSize, sides_of}
+use Rattle.model_sized.proofs.Acts.{acts_give_size}
 use Rattle.model_followed.specs.Devices.{AreNamesFree, IsDeviceLike}
-use Rattle.model_followed.specs.Following.{SameDesktops, named_pane, pane_noted}
+use Rattle.model_followed.specs.Following.{SameDesktops, known_size, named_in, named_pane, pane_noted}
 use Rattle.model_followed.proofs.Noted.{IsHeld, all_order, others_more, own_more, pane_after, tells_held}
 
 -- of no window there are no notes
@@ -63,17 +67,48 @@ beside_nothing (order.Lower at) ends = tt
 beside_nothing (order.Drop at) ends = refl
 beside_nothing (order.Host at fill) ends = refl
 beside_nothing (order.Leave client) ends = absurd ends
+beside_nothing (order.Size width height) ends = tt
 
-module _ (c : ℕ) (Like : Option (ℕ × List ℕ) → draw.World → draw.World → Type 0) (Named : draw.World → Table → List (ℕ × Pane) → Type 0) (laws : IsDeviceLike c Like) (names : AreNamesFree Named) where
+-- ---- what is known of the display
+
+same_sides : (old new : Rect) → is_as_large old new ≡ true → sides_of old ≡ sides_of new
+same_sides old new large =
+    let parts = split (width old == width new) (height old == height new) large in
+    let across = eqb-true (width old) (width new) parts.0 in
+    let down = eqb-true (height old) (height new) parts.1 in
+    λ i. (across i, down i)
+
+-- the orders are for a size that is known
+sizes_known : (sized : Bool) (r : Rect) (orders : List Order) → All (IsForSize (Some (sides_of r))) orders → All (IsForSize (if sized then None else Some (sides_of r))) orders
+sizes_known true r orders all = All-weaker (IsForSize (Some (sides_of r))) (IsForSize None) (λ o _. tt) orders all
+sizes_known false r orders all = all
+
+module _ (c : ℕ) (Like : Option (ℕ × ℕ) → Option (ℕ × List ℕ) → draw.World → draw.World → Type 0) (Named : draw.World → Table → List (ℕ × Pane) → Type 0) (laws : IsDeviceLike c Like) (names : AreNamesFree Named) where
   abbrev Same : Option ℕ → Desktop → LoneDesktop → Type 0
   Same own s t = SameDesktops Like Named own s t
 
   -- orders where the session has no window
-  all_beside : (orders : List Order) (device : draw.World) (b : draw.World) → AllFit device orders → EndNoConnection orders → Like None device b → Like None (carried_out device orders) b
-  all_beside [] device b fit ends like = like
-  all_beside (o ∷ orders) device b fit ends like =
-      all_beside orders (ordered device o) b fit.1 (All-tail EndsNoConnection o orders ends)
-      (laws.beside None device b like o fit.0 (beside_nothing o (All-head EndsNoConnection o orders ends)))
+  all_beside : (size : Option (ℕ × ℕ)) (orders : List Order) (device : draw.World) (b : draw.World) → AllFit device orders → EndNoConnection orders → All (IsForSize size) orders → Like size None device b → Like size None (carried_out device orders) b
+  all_beside size [] device b fit ends sizes like = like
+  all_beside size (o ∷ orders) device b fit ends sizes like =
+      all_beside size orders (ordered device o) b fit.1 (All-tail EndsNoConnection o orders ends) (All-tail (IsForSize size) o orders sizes)
+      (laws.beside size None device b like o fit.0 (beside_nothing o (All-head EndsNoConnection o orders ends)) (All-head (IsForSize size) o orders sizes))
+
+  -- what is known of the display after a step was known before it
+  later_known : (s : Desktop) (step : Step) (window : Option (ℕ × List ℕ)) (a b : draw.World) → Like (known_size s) window a b → Like (known_size (stepped s step)) window a b
+  unfolding stepped
+  later_known s step window a b like = by s.sized (is_as_large s.table.r step.table.r) refl like
+    where
+      by : (sized large : Bool) → is_as_large s.table.r step.table.r ≡ large → Like (if sized then None else Some (sides_of s.table.r)) window a b
+          → Like (if sized || not large then None else Some (sides_of step.table.r)) window a b
+      by true large is like = like
+      by false false is like = laws.forget (Some (sides_of s.table.r)) window a b like
+      by false true is like = subst (λ (sides : ℕ × ℕ). Like (Some sides) window a b) (same_sides s.table.r step.table.r is) like
+
+  -- and the step's orders are for that size
+  later_sizes : (s : Desktop) (a : Act) (step : Step) → rio s.table a ≡ Ok step → All (IsForSize (known_size (stepped s step))) step.orders
+  unfolding stepped
+  later_sizes s a step e = sizes_known (s.sized || not (is_as_large s.table.r step.table.r)) step.table.r step.orders (acts_give_size s.table a step e)
 
   -- what each server's desktop keeps
   record IsKept (s : Desktop) : Type 0 where
@@ -82,7 +117,7 @@ module _ (c : ℕ) (Like : Option (ℕ × List ℕ) → draw.World → draw.Worl
     named : Named s.device s.table s.panes
 
   all_fit : (s : Desktop) (a : Act) (step : Step) → IsDrawn s → IsSpelled a → rio s.table a ≡ Ok step → AllFit s.device step.orders
-  all_fit s a step drawn spelled e = (act_fits s.device s.table a step drawn.sound drawn.orderly drawn.shows spelled e).all
+  all_fit s a step drawn spelled e = (act_fits s.device s.table a step drawn.sound drawn.orderly drawn.shows spelled (finds_display s.device a drawn.furnished) e).all
 
   kept_after : (s : Desktop) (a : Act) (step : Step) → IsKept s → IsSpelled a → rio s.table a ≡ Ok step → IsKept (stepped s step)
   unfolding stepped
@@ -94,7 +129,7 @@ module _ (c : ℕ) (Like : Option (ℕ × List ℕ) → draw.World → draw.Worl
 
   -- The window that the session has after a step, where its pane comes from this one before it.
   same_after : (s : Desktop) (t : LoneDesktop) (a : Act) (step : Step) (window : ℕ) (counted : (window == 0) ≡ false) (start : Option Rect) (pane : Option Pane) → IsKept s → IsSpelled a → rio s.table a ≡ Ok step
-      → Leads window start step → IsHeld c Like laws window counted start s.device pane t → lookup (fold panes_told s.panes step.notes) window ≡ fold pane_noted pane (notes_of (Some window) step.notes)
+      → Leads window start step → IsHeld c Like laws (known_size (stepped s step)) window counted start s.device pane t → lookup (fold panes_told s.panes step.notes) window ≡ fold pane_noted pane (notes_of (Some window) step.notes)
       → Same (Some window) (stepped s step) (fold noted_alone t (notes_of (Some window) step.notes))
   unfolding stepped
   same_after s t a step window counted start pane kept spelled e is before shown = record {
@@ -108,7 +143,7 @@ module _ (c : ℕ) (Like : Option (ℕ × List ℕ) → draw.World → draw.Worl
       bare = no_host step.table window is.stands.bare;
       counted = counted;
     };
-    device = subst (λ (o : Option Pane). Like (named_pane window o) (carried_out s.device step.orders) (fold noted_alone t notes).device) (sym shown) held.like;
+    device = subst (λ (o : Option Pane). Like (known_size (stepped s step)) (named_pane window o) (carried_out s.device step.orders) (fold noted_alone t notes).device) (sym shown) held.like;
   }
     where
       notes : List Note
@@ -117,11 +152,11 @@ module _ (c : ℕ) (Like : Option (ℕ × List ℕ) → draw.World → draw.Worl
       after : IsKept (stepped s step)
       after = kept_after s a step kept spelled e
 
-      held : IsHeld c Like laws window counted is.now (carried_out s.device step.orders) (fold pane_noted pane notes) (fold noted_alone t notes)
+      held : IsHeld c Like laws (known_size (stepped s step)) window counted is.now (carried_out s.device step.orders) (fold pane_noted pane notes) (fold noted_alone t notes)
       held =
           let fit = all_fit s a step kept.drawn spelled e in
-          tells_held c Like laws window counted start s.device pane t before is.now step.orders step.notes is.stands.tells fit
-          ((names.acts s.device s.table s.panes a step kept.drawn.sound kept.drawn.orderly fit kept.order kept.named e).0 window)
+          tells_held c Like laws (known_size (stepped s step)) window counted start s.device pane t before is.now step.orders step.notes is.stands.tells fit
+          ((names.acts s.device s.table s.panes a step kept.drawn.sound kept.drawn.orderly fit kept.order kept.named e).0 window) (later_sizes s a step e)
 
   kept_of : (own : Option ℕ) (s : Desktop) (t : LoneDesktop) → Same own s t → IsKept s
   kept_of own s t same = record { drawn = same.drawn; order = same.order; named = same.names }
@@ -143,12 +178,14 @@ module _ (c : ℕ) (Like : Option (ℕ × List ℕ) → draw.World → draw.Worl
         order = after.order;
         names = after.named;
         window = same.window;
-        device = all_beside step.orders s.device t.device (all_fit s a step same.drawn spelled e) (acts_keep_connections s.table a step e) same.device;
+        device =
+            all_beside (known_size (stepped s step)) step.orders s.device t.device (all_fit s a step same.drawn spelled e) (acts_keep_connections s.table a step e) (later_sizes s a step e)
+            (later_known s step None s.device t.device same.device);
       })
   act_same (Some window) s t a step same spelled spares e =
       same_after s t a step window same.window.counted (rect_in s.table window) (lookup s.panes window) (kept_of (Some window) s t same) spelled e
       (act_leads window s.table a step same.drawn.sound (record { root = same.window.root; bare = same.window.bare }) spares.0 spares.1 e)
-      (record { alone = same.window.alone; rect = same.window.rect; like = same.device })
+      (record { alone = same.window.alone; rect = same.window.rect; like = later_known s step (named_in s (Some window)) s.device t.device same.device })
       (pane_after window step.notes s.panes same.order)
 
   -- ---- the window comes
@@ -200,5 +237,5 @@ module _ (c : ℕ) (Like : Option (ℕ × List ℕ) → draw.World → draw.Worl
       let is = next_leads s.table options hide step same.drawn.sound (no_later_host s.table same.drawn.sound next (omega arith)) e in
       let now : is.now ≡ Some w.r = sym (led_to next None step is) ∙ ap (option_map (λ (v : Window). v.r)) there in
       same_after s t (act.New 0 options hide) step next (ne_eqb next 0 (λ zero. absurd (omega (arith, zero)))) None None (kept_of None s t same) tt e is
-      (record { alone = same.window; rect = refl; like = same.device })
+      (record { alone = same.window; rect = refl; like = later_known s step None s.device t.device same.device })
       (pane_after next step.notes s.panes same.order ∙ fresh_pane next is.now step.orders step.notes is.stands.tells w.r now (lookup s.panes next))

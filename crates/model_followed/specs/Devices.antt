@@ -1,11 +1,12 @@
 -- What draw devices keep for a session to be isolated: the laws of a relation between the server's device and that of a world of its
 -- own, under which both are the same to the session (draw(3)).
-use Rattle.std.specs.Prelude.{◌≡◌, ◌<◌, ◌≤◌, ◌^◌, ◌==◌, ℕ, Bool, true, false, All, codes, List, [], ◌∷◌, Option, Some, None, Ok, if◌then◌else◌}
+use Rattle.std.specs.Prelude.{◌≡◌, ◌<◌, ◌≤◌, ◌^◌, ◌==◌, ◌&&◌, ℕ, Bool, true, false, All, is_none, codes, List, [], ◌∷◌, Option, Some, None, Ok, if◌then◌else◌}
 use Rattle.std.specs.List.{fold, list_any, starts_with}
 use Rattle.std.specs.Map.{keys_of}
 use Rattle.std.specs.Str.{bytes_eq}
 use Rattle.std.specs.Option.{option_map}
 use Rattle.r9_geom.specs.declared.Rect.{Rect}
+use Rattle.r9_event.specs.declared.event.Opening.{Opening}
 use Rattle.r9_event.specs.declared.rio.Order.{Order}
 use Rattle.r9_event.specs.declared.rio.Order.TheVariants as order
 use Rattle.model_dmsg.specs.Message.{Message, UpA, UpN, LowN, UpS}
@@ -15,7 +16,8 @@ use Rattle.model_window.specs.Heard.{Heard}
 use Rattle.model_window.specs.Pane.{Pane}
 use Rattle.model_images.specs.Book.{Book}
 use Rattle.model_images.specs.Release.{is_tied_by}
-use Rattle.model_draw.specs.World.{Opening, World, after_connect, after_leave, started}
+use Rattle.model_draw.specs.World as draw
+use Rattle.model_draw.specs.World.{World, after_connect, after_leave, client_of, started}
 use Rattle.model_draw.specs.Making.{flag}
 use Rattle.model_draw.specs.Act.{no_memory, written}
 use Rattle.model_draw.specs.Files.{read_ctl, read_data, write_ctl}
@@ -30,12 +32,15 @@ use Rattle.model_fitting.specs.Fitting.{AllFit}
 use Rattle.model_orders.specs.Leading.{Uses}
 use Rattle.model_world.specs.Desktop.{pane_told, panes_told}
 use Rattle.model_world.specs.Whole.{client}
+use Rattle.model_world.specs.World.{display_of}
 use Rattle.model_agreement.specs.Agreement.{IsDone, SameOutcome}
 use Rattle.model_alone.specs.Uses.{images_named, looked_at}
 use Rattle.model_alone.specs.Lone.{lone_desktop, started_alone, written_alone}
 use Rattle.model_told.specs.Telling.{IsBeside}
+use Rattle.model_sized.specs.Sizes.{IsForSize, sides_of}
 
--- `window`: the serial and the name of the session's window, where it has one.
+-- `window`: the serial and the name of the session's window, where it has one. `size`: the width and the height of the display, as long
+-- as it has had no others.
 
 -- ---- messages
 
@@ -88,68 +93,73 @@ serial_in window = option_map (λ w. w.0) window
 
 -- The session is session c of the server and session 1 of its own world. Sessions are counted from 1, and connections by numbers
 -- below 2^26.
-pub record IsDeviceLike (c : ℕ) (Like : Option (ℕ × List ℕ) → World → World → Type 0) : Type 0 where
-  pub start : (opening : Opening) → Like None (with_root_rio (started opening)) (started_alone opening)
+pub record IsDeviceLike (c : ℕ) (Like : Option (ℕ × ℕ) → Option (ℕ × List ℕ) → World → World → Type 0) : Type 0 where
+  pub start :
+      (opening : Opening)
+      → Like (Some (sides_of (display_of opening).r)) None (with_root_rio (started (display_of opening))) (started_alone (display_of opening))
+  -- what was known of the display is known no longer
+  pub forget : (size : Option (ℕ × ℕ)) (window : Option (ℕ × List ℕ)) (a b : World) → Like size window a b → Like None window a b
   -- the session's own connections
   pub connect :
-      (window : Option (ℕ × List ℕ)) (a b : World) → Like window a b → (n : ℕ) → n < 2 ^ 26
-      → Like window (after_connect a (client c n)) (after_connect b (client 1 n))
+      (size : Option (ℕ × ℕ)) (window : Option (ℕ × List ℕ)) (a b : World) → Like size window a b → (n : ℕ) → n < 2 ^ 26
+      → Like size window (after_connect a (client c n)) (after_connect b (client 1 n))
   pub leave :
-      (window : Option (ℕ × List ℕ)) (a b : World) → Like window a b → (n : ℕ) → n < 2 ^ 26
-      → Like window (after_leave a (client c n)) (after_leave b (client 1 n))
+      (size : Option (ℕ × ℕ)) (window : Option (ℕ × List ℕ)) (a b : World) → Like size window a b → (n : ℕ) → n < 2 ^ 26
+      → Like size window (after_leave a (client c n)) (after_leave b (client 1 n))
   pub write :
-      (window : Option (ℕ × List ℕ)) (a b : World) → Like window a b → (n : ℕ) (bytes : List ℕ) (mark : Option ℕ) → n < 2 ^ 26
+      (size : Option (ℕ × ℕ)) (window : Option (ℕ × List ℕ)) (a b : World) → Like size window a b → (n : ℕ) (bytes : List ℕ) (mark : Option ℕ) → n < 2 ^ 26
       → All (KeepsWithin window) (looked_at (client c n) a bytes mark)
-      → Like window (written (client c n) a bytes mark).world (written_alone (client 1 n) b bytes (told_mark mark (written (client c n) a bytes mark).refusal)).0
+      → Like size window (written (client c n) a bytes mark).world (written_alone (client 1 n) b bytes (told_mark mark (written (client c n) a bytes mark).refusal)).0
       × ((written (client c n) a bytes mark).refusal ≡ (written_alone (client 1 n) b bytes (told_mark mark (written (client c n) a bytes mark).refusal)).1)
   pub read :
-      (window : Option (ℕ × List ℕ)) (a b : World) → Like window a b → (n most : ℕ) → n < 2 ^ 26
-      → SameOutcome (λ x y. (x.0 ≡ y.0) × Like window x.1 y.1) (read_data (client c n) a most) (read_data (client 1 n) b most)
+      (size : Option (ℕ × ℕ)) (window : Option (ℕ × List ℕ)) (a b : World) → Like size window a b → (n most : ℕ) → n < 2 ^ 26
+      → SameOutcome (λ x y. (x.0 ≡ y.0) × Like size window x.1 y.1) (read_data (client c n) a most) (read_data (client 1 n) b most)
   pub tell :
-      (window : Option (ℕ × List ℕ)) (a b : World) → Like window a b → (n : ℕ) → n < 2 ^ 26
+      (size : Option (ℕ × ℕ)) (window : Option (ℕ × List ℕ)) (a b : World) → Like size window a b → (n : ℕ) → n < 2 ^ 26
+      → (is_none size && ((client_of a (client c n)).described == 0)) ≡ false
       → read_ctl (client c n) a n ≡ lone_desktop.read_ctl (record { device = b; window = None; made = None }) n
   pub choose :
-      (window : Option (ℕ × List ℕ)) (a b : World) → Like window a b → (n : ℕ) (bytes : List ℕ) → n < 2 ^ 26
-      → SameOutcome (Like window) (write_ctl (client c n) a bytes) (write_ctl (client 1 n) b bytes)
+      (size : Option (ℕ × ℕ)) (window : Option (ℕ × List ℕ)) (a b : World) → Like size window a b → (n : ℕ) (bytes : List ℕ) → n < 2 ^ 26
+      → SameOutcome (Like size window) (write_ctl (client c n) a bytes) (write_ctl (client 1 n) b bytes)
   -- its window, which stands on the root rio's screen
-  pub picture : (serial : ℕ) (name : List ℕ) (a b : World) → Like (Some (serial, name)) a b → picture_of a serial ≡ picture_of b serial
+  pub picture : (size : Option (ℕ × ℕ)) (serial : ℕ) (name : List ℕ) (a b : World) → Like size (Some (serial, name)) a b → picture_of a serial ≡ picture_of b serial
   pub made :
-      (a b : World) → Like None a b → (serial depth : ℕ) (name : List ℕ) (r : Rect) (hide : Bool)
+      (size : Option (ℕ × ℕ)) (a b : World) → Like size None a b → (serial depth : ℕ) (name : List ℕ) (r : Rect) (hide : Bool)
       → (serial == 0) ≡ false → fits a (order.Make serial 0 r name hide depth) ≡ true → IsFree a.book serial name
-      → Like (Some (serial, name)) (ordered a (order.Make serial 0 r name hide depth)) (ordered b (order.Make serial 0 r name false depth))
+      → Like size (Some (serial, name)) (ordered a (order.Make serial 0 r name hide depth)) (ordered b (order.Make serial 0 r name false depth))
   pub replaced :
-      (serial : ℕ) (old : List ℕ) (a b : World) → Like (Some (serial, old)) a b → (name : List ℕ) (r : Rect) (keep hidden : Bool)
+      (size : Option (ℕ × ℕ)) (serial : ℕ) (old : List ℕ) (a b : World) → Like size (Some (serial, old)) a b → (name : List ℕ) (r : Rect) (keep hidden : Bool)
       → fits a (order.Replace serial 0 r name keep hidden) ≡ true → IsFree a.book serial name
-      → Like (Some (serial, name)) (ordered a (order.Replace serial 0 r name keep hidden)) (ordered b (order.Replace serial 0 r name keep false))
+      → Like size (Some (serial, name)) (ordered a (order.Replace serial 0 r name keep hidden)) (ordered b (order.Replace serial 0 r name keep false))
   pub dropped :
-      (serial : ℕ) (name : List ℕ) (a b : World) → Like (Some (serial, name)) a b → fits a (order.Drop serial) ≡ true
-      → Like None (ordered a (order.Drop serial)) (ordered b (order.Drop serial))
+      (size : Option (ℕ × ℕ)) (serial : ℕ) (name : List ℕ) (a b : World) → Like size (Some (serial, name)) a b → fits a (order.Drop serial) ≡ true
+      → Like size None (ordered a (order.Drop serial)) (ordered b (order.Drop serial))
   -- what others do: orders that are not about the window's image, and the connections of other sessions
   pub beside :
-      (window : Option (ℕ × List ℕ)) (a b : World) → Like window a b → (o : Order) → fits a o ≡ true → IsBeside (serial_in window) o
-      → Like window (ordered a o) b
+      (size : Option (ℕ × ℕ)) (window : Option (ℕ × List ℕ)) (a b : World) → Like size window a b → (o : Order) → fits a o ≡ true → IsBeside (serial_in window) o → IsForSize size o
+      → Like size window (ordered a o) b
   pub others_connect :
-      (window : Option (ℕ × List ℕ)) (a b : World) → Like window a b → (d n : ℕ) → 1 ≤ d → (d ≡ c → ⊥) → n < 2 ^ 26
-      → Like window (after_connect a (client d n)) b
+      (size : Option (ℕ × ℕ)) (window : Option (ℕ × List ℕ)) (a b : World) → Like size window a b → (d n : ℕ) → 1 ≤ d → (d ≡ c → ⊥) → n < 2 ^ 26
+      → Like size window (after_connect a (client d n)) b
   pub others_leave :
-      (window : Option (ℕ × List ℕ)) (a b : World) → Like window a b → (d n : ℕ) → 1 ≤ d → (d ≡ c → ⊥) → n < 2 ^ 26
-      → Like window (after_leave a (client d n)) b
+      (size : Option (ℕ × ℕ)) (window : Option (ℕ × List ℕ)) (a b : World) → Like size window a b → (d n : ℕ) → 1 ≤ d → (d ≡ c → ⊥) → n < 2 ^ 26
+      → Like size window (after_leave a (client d n)) b
   pub others_write :
-      (window : Option (ℕ × List ℕ)) (a b : World) → Like window a b → (d n : ℕ) (bytes : List ℕ) (mark : Option ℕ) → 1 ≤ d → (d ≡ c → ⊥) → n < 2 ^ 26
+      (size : Option (ℕ × ℕ)) (window : Option (ℕ × List ℕ)) (a b : World) → Like size window a b → (d n : ℕ) (bytes : List ℕ) (mark : Option ℕ) → 1 ≤ d → (d ≡ c → ⊥) → n < 2 ^ 26
       → All (LeavesName window) (looked_at (client d n) a bytes mark)
-      → Like window (written (client d n) a bytes mark).world b
+      → Like size window (written (client d n) a bytes mark).world b
   pub others_read :
-      (window : Option (ℕ × List ℕ)) (a b : World) → Like window a b → (d n most : ℕ) → 1 ≤ d → (d ≡ c → ⊥) → n < 2 ^ 26
-      → (got : List ℕ × World) → read_data (client d n) a most ≡ Ok got → Like window got.1 b
+      (size : Option (ℕ × ℕ)) (window : Option (ℕ × List ℕ)) (a b : World) → Like size window a b → (d n most : ℕ) → 1 ≤ d → (d ≡ c → ⊥) → n < 2 ^ 26
+      → (got : List ℕ × World) → read_data (client d n) a most ≡ Ok got → Like size window got.1 b
   pub others_choose :
-      (window : Option (ℕ × List ℕ)) (a b : World) → Like window a b → (d n : ℕ) (bytes : List ℕ) → 1 ≤ d → (d ≡ c → ⊥) → n < 2 ^ 26
-      → (next : World) → write_ctl (client d n) a bytes ≡ Ok next → Like window next b
+      (size : Option (ℕ × ℕ)) (window : Option (ℕ × List ℕ)) (a b : World) → Like size window a b → (d n : ℕ) (bytes : List ℕ) → 1 ≤ d → (d ≡ c → ⊥) → n < 2 ^ 26
+      → (next : World) → write_ctl (client d n) a bytes ≡ Ok next → Like size window next b
 
 -- What keeps the names of windows free and apart: something that holds of the server's device, its windows and what their files have,
 -- from which follows that each order gives a window a name that no other image has and no session may make, and that no two windows
 -- have one name.
 pub record AreNamesFree (Named : World → Table → List (ℕ × Pane) → Type 0) : Type 0 where
-  pub start : (opening : Opening) → Named (with_root_rio (started opening)) (opened opening.r) []
+  pub start : (opening : draw.Opening) → Named (with_root_rio (started opening)) (opened opening.r) []
   pub acts :
       (device : World) (table : Table) (panes : List (ℕ × Pane)) (a : Act) (step : Step) → IsSound table → IsOrderly device
       → AllFit device step.orders → Ascend (keys_of panes) → Named device table panes → rio table a ≡ Ok step

@@ -1,5 +1,5 @@
 -- When the server's world and that of a session's own are the same to the session.
-use Rattle.std.specs.Prelude.{◌≡◌, ◌⊎◌, ◌<◌, ◌^◌, ◌==◌, ℕ, false, All, List, [], Option, Some, None}
+use Rattle.std.specs.Prelude.{◌≡◌, ◌⊎◌, ◌<◌, ◌^◌, ◌==◌, ◌&&◌, ℕ, false, All, List, [], Option, Some, None, if◌then◌else◌}
 use Rattle.std.specs.List.{fold}
 use Rattle.std.specs.Map.{keys_of}
 use Rattle.std.specs.Option.{option_map, option_and_then}
@@ -11,14 +11,16 @@ use Rattle.model_window.specs.Heard.{Noted}
 use Rattle.model_window.specs.Pane.{Pane, new_pane, pane_heard}
 use Rattle.model_rio.specs.Table.{Table, Window, is_host, window_of}
 use Rattle.model_draw.specs.World as draw
+use Rattle.model_draw.specs.World.{client_of}
 use Rattle.model_draw.specs.Act.{written}
 use Rattle.model_world.specs.Desktop.{Desktop}
 use Rattle.model_world.specs.Whole.{client}
-use Rattle.model_agreement.specs.Agreement.{Ask, Attaches, Chooses, Commands, Draws}
+use Rattle.model_agreement.specs.Agreement.{Ask, Attaches, Chooses, Commands, Describes, Draws}
 use Rattle.model_orders.specs.Leading.{IsDrawn}
 use Rattle.model_alone.specs.Uses.{asks_for_windows, looked_at}
 use Rattle.model_alone.specs.Lone.{LoneDesktop, noted_alone}
 use Rattle.model_told.specs.Telling.{notes_of, rect_in}
+use Rattle.model_sized.specs.Sizes.{sides_of}
 use Rattle.model_followed.specs.Devices.{KeepsWithin, told_mark}
 
 -- `own`: the serial of the session's window, from the attach on that gave it.
@@ -53,16 +55,20 @@ abbrev pub SameWindows : Desktop → LoneDesktop → (own : Option ℕ) → Type
 SameWindows s t None = t.window ≡ None
 SameWindows s t (Some serial) = SameWindow s t serial
 
+-- the width and the height of the display, as long as it has had no others
+abbrev pub known_size : Desktop → Option (ℕ × ℕ)
+known_size s = if s.sized then None else Some (sides_of s.table.r)
+
 -- ---- all outside of the session
 
 -- `Named` keeps the names of windows free.
-module _ (Like : Option (ℕ × List ℕ) → draw.World → draw.World → Type 0) (Named : draw.World → Table → List (ℕ × Pane) → Type 0) where
+module _ (Like : Option (ℕ × ℕ) → Option (ℕ × List ℕ) → draw.World → draw.World → Type 0) (Named : draw.World → Table → List (ℕ × Pane) → Type 0) where
   pub record SameDesktops (own : Option ℕ) (s : Desktop) (t : LoneDesktop) : Type 0 where
     pub drawn : IsDrawn s
     pub order : Ascend (keys_of s.panes)
     pub names : Named s.device s.table s.panes
     pub window : SameWindows s t own
-    pub device : Like (named_in s own) s.device t.device
+    pub device : Like (known_size s) (named_in s own) s.device t.device
 
   -- the same before anything is told in a turn
   pub record SameAtFirst (own : Option ℕ) (s : Desktop) (t : LoneDesktop) : Type 0 where
@@ -90,3 +96,4 @@ May c own s (Draws n bytes mark told) =
     All (KeepsWithin (named_in s own)) (looked_at (client c n) s.device bytes mark)
     × (told ≡ told_mark mark (written (client c n) s.device bytes mark).refusal)
 May c own s (Chooses n bytes) = Unit {0}
+May c own s (Describes n) = (s.sized && ((client_of s.device (client c n)).described == 0)) ≡ false

@@ -64,7 +64,7 @@ module _ (Same SameScreen : ℕ → ℕ → Type 0) (c : ℕ) (window : Option (
         display = record {
           named = manager_kept f.book.image_ids c n id 0 counted ∙ at.is.like.display.named;
           named_alone = manager_kept g.book.image_ids 1 n id 0 (omega arith) ∙ at.is.like.display.named_alone;
-          shape = at.is.like.display.shape;
+          look = at.is.like.display.look;
           live_left = at.is.like.display.live_left;
           live_right = at.is.like.display.live_right;
           left = at.is.like.display.left;
@@ -99,7 +99,7 @@ module _ (Same SameScreen : ℕ → ℕ → Type 0) (c : ℕ) (window : Option (
         display = record {
           named = at.is.like.display.named;
           named_alone = at.is.like.display.named_alone;
-          shape = at.is.like.display.shape;
+          look = at.is.like.display.look;
           live_left = at.is.like.display.live_left;
           live_right = at.is.like.display.live_right;
           left = at.is.like.display.left;

@@ -173,7 +173,7 @@ module _ (c : ℕ) (window : Option (ℕ × List ℕ)) (a b : World) (is : IsLik
       display = record {
         named = left_like.like.display.named;
         named_alone = left_like.like.display.named_alone;
-        shape = left_like.like.display.shape;
+        look = left_like.like.display.look;
         live_left = left_like.like.display.live_left;
         live_right = left_like.like.display.live_right;
         left = left_like.like.display.left;

@@ -20,7 +20,7 @@ use Rattle.model_renamed.proofs.Going.{renamed_release}
 use Rattle.model_agreement.specs.Agreement.{SameOption}
 use Rattle.model_shown.proofs.Tests.{find-any, first_false, first_true, not_both, second_false, second_true}
 use Rattle.model_likeness.specs.Likeness.{AreLike, SamePlace, is_root}
-use Rattle.model_likeness.proofs.Shapes.{keeps_release, shape_then, shape_turned}
+use Rattle.model_likeness.proofs.Shapes.{keeps_release, look_kept}
 use Rattle.model_making.specs.Likes.{Change, IsLike, Matched}
 use Rattle.model_making.specs.Standing.{IsStanding}
 use Rattle.model_making.proofs.Allocating.{ground}
@@ -64,7 +64,7 @@ module _ (Same SameScreen : ℕ → ℕ → Type 0) (c : ℕ) (window : Option (
         record {
           named = like.display.named;
           named_alone = like.display.named_alone;
-          shape = shape_then _ _ _ keeps_left.shape (shape_then _ _ _ like.display.shape (shape_turned _ _ keeps_right.shape));
+          look = look_kept _ _ _ _ keeps_left.shape like.display.look keeps_right.shape;
           live_left = keeps_left.live like.display.live_left;
           live_right = keeps_right.live like.display.live_right;
           left = λ i j is. like.display.left i j is.0;
@@ -81,7 +81,7 @@ module _ (Same SameScreen : ℕ → ℕ → Type 0) (c : ℕ) (window : Option (
     display = record {
       named = like.display.named;
       named_alone = like.display.named_alone;
-      shape = like.display.shape;
+      look = like.display.look;
       live_left = like.display.live_left;
       live_right = like.display.live_right;
       left = like.display.left;

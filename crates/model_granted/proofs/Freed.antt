@@ -143,7 +143,7 @@ module _ (c serial : ℕ) (name : List ℕ) (a b : World) (is : IsLike c (Some (
     display = record {
       named = kept_display a.book serial counted ∙ is.like.display.named;
       named_alone = kept_display b.book serial counted ∙ is.like.display.named_alone;
-      shape = is.like.display.shape;
+      look = is.like.display.look;
       live_left = is.like.display.live_left;
       live_right = is.like.display.live_right;
       left = is.like.display.left;

@@ -23,7 +23,7 @@ use Rattle.model_renamed.specs.Renamed.{And, AreRenamed}
 use Rattle.model_world.specs.Whole.{client}
 use Rattle.model_agreement.specs.Agreement.{SameOption}
 use Rattle.model_shown.proofs.Tests.{not_both, same, turned}
-use Rattle.model_likeness.specs.Likeness.{AreLike, AreLikeBooks, IsNamed, IsOfSession, IsOwned, SameHold, SameId, SamePlace, SameScreens, SameShape, display_id, is_root}
+use Rattle.model_likeness.specs.Likeness.{AreLike, AreLikeBooks, IsNamed, IsOfSession, IsOwned, SameHold, SameId, SameLook, SamePlace, SameScreens, display_id, is_root}
 use Rattle.model_likeness.proofs.Ids.{each_option, no_manager, owner_manager, owner_own}
 use Rattle.model_making.proofs.Entries.{all_found, all_put, none_of_all, numbered_plain, other_number}
 use Rattle.model_making.proofs.Fresh.{IsFresh, fresh_host, fresh_refers, placed_new, placed_other}
@@ -230,7 +230,7 @@ module _ (Same SameScreen : ℕ → ℕ → Type 0) (c serial : ℕ) (name : Lis
 
   -- ---- both devices
 
-  module _ (v w : World) (book_left : v.book ≡ x) (book_right : w.book ≡ y) (renamed : AreRenamed More v.images w.images) (shape : SameShape (at_number v 0) (at_number w 0)) (live_left : IsLive v.images 0) (live_right : IsLive w.images 0)
+  module _ (v w : World) (book_left : v.book ≡ x) (book_right : w.book ≡ y) (renamed : AreRenamed More v.images w.images) (look : SameLook (at_number v 0) (at_number w 0)) (live_left : IsLive v.images 0) (live_right : IsLive w.images 0)
       (counted : (serial == 0) ≡ false) (named_left : image_id a manager 0 ≡ Some display_id) (named_right : image_id b manager 0 ≡ Some display_id)
       (nonzero_left : (i j : ℕ) → More i j → i ≢ 0) (nonzero_right : (i j : ℕ) → More i j → j ≢ 0) (clients : (n : ℕ) → n < 2 ^ 26 → lookup v.clients (client c n) ≡ lookup w.clients (client 1 n)) where
     pub granted_like : AreLike More SameScreen c window v w
@@ -241,7 +241,7 @@ module _ (Same SameScreen : ℕ → ℕ → Type 0) (c serial : ℕ) (name : Lis
       display = record {
         named = ap (λ (z : Book). image_id z manager 0) book_left ∙ kept_display a serial p s name counted ∙ named_left;
         named_alone = ap (λ (z : Book). image_id z manager 0) book_right ∙ kept_display b serial q t name counted ∙ named_right;
-        shape = shape;
+        look = look;
         live_left = live_left;
         live_right = live_right;
         left = nonzero_left;

@@ -13,6 +13,7 @@ use Rattle.model_forest.specs.View.{view}
 use Rattle.model_forest.specs.Draw.{Drawing, after_draw, after_fill, after_load, with_canvas}
 use Rattle.model_forest.specs.Stack.{after_lower, after_raise, after_restack, after_window, lowered, moved, raised, seen, with_windows, without}
 use Rattle.model_forest.specs.Steps.{after_image, after_list, after_origin, after_release, after_replace, after_replace_on, after_set, carried_rect, outside, put_above, shifted_image}
+use Rattle.model_resize.specs.Resize.{after_resize}
 use Rattle.model_renamed.proofs.Changes.{at_changed, at_others}
 
 abbrev pub SameDepth : (old new : World) → ℕ → Type 0
@@ -76,6 +77,10 @@ depth_fill w i r raw n = depth_canvas w i _ _ n
 pub depth_set : (w : World) (i : ℕ) (repl : Bool) (clipr : Rect) (n : ℕ) → SameDepth w (after_set w i repl clipr) n
 unfolding after_set
 depth_set w i repl clipr n = depth_put w i n _ refl
+
+pub depth_resize : (w : World) (i width height raw n : ℕ) → SameDepth w (after_resize w i width height raw) n
+unfolding after_resize
+depth_resize w i width height raw n = depth_put w i n _ refl
 
 pub depth_origin : (w : World) (i : ℕ) (min corner : Point) (n : ℕ) → SameDepth w (after_origin w i min corner) n
 unfolding after_origin

@@ -6,7 +6,7 @@ use Rattle.r9_geom.specs.declared.Point.{Point}
 use Rattle.r9_geom.specs.declared.Rect.{Rect}
 use Rattle.r9_geom.specs.Geometry.{at_min}
 use Rattle.r9_event.specs.declared.rio.Order.{Order}
-use Rattle.r9_event.specs.declared.rio.Order.TheVariants.{Make, Place, Replace, Raise, Lower, Drop, Host, Leave}
+use Rattle.r9_event.specs.declared.rio.Order.TheVariants.{Make, Place, Replace, Raise, Lower, Drop, Host, Leave, Size}
 use Rattle.model_text.specs.Outcome.{Outcome, ◌>>=◌, refuse_if}
 use Rattle.model_pixel.specs.Channels.{colour_of, pack}
 use Rattle.model_forest.specs.World.{World as Images}
@@ -22,7 +22,7 @@ use Rattle.model_images.proofs.Order.{free_id-rest, free_screen-rest}
 use Rattle.model_images.proofs.Ties.{tie-rest}
 use Rattle.model_draw.specs.World.{World, after_freed, at_number, next_image, with_book, with_images}
 use Rattle.model_draw.specs.Making.{with_made}
-use Rattle.model_draw.specs.Orders.{after_order, bordered, corner, drop_window, fits, host_rio, image_freed, image_shown, inside_border, make_window, manager, new_white, next_white, ordered, place_window, replace_window, rio_screen, screen_freed, stands_on, white, with_window, with_window_id, with_window_name}
+use Rattle.model_draw.specs.Orders.{after_order, bordered, corner, drop_window, fits, host_rio, image_freed, image_shown, inside_border, make_window, manager, new_white, next_white, ordered, place_window, replace_window, resize_display, rio_screen, screen_freed, stands_on, white, with_window, with_window_id, with_window_name}
 use Rattle.model_shown.specs.Showing.{IsOrderly}
 use Rattle.model_shown.proofs.Numbers.{gone-book}
 use Rattle.model_shown.proofs.Tests.{split}
@@ -38,7 +38,7 @@ use Rattle.model_managed.specs.Ending.{LeavesManager}
 use Rattle.model_managed.proofs.Ordering.{window_there}
 use Rattle.model_holding.proofs.Rooting.{all_outside, nothing_apart}
 use Rattle.model_grounded.specs.Grounded.{IsGrounded}
-use Rattle.model_grounded.proofs.Depths.{SameDepth, depth_canvas, depth_fill, depth_lower, depth_origin, depth_raise, depth_replace, depth_replace_on, depth_window}
+use Rattle.model_grounded.proofs.Depths.{SameDepth, depth_canvas, depth_fill, depth_lower, depth_origin, depth_raise, depth_replace, depth_replace_on, depth_resize, depth_window}
 use Rattle.model_grounded.proofs.Messages.{KeepsRoot, Rests, freed_rests, grounded_still, leave_rests, new_screen_rests, next_apart, rests_then, screen_root}
 
 -- the root rio's screen has its id still, and what it was on
@@ -229,6 +229,10 @@ module _ (w : World) (steady : IsSteady w) (furnished : IsFurnished w) where
           by (Ok book) made = record { root = screen_root v window i root_fill book counted made; rests = new_screen_rests v manager window false i root_fill book orderly made }
           by (Err n) made = record { root = refl; rests = record { screens = λ s at. refl; depth = refl } }
 
+  size_stands : (width height : ℕ) → Stands w (resize_display w width height)
+  unfolding resize_display
+  size_stands width height = images_stand w _ (depth_resize w.images (image_shown w 0) width height (pack (at_number w (image_shown w 0)).chan (colour_of 0x777777ff)) 0)
+
   order_stands : (order : Order) → LeavesManager order → fits w order ≡ true → Stands w (after_order w order)
   order_stands (Make window host r name hide depth) leaves fit = make_stands window host r name hide
   order_stands (Place window at) leaves fit = place_stands window at
@@ -241,6 +245,7 @@ module _ (w : World) (steady : IsSteady w) (furnished : IsFurnished w) where
   order_stands (Leave client) leaves fit =
       let stays = leave_stays nothing client (all_outside client leaves) w (nothing_apart w furnished) furnished.numbers in
       record { root = stays.book.root; rests = leave_rests client w leaves steady.orderly furnished.named stays.book.root }
+  order_stands (Size width height) leaves fit = size_stands width height
 
   pub ordered_grounded : (order : Order) → LeavesManager order → IsGrounded w → IsGrounded (ordered w order)
   ordered_grounded order leaves ground = by (fits w order) refl

@@ -6,7 +6,7 @@ use Rattle.std.proofs.lemmas.List.Elements.{All-filter, All-head, All-push, All-
 use Rattle.r9_geom.specs.declared.Point.{Point}
 use Rattle.r9_geom.specs.declared.Rect.{Rect}
 use Rattle.r9_event.specs.declared.rio.Order.{Order}
-use Rattle.r9_event.specs.declared.rio.Order.TheVariants.{Make, Place, Replace, Raise, Lower, Drop, Host, Leave}
+use Rattle.r9_event.specs.declared.rio.Order.TheVariants.{Make, Place, Replace, Raise, Lower, Drop, Host, Leave, Size}
 use Rattle.model_text.specs.Outcome.{Outcome}
 use Rattle.model_pixel.specs.Channels.{colour_of, pack}
 use Rattle.model_forest.specs.World.{World as Images}
@@ -179,6 +179,7 @@ module _ (opening : Opening) where
   after_called w (Drop window) on named called = drop_called w window called
   after_called w (Host window fill) on named called = host_called w window fill called
   after_called w (Leave k) on named called = absurd on
+  after_called w (Size width height) on named called = absurd on
 
   ordered_called : (w : World) (order : Order) → IsOnWindow order → IsNamedOrder order → IsCalled opening w → IsCalled opening (ordered w order)
   ordered_called w order on named called = by (fits w order)

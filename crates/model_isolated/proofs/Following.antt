@@ -45,7 +45,7 @@ use Rattle.model_phases.proofs.Ended.{IsWindowLost, lost_step, settled_lost}
 use Rattle.model_phases.proofs.Living.{IsUsed, other_begins, other_end, other_message, own_end, turned_used}
 use Rattle.model_isolated.proofs.Own.{IsLiving, counted_of, own_message_alike, rooted_of}
 
-module _ (c : ℕ) (begin : 0 < c) (Like : Option (ℕ × List ℕ) → draw.World → draw.World → Type 0) (Named : draw.World → Table → List (ℕ × Pane) → Type 0) (laws : IsDeviceLike c Like) (names : AreNamesFree Named) where
+module _ (c : ℕ) (begin : 0 < c) (Like : Option (ℕ × ℕ) → Option (ℕ × List ℕ) → draw.World → draw.World → Type 0) (Named : draw.World → Table → List (ℕ × Pane) → Type 0) (laws : IsDeviceLike c Like) (names : AreNamesFree Named) where
   -- ---- phases
 
   -- the session has not begun

@@ -21,11 +21,12 @@ use Rattle.model_wire.specs.Reading.{message_of}
 use Rattle.model_rio.specs.Table.{Rio, Table, Window, is_host, window_of}
 use Rattle.model_draw.specs.World as draw
 use Rattle.model_tree.specs.Attach.{Attach, Whole, Existing, Fresh, Unknown, attach_of}
-use Rattle.model_tree.specs.Node.{qid}
+use Rattle.model_tree.specs.Node.{qid, reads, writes}
 use Rattle.model_tree.specs.Tree.{root_of}
 use Rattle.model_world.specs.Session.{Fid, Session, fid_at}
 use Rattle.model_world.specs.Desktop.{Desktop, stepped}
 use Rattle.model_world.specs.Fids.{Left, and_fid, is_full, left}
+use Rattle.model_world.specs.Reading.{count_within}
 use Rattle.model_world.specs.Answer.{Taking, Ignored, TooLong, Closes, Reads, answer, is_version, taking}
 use Rattle.model_world.specs.Walking.{open_answer, walk_answer}
 use Rattle.model_world.specs.Whole as whole
@@ -34,7 +35,7 @@ use Rattle.model_world.specs.World.{World}
 use Rattle.model_world.specs.Replay.{Turn, closing_tag, reply_to, served, settled, step, with_left}
 use Rattle.model_alone.specs.Isolated.{replies_to}
 use Rattle.model_alone.specs.Own.{Judged, Watched, after_use, effective, judged, judged_by, noted, only_if, reasons, reasons_from}
-use Rattle.model_alone.specs.Uses.{attach_used, bytes_used, event_used, if_bound, if_done, is_fresh, is_in_root, is_name_looked_at, message_used, new_hosts, reached_file, read_used, window_at, write_used}
+use Rattle.model_alone.specs.Uses.{attach_used, bytes_used, event_used, file_reached, if_bound, if_done, is_fresh, is_in_root, is_name_looked_at, message_used, new_hosts, read_used, reading_used, window_at, write_used}
 use Rattle.model_alone.specs.Lone.{LoneWorld, lone_step}
 use Rattle.model_alone.proofs.Histories.{lone_after}
 use Rattle.model_followed.specs.Devices.{AreNamesFree, IsDeviceLike}
@@ -121,20 +122,20 @@ module _ (c : ℕ) (s : Desktop) (session after : Session) (table : Table) (mark
   bound_none : (fid : ℕ) (used : Fid → List Use) → if_bound session fid used ≡ []
   bound_none fid used = ap (λ (fids : List (ℕ × Fid)). option_map_or used (lookup fids fid) []) empty
 
-  reached_none : (fid : ℕ) → reached_file c session s fid ≡ Err 32
-  reached_none fid = rw empty refl
+  reached_none : (allows : ℕ → Bool) (fid : ℕ) → file_reached allows c session s fid ≡ Err 32
+  reached_none allows fid = rw empty refl
 
   -- a session without fids uses nothing, but by an attach
   message_none : (m : T) → NoAttach session m → message_used c session s after table mark m ≡ []
   message_none (Tattach tag fid afid uname aname) none = not_looked (is_name_looked_at session fid afid) (attach_used table aname (window_at after fid) ∷ []) none
   message_none (Twalk tag fid newfid names) none = done_none (walk_answer (desktop_for c) session s tag fid newfid names) _ (bound_none fid _)
   message_none (Topen tag fid mode) none = done_none (open_answer (desktop_for c) session s tag fid mode) _ (bound_none fid _)
-  message_none (Twrite tag fid offset bytes) none = ap (write_used c s bytes mark) (reached_none fid)
+  message_none (Twrite tag fid offset bytes) none = ap (write_used c s bytes mark) (reached_none writes fid)
   message_none (Tversion tag msize version) none = refl
   message_none (Tauth tag afid uname aname) none = refl
   message_none (Tflush tag oldtag) none = refl
   message_none (Tcreate tag fid name perm mode) none = refl
-  message_none (Tread tag fid offset count) none = refl
+  message_none (Tread tag fid offset count) none = ap (reading_used c s offset (count_within session count)) (reached_none reads fid)
   message_none (Tclunk tag fid) none = refl
   message_none (Tremove tag fid) none = refl
   message_none (Tstat tag fid) none = refl
@@ -158,7 +159,7 @@ module _ (c : ℕ) (s : Desktop) (session after : Session) (table : Table) (mark
 
 -- ---- a session that lives
 
-module _ (c : ℕ) (begin : 0 < c) (Like : Option (ℕ × List ℕ) → draw.World → draw.World → Type 0) (Named : draw.World → Table → List (ℕ × Pane) → Type 0) (laws : IsDeviceLike c Like) (names : AreNamesFree Named) where
+module _ (c : ℕ) (begin : 0 < c) (Like : Option (ℕ × ℕ) → Option (ℕ × List ℕ) → draw.World → draw.World → Type 0) (Named : draw.World → Table → List (ℕ × Pane) → Type 0) (laws : IsDeviceLike c Like) (names : AreNamesFree Named) where
   -- Both worlds are the same to the session; until its first attach it has no window; and it alone uses the one that it has.
   pub record IsLiving (world : World) (lone : LoneWorld) (seen : Watched) : Type 0 where
     pub with : IsWith c begin Like Named laws names seen world lone

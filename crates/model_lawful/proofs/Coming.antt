@@ -15,9 +15,10 @@ use Rattle.model_followed.specs.Devices.{IsFree}
 use Rattle.model_renewed.proofs.Coming as coming
 use Rattle.model_assembled.specs.Assembled.{AreAlike, HoldsWindow, IsAlone}
 use Rattle.model_assembled.proofs.Settling.{ordered_settled}
+use Rattle.model_assembled.proofs.Sizes.{beside_nothing, order_shape, size_kept}
 use Rattle.model_lawful.proofs.Lone.{BookAlone, book_alone, granted_alone, kept_name, ordered_is}
 
-module _ (c : ℕ) (a b : World) (alike : AreAlike c None a b) (serial depth : ℕ) (name : List ℕ) (r : Rect) (hide : Bool) (counted : (serial == 0) ≡ false) (fit : fits a (Make serial 0 r name hide depth) ≡ true) (free : IsFree a.book serial name) where
+module _ (c : ℕ) (size : Option (ℕ × ℕ)) (a b : World) (alike : AreAlike c size None a b) (serial depth : ℕ) (name : List ℕ) (r : Rect) (hide : Bool) (counted : (serial == 0) ≡ false) (fit : fits a (Make serial 0 r name hide depth) ≡ true) (free : IsFree a.book serial name) where
   abbrev made : Order
   made = Make serial 0 r name hide depth
 
@@ -65,7 +66,7 @@ module _ (c : ℕ) (a b : World) (alike : AreAlike c None a b) (serial depth : �
       book_alone (Some (serial, name)) b (after_order b alone_made)
       (subst (λ (book : Book). BookAlone (Some (serial, name)) b book) (sym is.book_is) (granted_alone b b.book serial _ _ name (record { ids = alike.alone.ids; screens = alike.alone.screens; ties = alike.alone.ties })))
 
-  pub made_alike : AreAlike c (Some (serial, name)) (ordered a made) (ordered b alone_made)
+  pub made_alike : AreAlike c size (Some (serial, name)) (ordered a made) (ordered b alone_made)
   made_alike = record {
     is = subst (λ (v : World). IsLike c (Some (serial, name)) v (ordered b alone_made)) (sym (ordered_is a made fit))
         (subst (λ (v : World). IsLike c (Some (serial, name)) (after_order a made) v) (sym (ordered_is b alone_made fit_right)) like);
@@ -74,4 +75,6 @@ module _ (c : ℕ) (a b : World) (alike : AreAlike c None a b) (serial depth : �
     name = kept_name serial name free.kept;
     holds = subst (HoldsWindow (Some (serial, name))) (sym (ordered_is a made fit)) holds;
     alone = subst (IsAlone (Some (serial, name))) (sym (ordered_is b alone_made fit_right)) alone;
+    size_left = size_kept size a (ordered a made) (order_shape a alike.left made (beside_nothing serial counted)) alike.size_left;
+    size_right = size_kept size b (ordered b alone_made) (order_shape b alike.right alone_made (beside_nothing serial counted)) alike.size_right;
   }

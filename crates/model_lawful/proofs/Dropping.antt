@@ -17,10 +17,11 @@ use Rattle.model_granted.proofs.Naming.{freed_unused, freed_used}
 use Rattle.model_renewed.proofs.Standing.{OnRoot, on_root_too}
 use Rattle.model_assembled.specs.Assembled.{AreAlike, IsAlone}
 use Rattle.model_assembled.proofs.Settling.{ordered_settled}
+use Rattle.model_assembled.proofs.Sizes.{beside_nothing, order_shape, size_kept}
 use Rattle.model_assembled.proofs.Writing.{holds_nothing}
 use Rattle.model_lawful.proofs.Lone.{BookAlone, bereft_alone, book_alone, ordered_is, without_alone}
 
-module _ (c serial : ℕ) (name : List ℕ) (a b : World) (alike : AreAlike c (Some (serial, name)) a b) (fit : fits a (Drop serial) ≡ true) where
+module _ (c : ℕ) (size : Option (ℕ × ℕ)) (serial : ℕ) (name : List ℕ) (a b : World) (alike : AreAlike c size (Some (serial, name)) a b) (fit : fits a (Drop serial) ≡ true) where
   there : IsThere a serial
   there = window_there a serial fit
 
@@ -55,7 +56,7 @@ module _ (c serial : ℕ) (name : List ℕ) (a b : World) (alike : AreAlike c (S
   alone : IsAlone None (after_order b (Drop serial))
   alone = book_alone None b (drop_window b serial) (subst (λ (book : Book). BookAlone None b book) (sym (dropped_book b serial none_screen)) freed_alone)
 
-  pub dropped_alike : AreAlike c None (ordered a (Drop serial)) (ordered b (Drop serial))
+  pub dropped_alike : AreAlike c size None (ordered a (Drop serial)) (ordered b (Drop serial))
   dropped_alike = record {
     is = subst (λ (v : World). IsLike c None v (ordered b (Drop serial))) (sym (ordered_is a (Drop serial) fit))
         (subst (λ (v : World). IsLike c None (after_order a (Drop serial)) v) (sym (ordered_is b (Drop serial) fit_right)) like);
@@ -64,4 +65,6 @@ module _ (c serial : ℕ) (name : List ℕ) (a b : World) (alike : AreAlike c (S
     name = λ n other is. absurd cc;
     holds = holds_nothing (ordered a (Drop serial));
     alone = subst (IsAlone None) (sym (ordered_is b (Drop serial) fit_right)) alone;
+    size_left = size_kept size a (ordered a (Drop serial)) (order_shape a alike.left (Drop serial) (beside_nothing serial there.counted)) alike.size_left;
+    size_right = size_kept size b (ordered b (Drop serial)) (order_shape b alike.right (Drop serial) (beside_nothing serial there.counted)) alike.size_right;
   }

@@ -1,5 +1,5 @@
 -- The session's window gets another image, on devices that are the same to the session.
-use Rattle.std.proofs.Common.{◌≡◌, ℕ, Bool, true, false, List, Some, sym, subst}
+use Rattle.std.proofs.Common.{◌≡◌, ℕ, Bool, true, false, List, Option, Some, sym, subst}
 use Rattle.std.specs.Prelude.{◌==◌, All}
 use Rattle.std.specs.Str.{bytes_eq}
 use Rattle.r9_geom.specs.declared.Rect.{Rect}
@@ -17,9 +17,10 @@ use Rattle.model_granted.proofs.Untying.{bereft}
 use Rattle.model_renewed.proofs.Replacing as replacing
 use Rattle.model_assembled.specs.Assembled.{AreAlike, HoldsWindow, IsAlone}
 use Rattle.model_assembled.proofs.Settling.{ordered_settled}
+use Rattle.model_assembled.proofs.Sizes.{beside_nothing, order_shape, size_kept}
 use Rattle.model_lawful.proofs.Lone.{BookAlone, alone_tied, bereft_alone, book_alone, granted_alone, kept_name, ordered_is, without_alone}
 
-module _ (c serial : ℕ) (old : List ℕ) (a b : World) (alike : AreAlike c (Some (serial, old)) a b) (name : List ℕ) (r : Rect) (keep hidden : Bool) (fit : fits a (Replace serial 0 r name keep hidden) ≡ true) (free : IsFree a.book serial name) where
+module _ (c : ℕ) (size : Option (ℕ × ℕ)) (serial : ℕ) (old : List ℕ) (a b : World) (alike : AreAlike c size (Some (serial, old)) a b) (name : List ℕ) (r : Rect) (keep hidden : Bool) (fit : fits a (Replace serial 0 r name keep hidden) ≡ true) (free : IsFree a.book serial name) where
   abbrev replaced : Order
   replaced = Replace serial 0 r name keep hidden
 
@@ -51,7 +52,7 @@ module _ (c serial : ℕ) (old : List ℕ) (a b : World) (alike : AreAlike c (So
       (replacing.right_book c serial old a b alike.is alike.left.steady alike.right.steady alike.holds.rooted r name keep hidden fit free.free free_right (BookAlone (Some (serial, name)) b)
       (λ k t. granted_alone b (bereft b.book serial) serial k t name lost) (λ k l t. granted_alone b (without (bereft b.book serial) (Image l)) serial k t name (without_alone b (bereft b.book serial) l lost)))
 
-  pub replaced_alike : AreAlike c (Some (serial, name)) (ordered a replaced) (ordered b alone_replaced)
+  pub replaced_alike : AreAlike c size (Some (serial, name)) (ordered a replaced) (ordered b alone_replaced)
   replaced_alike = record {
     is = subst (λ (v : World). IsLike c (Some (serial, name)) v (ordered b alone_replaced)) (sym (ordered_is a replaced fit))
         (subst (λ (v : World). IsLike c (Some (serial, name)) (after_order a replaced) v) (sym (ordered_is b alone_replaced fit_right)) like);
@@ -60,4 +61,6 @@ module _ (c serial : ℕ) (old : List ℕ) (a b : World) (alike : AreAlike c (So
     name = kept_name serial name free.kept;
     holds = subst (HoldsWindow (Some (serial, name))) (sym (ordered_is a replaced fit)) holds;
     alone = subst (IsAlone (Some (serial, name))) (sym (ordered_is b alone_replaced fit_right)) alone;
+    size_left = size_kept size a (ordered a replaced) (order_shape a alike.left replaced (beside_nothing serial counted)) alike.size_left;
+    size_right = size_kept size b (ordered b alone_replaced) (order_shape b alike.right alone_replaced (beside_nothing serial counted)) alike.size_right;
   }

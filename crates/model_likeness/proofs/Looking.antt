@@ -15,7 +15,7 @@ use Rattle.model_world.specs.Whole.{client}
 use Rattle.model_agreement.specs.Agreement.{SameOption, SameOutcome}
 use Rattle.model_agreement.proofs.Relations.{equal_alike}
 use Rattle.model_likeness.specs.Likeness.{AreLike, SameDisplay, SameId, SamePlace}
-use Rattle.model_likeness.proofs.Shapes.{Keeps, shape_then, shape_turned}
+use Rattle.model_likeness.proofs.Shapes.{Keeps, look_kept}
 
 -- a key that is there gets the value, and one that is not is not there still
 with_at : {A : Type 0} (es : List (ℕ × A)) (key : ℕ) (value : A) → lookup (with es key value) key ≡ option_map (λ _. value) (lookup es key)
@@ -88,7 +88,7 @@ module _ (Same SameScreen : ℕ → ℕ → Type 0) (c : ℕ) (window : Option (
   display_kept x y left right = record {
     named = like.display.named;
     named_alone = like.display.named_alone;
-    shape = shape_then _ _ _ left.shape (shape_then _ _ _ like.display.shape (shape_turned _ _ right.shape));
+    look = look_kept _ _ _ _ left.shape like.display.look right.shape;
     live_left = left.live like.display.live_left;
     live_right = right.live like.display.live_right;
     left = like.display.left;
@@ -125,7 +125,7 @@ module _ (Same SameScreen : ℕ → ℕ → Type 0) (c : ℕ) (window : Option (
     display = record {
       named = like.display.named;
       named_alone = like.display.named_alone;
-      shape = like.display.shape;
+      look = like.display.look;
       live_left = like.display.live_left;
       live_right = like.display.live_right;
       left = like.display.left;

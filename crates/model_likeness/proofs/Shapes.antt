@@ -12,7 +12,7 @@ use Rattle.model_forest.specs.Draw.{Drawing, after_draw, after_load}
 use Rattle.model_forest.specs.Stack.{after_lower, after_raise, after_restack, after_window, lowered, moved, raised, with_windows, without}
 use Rattle.model_forest.specs.Steps.{after_image, after_list, after_origin, after_release, after_set, carried_rect}
 use Rattle.model_forest.proofs.Changes.{with_image-at, with_image-other}
-use Rattle.model_likeness.specs.Likeness.{SameShape}
+use Rattle.model_likeness.specs.Likeness.{SameLook, SameShape}
 
 -- an image has the shape that it had, and lives if it did
 pub record Keeps (old new : World) (n : ℕ) : Type 0 where
@@ -25,8 +25,9 @@ shape_itself x = record { r = refl; clipr = refl; repl = refl; chan = refl }
 pub shape_then : (x y z : Image) → SameShape x y → SameShape y z → SameShape x z
 shape_then x y z one two = record { r = one.r ∙ two.r; clipr = one.clipr ∙ two.clipr; repl = one.repl ∙ two.repl; chan = one.chan ∙ two.chan }
 
-pub shape_turned : (x y : Image) → SameShape x y → SameShape y x
-shape_turned x y same = record { r = sym same.r; clipr = sym same.clipr; repl = sym same.repl; chan = sym same.chan }
+-- two images look the same still where each keeps its shape
+pub look_kept : (x u v y : Image) → SameShape x u → SameLook u v → SameShape y v → SameLook x y
+look_kept x u v y left same right = record { repl = left.repl ∙ same.repl ∙ sym right.repl; chan = left.chan ∙ same.chan ∙ sym right.chan }
 
 pub keeps_itself : (w : World) (n : ℕ) → Keeps w w n
 keeps_itself w n = record { shape = shape_itself (image_at w n); live = λ is. is }

@@ -130,15 +130,21 @@ pub record SameShape (x y : ImageState) : Type 0 where
   pub repl : x.repl ≡ y.repl
   pub chan : x.chan ≡ y.chan
 
+-- and two of which it does but for their rectangles
+pub record SameLook (x y : ImageState) : Type 0 where
+  pub repl : x.repl ≡ y.repl
+  pub chan : x.chan ≡ y.chan
+
 -- the id of the display, which is image 0
 abbrev pub display_id : ImageId
 display_id = record { client = manager; id = 0; image = 0; tie = None }
 
--- The display is image 0 of both, with the manager's id 0, and none of the images that are the same.
+-- The display is image 0 of both, with the manager's id 0, and none of the images that are the same. One may have another size than
+-- the other.
 pub record SameDisplay (Same : ℕ → ℕ → Type 0) (a b : World) : Type 0 where
   pub named : image_id a.book manager 0 ≡ Some display_id
   pub named_alone : image_id b.book manager 0 ≡ Some display_id
-  pub shape : SameShape (at_number a 0) (at_number b 0)
+  pub look : SameLook (at_number a 0) (at_number b 0)
   pub live_left : IsLive a.images 0
   pub live_right : IsLive b.images 0
   pub left : (i j : ℕ) → Same i j → i ≢ 0

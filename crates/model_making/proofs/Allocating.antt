@@ -24,7 +24,7 @@ use Rattle.model_world.specs.Whole.{client}
 use Rattle.model_agreement.specs.Agreement.{SameOption, SameOutcome}
 use Rattle.model_agreement.proofs.Relations.{bind_alike, check_alike, equal_alike, if_alike}
 use Rattle.model_likeness.specs.Likeness.{AreLike, SameDisplay, SameScreenId, SameScreens}
-use Rattle.model_likeness.proofs.Shapes.{Keeps, keeps_image, keeps_set, keeps_then, keeps_window, shape_then, shape_turned}
+use Rattle.model_likeness.proofs.Shapes.{Keeps, keeps_image, keeps_set, keeps_then, keeps_window, look_kept}
 use Rattle.model_likeness.proofs.Looking.{client_same, with_client_like}
 use Rattle.model_likeness.proofs.Ids.{apart_manager, taken_same}
 use Rattle.model_making.specs.Standing.{IsWhole}
@@ -141,7 +141,7 @@ module _ (Same SameScreen : ℕ → ℕ → Type 0) (c : ℕ) (window : Option (
       made_display = record {
         named = find-put (λ e. (e.client == owner manager 0) && (e.id == 0)) (entry (client c n) id p) a.book.image_ids (apart_manager c n id 0 like.counted) ∙ like.display.named;
         named_alone = find-put (λ e. (e.client == owner manager 0) && (e.id == 0)) (entry (client 1 n) id q) b.book.image_ids (apart_manager 1 n id 0 (omega arith)) ∙ like.display.named_alone;
-        shape = shape_then _ _ _ keeps_left.shape (shape_then _ _ _ like.display.shape (shape_turned _ _ keeps_right.shape));
+        look = look_kept _ _ _ _ keeps_left.shape like.display.look keeps_right.shape;
         live_left = keeps_left.live like.display.live_left;
         live_right = keeps_right.live like.display.live_right;
         left = apart;

@@ -123,7 +123,7 @@ module _ (Same SameScreen : ℕ → ℕ → Type 0) (c : ℕ) (window : Option (
     named_display = record {
       named = find-put (λ e. (e.client == owner manager 0) && (e.id == 0)) (entry (client c n) id s) a.book.image_ids (apart_manager c n id 0 like.counted) ∙ like.display.named;
       named_alone = find-put (λ e. (e.client == owner manager 0) && (e.id == 0)) (entry (client 1 n) id t) b.book.image_ids (apart_manager 1 n id 0 (omega arith)) ∙ like.display.named_alone;
-      shape = like.display.shape;
+      look = like.display.look;
       live_left = like.display.live_left;
       live_right = like.display.live_right;
       left = like.display.left;
@@ -170,11 +170,11 @@ module _ (Same SameScreen : ℕ → ℕ → Type 0) (c : ℕ) (window : Option (
   -- ---- reads of `ctl`
 
   -- of image id 0 it tells of the display
-  pub display_told : (number : ℕ) → ((client_of b (client 1 n)).described == 0) ≡ true → read_ctl (client c n) a number ≡ Ok (description number 0 (at_number b 0))
+  pub display_told : (number : ℕ) → ((client_of b (client 1 n)).described == 0) ≡ true → read_ctl (client c n) a number ≡ Ok (description number 0 (at_number a 0))
   unfolding read_ctl image
   display_told number is =
       let at : (client_of a (client c n)).described ≡ 0 = ap (λ (x : Client). x.described) (client_same Same SameScreen c window a b like n few) ∙ eqb-true (client_of b (client 1 n)).described 0 is in
-      rw (at, like.display.named, like.display.shape.chan, like.display.shape.repl, like.display.shape.r, like.display.shape.clipr) refl
+      rw (at, like.display.named) refl
 
   -- of others it tells the same
   pub read_ctl_same : (number : ℕ) → ((client_of b (client 1 n)).described == 0) ≡ false → read_ctl (client c n) a number ≡ read_ctl (client 1 n) b number

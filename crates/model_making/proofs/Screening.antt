@@ -258,7 +258,7 @@ module _ (Same SameScreen : ℕ → ℕ → Type 0) (c : ℕ) (window : Option (
       display = record {
         named = like.display.named;
         named_alone = like.display.named_alone;
-        shape = like.display.shape;
+        look = like.display.look;
         live_left = like.display.live_left;
         live_right = like.display.live_right;
         left = like.display.left;

@@ -5,18 +5,20 @@ use Rattle.std.specs.List.{list_any}
 use Rattle.std.specs.Result.{result_unwrap_or}
 use Rattle.std.proofs.lemmas.List.Elements.{All-head, All-tail}
 use Rattle.r9_geom.specs.declared.Rect.{Rect}
+use Rattle.r9_geom.specs.Geometry.{is_point}
 use Rattle.r9_event.specs.declared.rio.Order.{Order}
-use Rattle.r9_event.specs.declared.rio.Order.TheVariants.{Make, Place, Replace, Raise, Lower, Drop, Host, Leave}
+use Rattle.r9_event.specs.declared.rio.Order.TheVariants.{Make, Place, Replace, Raise, Lower, Drop, Host, Leave, Size}
 use Rattle.model_text.specs.Outcome.{Outcome}
-use Rattle.model_forest.specs.World.{World as Images}
+use Rattle.model_forest.specs.World.{World as Images, origin_point}
+use Rattle.model_resize.specs.Resize.{after_resize}
 use Rattle.model_images.specs.declared.ImageId.{ImageId}
 use Rattle.model_images.specs.declared.ScreenId.{ScreenId}
 use Rattle.model_images.specs.Book.{Book, add_id, image_id, is_image_id_taken, screen_numbered, tie}
 use Rattle.model_images.specs.Release.{Freed, free_id, nothing_freed}
 use Rattle.model_images.proofs.Freed.{free_id-frees}
 use Rattle.model_draw.specs.World.{World, after_freed, at_number, next_image, with_book}
-use Rattle.model_draw.specs.Making.{with_made}
-use Rattle.model_draw.specs.Orders.{after_order, bordered, can_keep, carried_out, drop_window, fits, has_rio, has_window, image_freed, image_shown, is_near_point, is_window_rect, make_window, manager, new_white, ordered, place_window, replace_window, rio_screen, screen_freed, with_window, with_window_name}
+use Rattle.model_draw.specs.Making.{is_window, with_made}
+use Rattle.model_draw.specs.Orders.{after_order, bordered, can_keep, carried_out, drop_window, fits, has_display, has_rio, has_window, image_freed, image_shown, is_near_point, is_side, is_window_rect, make_window, manager, new_white, ordered, place_window, replace_window, resize_display, rio_screen, screen_freed, with_window, with_window_name}
 use Rattle.model_forest.specs.Steps.{outside}
 use Rattle.model_shown.specs.Showing.{IsOrderly, IsOut}
 use Rattle.model_shown.proofs.Numbers.{gone-book, gone-out, next_out, out_taken, spare_next}
@@ -28,8 +30,9 @@ use Rattle.model_lasting.proofs.Ordering.{free_taken, next_unused, place_follows
 use Rattle.model_making.proofs.Making.{entered}
 use Rattle.model_whole.specs.Steady.{IsSteady}
 use Rattle.model_whole.proofs.Freeing.{leave_whole}
+use Rattle.model_whole.proofs.Resting.{images_whole, put_rests}
 use Rattle.model_managed.specs.Ending.{LeavesManager}
-use Rattle.model_managed.proofs.Ordering.{drop_whole, host_orderly, host_whole, id_given, lower_whole, make_whole, place_whole, raise_whole, rio_there, window_there}
+use Rattle.model_managed.proofs.Ordering.{drop_whole, host_orderly, host_whole, id_given, lower_whole, make_whole, place_whole, raise_whole, rio_there, shown_lives, window_there}
 use Rattle.model_managed.proofs.Replaced.{replace_whole, rio_held}
 
 -- ---- orderly still
@@ -124,6 +127,23 @@ drop_orderly w window steady has =
     by v orderly (Ok freed) e = (let follows = window_freed v window freed orderly (window_there w window has).counted e in follows.orderly)
     by v orderly (Err n) e = record { ties = orderly.ties; images = orderly.images; numbers = orderly.numbers; screens = orderly.screens; spare = orderly.spare }
 
+-- ---- another size
+
+display_known : (w : World) → has_display w ≡ true → is_some (image_id w.book manager 0) ≡ true
+display_known w has =
+    let i = image_shown w 0 in
+    let known = is_some (image_id w.book manager 0) in
+    let apart = not (is_window w i) in
+    let corner = is_point (at_number w i).r.min origin_point in
+    (split known apart (split (known && apart) corner (split (known && apart && corner) (not (at_number w i).repl) has).0).0).0
+
+size_steady : (w : World) (width height : ℕ) → IsSteady w → has_display w ≡ true → IsSteady (resize_display w width height)
+unfolding resize_display after_resize
+size_steady w width height steady has = record {
+  whole = images_whole w _ (put_rests w.images (image_shown w 0) _ (shown_lives w 0 steady.whole (display_known w has)) refl (λ P all. all)) steady.whole;
+  orderly = (let o = steady.orderly in record { ties = o.ties; images = o.images; numbers = o.numbers; screens = o.screens; spare = o.spare });
+}
+
 -- ---- each order
 
 none_is : (o : Option ImageId) → is_none o ≡ true → o ≡ None
@@ -150,6 +170,7 @@ after_steady w (Host window fill) leaves steady fit =
     let both = split (has_window w window) (has_rio w 0) (split (has_window w window && has_rio w 0) (is_window_rect (at_number w (image_shown w window)).r) fit).0 in
     record { whole = host_whole w window fill steady.whole steady.orderly both.0 both.1; orderly = host_orderly w window fill steady.whole steady.orderly both.0 both.1 }
 after_steady w (Leave client) leaves steady fit = record { whole = leave_whole w client steady.whole; orderly = (let follows = leave_still w client leaves steady.orderly in follows.orderly) }
+after_steady w (Size width height) leaves steady fit = size_steady w width height steady (split (is_side width && is_side height) (has_display w) fit).1
 
 pub ordered_steady : (w : World) (o : Order) → LeavesManager o → IsSteady w → IsSteady (ordered w o)
 ordered_steady w o leaves steady = by (fits w o) refl

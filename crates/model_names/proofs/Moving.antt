@@ -1,11 +1,11 @@
 -- The acts in which no window comes or goes: on the way each name is that of its window.
-use Rattle.std.proofs.Common.{◌≡◌, ◌<◌, ◌^◌, ℕ, zero, suc, Bool, true, false, cond, List, [], ◌∷◌, ◌++◌, reverse, length, nat_le, Option, Some, None, Ok, Err, refl, subst}
-use Rattle.std.specs.Prelude.{◌==◌, not}
+use Rattle.std.proofs.Common.{◌≡◌, ◌<◌, ◌^◌, ℕ, zero, suc, pos, Bool, true, false, cond, List, [], ◌∷◌, ◌++◌, reverse, length, nat_le, Option, Some, None, Ok, Err, refl, subst}
+use Rattle.std.specs.Prelude.{◌==◌, filter, not}
 use Rattle.std.specs.Map.{keys_of}
 use Rattle.std.proofs.lemmas.List.Sorted.{All-permutation, IsPermutation-reverse}
 use Rattle.r9_geom.specs.declared.Rect.{Rect}
 use Rattle.r9_geom.specs.declared.Point.{Point}
-use Rattle.r9_geom.specs.Geometry.{shifted}
+use Rattle.r9_geom.specs.Geometry.{is_empty, meet, shifted}
 use Rattle.r9_window.specs.Ways.{way}
 use Rattle.r9_event.specs.declared.rio.Note.TheVariants as note
 use Rattle.r9_event.specs.declared.rio.Order.TheVariants as order
@@ -13,14 +13,14 @@ use Rattle.model_map.specs.Ascending.{Ascend}
 use Rattle.model_text.specs.Outcome.{Outcome}
 use Rattle.model_mouse.specs.declared.Mouse.{Mouse}
 use Rattle.model_wctl.specs.declared.Choice.{Choice}
-use Rattle.model_wctl.specs.Rectangle.{applied, is_near}
+use Rattle.model_wctl.specs.Rectangle.{applied, box, is_near}
 use Rattle.model_window.specs.Pane.{Pane}
 use Rattle.model_draw.specs.World.{World}
 use Rattle.model_rio.specs.Table.{Window, Table, Hold, Free, Held, Nobody, deepest, hold_of, is_host, no_windows, path_of, topmost, windows_in}
 use Rattle.model_rio.specs.Step.{Step, noted, ordered, with_current}
 use Rattle.model_rio.specs.Moving.{carried, each, followed, moved, replaced}
 use Rattle.model_rio.specs.Routing.{given, keyed, moused, point_of, pressed, reacted, receiver}
-use Rattle.model_rio.specs.Rio.{hosted, moved_by, to_top}
+use Rattle.model_rio.specs.Rio.{hosted, moved_by, resized, to_corner, to_top, windows_off}
 use Rattle.model_rio.specs.Sound.{IsSound}
 use Rattle.model_shown.proofs.Tests.{refuse_ok, same_Ok, then_ok, value_ok}
 use Rattle.model_fitting.proofs.Lists.{Each, all_of, each_filter, each_found, each_of}
@@ -76,18 +76,21 @@ module _ (large : Table) (ok : IsSound large) (few : large.serials < 2 ^ 32) (de
   abbrev Moves : (Window → Rect → Step → Outcome Step) → Type 0
   Moves move = (w : Window) (r : Rect) (step out : Step) → StandsIn large w → Holds step → move w r step ≡ Ok out → Holds out
 
-  carried_holds : (move : Window → Rect → Step → Outcome Step) → Moves move → (by : Point) (w : Window) (step out : Step) → StandsIn large w → Holds step → carried move by w step ≡ Ok out → Holds out
+  abbrev Changes : (Window → Step → Outcome Step) → Type 0
+  Changes change = (w : Window) (step out : Step) → StandsIn large w → Holds step → change w step ≡ Ok out → Holds out
+
+  carried_holds : (move : Window → Rect → Step → Outcome Step) → Moves move → (by : Point) → Changes (carried move by)
   carried_holds move moves by w step out at is e = by_test (is_near (shifted w.r by)) e
     where
       by_test : (b : Bool) → cond b (move w (shifted w.r by) step) (Err 47) ≡ Ok out → Holds out
       by_test true e = moves w (shifted w.r by) step out at is e
       by_test false e = absurd (let f : ◌≡◌ {A = Outcome Step} (Err 47) (Ok out) = e in cc)
 
-  each_holds : (move : Window → Rect → Step → Outcome Step) → Moves move → (by : Point) (ws : List Window) (step out : Step) → Each (StandsIn large) ws → Holds step → each (carried move by) ws step ≡ Ok out → Holds out
-  each_holds move moves by [] step out at is e = subst Holds (same_Ok step out e) is
-  each_holds move moves by (w ∷ ws) step out at is e =
-      let first = then_ok (carried move by w step) (each (carried move by) ws) out e in
-      each_holds move moves by ws first.0 out at.1 (carried_holds move moves by w step first.0 at.0 is first.1) first.2
+  each_holds : (change : Window → Step → Outcome Step) → Changes change → (ws : List Window) (step out : Step) → Each (StandsIn large) ws → Holds step → each change ws step ≡ Ok out → Holds out
+  each_holds change changes [] step out at is e = subst Holds (same_Ok step out e) is
+  each_holds change changes (w ∷ ws) step out at is e =
+      let first = then_ok (change w step) (each change ws) out e in
+      each_holds change changes ws first.0 out at.1 (changes w step first.0 at.0 is first.1) first.2
 
   followed_holds : (move : Window → Rect → Step → Outcome Step) → Moves move → (host : ℕ) (fill : Bool) (by : Point) (step out : Step) → Holds step → followed move host fill by step ≡ Ok out → Holds out
   followed_holds move moves host fill by step out is e = by_test (is_host step.table host) refl
@@ -101,7 +104,7 @@ module _ (large : Table) (ok : IsSound large) (few : large.serials < 2 ^ 32) (de
       by_test : (b : Bool) → is_host step.table host ≡ b → Holds out
       by_test true at =
           let all : each (carried move by) (reverse inside) (ordered (order.Host host fill) step) ≡ Ok out = rw at at e in
-          each_holds move moves by (reverse inside) (ordered (order.Host host fill) step) out
+          each_holds (carried move by) (carried_holds move moves by) (reverse inside) (ordered (order.Host host fill) step) out
           (each_of (StandsIn large) (reverse inside) (All-permutation (StandsIn large) inside (reverse inside) (IsPermutation-reverse inside) (all_of (StandsIn large) inside standing)))
           (ordered_stands large ok few device panes ascend (order.Host host fill) step tt (λ window. tt) is) all
       by_test false at =
@@ -119,6 +122,23 @@ module _ (large : Table) (ok : IsSound large) (few : large.serials < 2 ^ 32) (de
   moved_by_holds keep options w step out at is e =
       let place = value_ok (applied keep options w.r) 47 _ out e in
       moved_holds deepest keep w place.0 step out at is place.2
+
+  off_standing : (r : Rect) (step : Step) → Holds step → Each (StandsIn large) (windows_off r step.table)
+  off_standing r step is =
+      let inside = windows_in step.table 0 in
+      let off = filter (λ w. is_empty (meet w.r r)) inside in
+      let standing = each_filter (StandsIn large) (StandsIn large) (λ w. is_empty (meet w.r r)) (λ w here at. at) inside
+      (each_filter (StandsIn large) (StandsIn large) (λ w. w.host == 0) (λ w here at. at) step.table.windows is.each) in
+      each_of (StandsIn large) (reverse off) (All-permutation (StandsIn large) off (reverse off) (IsPermutation-reverse off) (all_of (StandsIn large) off standing))
+
+  pub resized_holds : (width height : ℕ) (step out : Step) → Holds step → resized width height step ≡ Ok out → Holds out
+  unfolding resized
+  resized_holds width height step out is e =
+      let r = box (pos 0) (pos 0) (pos width) (pos height) in
+      let next : Step = record step { table = record step.table { r = r } } in
+      let same : Holds next = record { serials = is.serials; each = is.each; lives = is.lives; ties = is.ties; free = is.free; files = is.files } in
+      each_holds (moved_by true to_corner) (moved_by_holds true to_corner) (windows_off r step.table) (ordered (order.Size width height) next) out (off_standing r step is)
+      (ordered_stands large ok few device panes ascend (order.Size width height) next tt (λ window. tt) same) e
 
   -- ---- a rio in a window
 

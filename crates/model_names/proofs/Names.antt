@@ -32,7 +32,7 @@ use Rattle.model_names.proofs.Placing.{StandsIn, all_same, names_apart, stands_i
 use Rattle.model_tied.proofs.Messages.{uses_keep}
 use Rattle.model_names.proofs.Filed.{heard_keeps}
 use Rattle.model_names.proofs.Standing.{Stands, Tied, bottom_stands, hidden_stands, made_current_stands, shown_stands, top_stands}
-use Rattle.model_names.proofs.Moving.{hosted_holds, keyed_holds, moused_holds, moved_by_holds}
+use Rattle.model_names.proofs.Moving.{hosted_holds, keyed_holds, moused_holds, moved_by_holds, resized_holds}
 use Rattle.model_names.proofs.Deleting.{Left, TiedStill, deleted_left}
 use Rattle.model_names.proofs.Making.{few, made_holds}
 
@@ -172,6 +172,7 @@ module _ (device : World) (panes : List (ℕ × Pane)) (ascend : Ascend (keys_of
         still_named out sound
         (subst Holds (same_Ok (keyed (focus deepest table 0) (characters bytes) (begun table)) out e) (keyed_holds table named.sound named.few device panes ascend (focus deepest table 0) (characters bytes) (begun table) begun_holds))
     acts_named (act.Gone window) out fit sound e = command_named window wctl.Delete out fit sound e
+    acts_named (act.Size width height) out fit sound e = still_named out sound (resized_holds table named.sound named.few device panes ascend width height (begun table) out begun_holds e)
 
 -- ---- each law
 

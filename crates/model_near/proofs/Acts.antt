@@ -15,14 +15,14 @@ use Rattle.model_mouse.specs.declared.Mouse.{Mouse}
 use Rattle.model_wctl.specs.declared.Choice.{Choice}
 use Rattle.model_wctl.specs.Command.{Wctl}
 use Rattle.model_wctl.specs.Command as wctl
-use Rattle.model_wctl.specs.Rectangle.{after_choice, applied, is_coordinate, is_near, is_side, is_window}
+use Rattle.model_wctl.specs.Rectangle.{after_choice, applied, box, is_coordinate, is_near, is_side, is_window}
 use Rattle.model_rio.specs.Table.{Window, Table, Hold, Free, Held, Nobody, rio_of, window_of, path_of, name_by, rectangle_of, is_host, windows_in, made_in, deepest, current_of, hold_of, topmost}
 use Rattle.model_rio.specs.Act.{Act}
 use Rattle.model_rio.specs.Act as act
 use Rattle.model_rio.specs.Step.{Step, begun, ordered, noted, with_rio, with_hold, with_windows, with_current, told_current, in_place, is_same, is_held, not_current, retired}
 use Rattle.model_rio.specs.Moving.{next_name, renewed, replaced, each, carried, followed, moved, forgotten, dropped, deleted}
 use Rattle.model_rio.specs.Routing.{moused, reacted, given, pressed, point_of, receiver, focus, keyed, keys_of}
-use Rattle.model_rio.specs.Rio.{is_full, new_window, entered, made, new_in, first_rectangle, hidden, shown, to_top, to_bottom, made_current, hosted, moved_by, commanded, command_to, outside, rio}
+use Rattle.model_rio.specs.Rio.{is_full, new_window, entered, made, new_in, first_rectangle, hidden, shown, to_top, to_bottom, made_current, hosted, moved_by, windows_off, to_corner, resized, commanded, command_to, outside, rio}
 use Rattle.model_shown.proofs.Tests.{refuse_ok, same_Ok, then_ok, value_ok}
 use Rattle.model_near.specs.Near.{IsNearNote}
 
@@ -185,18 +185,21 @@ replaced_tells false w r step near tells =
 abbrev Moves : (Window → Rect → Step → Outcome Step) → Type 0
 Moves move = (w : Window) (r : Rect) (step out : Step) → IsRectNear r → Tells step → move w r step ≡ Ok out → Tells out
 
-carried_tells : (move : Window → Rect → Step → Outcome Step) → Moves move → (by : Point) (w : Window) (step out : Step) → Tells step → carried move by w step ≡ Ok out → Tells out
+abbrev Changes : (Window → Step → Outcome Step) → Type 0
+Changes change = (w : Window) (step out : Step) → Tells step → change w step ≡ Ok out → Tells out
+
+carried_tells : (move : Window → Rect → Step → Outcome Step) → Moves move → (by : Point) → Changes (carried move by)
 carried_tells move moves by w step out tells e = by_test (is_near (shifted w.r by)) refl e
   where
     by_test : (b : Bool) → is_near (shifted w.r by) ≡ b → cond b (move w (shifted w.r by) step) (Err 47) ≡ Ok out → Tells out
     by_test true near e = moves w (shifted w.r by) step out (near_rect (shifted w.r by) near) tells e
     by_test false near e = absurd (let f : ◌≡◌ {A = Outcome Step} (Err 47) (Ok out) = e in cc)
 
-each_tells : (move : Window → Rect → Step → Outcome Step) → Moves move → (by : Point) (ws : List Window) (step out : Step) → Tells step → each (carried move by) ws step ≡ Ok out → Tells out
-each_tells move moves by [] step out tells e = subst Tells (same_Ok step out e) tells
-each_tells move moves by (w ∷ ws) step out tells e =
-    let first = then_ok (carried move by w step) (each (carried move by) ws) out e in
-    each_tells move moves by ws first.0 out (carried_tells move moves by w step first.0 tells first.1) first.2
+each_tells : (change : Window → Step → Outcome Step) → Changes change → (ws : List Window) (step out : Step) → Tells step → each change ws step ≡ Ok out → Tells out
+each_tells change changes [] step out tells e = subst Tells (same_Ok step out e) tells
+each_tells change changes (w ∷ ws) step out tells e =
+    let first = then_ok (change w step) (each change ws) out e in
+    each_tells change changes ws first.0 out (changes w step first.0 tells first.1) first.2
 
 followed_tells : (move : Window → Rect → Step → Outcome Step) → Moves move → (host : ℕ) (fill : Bool) (by : Point) (step out : Step) → Tells step → followed move host fill by step ≡ Ok out → Tells out
 followed_tells move moves host fill by step out tells e = by_test (is_host step.table host) refl
@@ -204,7 +207,7 @@ followed_tells move moves host fill by step out tells e = by_test (is_host step.
     by_test : (b : Bool) → is_host step.table host ≡ b → Tells out
     by_test true at =
         let all : each (carried move by) (reverse (windows_in step.table host)) (ordered (order.Host host fill) step) ≡ Ok out = rw at at e in
-        each_tells move moves by (reverse (windows_in step.table host)) (ordered (order.Host host fill) step) out tells all
+        each_tells (carried move by) (carried_tells move moves by) (reverse (windows_in step.table host)) (ordered (order.Host host fill) step) out tells all
     by_test false at =
         let same : ◌≡◌ {A = Outcome Step} (Ok step) (Ok out) = rw at at e in
         subst Tells (same_Ok step out same) tells
@@ -249,6 +252,12 @@ moved_by_tells keep options w step out tells e =
     let place = value_ok (applied keep options w.r) 47 _ out e in
     moved_tells deepest keep w place.0 step out (near_applied keep options w.r place.0 place.1) tells place.2
 
+resized_tells : (width height : ℕ) (step out : Step) → Tells step → resized width height step ≡ Ok out → Tells out
+unfolding resized
+resized_tells width height step out tells e =
+    let r = box (pos 0) (pos 0) (pos width) (pos height) in
+    each_tells (moved_by true to_corner) (moved_by_tells true to_corner) (windows_off r step.table) (ordered (order.Size width height) (record step { table = record step.table { r = r } })) out tells e
+
 hosted_tells : (w : Window) (step out : Step) → Tells step → hosted w step ≡ Ok out → Tells out
 unfolding hosted
 hosted_tells w step out tells e =
@@ -289,3 +298,4 @@ acts_tell_near table (act.Command window what) out e = command_to_tells window w
 acts_tell_near table (act.Mouse pointer) out e = done_tells (moused deepest pointer 0 (begun table)) out (moused_tells deepest pointer 0 (begun table) (begun_tells table)) e
 acts_tell_near table (act.Keys bytes) out e = done_tells (keyed (focus deepest table 0) (keys_of bytes) (begun table)) out (keyed_tells (focus deepest table 0) (keys_of bytes) (begun table) (begun_tells table)) e
 acts_tell_near table (act.Gone window) out e = command_to_tells window wctl.Delete (begun table) out (begun_tells table) e
+acts_tell_near table (act.Size width height) out e = resized_tells width height (begun table) out (begun_tells table) e

@@ -11,6 +11,7 @@ use Rattle.model_console.specs.Console as console
 use Rattle.model_window.specs.Heard.{wctl_answer, wctl_text}
 use Rattle.model_wire.specs.Message.{T, Tversion, Tauth, Tattach, Tflush, Twalk, Topen, Tcreate, Tread, Twrite, Tclunk, Tremove, Tstat, Twstat, Rclunk, R, no_fid, no_tag, tag_of_t}
 use Rattle.model_wire.specs.Reading.{message_of, tag_of}
+use Rattle.model_words.specs.Values.{sides_of}
 use Rattle.model_tree.specs.declared.Kind.{Kind}
 use Rattle.model_tree.specs.declared.Kind.TheVariants as kind
 use Rattle.model_tree.specs.Attach.{attach_of}
@@ -19,7 +20,7 @@ use Rattle.model_tree.specs.Listing.{stats}
 use Rattle.model_tree.specs.Tree.{check_live}
 use Rattle.model_world.specs.Session.{Fid, Session, Wait}
 use Rattle.model_world.specs.Desktop.{Desktop}
-use Rattle.model_world.specs.Whole.{attached, client, commanded, ctl_written, data_read, desktop_for, device_commanded, moused, typed}
+use Rattle.model_world.specs.Whole.{attached, client, commanded, ctl_written, data_read, desktop_for, device_commanded, moused, resized, typed}
 use Rattle.model_world.specs.Refusal.{refusal}
 use Rattle.model_world.specs.Fids.{Done, Left, beside, cleared, fid_of, fids_gone, is_bound, is_full, is_kept, is_kind, left_by, let_go, settled}
 use Rattle.model_world.specs.Walking.{attach_answer, is_taken, most_made, open_answer, opened, walk_answer}
@@ -29,7 +30,7 @@ use Rattle.model_world.specs.Waiting.{answered_or, awaited, first_of, given_or_r
 use Rattle.model_world.specs.Answer.{Taking, Ignored, TooLong, Closes, Reads, agreed_on, answer, answer_read, answer_to, asks_for_9p, clunk_answer, denied, is_version, read_or_not, replied, stat_answer, taken, taking, version_answer}
 use Rattle.model_world.proofs.Others.{after_if, after_step}
 use Rattle.model_orders.proofs.Leading.{IsLed, led_beside}
-use Rattle.model_orders.proofs.Desktops.{IsMadeDrawn, IsReadDrawn, all_leave_drawn, all_let_go_drawn, attached_drawn, client_other, commanded_drawn, connect_drawn, ctl_written_drawn, data_read_drawn, device_commanded_drawn, held_drawn, left_drawn, moused_drawn, typed_drawn, written_data_drawn}
+use Rattle.model_orders.proofs.Desktops.{IsMadeDrawn, IsReadDrawn, all_leave_drawn, all_let_go_drawn, attached_drawn, client_other, commanded_drawn, connect_drawn, ctl_written_drawn, data_read_drawn, device_commanded_drawn, held_drawn, left_drawn, moused_drawn, resized_drawn, typed_drawn, written_data_drawn}
 
 module _ (start : Desktop) where
   abbrev Led : Desktop → Type 0
@@ -76,6 +77,7 @@ module _ (start : Desktop) where
   file_read_drawn c desktop fid offset count kind.Winid is = is
   file_read_drawn c desktop fid offset count kind.Winname is = is
   file_read_drawn c desktop fid offset count kind.Picture is = is
+  file_read_drawn c desktop fid offset count kind.Hwsize is = is
   file_read_drawn c desktop fid offset count kind.Mouse is = given_in_drawn c desktop fid mouse_len count kind.Mouse is
   file_read_drawn c desktop fid offset count kind.Wctl is = given_in_drawn c desktop fid wctl_len count kind.Wctl is
   file_read_drawn c desktop fid offset count kind.Cons is = given_now_drawn c desktop fid count kind.Cons is
@@ -118,6 +120,8 @@ module _ (start : Desktop) where
   file_written_drawn c desktop node offset bytes mark kind.Cons begun is = led_beside start desktop _ refl refl is
   file_written_drawn c desktop node offset bytes mark kind.Consctl begun is =
       whole_drawn desktop (raw_asked (line_of bytes) >>= λ asked. Ok (with_raw_asked (desktop_for c) desktop node.serial asked)) (after_step _ (raw_asked (line_of bytes)) _ (λ asked _. raw_drawn c desktop node.serial asked is))
+  file_written_drawn c desktop node offset bytes mark kind.Hwsize begun is =
+      whole_drawn desktop (value_or_refuse (sides_of (line_of bytes)) 51 >>= λ size. resized desktop size) (resized_drawn start desktop (line_of bytes) is)
   file_written_drawn c desktop node offset bytes mark kind.Mouse begun is = is
   file_written_drawn c desktop node offset bytes mark kind.Label begun is = led_beside start desktop _ refl refl is
   file_written_drawn c desktop node offset bytes mark kind.Wctl begun is = whole_drawn desktop (commanded desktop node.serial bytes) (commanded_drawn start desktop node.serial bytes is)

@@ -10,6 +10,7 @@ use Rattle.model_lasting.proofs.Messages.{Still, connect_still, leave_still, wri
 use Rattle.model_fitting.specs.Fitting.{Shows}
 use Rattle.model_fitting.proofs.Stepping.{shows_follow}
 use Rattle.model_orders.specs.Leading.{IsDrawn, Leads, Uses, acts, begins, chooses, ends, reads, rests, there, uses, writes}
+use Rattle.model_orders.proofs.Furnished.{used_furnished}
 use Rattle.model_orders.proofs.Leading.{led_itself}
 use Rattle.model_orders.proofs.Desktops.{choice_is, read_is, step_drawn}
 
@@ -21,10 +22,11 @@ uses_still old new (chooses k bytes next e) o = choice_is k old bytes next o e
 uses_still old new (begins k) o = connect_still old k o
 uses_still old new (ends k other) o = leave_still old k other o
 
-used_drawn : (desktop next : Desktop) → IsDrawn desktop → next.table ≡ desktop.table → Still desktop.device next.device → IsDrawn next
-used_drawn desktop next is table still = record {
+used_drawn : (desktop next : Desktop) → IsDrawn desktop → next.table ≡ desktop.table → Uses desktop.device next.device → Still desktop.device next.device → IsDrawn next
+used_drawn desktop next is table used still = record {
   sound = subst IsSound (sym table) is.sound;
   orderly = still.orderly;
+  furnished = used_furnished desktop.device next.device used is.orderly is.furnished;
   shows = subst (λ (t : Table). Shows next.device t) (sym table) (shows_follow desktop.device next.device desktop.table still is.shows);
 }
 
@@ -32,4 +34,4 @@ pub led_drawn : (start desktop : Desktop) → IsDrawn start → Leads start desk
 led_drawn start desktop is there = is
 led_drawn start desktop is (acts before a step leads spelled e fit) = (step_drawn before before a step (led_itself before (led_drawn start before is leads)) spelled e).drawn
 led_drawn start desktop is (uses before next leads table used) =
-    let drawn = led_drawn start before is leads in used_drawn before next drawn table (uses_still before.device next.device used drawn.orderly)
+    let drawn = led_drawn start before is leads in used_drawn before next drawn table used (uses_still before.device next.device used drawn.orderly)

@@ -5,6 +5,8 @@ use Rattle.std.specs.List.{fold}
 use Rattle.std.proofs.lemmas.Bool.{cond_both}
 use Rattle.std.proofs.lemmas.Bool.Decides.{nat_tests}
 use Rattle.model_text.specs.Outcome.{Outcome, ◌>>=◌, value_or_refuse}
+use Rattle.model_words.specs.declared.Size.{Size}
+use Rattle.model_words.specs.Values.{sides_of}
 use Rattle.model_wctl.specs.Command.{Command, Wctl}
 use Rattle.model_wctl.specs.Command as wctl
 use Rattle.model_wctl.specs.Reading.{command_of}
@@ -16,21 +18,25 @@ use Rattle.model_rio.specs.Act.{Act}
 use Rattle.model_rio.specs.Act as act
 use Rattle.model_rio.specs.Rio.{rio}
 use Rattle.model_rio.specs.Step.{Step}
+use Rattle.model_rio.proofs.Orders.{acts_keep_connections}
 use Rattle.model_rio.proofs.Soundness.{step_sound}
 use Rattle.model_draw.specs.World as draw
 use Rattle.model_draw.specs.Files.{read_data, write_ctl}
 use Rattle.model_world.specs.Session.{Fid}
 use Rattle.model_world.specs.Fids.{is_kind, let_go, with_held}
 use Rattle.model_world.specs.Desktop.{Desktop, is_user, stepped, stepped_if, stepped_or, users_of, without_user}
-use Rattle.model_world.specs.Whole.{attached, client, commanded, ctl_written, data_read, desktop_for, device_commanded, device_commanded_by, host_of, left_one, made_by, moused, serial_of, typed, window_made, with_device, written_data}
+use Rattle.model_world.specs.Whole.{attached, client, commanded, ctl_written, data_read, desktop_for, device_commanded, device_commanded_by, host_of, left_one, made_by, moused, resized, serial_of, typed, window_made, with_device, written_data}
 use Rattle.model_world.proofs.Others.{after_if, after_step}
 use Rattle.model_rio.specs.Sound.{IsSound}
 use Rattle.model_draw.specs.Orders.{carried_out}
 use Rattle.model_shown.specs.Showing.{IsOrderly}
+use Rattle.model_others.specs.Others.{IsFurnished}
 use Rattle.model_fitting.specs.Fitting.{IsSpelled, Shows}
 use Rattle.model_orders.specs.Leading.{IsDrawn}
 use Rattle.model_orders.specs.Leading.{acts, begins, chooses, ends, reads, writes}
+use Rattle.model_orders.proofs.Furnished.{finds_display, orders_furnished}
 use Rattle.model_orders.proofs.Leading.{IsLed, led_beside, led_by}
+use Rattle.model_orders.proofs.Sides.{sides_spelled}
 use Rattle.model_fitting.proofs.Acts.{act_fits}
 use Rattle.model_lasting.proofs.Messages.{Still, StillIf, connect_still, leave_still, read_data_still, write_ctl_still, written_still}
 use Rattle.model_fitting.proofs.Spelled.{command_spelled}
@@ -50,15 +56,15 @@ module _ (start : Desktop) where
 
   -- ---- steps of the windows
 
-  drawn_step : (desktop : Desktop) (step : Step) → IsSound step.table → IsOrderly (carried_out desktop.device step.orders) → Shows (carried_out desktop.device step.orders) step.table → IsDrawn (stepped desktop step)
+  drawn_step : (desktop : Desktop) (step : Step) → IsSound step.table → IsOrderly (carried_out desktop.device step.orders) → IsFurnished (carried_out desktop.device step.orders) → Shows (carried_out desktop.device step.orders) step.table → IsDrawn (stepped desktop step)
   unfolding stepped
-  drawn_step desktop step sound orderly shows = record { sound = sound; orderly = orderly; shows = shows }
+  drawn_step desktop step sound orderly furnished shows = record { sound = sound; orderly = orderly; furnished = furnished; shows = shows }
 
   pub step_drawn : (desktop : Desktop) (a : Act) (step : Step) → Led desktop → IsSpelled a → rio desktop.table a ≡ Ok step → Led (stepped desktop step)
   step_drawn desktop a step is spelled e =
-      let fits = act_fits desktop.device desktop.table a step is.drawn.sound is.drawn.orderly is.drawn.shows spelled e in
+      let fits = act_fits desktop.device desktop.table a step is.drawn.sound is.drawn.orderly is.drawn.shows spelled (finds_display desktop.device a is.drawn.furnished) e in
       record {
-        drawn = drawn_step desktop step (step_sound desktop.table a step is.drawn.sound e) fits.orderly fits.shows;
+        drawn = drawn_step desktop step (step_sound desktop.table a step is.drawn.sound e) fits.orderly (orders_furnished step.orders desktop.device fits.all fits.before (acts_keep_connections desktop.table a step e) is.drawn.furnished) fits.shows;
         leads = acts desktop a step is.leads spelled e fits.all;
       }
 
@@ -106,6 +112,18 @@ module _ (start : Desktop) where
   device_commanded_drawn desktop text is =
       after_step _ (value_or_refuse (command_of true text) 47) _ (λ command e.
       device_by_drawn desktop command.id command.what is (λ window. command_spelled true text command window (command_told (command_of true text) command e)))
+
+  -- ---- another size of the display
+
+  size_told : (o : Option Size) (size : Size) → value_or_refuse o 51 ≡ Ok size → o ≡ Some size
+  size_told (Some other) size e = cc
+  size_told None size e = absurd cc
+
+  pub resized_drawn : (desktop : Desktop) (text : List ℕ) → Led desktop → IfLed (value_or_refuse (sides_of text) 51 >>= λ size. resized desktop size)
+  unfolding resized
+  resized_drawn desktop text is =
+      after_step _ (value_or_refuse (sides_of text) 51) _ (λ size e.
+      or_drawn desktop (act.Size size.width size.height) is (sides_spelled text size (size_told (sides_of text) size e)))
 
   -- ---- attaching, and leaving
 

@@ -21,9 +21,11 @@ use Rattle.model_world.specs.Replay.{ended, first_answered, replay, served, sett
 use Rattle.model_world.specs.Standing.{AreInOrder}
 use Rattle.model_world.proofs.Settling.{IfNext, all_in, first_leaves, settled_keeps}
 use Rattle.model_world.proofs.Standing.{step_order}
+use Rattle.model_others.proofs.Display.{first_furnished}
 use Rattle.model_fitting.specs.Fitting.{AllFit, IsSpelled}
 use Rattle.model_orders.specs.Leading.{IsDrawn}
 use Rattle.model_orders.specs.Leading.{Leads}
+use Rattle.model_orders.proofs.Furnished.{finds_display}
 use Rattle.model_orders.proofs.Leading.{IsLed, led_beside, led_itself}
 use Rattle.model_fitting.proofs.Acts.{act_fits}
 use Rattle.model_fitting.proofs.Opening.{first_orderly, first_shows}
@@ -98,7 +100,7 @@ module _ (start : Desktop) where
 
 opened_served : (opening : Opening) → IsServed (opened opening).desktop (opened opening)
 opened_served opening = record {
-  drawn = led_itself (opened opening).desktop (record { sound = opened_sound (display_of opening).r; orderly = first_orderly (display_of opening); shows = first_shows (display_of opening) });
+  drawn = led_itself (opened opening).desktop (record { sound = opened_sound (display_of opening).r; orderly = first_orderly (display_of opening); furnished = first_furnished (display_of opening) refl; shows = first_shows (display_of opening) });
   order = tt;
   begun = refl;
 }
@@ -116,4 +118,4 @@ pub history_acts : (opening : Opening) (events : List Event) (a : Act) (out : St
 history_acts opening events a out legal spelled e =
     let desktop = (replay opening events).desktop in
     let is = history_drawn opening events legal in
-    (act_fits desktop.device desktop.table a out is.sound is.orderly is.shows spelled e).all
+    (act_fits desktop.device desktop.table a out is.sound is.orderly is.shows spelled (finds_display desktop.device a is.furnished) e).all

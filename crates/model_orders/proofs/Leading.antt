@@ -9,6 +9,8 @@ use Rattle.model_fitting.specs.Fitting.{Shows}
 use Rattle.model_orders.specs.Leading.{IsDrawn}
 use Rattle.model_orders.specs.Leading.{Leads, Uses, rests, there, uses}
 use Rattle.model_lasting.proofs.Messages.{Still}
+use Rattle.model_others.specs.Others.{IsFurnished}
+use Rattle.model_orders.proofs.Furnished.{used_furnished}
 use Rattle.model_fitting.proofs.Stepping.{shows_follow}
 
 pub record IsLed (start desktop : Desktop) : Type 0 where
@@ -24,6 +26,7 @@ led_beside start desktop after table device is = record {
   drawn = record {
     sound = subst IsSound (sym table) is.drawn.sound;
     orderly = subst IsOrderly (sym device) is.drawn.orderly;
+    furnished = subst IsFurnished (sym device) is.drawn.furnished;
     shows = subst (λ (t : Table). Shows after.device t) (sym table) (subst (λ (d : World). Shows d desktop.table) (sym device) is.drawn.shows);
   };
   leads = uses desktop after is.leads table (subst (Uses desktop.device) (sym device) rests);
@@ -32,6 +35,6 @@ led_beside start desktop after table device is = record {
 -- and the device by a use of it
 pub led_by : (start desktop : Desktop) (device : World) → IsLed start desktop → Uses desktop.device device → Still desktop.device device → IsLed start (record desktop { device = device })
 led_by start desktop device is used still = record {
-  drawn = record { sound = is.drawn.sound; orderly = still.orderly; shows = shows_follow desktop.device device desktop.table still is.drawn.shows };
+  drawn = record { sound = is.drawn.sound; orderly = still.orderly; furnished = used_furnished desktop.device device used is.drawn.orderly is.drawn.furnished; shows = shows_follow desktop.device device desktop.table still is.drawn.shows };
   leads = uses desktop (record desktop { device = device }) is.leads refl used;
 }

@@ -1,3 +1,5 @@
+pub mod Furnished
+pub mod Sides
 pub mod Leading
 pub mod Desktops
 pub mod Answers

@@ -9,12 +9,14 @@ use Rattle.model_draw.specs.Act.{written}
 use Rattle.model_draw.specs.Files.{read_data, write_ctl}
 use Rattle.model_world.specs.Desktop.{Desktop, stepped}
 use Rattle.model_shown.specs.Showing.{IsOrderly}
+use Rattle.model_others.specs.Others.{IsFurnished}
 use Rattle.model_fitting.specs.Fitting.{AllFit, IsSpelled, Shows}
 
--- What each desktop keeps that a history leads to: the draw device shows the table.
+-- What each desktop keeps that a history leads to: the draw device shows the table, and has its display.
 pub record IsDrawn (desktop : Desktop) : Type 0 where
   pub sound : IsSound desktop.table
   pub orderly : IsOrderly desktop.device
+  pub furnished : IsFurnished desktop.device
   pub shows : Shows desktop.device desktop.table
 
 -- what a connection that is not the window manager leaves of a device, or nothing that happens to it

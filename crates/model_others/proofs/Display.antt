@@ -1,18 +1,33 @@
--- The display has its id and stands nowhere, and ties have numbers of their own, whatever sessions and the window manager do.
-use Rattle.std.proofs.Common.{◌≡◌, ◌&&◌, ℕ, Bool, false, List, Option, Ok, Err, inl, inr, refl, sym, subst, ◌∙◌}
-use Rattle.std.specs.Prelude.{◌==◌, IfOk, slice_index_or}
+-- The display has its id, stands nowhere and begins at 0, and ties have numbers of their own, whatever sessions and the window manager
+-- do.
+use Rattle.std.proofs.Common.{◌≡◌, ◌<◌, ◌&&◌, ℕ, Bool, true, false, not, List, [], Option, Some, Ok, Err, inl, inr, refl, sym, ap, subst, ◌∙◌, arith}
+use Rattle.std.specs.Prelude.{◌==◌, All, IfOk, is_none, is_some, slice_index_or}
+use Rattle.std.specs.Option.{option_map_or}
+use Rattle.std.proofs.lemmas.Bool.{cond_both, eqb-true}
+use Rattle.std.proofs.lemmas.List.Elements.{All-cons, All-nil}
+use Rattle.r9_geom.specs.Geometry.{is_point}
+use Rattle.r9_geom.proofs.GeometryLemmas.{true_is_point}
 use Rattle.r9_event.specs.declared.rio.Order.{Order}
-use Rattle.r9_event.specs.declared.rio.Order.TheVariants.{Make, Place, Replace, Raise, Lower, Drop, Host, Leave}
+use Rattle.r9_event.specs.declared.rio.Order.TheVariants.{Make, Place, Replace, Raise, Lower, Drop, Host, Leave, Size}
 use Rattle.model_text.specs.Outcome.{Outcome}
+use Rattle.model_forest.specs.Steps.{after_image, after_set}
+use Rattle.model_forest.specs.World.{origin_point}
+use Rattle.model_resize.specs.Resize.{after_resize}
+use Rattle.model_images.specs.declared.ImageId.{ImageId}
+use Rattle.model_images.specs.declared.Tie.{Tie}
+use Rattle.model_images.specs.Book.{add_id, image_id, new_screen}
 use Rattle.model_dmsg.specs.Message.{Message, LowN}
-use Rattle.model_draw.specs.World.{World, after_connect, after_leave}
+use Rattle.model_draw.specs.World.{Opening, World, after_connect, after_leave, at_number, started}
 use Rattle.model_draw.specs.Act.{act, written}
+use Rattle.model_draw.specs.Making.{is_window}
 use Rattle.model_alone.specs.Uses.{looked_at}
 use Rattle.model_draw.specs.Files.{read_data, write_ctl}
-use Rattle.model_draw.specs.Orders.{manager, ordered}
+use Rattle.model_draw.specs.Orders.{after_order, fits, has_display, has_window, image_shown, manager, ordered, resize_display, with_root_rio}
 use Rattle.model_shown.specs.Showing.{IsOrderly, IsOut}
+use Rattle.model_shown.proofs.Tests.{both, not-true, not_both, split}
+use Rattle.model_likeness.specs.Likeness.{AreNumbered, display_id}
 use Rattle.model_apart.specs.Apart.{IsApart, IsHeld, IsOutside, LooksBeside, Stays}
-use Rattle.model_others.specs.Others.{IsFurnished, IsOtherOrder, IsOtherWindow, nothing}
+use Rattle.model_others.specs.Others.{IsFurnished, IsNoSize, IsOtherOrder, IsOtherWindow, nothing}
 use Rattle.model_others.proofs.Messages.{act_stays, connect_stays, leave_stays, read_data_stays, write_ctl_stays}
 use Rattle.model_others.proofs.Orders.{ordered_stays}
 use Rattle.model_others.proofs.Writes.{written_stays}
@@ -34,6 +49,49 @@ all_outside k other = record {
 all_looks : (m : Message) → LooksBeside nothing m
 all_looks (LowN id name) = λ none. none
 all_looks _ = tt
+
+-- ---- what orders that fit tell
+
+not_set : (x : Bool) → not x ≡ true → x ≡ false
+not_set true is = absurd cc
+not_set false is = refl
+
+-- a window that is there has a serial, and so does a new one
+pub has_counted : (w : World) (serial : ℕ) → has_window w serial ≡ true → (serial == 0) ≡ false
+has_counted w serial has = not_set (serial == 0) (split (not (serial == 0)) _ (split _ (is_window w (image_shown w serial)) has).0).0
+
+pub new_counted : (w : World) (serial : ℕ) → image_id w.book manager 0 ≡ Some display_id → is_none (image_id w.book manager serial) ≡ true → (serial == 0) ≡ false
+new_counted w serial named none =
+    not-true (serial == 0) (λ zero.
+    not_both (is_none (image_id w.book manager serial)) none
+    (ap (λ (n : ℕ). is_none (image_id w.book manager n)) (eqb-true serial 0 zero) ∙ ap (λ (o : Option ImageId). is_none o) named))
+
+-- ---- when a device starts
+
+abbrev first : Opening → World
+first opening = with_root_rio (started opening)
+
+first_numbered : (opening : Opening) → AreNumbered (first opening).book
+unfolding started with_root_rio add_id new_screen
+first_numbered opening = record {
+  given = All-nil (λ (t : Tie). t.number < 0);
+  once = All-nil _;
+  known = All-cons (λ (e : ImageId). (n : ℕ) → e.tie ≡ Some n → n < 0) display_id [] (λ n is. absurd cc) (All-nil (λ (e : ImageId). (n : ℕ) → e.tie ≡ Some n → n < 0));
+  shown = All-cons (λ (e : ImageId). All (λ (t : Tie). e.tie ≡ Some t.number → t.image ≡ e.image) []) display_id [] (All-nil _) (All-nil _);
+}
+
+pub first_furnished : (opening : Opening) → opening.r.min ≡ origin_point → IsFurnished (first opening)
+unfolding started with_root_rio add_id new_screen after_image after_set
+first_furnished opening corner = record {
+  named = refl;
+  out = record { made = (let few : 0 < 2 = omega arith in few); kept = refl };
+  bare = refl;
+  corner = corner;
+  whole = refl;
+  numbers = first_numbered opening;
+}
+
+-- ---- what sessions do
 
 module _ (w : World) (furnished : IsFurnished w) where
   nothing_apart : IsApart nothing w
@@ -64,6 +122,8 @@ module _ (w : World) (furnished : IsFurnished w) where
     named = stays.book.display ∙ furnished.named;
     out = stays.out 0 (inr refl) furnished.out;
     bare = stays.book.places 0 (inr refl) ∙ furnished.bare;
+    corner = ap (λ r. r.min) stays.shape.r ∙ furnished.corner;
+    whole = stays.shape.repl ∙ furnished.whole;
     numbers = stays.numbers furnished.numbers;
   }
 
@@ -103,20 +163,66 @@ module _ (w : World) (furnished : IsFurnished w) where
   IsCounted (Drop window) = (window == 0) ≡ false
   IsCounted (Host window fill) = (window == 0) ≡ false
   IsCounted (Leave client) = (client == manager) ≡ false
+  IsCounted (Size width height) = Unit {0}
 
   beside_nothing : (window : ℕ) → (window == 0) ≡ false → IsOtherWindow nothing window
   beside_nothing window counted = record { counted = counted; id = record { ids = λ k x none. absurd none; display = counted }; none = λ none. none }
 
-  other_order : (order : Order) → IsCounted order → IsOtherOrder nothing order
-  other_order (Make window host r name hide depth) counted = beside_nothing window counted
-  other_order (Place window at) counted = beside_nothing window counted
-  other_order (Replace window host r name keep hidden) counted = beside_nothing window counted
-  other_order (Raise window) counted = beside_nothing window counted
-  other_order (Lower window) counted = beside_nothing window counted
-  other_order (Drop window) counted = beside_nothing window counted
-  other_order (Host window fill) counted = beside_nothing window counted
-  other_order (Leave client) counted = all_outside client counted
+  other_order : (order : Order) → IsNoSize order → IsCounted order → IsOtherOrder nothing order
+  other_order (Make window host r name hide depth) fixed counted = beside_nothing window counted
+  other_order (Place window at) fixed counted = beside_nothing window counted
+  other_order (Replace window host r name keep hidden) fixed counted = beside_nothing window counted
+  other_order (Raise window) fixed counted = beside_nothing window counted
+  other_order (Lower window) fixed counted = beside_nothing window counted
+  other_order (Drop window) fixed counted = beside_nothing window counted
+  other_order (Host window fill) fixed counted = beside_nothing window counted
+  other_order (Leave client) fixed counted = all_outside client counted
+  other_order (Size width height) fixed counted = absurd fixed
+
+  pub others_stay : IsOrderly w → (order : Order) → IsNoSize order → IsCounted order → Stays nothing w (ordered w order)
+  others_stay orderly order fixed counted =
+      ordered_stays nothing (record { screens = λ id none. none; client = λ none. none }) w order nothing_apart furnished.numbers orderly (λ name none. absurd none) (other_order order fixed counted)
+
+  others_furnished : IsOrderly w → (order : Order) → IsNoSize order → IsCounted order → IsFurnished (ordered w order)
+  others_furnished orderly order fixed counted = furnished_still _ (others_stay orderly order fixed counted)
+
+  shown_display : image_shown w 0 ≡ 0
+  shown_display = ap (λ o. option_map_or (λ e. e.image) o 0) furnished.named
+
+  -- it can get another size
+  pub furnished_display : has_display w ≡ true
+  furnished_display =
+      let known = is_some (image_id w.book manager 0) in
+      let apart = not (is_window w 0) in
+      let corner = is_point (at_number w 0).r.min origin_point in
+      let whole = not (at_number w 0).repl in
+      ap (λ (i : ℕ). known && not (is_window w i) && is_point (at_number w i).r.min origin_point && not (at_number w i).repl) shown_display
+      ∙ both (known && apart && corner) whole
+      (both (known && apart) corner (both known apart (ap (λ o. is_some o) furnished.named) (ap (λ o. not (is_some o)) furnished.bare)) (true_is_point (at_number w 0).r.min origin_point furnished.corner))
+      (ap not furnished.whole)
+
+  -- the display begins at 0 whatever its size
+  size_furnished : (width height : ℕ) → IsFurnished (ordered w (Size width height))
+  unfolding resize_display after_resize
+  size_furnished width height =
+      cond_both (fits w (Size width height)) (after_order w (Size width height)) w IsFurnished
+      (λ _. record {
+        named = furnished.named;
+        out = furnished.out;
+        bare = furnished.bare;
+        corner = rw shown_display refl;
+        whole = rw shown_display furnished.whole;
+        numbers = furnished.numbers;
+      })
+      (λ _. furnished)
 
   pub ordered_furnished : IsOrderly w → (order : Order) → IsCounted order → IsFurnished (ordered w order)
-  ordered_furnished orderly order counted =
-      furnished_still _ (ordered_stays nothing (record { screens = λ id none. none; client = λ none. none }) w order nothing_apart furnished.numbers orderly (λ name none. absurd none) (other_order order counted))
+  ordered_furnished orderly (Make window host r name hide depth) counted = others_furnished orderly (Make window host r name hide depth) tt counted
+  ordered_furnished orderly (Place window at) counted = others_furnished orderly (Place window at) tt counted
+  ordered_furnished orderly (Replace window host r name keep hidden) counted = others_furnished orderly (Replace window host r name keep hidden) tt counted
+  ordered_furnished orderly (Raise window) counted = others_furnished orderly (Raise window) tt counted
+  ordered_furnished orderly (Lower window) counted = others_furnished orderly (Lower window) tt counted
+  ordered_furnished orderly (Drop window) counted = others_furnished orderly (Drop window) tt counted
+  ordered_furnished orderly (Host window fill) counted = others_furnished orderly (Host window fill) tt counted
+  ordered_furnished orderly (Leave client) counted = others_furnished orderly (Leave client) tt counted
+  ordered_furnished orderly (Size width height) counted = size_furnished width height

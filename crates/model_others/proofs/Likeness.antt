@@ -25,7 +25,7 @@ use Rattle.model_shown.specs.Showing.{IsOrderly, IsOut}
 use Rattle.model_shown.proofs.Tests.{find-passes, first_true, not-true, not_both, same, split}
 use Rattle.model_likeness.specs.Likeness.{AreLike, AreLikeBooks, IsNamed, IsOfSession, IsOwned, SameId, SamePlace, SameScreenId, SameTie, display_id, is_root}
 use Rattle.model_likeness.proofs.Ids.{no_manager, owner_manager, owner_own}
-use Rattle.model_likeness.proofs.Shapes.{shape_then}
+use Rattle.model_likeness.proofs.Shapes.{look_kept, shape_itself}
 use Rattle.model_making.specs.Standing.{IsWhole, standing_on}
 use Rattle.model_making.proofs.Entries.{all_found}
 use Rattle.model_making.proofs.Standing.{stands_used}
@@ -284,7 +284,7 @@ module _ (Same SameScreen : ℕ → ℕ → Type 0) (c : ℕ) (window : Option (
       display = record {
         named = stays.book.display ∙ like.display.named;
         named_alone = like.display.named_alone;
-        shape = shape_then _ _ _ stays.shape like.display.shape;
+        look = look_kept _ _ _ _ stays.shape like.display.look (shape_itself _);
         live_left = stays.live like.display.live_left;
         live_right = like.display.live_right;
         left = like.display.left;

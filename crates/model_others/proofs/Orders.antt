@@ -8,7 +8,7 @@ use Rattle.r9_geom.specs.declared.Point.{Point}
 use Rattle.r9_geom.specs.declared.Rect.{Rect}
 use Rattle.r9_geom.specs.Geometry.{at_min}
 use Rattle.r9_event.specs.declared.rio.Order.{Order}
-use Rattle.r9_event.specs.declared.rio.Order.TheVariants.{Make, Place, Replace, Raise, Lower, Drop, Host, Leave}
+use Rattle.r9_event.specs.declared.rio.Order.TheVariants.{Make, Place, Replace, Raise, Lower, Drop, Host, Leave, Size}
 use Rattle.model_text.specs.Outcome.{Outcome, ◌>>=◌, refuse_if}
 use Rattle.model_pixel.specs.Channels.{colour_of, pack}
 use Rattle.model_images.specs.declared.ImageId.{ImageId}
@@ -326,6 +326,7 @@ module _ (part : Part) (managed : IsManaged part) where
   order_stays w (Drop window) apart numbers orderly names other may = drop_stays w window apart numbers other (stands w window may)
   order_stays w (Host window fill) apart numbers orderly names other may = host_stays w window fill apart numbers orderly other (split _ _ (split _ _ may).0).1
   order_stays w (Leave client) apart numbers orderly names other may = leave_stays part client other w apart numbers
+  order_stays w (Size width height) apart numbers orderly names other may = absurd other
 
   pub ordered_stays : (w : World) (order : Order) → IsApart part w → AreNumbered w.book → IsOrderly w → AreTied part w.book → IsOtherOrder part order → Stays part w (ordered w order)
   ordered_stays w order apart numbers orderly names other = by (fits w order) refl

@@ -2,9 +2,10 @@
 use Rattle.std.specs.Prelude.{◌≡◌, ◌==◌, ℕ, false, true, codes, is_some, List, Option, Some, None}
 use Rattle.std.specs.List.{starts_with}
 use Rattle.r9_event.specs.declared.rio.Order.{Order}
-use Rattle.r9_event.specs.declared.rio.Order.TheVariants.{Make, Place, Replace, Raise, Lower, Drop, Host, Leave}
+use Rattle.r9_event.specs.declared.rio.Order.TheVariants.{Make, Place, Replace, Raise, Lower, Drop, Host, Leave, Size}
 use Rattle.model_images.specs.Book.{Book, image_id, screen_of, tie_of}
-use Rattle.model_draw.specs.World.{World}
+use Rattle.model_forest.specs.World.{origin_point}
+use Rattle.model_draw.specs.World.{World, at_number}
 use Rattle.model_draw.specs.Orders.{manager}
 use Rattle.model_shown.specs.Showing.{IsOut}
 use Rattle.model_likeness.specs.Likeness.{AreNumbered, IsOfSession, IsOwned, display_id}
@@ -52,7 +53,7 @@ pub record IsManaged (part : Part) : Type 0 where
 abbrev pub AreTied : Part → Book → Type 0
 AreTied part book = (name : List ℕ) → part.name name → is_some (tie_of book name) ≡ true
 
--- an order on a window that is none of the part, or the end of a connection outside it
+-- an order on a window that is none of the part, or the end of a connection outside it; none that gives the display another size
 abbrev pub IsOtherOrder : Part → Order → Type 0
 IsOtherOrder part (Make window host r name hide depth) = IsOtherWindow part window
 IsOtherOrder part (Place window at) = IsOtherWindow part window
@@ -62,6 +63,12 @@ IsOtherOrder part (Lower window) = IsOtherWindow part window
 IsOtherOrder part (Drop window) = IsOtherWindow part window
 IsOtherOrder part (Host window fill) = IsOtherWindow part window
 IsOtherOrder part (Leave client) = IsOutside part client
+IsOtherOrder part (Size width height) = ⊥
+
+-- an order that does not give the display another size
+abbrev pub IsNoSize : Order → Type 0
+IsNoSize (Size width height) = ⊥
+IsNoSize _ = Unit {0}
 
 -- the window is not the session's
 pub record IsAnother (window : Option (ℕ × List ℕ)) (serial : ℕ) : Type 0 where
@@ -74,9 +81,12 @@ pub record IsAnother (window : Option (ℕ × List ℕ)) (serial : ℕ) : Type 0
 abbrev pub nothing : Part
 nothing = record { image = λ i. ⊥; screen = λ s. ⊥; id = λ k x. ⊥; screen_id = λ k x. ⊥; name = λ name. ⊥; client = λ k. ⊥ }
 
--- The display has its id and a number that is in use, and stands nowhere; and ties have numbers of their own.
+-- The display has its id and a number that is in use, stands nowhere, begins at 0 and does not repeat; and ties have numbers of
+-- their own.
 pub record IsFurnished (device : World) : Type 0 where
   pub named : image_id device.book manager 0 ≡ Some display_id
   pub out : IsOut device.numbers 0
   pub bare : IsBare device
+  pub corner : (at_number device 0).r.min ≡ origin_point
+  pub whole : (at_number device 0).repl ≡ false
   pub numbers : AreNumbered device.book

@@ -2,7 +2,7 @@
 use Rattle.std.proofs.Common.{◌≡◌, ◌<◌, ℕ, ◌==◌, ◌&&◌, false, List, [], ◌∷◌, All, refl, arith, ne_eqb}
 use Rattle.std.proofs.lemmas.List.Elements.{All-head, All-tail}
 use Rattle.r9_event.specs.declared.rio.Order.{Order}
-use Rattle.r9_event.specs.declared.rio.Order.TheVariants.{Make, Place, Replace, Raise, Lower, Drop, Host, Leave}
+use Rattle.r9_event.specs.declared.rio.Order.TheVariants.{Make, Place, Replace, Raise, Lower, Drop, Host, Leave, Size}
 use Rattle.model_images.specs.Book.{owner}
 use Rattle.model_draw.specs.World.{World}
 use Rattle.model_draw.specs.Orders.{carried_out, manager, ordered}
@@ -44,6 +44,7 @@ module _ (image : ℕ → Type 0) where
   other_order (Drop window) is = beside window is
   other_order (Host window fill) is = beside window is
   other_order (Leave k) is = absurd is
+  other_order (Size width height) is = absurd is
 
   -- what an order on a window leaves
   pub record AreLeft (old new : World) : Type 0 where
@@ -65,6 +66,7 @@ module _ (image : ℕ → Type 0) where
   leaves_manager (Drop window) is = tt
   leaves_manager (Host window fill) is = tt
   leaves_manager (Leave k) is = absurd is
+  leaves_manager (Size width height) is = absurd is
 
   -- and what many of them leave
   pub orders_leave : (device : World) (orders : List Order) → IsApart (pens image) device → AreNumbered device.book → IsSteady device → All IsOnWindow orders → AreLeft device (carried_out device orders)

@@ -1,7 +1,7 @@
 -- What a client that points has of a draw device to draw bands with, as a part of it (draw(3)).
 use Rattle.std.specs.Prelude.{◌≡◌, ◌<◌, ◌==◌, ℕ, false}
 use Rattle.r9_event.specs.declared.rio.Order.{Order}
-use Rattle.r9_event.specs.declared.rio.Order.TheVariants.{Make, Place, Replace, Raise, Lower, Drop, Host, Leave}
+use Rattle.r9_event.specs.declared.rio.Order.TheVariants.{Make, Place, Replace, Raise, Lower, Drop, Host, Leave, Size}
 use Rattle.model_world.specs.Whole.{client}
 use Rattle.model_apart.specs.Apart.{Part}
 
@@ -26,3 +26,4 @@ IsOnWindow (Lower window) = (window == 0) ≡ false
 IsOnWindow (Drop window) = (window == 0) ≡ false
 IsOnWindow (Host window fill) = (window == 0) ≡ false
 IsOnWindow (Leave k) = ⊥
+IsOnWindow (Size width height) = ⊥

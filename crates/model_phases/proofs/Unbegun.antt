@@ -54,7 +54,7 @@ all_left : (ms : List Message) → All (LeavesName None) ms
 all_left [] = All-nil (LeavesName None)
 all_left (m ∷ ms) = All-cons (LeavesName None) m ms (none_left m) (all_left ms)
 
-module _ (c : ℕ) (begin : 0 < c) (Like : Option (ℕ × List ℕ) → draw.World → draw.World → Type 0) (Named : draw.World → Table → List (ℕ × Pane) → Type 0) (laws : IsDeviceLike c Like) (names : AreNamesFree Named) (t : LoneDesktop) where
+module _ (c : ℕ) (begin : 0 < c) (Like : Option (ℕ × ℕ) → Option (ℕ × List ℕ) → draw.World → draw.World → Type 0) (Named : draw.World → Table → List (ℕ × Pane) → Type 0) (laws : IsDeviceLike c Like) (names : AreNamesFree Named) (t : LoneDesktop) where
   abbrev pub Have : Desktop → Type 0
   Have s = SameDesktops Like Named None s t
 

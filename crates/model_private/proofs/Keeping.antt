@@ -224,6 +224,7 @@ module _ {S : Type 0} (outside : Outside S) (own : Option ℕ) where
   file_mine rest fid offset count kind.Data mine = after_step (λ given. IfSome given (λ got. IsMineFid own got.fid)) (outside.read_data rest fid.node.connection count) _ (λ _ _. mine)
   file_mine rest fid offset count kind.Screen mine = mine
   file_mine rest fid offset count kind.Snarf mine = mine
+  file_mine rest fid offset count kind.Hwsize mine = mine
   file_mine rest fid offset count kind.Label mine = mine
   file_mine rest fid offset count kind.Text mine = mine
   file_mine rest fid offset count kind.Winid mine = mine

@@ -83,7 +83,7 @@ write_answered : (c : ℕ) (session : Session) (s : Desktop) (bytes : List ℕ) 
 unfolding answer answer_read write_answer whole.written_data
 write_answered c session s bytes mark tag fid offset data_bytes f reads spells tagged agreed is opened writing live of = rw (reads, spells, tagged, agreed, is, opened, writing, live, of) refl
 
-module _ (c : ℕ) (begin : 0 < c) (Like : Option (ℕ × List ℕ) → draw.World → draw.World → Type 0) (Named : draw.World → Table → List (ℕ × Pane) → Type 0) (laws : IsDeviceLike c Like) (names : AreNamesFree Named) (seen : Watched) where
+module _ (c : ℕ) (begin : 0 < c) (Like : Option (ℕ × ℕ) → Option (ℕ × List ℕ) → draw.World → draw.World → Type 0) (Named : draw.World → Table → List (ℕ × Pane) → Type 0) (laws : IsDeviceLike c Like) (names : AreNamesFree Named) (seen : Watched) where
   -- the mark that the session is told
   abbrev pub told_of : Session → Desktop → List ℕ → (mark : Option ℕ) → List Reply → Option ℕ
   told_of session s bytes mark late = effective bytes mark (reply_to c (answer (desktop_for c) session s bytes mark).reply ++ late)

@@ -38,9 +38,10 @@ opens_own seen kind.Snarf inside plain fine = absurd cc
 opens_own seen kind.Mousein inside plain fine = absurd cc
 opens_own seen kind.Kbdin inside plain fine = absurd cc
 opens_own seen kind.DeviceWctl inside plain fine = absurd cc
+opens_own seen kind.Hwsize inside plain fine = absurd cc
 opens_own seen _ inside plain fine = refl
 
-module _ (c : ℕ) (begin : 0 < c) (Like : Option (ℕ × List ℕ) → draw.World → draw.World → Type 0) (Named : draw.World → Table → List (ℕ × Pane) → Type 0) (laws : IsDeviceLike c Like) (names : AreNamesFree Named) (seen : Watched) where
+module _ (c : ℕ) (begin : 0 < c) (Like : Option (ℕ × ℕ) → Option (ℕ × List ℕ) → draw.World → draw.World → Type 0) (Named : draw.World → Table → List (ℕ × Pane) → Type 0) (laws : IsDeviceLike c Like) (names : AreNamesFree Named) (seen : Watched) where
   abbrev First : Desktop → LoneDesktop → Type 0
   First s t = SameAtFirst Like Named seen.window s t
 

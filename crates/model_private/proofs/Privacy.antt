@@ -1,6 +1,6 @@
 -- Where an event gives no reason, what its session asks is what it may ask where it is alone.
 use Rattle.std.proofs.Common.{◌≡◌, ℕ, ◌==◌, ◌<◌, Bool, true, false, List, [], ◌∷◌, Option, Some, None, is_some, Ok, refl, sym, subst, inl, inr}
-use Rattle.std.specs.Prelude.{◌⊎◌, All, not, is_none, ◌&&◌, if◌then◌else◌}
+use Rattle.std.specs.Prelude.{◌⊎◌, All, nat_lt, not, is_none, ◌&&◌, if◌then◌else◌}
 use Rattle.std.specs.List.{flat_map}
 use Rattle.std.specs.Option.{option_map_or}
 use Rattle.std.proofs.lemmas.List.Elements.{All-nil, All-weaker}
@@ -12,20 +12,21 @@ use Rattle.model_window.specs.Pane.{Pane}
 use Rattle.model_wire.specs.Message.{T, Tattach, Twalk, Topen, Twrite, Tversion, Tauth, Tflush, Tcreate, Tread, Tclunk, Tremove, Tstat, Twstat}
 use Rattle.model_rio.specs.Table.{Table}
 use Rattle.model_draw.specs.World as draw
+use Rattle.model_draw.specs.World.{client_of}
 use Rattle.model_draw.specs.Act.{written}
 use Rattle.model_tree.specs.declared.Kind.{Kind}
 use Rattle.model_tree.specs.declared.Kind.TheVariants as kind
-use Rattle.model_tree.specs.Node.{Node, writes}
+use Rattle.model_tree.specs.Node.{Node, reads, writes}
 use Rattle.model_tree.specs.Tree.{View, check_live}
 use Rattle.model_world.specs.Session.{Fid, Session}
 use Rattle.model_world.specs.Fids.{Done, fid_of, is_bound, is_full}
 use Rattle.model_world.specs.Walking.{walk_answer, walk_ended, walked}
-use Rattle.model_world.specs.Reading.{is_open_for}
+use Rattle.model_world.specs.Reading.{count_within, ctl_len, is_open_for}
 use Rattle.model_world.specs.Desktop.{Desktop}
 use Rattle.model_world.specs.Whole.{client, desktop_for, view_of}
-use Rattle.model_agreement.specs.Agreement.{IsPlain, IsPrivate, MayWrite}
+use Rattle.model_agreement.specs.Agreement.{IsPlain, IsPrivate, MayRead, MayWrite}
 use Rattle.model_alone.specs.Own.{Watched, reasons_from}
-use Rattle.model_alone.specs.Uses.{asks_for_windows, file_used, if_bound, if_done, is_name_looked_at, look_used, looked_at, message_used, reached_file, step_used, write_used}
+use Rattle.model_alone.specs.Uses.{asks_for_windows, contents_used, file_of_read, file_reached, file_used, if_bound, if_done, is_name_looked_at, look_used, looked_at, message_used, reached_file, reading_used, step_used, tells_size, write_used}
 use Rattle.model_alone.specs.Lone.{LoneDesktop}
 use Rattle.model_followed.specs.Devices.{AreNamesFree, IsDeviceLike, KeepsWithin, told_mark}
 use Rattle.model_followed.specs.Following.{HasConnection, HasWindow, May, SameDesktops, named_in}
@@ -33,7 +34,7 @@ use Rattle.model_followed.proofs.Outsides.{view_same}
 use Rattle.model_private.proofs.Reasons.{each_fine, own_message}
 use Rattle.model_private.proofs.Walks.{IsMine, walked_mine}
 
-module _ (c : ℕ) (begin : 0 < c) (Like : Option (ℕ × List ℕ) → draw.World → draw.World → Type 0) (Named : draw.World → Table → List (ℕ × Pane) → Type 0) (laws : IsDeviceLike c Like) (names : AreNamesFree Named) (seen : Watched) where
+module _ (c : ℕ) (begin : 0 < c) (Like : Option (ℕ × ℕ) → Option (ℕ × List ℕ) → draw.World → draw.World → Type 0) (Named : draw.World → Table → List (ℕ × Pane) → Type 0) (laws : IsDeviceLike c Like) (names : AreNamesFree Named) (seen : Watched) where
   abbrev Have : Desktop → LoneDesktop → Type 0
   Have s t = SameDesktops Like Named seen.window s t
 
@@ -107,6 +108,25 @@ module _ (c : ℕ) (begin : 0 < c) (Like : Option (ℕ × List ℕ) → draw.Wor
   file_private s t same node bytes mark told kind.Wctl fine is = asks_off (asks_for_windows bytes) fine
   file_private s t same node bytes mark told _ fine is = tt
 
+  -- ---- reads
+
+  size_off : (b : Bool) → reasons_from true seen (if b then uses.Own 12 ∷ [] else []) ≡ [] → b ≡ false
+  size_off true fine = absurd cc
+  size_off false fine = refl
+
+  -- a read of `ctl` at its front that has room tells of no display whose size has changed
+  told_off : (sized front short zero : Bool) → (sized && front && not short && zero) ≡ false → front ≡ true → short ≡ false → (sized && zero) ≡ false
+  told_off true true false zero off first room = off
+  told_off false front short zero off first room = refl
+  told_off true false short zero off first room = absurd cc
+  told_off true true true zero off first room = absurd cc
+
+  contents_private : (s : Desktop) (node : Node) (offset count : ℕ) (of : Kind) → reasons_from true seen (contents_used c s node offset count of) ≡ []
+      → MayRead (desktop_for c) (HasWindow seen.window) HasConnection (May c seen.window) s node offset count of
+  contents_private s node offset count kind.Ctl fine =
+      told_off s.sized (offset == 0) (nat_lt count ctl_len) ((client_of s.device (client c node.connection)).described == 0) (size_off (tells_size (client c node.connection) s offset count) fine)
+  contents_private s node offset count _ fine = tt
+
   -- the mark with which the session is told is the one that took effect
   abbrev pub IsToldMark : Session → Desktop → (mark told : Option ℕ) → T → Type 0
   IsToldMark session s mark told (Twrite tag fid offset bytes) =
@@ -119,6 +139,10 @@ module _ (c : ℕ) (begin : 0 < c) (Like : Option (ℕ × List ℕ) → draw.Wor
   IsNoFreshAttach session (Tattach tag fid afid uname aname) = is_name_looked_at session fid afid ≡ true → ⊥
   IsNoFreshAttach session _ = Unit {0}
 
+  reach : (allows : ℕ → Bool) (session : Session) (s : Desktop) (fid : ℕ) (f : Fid) → fid_of session fid ≡ Ok f → is_none f.mode ≡ false → is_open_for allows f ≡ true
+      → check_live ((desktop_for c).view s session.connections f.node) f.node ≡ Ok tt → file_reached allows c session s fid ≡ Ok f.node
+  reach allows session s fid f is opened allowed live = rw (is, opened, allowed, live) refl
+
   -- What the message asks is what the session may ask.
   pub message_private : (session : Session) (s : Desktop) (t : LoneDesktop) (after : Session) (table : Table) (mark told : Option ℕ) (m : T) → Have s t → All HasConnection session.connections → AllMine session
       → IsFine session s after table mark m → IsToldMark session s mark told m → IsNoFreshAttach session m
@@ -128,18 +152,17 @@ module _ (c : ℕ) (begin : 0 < c) (Like : Option (ℕ × List ℕ) → draw.Wor
       All-weaker (IsMine seen.window) (IsPlain (HasWindow seen.window) HasConnection) (λ node is. is.plain) (walked ((desktop_for c).view s session.connections) from.node names).0
       (walk_private session s t same connections mine tag fid newfid names from is closed free room fine)
   message_private session s t after table mark told (Twrite tag fid offset bytes) same connections mine fine marked none = λ f is opened writing live.
-      (let reached : reached_file c session s fid ≡ Ok f.node = reach session s fid f is opened writing live in
+      (let reached : reached_file c session s fid ≡ Ok f.node = reach writes session s fid f is opened writing live in
       file_private s t same f.node bytes mark told f.node.kind (subst (λ (o : Outcome Node). reasons_from true seen (write_used c s bytes mark o) ≡ []) reached fine) (λ of. marked f is opened writing live of))
-    where
-      reach : (session : Session) (s : Desktop) (fid : ℕ) (f : Fid) → fid_of session fid ≡ Ok f → is_none f.mode ≡ false → is_open_for writes f ≡ true → check_live ((desktop_for c).view s session.connections f.node) f.node ≡ Ok tt
-          → reached_file c session s fid ≡ Ok f.node
-      reach session s fid f is opened writing live = rw (is, opened, writing, live) refl
   message_private session s t after table mark told (Tversion tag msize version) same connections mine fine marked none = tt
   message_private session s t after table mark told (Tauth tag afid uname aname) same connections mine fine marked none = tt
   message_private session s t after table mark told (Tflush tag oldtag) same connections mine fine marked none = tt
   message_private session s t after table mark told (Topen tag fid mode) same connections mine fine marked none = tt
   message_private session s t after table mark told (Tcreate tag fid name perm mode) same connections mine fine marked none = tt
-  message_private session s t after table mark told (Tread tag fid offset count) same connections mine fine marked none = tt
+  message_private session s t after table mark told (Tread tag fid offset count) same connections mine fine marked none = λ f is opened reading live.
+      (let reached : file_of_read c session s fid ≡ Ok f.node = reach reads session s fid f is opened reading live in
+      contents_private s f.node offset (count_within session count) f.node.kind
+      (subst (λ (o : Outcome Node). reasons_from true seen (reading_used c s offset (count_within session count) o) ≡ []) reached fine))
   message_private session s t after table mark told (Tclunk tag fid) same connections mine fine marked none = tt
   message_private session s t after table mark told (Tremove tag fid) same connections mine fine marked none = tt
   message_private session s t after table mark told (Tstat tag fid) same connections mine fine marked none = tt

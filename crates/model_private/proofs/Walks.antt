@@ -27,6 +27,7 @@ is_inside kind.Device = false
 is_inside kind.Mousein = false
 is_inside kind.Kbdin = false
 is_inside kind.DeviceWctl = false
+is_inside kind.Hwsize = false
 is_inside _ = true
 
 -- a node that is plain, of a tree to which an attach of the session's window led

@@ -25,7 +25,7 @@ use Rattle.model_renamed.proofs.Changes.{renamed_kept}
 use Rattle.model_renamed.proofs.Drawing.{renamed_canvas}
 use Rattle.model_renamed.proofs.Making.{renamed_outer_window}
 use Rattle.model_shown.proofs.Tests.{both, not-true, not_both, split}
-use Rattle.model_likeness.proofs.Shapes.{Keeps, keeps_origin, keeps_then, keeps_window, shape_then, shape_turned}
+use Rattle.model_likeness.proofs.Shapes.{Keeps, keeps_origin, keeps_then, keeps_window, look_kept}
 use Rattle.model_making.specs.Likes.{Came, IsLike, Matched}
 use Rattle.model_making.proofs.Fresh.{IsFresh, fresh_next}
 use Rattle.model_freeing.proofs.Pairs.{none_found}
@@ -186,7 +186,7 @@ module _ (c serial : ℕ) (a b : World) (is : IsLike c None a b) (steady_a : IsS
   free_right = (fresh_next b steady_b.whole steady_b.orderly).free
 
   ground_chan : (image_at a.images p_left).chan ≡ (image_at b.images p_right).chan
-  ground_chan = ap (λ (n : ℕ). (at_number a n).chan) ground_a.ground ∙ is.like.display.shape.chan ∙ ap (λ (n : ℕ). (at_number b n).chan) (sym ground_b.ground)
+  ground_chan = ap (λ (n : ℕ). (at_number a n).chan) ground_a.ground ∙ is.like.display.look.chan ∙ ap (λ (n : ℕ). (at_number b n).chan) (sym ground_b.ground)
 
   ground_depth : (image_at a.images p_left).depth ≡ (image_at b.images p_right).depth
   ground_depth = ap (λ (n : ℕ). (at_number a n).depth) ground_a.ground ∙ ground_a.depth ∙ sym (ap (λ (n : ℕ). (at_number b n).depth) ground_b.ground ∙ ground_b.depth)
@@ -274,7 +274,7 @@ module _ (c serial : ℕ) (a b : World) (is : IsLike c None a b) (steady_a : IsS
             (fresh a steady_a ground_a is.like.display.live_left serial r near name hide none_left plain_left) (fresh b steady_b ground_b is.like.display.live_right serial r near name false none_right plain_right)
             (root_is a ground_a.rio) (root_is b ground_b.rio) none_left none_right plain_left plain_right untied_left untied_right after_left after_right one.book_is two.book_is
             (subst (λ (z : Images). AreRenamed Both z after_right.images) (sym one.images_are) (subst (λ (z : Images). AreRenamed Both (bordered new_left m_left) z) (sym two.images_are) bordered_both))
-            (shape_then _ _ _ keeps_one.shape (shape_then _ _ _ is.like.display.shape (shape_turned _ _ keeps_two.shape))) (keeps_one.live is.like.display.live_left) (keeps_two.live is.like.display.live_right)
+            (look_kept _ _ _ _ keeps_one.shape is.like.display.look keeps_two.shape) (keeps_one.live is.like.display.live_left) (keeps_two.live is.like.display.live_right)
             counted is.like.display.named is.like.display.named_alone both_left both_right
             (λ k few. ap (λ (cs : List (ℕ × Client)). lookup cs (client c k)) one.clients_are ∙ is.like.clients k few ∙ ap (λ (cs : List (ℕ × Client)). lookup cs (client 1 k)) (sym two.clients_are));
       }

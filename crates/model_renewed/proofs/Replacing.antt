@@ -25,8 +25,8 @@ use Rattle.model_renamed.proofs.Changes.{renamed_kept}
 use Rattle.model_renamed.proofs.Drawing.{renamed_canvas}
 use Rattle.model_renamed.proofs.Going.{renamed_release, renamed_replace}
 use Rattle.model_shown.proofs.Tests.{both, split}
-use Rattle.model_likeness.specs.Likeness.{AreLikeBooks, SameShape}
-use Rattle.model_likeness.proofs.Shapes.{Keeps, keeps_release, keeps_then, shape_then, shape_turned}
+use Rattle.model_likeness.specs.Likeness.{AreLikeBooks, SameLook}
+use Rattle.model_likeness.proofs.Shapes.{Keeps, keeps_release, keeps_then, look_kept}
 use Rattle.model_making.specs.Likes.{Came, IsLike, Matched, Went}
 use Rattle.model_making.specs.Standing.{IsStanding}
 use Rattle.model_making.proofs.Fresh.{fresh_next}
@@ -107,7 +107,7 @@ module _ (c serial : ℕ) (old : List ℕ) (a b : World) (is : IsLike c (Some (s
     face_chan = (is.like.images.faces i j ids.same).chan
 
     ground_chan : (at_number a (image_of a.book (rio_screen a 0))).chan ≡ (at_number b (image_of b.book (rio_screen b 0))).chan
-    ground_chan = ap (λ (n : ℕ). (at_number a n).chan) ground_a.ground ∙ is.like.display.shape.chan ∙ ap (λ (n : ℕ). (at_number b n).chan) (sym ground_b.ground)
+    ground_chan = ap (λ (n : ℕ). (at_number a n).chan) ground_a.ground ∙ is.like.display.look.chan ∙ ap (λ (n : ℕ). (at_number b n).chan) (sym ground_b.ground)
 
     keep_same : can_keep a serial (rio_screen a 0) r ≡ can_keep b serial (rio_screen b 0) r
     keep_same =
@@ -243,8 +243,8 @@ module _ (c serial : ℕ) (old : List ℕ) (a b : World) (is : IsLike c (Some (s
   n_apart : (k l : ℕ) → S k l → (n == l) ≡ false
   n_apart k l pair = false_from_ne_true (n == l) (λ at. live-apart b.images n l free_right (is.like.images.right k l pair) (sym (eqb-true n l at)))
 
-  shape_after : (v w : World) → Keeps a.images v.images 0 → Keeps b.images w.images 0 → SameShape (at_number v 0) (at_number w 0)
-  shape_after v w one other = shape_then _ _ _ one.shape (shape_then _ _ _ is.like.display.shape (shape_turned _ _ other.shape))
+  look_after : (v w : World) → Keeps a.images v.images 0 → Keeps b.images w.images 0 → SameLook (at_number v 0) (at_number w 0)
+  look_after v w one other = look_kept _ _ _ _ one.shape is.like.display.look other.shape
 
   both_left : (k l : ℕ) → Both k l → k ≢ 0
   both_left k l (inl pair) = is.like.display.left k l pair
@@ -274,7 +274,7 @@ module _ (c serial : ℕ) (old : List ℕ) (a b : World) (is : IsLike c (Some (s
             (others_tied a steady_a serial there.counted ids.left ids.found s on_left place.root r name free_a keep hidden) (others_tied b steady_b serial there.counted ids.right ids.there right.screen right.on right.root r name free_b keep false)
             after_left after_right one.book_is two.book_is
             (subst (λ (z : Images). AreRenamed Both z after_right.images) (sym one.images_are) (subst (λ (z : Images). AreRenamed Both new_left z) (sym two.images_are) renewed))
-            (shape_after after_left after_right keeps_one keeps_two) (keeps_one.live is.like.display.live_left) (keeps_two.live is.like.display.live_right) there.counted
+            (look_after after_left after_right keeps_one keeps_two) (keeps_one.live is.like.display.live_left) (keeps_two.live is.like.display.live_right) there.counted
             (kept_display a.book serial there.counted ∙ is.like.display.named) (kept_display b.book serial there.counted ∙ is.like.display.named_alone) both_left both_right
             (clients_after after_left after_right one.clients_are two.clients_are);
       }
@@ -326,7 +326,7 @@ module _ (c serial : ℕ) (old : List ℕ) (a b : World) (is : IsLike c (Some (s
             (others_tied a steady_a serial there.counted ids.left ids.found s on_left place.root r name free_a keep hidden) (others_tied b steady_b serial there.counted ids.right ids.there right.screen right.on right.root r name free_b keep false)
             after_left after_right one.book_is two.book_is
             (subst (λ (z : Images). AreRenamed (And Less m n) z after_right.images) (sym one.images_are) (subst (λ (z : Images). AreRenamed (And Less m n) (after_release new_left i) z) (sym two.images_are) gone))
-            (shape_after after_left after_right keeps_one keeps_two) (keeps_one.live is.like.display.live_left) (keeps_two.live is.like.display.live_right) there.counted
+            (look_after after_left after_right keeps_one keeps_two) (keeps_one.live is.like.display.live_left) (keeps_two.live is.like.display.live_right) there.counted
             (kept_display a.book serial there.counted ∙ is.like.display.named) (kept_display b.book serial there.counted ∙ is.like.display.named_alone)
             (λ k l pair. both_left k l (from_less k l pair).0) (λ k l pair. both_right k l (from_less k l pair).0) (clients_after after_left after_right one.clients_are two.clients_are);
       }

@@ -221,6 +221,7 @@ module _ (window : ℕ) where
   act_fate table (act.Gone serial) out e = end_fate serial table out e
   act_fate table (act.New host options hide) out e = inl (act_at Anything Spares 0 fair_spares (λ serial later. tt) table (act.New host options hide) out tt (first_spared table) e)
   act_fate table (act.Mouse pointer) out e = inl (act_at Anything Spares 0 fair_spares (λ serial later. tt) table (act.Mouse pointer) out tt (first_spared table) e)
+  act_fate table (act.Size width height) out e = inl (act_at Anything Spares 0 fair_spares (λ serial later. tt) table (act.Size width height) out tt (first_spared table) e)
   act_fate table (act.Keys bytes) out e = inl (act_at Anything Spares 0 fair_spares (λ serial later. tt) table (act.Keys bytes) out tt (first_spared table) e)
   act_fate table (act.Command serial (wctl.New options hide)) out e = inl (act_at Anything Spares 0 fair_spares (λ serial later. tt) table (act.Command serial (wctl.New options hide)) out tt (first_spared table) e)
   act_fate table (act.Command serial (wctl.Resize options)) out e = inl (act_at Anything Spares 0 fair_spares (λ serial later. tt) table (act.Command serial (wctl.Resize options)) out tt (first_spared table) e)

@@ -1,12 +1,12 @@
 -- What holds of the windows, of those that rios know, and of the notes, holds after each act.
-use Rattle.std.proofs.Common.{◌≡◌, ℕ, zero, suc, ◌==◌, ◌<◌, ◌≤◌, Bool, true, false, cond, List, [], ◌∷◌, ◌++◌, fold, reverse, length, nat_le, Option, Some, None, Ok, Err, refl, subst, arith}
-use Rattle.std.specs.Prelude.{IfSome, not, if◌then◌else◌}
+use Rattle.std.proofs.Common.{◌≡◌, ℕ, zero, suc, pos, ◌==◌, ◌<◌, ◌≤◌, Bool, true, false, cond, List, [], ◌∷◌, ◌++◌, fold, reverse, length, nat_le, Option, Some, None, Ok, Err, refl, subst, arith}
+use Rattle.std.specs.Prelude.{IfSome, filter, not, if◌then◌else◌}
 use Rattle.std.specs.Option.{option_and_then, option_map, option_map_or}
 use Rattle.std.proofs.lemmas.Bool.{cond_both}
 use Rattle.std.proofs.lemmas.List.Sorted.{All-permutation, IsPermutation-reverse}
 use Rattle.r9_geom.specs.declared.Rect.{Rect}
 use Rattle.r9_geom.specs.declared.Point.{Point}
-use Rattle.r9_geom.specs.Geometry.{shifted}
+use Rattle.r9_geom.specs.Geometry.{is_empty, meet, shifted}
 use Rattle.r9_window.specs.Ways.{way}
 use Rattle.r9_event.specs.declared.rio.Note.{Note}
 use Rattle.r9_event.specs.declared.rio.Note.TheVariants as note
@@ -17,14 +17,14 @@ use Rattle.model_mouse.specs.declared.Mouse.{Mouse}
 use Rattle.model_wctl.specs.declared.Choice.{Choice}
 use Rattle.model_wctl.specs.Command.{Wctl}
 use Rattle.model_wctl.specs.Command as wctl
-use Rattle.model_wctl.specs.Rectangle.{applied, is_near}
+use Rattle.model_wctl.specs.Rectangle.{applied, box, is_near}
 use Rattle.model_rio.specs.Table.{Window, Rio, Table, Hold, Free, Held, Nobody, current_of, deepest, hold_of, is_host, made_in, name_by, no_windows, path_of, rectangle_of, rio_of, topmost, window_of, windows_in}
 use Rattle.model_rio.specs.Act.{Act}
 use Rattle.model_rio.specs.Act as act
 use Rattle.model_rio.specs.Step.{Step, begun, changed, in_place, is_held, is_same, lowered, not_current, noted, ordered, raised, retired, told_current, with_current, with_hold, with_rio, with_windows}
 use Rattle.model_rio.specs.Moving.{carried, deleted, dropped, each, followed, forgotten, moved, next_name, renewed, replaced}
 use Rattle.model_rio.specs.Routing.{focus, given, keyed, keys_of, moused, point_of, pressed, reacted, receiver}
-use Rattle.model_rio.specs.Rio.{command_to, commanded, entered, first_rectangle, hidden, hosted, is_full, made, made_current, moved_by, new_in, new_window, next_number, outside, rio, shown, to_bottom, to_top}
+use Rattle.model_rio.specs.Rio.{command_to, commanded, entered, first_rectangle, hidden, hosted, is_full, made, made_current, moved_by, new_in, new_window, next_number, outside, resized, rio, shown, to_bottom, to_corner, to_top, windows_off}
 use Rattle.model_rio.specs.Sound.{IfHeld}
 use Rattle.model_shown.proofs.Tests.{refuse_ok, same_Ok, then_ok, value_ok}
 use Rattle.model_fitting.proofs.Lists.{Each, all_of, each_append, each_filter, each_found, each_map, each_of, fold_each}
@@ -236,18 +236,24 @@ module _ (Has : ℕ → Type 0) (Tells : ℕ → Note → Type 0) (least : ℕ) 
   abbrev Moves : (Window → Rect → Step → Outcome Step) → Type 0
   Moves move = (v : Window) (r : Rect) (step out : Step) → Has v.serial → IsAt step → move v r step ≡ Ok out → IsAt out
 
-  carried_at : (move : Window → Rect → Step → Outcome Step) → Moves move → (by : Point) (v : Window) (step out : Step) → Has v.serial → IsAt step → carried move by v step ≡ Ok out → IsAt out
+  abbrev Changes : (Window → Step → Outcome Step) → Type 0
+  Changes change = (v : Window) (step out : Step) → Has v.serial → IsAt step → change v step ≡ Ok out → IsAt out
+
+  carried_at : (move : Window → Rect → Step → Outcome Step) → Moves move → (by : Point) → Changes (carried move by)
   carried_at move moves by v step out has is e = by_test (is_near (shifted v.r by)) e
     where
       by_test : (b : Bool) → cond b (move v (shifted v.r by) step) (Err 47) ≡ Ok out → IsAt out
       by_test true e = moves v (shifted v.r by) step out has is e
       by_test false e = absurd (let f : ◌≡◌ {A = Outcome Step} (Err 47) (Ok out) = e in cc)
 
-  each_at : (move : Window → Rect → Step → Outcome Step) → Moves move → (by : Point) (vs : List Window) (step out : Step) → Each HasWindow vs → IsAt step → each (carried move by) vs step ≡ Ok out → IsAt out
-  each_at move moves by [] step out all is e = subst IsAt (same_Ok step out e) is
-  each_at move moves by (v ∷ vs) step out all is e =
-      let first = then_ok (carried move by v step) (each (carried move by) vs) out e in
-      each_at move moves by vs first.0 out all.1 (carried_at move moves by v step first.0 all.0 is first.1) first.2
+  each_at : (change : Window → Step → Outcome Step) → Changes change → (vs : List Window) (step out : Step) → Each HasWindow vs → IsAt step → each change vs step ≡ Ok out → IsAt out
+  each_at change changes [] step out all is e = subst IsAt (same_Ok step out e) is
+  each_at change changes (v ∷ vs) step out all is e =
+      let first = then_ok (change v step) (each change vs) out e in
+      each_at change changes vs first.0 out all.1 (changes v step first.0 all.0 is first.1) first.2
+
+  reversed_has : (vs : List Window) → Each HasWindow vs → Each HasWindow (reverse vs)
+  reversed_has vs all = each_of HasWindow (reverse vs) (All-permutation HasWindow vs (reverse vs) (IsPermutation-reverse vs) (all_of HasWindow vs all))
 
   inside_has : (host : ℕ) (step : Step) → IsAt step → Each HasWindow (windows_in step.table host)
   inside_has host step is = each_filter HasWindow HasWindow (λ v. v.host == host) (λ v _ has. has) step.table.windows is.windows
@@ -261,8 +267,7 @@ module _ (Has : ℕ → Type 0) (Tells : ℕ → Note → Type 0) (least : ℕ) 
       by_test : (b : Bool) → is_host step.table host ≡ b → IsAt out
       by_test true at =
           let all : each (carried move by) (reverse inside) (ordered (order.Host host fill) step) ≡ Ok out = rw at at e in
-          each_at move moves by (reverse inside) (ordered (order.Host host fill) step) out
-          (each_of HasWindow (reverse inside) (All-permutation HasWindow inside (reverse inside) (IsPermutation-reverse inside) (all_of HasWindow inside (inside_has host step is))))
+          each_at (carried move by) (carried_at move moves by) (reverse inside) (ordered (order.Host host fill) step) out (reversed_has inside (inside_has host step is))
           (ordered_at (order.Host host fill) step is) all
       by_test false at =
           let same : ◌≡◌ {A = Outcome Step} (Ok step) (Ok out) = rw at at e in
@@ -345,6 +350,19 @@ module _ (Has : ℕ → Type 0) (Tells : ℕ → Note → Type 0) (least : ℕ) 
         serials = is.serials;
       })
 
+  off_has : (r : Rect) (step : Step) → IsAt step → Each HasWindow (windows_off r step.table)
+  off_has r step is =
+      reversed_has (filter (λ v. is_empty (meet v.r r)) (windows_in step.table 0))
+      (each_filter HasWindow HasWindow (λ v. is_empty (meet v.r r)) (λ v _ has. has) (windows_in step.table 0) (inside_has 0 step is))
+
+  resized_at : (width height : ℕ) (step out : Step) → IsAt step → resized width height step ≡ Ok out → IsAt out
+  unfolding resized
+  resized_at width height step out is e =
+      let r = box (pos 0) (pos 0) (pos width) (pos height) in
+      let next : Step = record step { table = record step.table { r = r } } in
+      each_at (moved_by true to_corner) (moved_by_at true to_corner) (windows_off r step.table) (ordered (order.Size width height) next) out (off_has r step is)
+      (ordered_at (order.Size width height) next (record { windows = is.windows; rios = is.rios; notes = is.notes; serials = is.serials })) e
+
   done_at : (next out : Step) → IsAt next → ◌≡◌ {A = Outcome Step} (Ok next) (Ok out) → IsAt out
   done_at next out is e = subst IsAt (same_Ok next out e) is
 
@@ -381,3 +399,4 @@ module _ (Has : ℕ → Type 0) (Tells : ℕ → Note → Type 0) (least : ℕ) 
   act_at table (act.Keys bytes) out ends is e =
       done_at (keyed (focus deepest table 0) (keys_of bytes) (begun table)) out (keyed_at (focus deepest table 0) (keys_of bytes) (begun table) (focus_has deepest 0 (begun table) is) is) e
   act_at table (act.Gone window) out ends is e = command_to_at window wctl.Delete (begun table) out ends is e
+  act_at table (act.Size width height) out ends is e = resized_at width height (begun table) out is e

@@ -3,6 +3,7 @@ use Rattle.std.proofs.Common.{◌≡◌, ℕ, ◌==◌, true, false, List, [], �
 use Rattle.std.specs.Prelude.{IfOk}
 use Rattle.std.proofs.lemmas.Bool.{cond_both}
 use Rattle.model_text.specs.Outcome.{Outcome, ◌>>=◌, value_or_refuse}
+use Rattle.model_words.specs.declared.Size.{Size}
 use Rattle.model_mouse.specs.declared.Mouse.{Mouse as Pointer}
 use Rattle.model_wctl.specs.Command.{Wctl}
 use Rattle.model_wctl.specs.Command as wctl
@@ -79,6 +80,10 @@ module _ (d : ℕ) (P : Desktop → Type 0) where
     unfolding whole.typed
     typed_keeps s keys is = if_keeps keep.acts s (act.Keys keys) is
 
+    resized_keeps : (s : Desktop) (size : Size) → P s → IfOk (whole.resized s size) P
+    unfolding whole.resized
+    resized_keeps s size is = or_keeps s (act.Size size.width size.height) is
+
     written_keeps : (s : Desktop) (n : ℕ) (bytes : List ℕ) (mark : Option ℕ) → P s → P ((desktop_for d).write_data s n bytes mark).0
     unfolding whole.written_data
     written_keeps s n bytes mark is = keep.beside s _ refl refl refl is
@@ -100,6 +105,7 @@ module _ (d : ℕ) (P : Desktop → Type 0) where
       device_command = device_commanded_keeps;
       mouse = moused_keeps;
       keys = typed_keeps;
+      with_size = resized_keeps;
       with_snarf = λ s host bytes is. keep.beside s _ refl refl refl is;
       connect = λ s n is. keep.beside s _ refl refl refl is;
       leave = λ s n is. keep.beside s _ refl refl refl is;

@@ -6,6 +6,8 @@ use Rattle.std.proofs.lemmas.Bool.{cond_both}
 use Rattle.model_text.specs.Outcome.{Outcome, ◌>>=◌, refuse_if, value_or_refuse}
 use Rattle.model_text.specs.Map.{without}
 use Rattle.model_mouse.specs.declared.Mouse.{Mouse as Pointer}
+use Rattle.model_words.specs.declared.Size.{Size}
+use Rattle.model_words.specs.Values.{sides_of}
 use Rattle.model_mouse.specs.Pointer.{pointer_of}
 use Rattle.model_mouse.specs.Queue.{answer_text}
 use Rattle.model_console.specs.Console as console
@@ -40,6 +42,7 @@ module _ {S : Type 0} (outside : Outside S) (P : S → Type 0) where
     pub device_command : (s : S) (text : List ℕ) → P s → IfOk (outside.device_command s text) P
     pub mouse : (s : S) (e : Pointer) → P s → P (outside.mouse s e)
     pub keys : (s : S) (typed : List ℕ) → P s → P (outside.keys s typed)
+    pub with_size : (s : S) (size : Size) → P s → IfOk (outside.with_size s size) P
     pub with_snarf : (s : S) (host : ℕ) (bytes : List ℕ) → P s → P (outside.with_snarf s host bytes)
     pub connect : (s : S) (n : ℕ) → P s → P (outside.connect s n)
     pub leave : (s : S) (n : ℕ) → P s → P (outside.leave s n)
@@ -154,6 +157,7 @@ module _ {S : Type 0} (outside : Outside S) (P : S → Type 0) where
     file_keeps s fid offset count kind.Data is = after_if IfGiven (λ (got : List ℕ × S). P got.1) (outside.read_data s fid.node.connection count) _ (keep.read_data s fid.node.connection count is) (λ got kept. kept)
     file_keeps s fid offset count kind.Screen is = is
     file_keeps s fid offset count kind.Snarf is = is
+    file_keeps s fid offset count kind.Hwsize is = is
     file_keeps s fid offset count kind.Label is = is
     file_keeps s fid offset count kind.Text is = is
     file_keeps s fid offset count kind.Winid is = is
@@ -204,6 +208,8 @@ module _ {S : Type 0} (outside : Outside S) (P : S → Type 0) where
         whole_keeps (value_or_refuse (pointer_of bytes) 51 >>= λ e. Ok (outside.mouse s e)) (after_step P (value_or_refuse (pointer_of bytes) 51) _ (λ e _. keep.mouse s e is))
     written_keeps s node offset bytes mark kind.Kbdin is =
         whole_keeps (refuse_if (not (are_keys bytes)) 51 >>= λ _. Ok (outside.keys s bytes)) (after_step P (refuse_if (not (are_keys bytes)) 51) _ (λ _ _. keep.keys s bytes is))
+    written_keeps s node offset bytes mark kind.Hwsize is =
+        whole_keeps (value_or_refuse (sides_of (line_of bytes)) 51 >>= λ size. outside.with_size s size) (after_step P (value_or_refuse (sides_of (line_of bytes)) 51) _ (λ size _. keep.with_size s size is))
     written_keeps s node offset bytes mark kind.Snarf is =
         let old = outside.snarf s node.serial in
         whole_keeps (snarf_written old offset bytes >>= λ new. Ok (outside.with_snarf s node.serial new)) (after_step P (snarf_written old offset bytes) _ (λ new _. keep.with_snarf s node.serial new is))

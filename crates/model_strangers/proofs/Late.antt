@@ -30,7 +30,7 @@ use Rattle.model_agreement.proofs.Keeping.{all-with}
 use Rattle.model_agreement.proofs.Relations.{weaken}
 use Rattle.model_alone.specs.Lone.{LoneDesktop, lone_desktop}
 use Rattle.model_followed.specs.Devices.{AreNamesFree, IsDeviceLike}
-use Rattle.model_followed.specs.Following.{HasConnection, HasWindow, SameDesktops, SameWindows, named_in, named_pane}
+use Rattle.model_followed.specs.Following.{HasConnection, HasWindow, SameDesktops, SameWindows, known_size, named_in, named_pane}
 use Rattle.model_followed.proofs.Outsides.{connect_same, heard_same, leave_same, pane_same, picture_same, read_same, view_same}
 
 -- a node that is not of the session's window
@@ -43,7 +43,7 @@ pub record IsElsewhere (own : Option ℕ) (session : Session) : Type 0 where
   pub fids : All (λ (entry : ℕ × Fid). IsAway own entry.1.node) session.fids
   pub counted : AreCounted session.made session.connections
 
-module _ (c : ℕ) (begin : 0 < c) (Like : Option (ℕ × List ℕ) → draw.World → draw.World → Type 0) (Named : draw.World → Table → List (ℕ × Pane) → Type 0) (laws : IsDeviceLike c Like) (names : AreNamesFree Named) (own : Option ℕ) where
+module _ (c : ℕ) (begin : 0 < c) (Like : Option (ℕ × ℕ) → Option (ℕ × List ℕ) → draw.World → draw.World → Type 0) (Named : draw.World → Table → List (ℕ × Pane) → Type 0) (laws : IsDeviceLike c Like) (names : AreNamesFree Named) (own : Option ℕ) where
   abbrev Have : Desktop → LoneDesktop → Type 0
   Have s t = SameDesktops Like Named own s t
 
@@ -63,7 +63,7 @@ module _ (c : ℕ) (begin : 0 < c) (Like : Option (ℕ × List ℕ) → draw.Wor
     write_data = λ s t is n bytes mark told few may. absurd may;
     read_data = λ s t is n most few. weaken (λ (a : List ℕ × Desktop) (b : List ℕ × LoneDesktop). (a.0 ≡ b.0) × Have a.1 b.1 × (a.1.notes ≡ s.notes)) (λ (a : List ℕ × Desktop) (b : List ℕ × LoneDesktop). (a.0 ≡ b.0) × Have a.1 b.1)
         ((desktop_for c).read_data s n most) (lone_desktop.read_data t n most) (λ a b p. (p.0, p.1)) (read_same c begin Like Named laws names own s t is n most few);
-    read_ctl = λ s t is n few. laws.tell (named_in s own) s.device t.device is.device n few;
+    read_ctl = λ s t is n few may. absurd may;
     write_ctl = λ s t is n bytes few may. absurd may;
     left = λ s t is windows. tt;
     attached = λ s t is asked may. absurd may;
@@ -79,7 +79,7 @@ module _ (c : ℕ) (begin : 0 < c) (Like : Option (ℕ × List ℕ) → draw.Wor
     order = ascend-with s.panes window _ same.order;
     names = names.heard s.device s.table s.panes window h done same.names;
     window = windows own away same.window;
-    device = subst (λ (w : Option (ℕ × List ℕ)). Like w s.device t.device) (name own away) same.device;
+    device = subst (λ (w : Option (ℕ × List ℕ)). Like (known_size s) w s.device t.device) (name own away) same.device;
   }
     where
       panes : List (ℕ × Pane)

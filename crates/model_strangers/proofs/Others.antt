@@ -2,6 +2,8 @@
 use Rattle.std.proofs.Common.{◌≡◌, ◌≢◌, ℕ, ◌+◌, ◌<◌, ◌≤◌, ◌^◌, true, false, List, fold, Option, Some, None, Ok, Err, refl, arith}
 use Rattle.std.specs.Prelude.{All, IfOk}
 use Rattle.model_text.specs.Outcome.{Outcome, ◌>>=◌, value_or_refuse}
+use Rattle.model_words.specs.declared.Size.{Size}
+use Rattle.model_words.specs.Values.{sides_of}
 use Rattle.model_mouse.specs.declared.Mouse.{Mouse as Pointer}
 use Rattle.model_window.specs.Heard.{Heard}
 use Rattle.model_window.specs.Pane.{Pane}
@@ -26,13 +28,14 @@ use Rattle.model_fitting.proofs.Spelled.{command_spelled}
 use Rattle.model_orders.specs.Leading.{IsDrawn, Uses, begins, chooses, ends, reads, writes}
 use Rattle.model_orders.proofs.Leading.{led_beside, led_by, led_itself}
 use Rattle.model_orders.proofs.Desktops.{choice_is, client_other, connect_drawn, leave_drawn, read_is, written_data_drawn}
+use Rattle.model_orders.proofs.Sides.{sides_spelled}
 use Rattle.model_agreement.specs.Agreement.{IsDone}
 use Rattle.model_alone.specs.Uses.{looked_at}
 use Rattle.model_alone.specs.Lone.{LoneDesktop, noted_alone}
 use Rattle.model_told.specs.Telling.{notes_of}
 use Rattle.model_told.proofs.Acts.{IfHosts, MakesOther}
 use Rattle.model_followed.specs.Devices.{AreNamesFree, IsDeviceLike, LeavesName}
-use Rattle.model_followed.specs.Following.{SameOnceTold, SameWindows, named_in}
+use Rattle.model_followed.specs.Following.{SameOnceTold, SameWindows, known_size, named_in}
 use Rattle.model_followed.proofs.Stepping.{SparesOwn}
 use Rattle.model_followed.proofs.Answers.{told_more}
 use Rattle.model_strangers.proofs.Late.{heard_elsewhere}
@@ -55,6 +58,7 @@ makes_other window table (act.Command at wctl.Host) other = tt
 makes_other window table (act.Mouse e) other = tt
 makes_other window table (act.Keys keys) other = tt
 makes_other window table (act.Gone at) other = tt
+makes_other window table (act.Size width height) other = tt
 
 if_hosts : (a : Act) (P : Type 0) → P → IfHosts a P
 if_hosts (act.New host options hide) P p = tt
@@ -73,8 +77,9 @@ if_hosts (act.Command at wctl.Host) P p = p
 if_hosts (act.Mouse e) P p = tt
 if_hosts (act.Keys keys) P p = tt
 if_hosts (act.Gone at) P p = tt
+if_hosts (act.Size width height) P p = tt
 
-module _ (c : ℕ) (begin : 0 < c) (Like : Option (ℕ × List ℕ) → draw.World → draw.World → Type 0) (Named : draw.World → Table → List (ℕ × Pane) → Type 0) (laws : IsDeviceLike c Like) (names : AreNamesFree Named) (own : Option ℕ) (d : ℕ) (first : 1 ≤ d) (other : d ≡ c → ⊥) (t : LoneDesktop) where
+module _ (c : ℕ) (begin : 0 < c) (Like : Option (ℕ × ℕ) → Option (ℕ × List ℕ) → draw.World → draw.World → Type 0) (Named : draw.World → Table → List (ℕ × Pane) → Type 0) (laws : IsDeviceLike c Like) (names : AreNamesFree Named) (own : Option ℕ) (d : ℕ) (first : 1 ≤ d) (other : d ≡ c → ⊥) (t : LoneDesktop) where
   abbrev pub Told : Desktop → Type 0
   Told s = SameOnceTold Like Named own s t
 
@@ -172,6 +177,18 @@ module _ (c : ℕ) (begin : 0 < c) (Like : Option (ℕ × List ℕ) → draw.Wor
   unfolding whole.typed
   typed_reached s keys is given = if_reached s (act.Keys keys) is given tt
 
+  -- ---- another size of the display
+
+  size_told : (o : Option Size) (size : Size) → value_or_refuse o 51 ≡ Ok size → o ≡ Some size
+  size_told (Some x) size e = cc
+  size_told None size e = absurd cc
+
+  pub resized_reached : (s : Desktop) (text : List ℕ) → Told s → IsGiven s → IfReached (value_or_refuse (sides_of text) 51 >>= λ size. whole.resized s size)
+  unfolding whole.resized
+  resized_reached s text is given =
+      after_step Reached (value_or_refuse (sides_of text) 51) _ (λ size e.
+      or_reached s (act.Size size.width size.height) is given (sides_spelled text size (size_told (sides_of text) size e)))
+
   -- ---- attaches
 
   abbrev IsMadeReached : Desktop × ℕ → Type 0
@@ -200,7 +217,7 @@ module _ (c : ℕ) (begin : 0 < c) (Like : Option (ℕ × List ℕ) → draw.Wor
 
   -- ---- the draw device
 
-  device_told : (s : Desktop) (next : draw.World) → Told s → IsDrawn (whole.with_device s next) → Uses s.device next → Like (named_in s own) next (fold noted_alone t (notes_of own s.notes)).device → Told (whole.with_device s next)
+  device_told : (s : Desktop) (next : draw.World) → Told s → IsDrawn (whole.with_device s next) → Uses s.device next → Like (known_size s) (named_in s own) next (fold noted_alone t (notes_of own s.notes)).device → Told (whole.with_device s next)
   device_told s next is drawn used like = record {
     drawn = drawn;
     order = is.order;
@@ -222,13 +239,13 @@ module _ (c : ℕ) (begin : 0 < c) (Like : Option (ℕ × List ℕ) → draw.Wor
   pub connect_told : (s : Desktop) (n : ℕ) → n < 2 ^ 26 → Told s → Told ((desktop_for d).connect s n)
   connect_told s n few is =
       device_told s (draw.after_connect s.device (client d n)) is (connect_drawn s s (client d n) (led_itself s is.drawn)).drawn (begins (client d n))
-      (laws.others_connect (named_in s own) s.device _ is.device d n first other few)
+      (laws.others_connect (known_size s) (named_in s own) s.device _ is.device d n first other few)
 
   pub leave_told : (s : Desktop) (n : ℕ) → n < 2 ^ 26 → Told s → Told ((desktop_for d).leave s n)
   leave_told s n few is =
       let apart = client_other s d n zero_below in
       device_told s (draw.after_leave s.device (client d n)) is (leave_drawn s s (client d n) apart (led_itself s is.drawn)).drawn (ends (client d n) apart)
-      (laws.others_leave (named_in s own) s.device _ is.device d n first other few)
+      (laws.others_leave (known_size s) (named_in s own) s.device _ is.device d n first other few)
 
   pub write_told : (s : Desktop) (n : ℕ) (bytes : List ℕ) (mark : Option ℕ) → n < 2 ^ 26 → All (LeavesName (named_in s own)) (looked_at (client d n) s.device bytes mark) → Told s → Told ((desktop_for d).write_data s n bytes mark).0
   unfolding whole.written_data
@@ -236,16 +253,16 @@ module _ (c : ℕ) (begin : 0 < c) (Like : Option (ℕ × List ℕ) → draw.Wor
       let apart = client_other s d n zero_below in
       let drawn : IsDrawn (whole.with_device s (written (client d n) s.device bytes mark).world) = (written_data_drawn s (client d n) s bytes mark apart (led_itself s is.drawn)).drawn in
       device_told s (written (client d n) s.device bytes mark).world is drawn (writes (client d n) bytes mark apart)
-      (laws.others_write (named_in s own) s.device _ is.device d n bytes mark first other few leaves)
+      (laws.others_write (known_size s) (named_in s own) s.device _ is.device d n bytes mark first other few leaves)
 
   pub read_told : (s : Desktop) (n most : ℕ) → n < 2 ^ 26 → Told s → IfOk ((desktop_for d).read_data s n most) (λ got. Told got.1)
   unfolding whole.data_read
   read_told s n most few is = after_step (λ (got : List ℕ × Desktop). Told got.1) (read_data (client d n) s.device most) _ (λ got at.
       device_told s got.1 is (led_by s s got.1 (led_itself s is.drawn) (reads (client d n) most got at) (read_is (client d n) s.device most got is.drawn.orderly at)).drawn (reads (client d n) most got at)
-      (laws.others_read (named_in s own) s.device _ is.device d n most first other few got at))
+      (laws.others_read (known_size s) (named_in s own) s.device _ is.device d n most first other few got at))
 
   pub choose_told : (s : Desktop) (n : ℕ) (bytes : List ℕ) → n < 2 ^ 26 → Told s → IfOk ((desktop_for d).write_ctl s n bytes) Told
   unfolding whole.ctl_written
   choose_told s n bytes few is = after_step Told (write_ctl (client d n) s.device bytes) _ (λ next at.
       device_told s next is (led_by s s next (led_itself s is.drawn) (chooses (client d n) bytes next at) (choice_is (client d n) s.device bytes next is.drawn.orderly at)).drawn (chooses (client d n) bytes next at)
-      (laws.others_choose (named_in s own) s.device _ is.device d n bytes first other few next at))
+      (laws.others_choose (known_size s) (named_in s own) s.device _ is.device d n bytes first other few next at))

@@ -9,6 +9,7 @@ use Rattle.std.proofs.lemmas.List.Elements.{All-cons, All-filter, All-head, All-
 use Rattle.std.proofs.lemmas.Map.Entries.{All-lookup}
 use Rattle.model_text.specs.Outcome.{Outcome, ◌>>=◌, refuse_if, value_or_refuse}
 use Rattle.model_text.specs.Map.{is_key, lookup, without}
+use Rattle.model_words.specs.Values.{sides_of}
 use Rattle.model_wire.specs.Message.{T, Tattach, Twalk, Topen, Twrite, Tversion, Tauth, Tflush, Tcreate, Tread, Tclunk, Tremove, Tstat, Twstat, R, Rclunk, no_fid, no_tag, tag_of_t}
 use Rattle.model_wire.specs.Reading.{message_of, tag_of}
 use Rattle.model_mouse.specs.Pointer.{pointer_of}
@@ -42,7 +43,7 @@ use Rattle.model_followed.specs.Devices.{AreNamesFree, IsDeviceLike, LeavesName}
 use Rattle.model_followed.specs.Following.{HasConnection, named_in}
 use Rattle.model_followed.proofs.Answers.{all_left_told}
 use Rattle.model_strangers.proofs.Late.{IsAway}
-use Rattle.model_strangers.proofs.Others.{IsGiven, Reached, Told, attached_reached, beside_told, choose_told, commanded_reached, connect_told, device_commanded_reached, heard_told, leave_told, moused_reached, read_told, typed_reached, write_told}
+use Rattle.model_strangers.proofs.Others.{IsGiven, Reached, Told, attached_reached, beside_told, choose_told, commanded_reached, connect_told, device_commanded_reached, heard_told, leave_told, moused_reached, read_told, resized_reached, typed_reached, write_told}
 
 -- the connection of a node that is not refused is one of the session's
 live_connection : (view : View) (node : Node) (u : Unit {0}) → is_of_connection node.kind ≡ true → check_live view node ≡ Ok u → list_any (λ n. n == node.connection) view.connections ≡ true
@@ -66,7 +67,7 @@ among_few (m ∷ ms) n all is = by (m == n) refl is (among_few ms n (All-tail Ha
     by true same is more = subst HasConnection (eqb-true m n same) (All-head HasConnection m ms all)
     by false same is more = more is
 
-module _ (c : ℕ) (begin : 0 < c) (Like : Option (ℕ × List ℕ) → draw.World → draw.World → Type 0) (Named : draw.World → Table → List (ℕ × Pane) → Type 0) (laws : IsDeviceLike c Like) (names : AreNamesFree Named) (own : Option ℕ) (d : ℕ) (first : 1 ≤ d) (other : d ≡ c → ⊥) (t : LoneDesktop) where
+module _ (c : ℕ) (begin : 0 < c) (Like : Option (ℕ × ℕ) → Option (ℕ × List ℕ) → draw.World → draw.World → Type 0) (Named : draw.World → Table → List (ℕ × Pane) → Type 0) (laws : IsDeviceLike c Like) (names : AreNamesFree Named) (own : Option ℕ) (d : ℕ) (first : 1 ≤ d) (other : d ≡ c → ⊥) (t : LoneDesktop) where
   abbrev Tells : Desktop → Type 0
   Tells s = Told c begin Like Named laws names own d first other t s
 
@@ -190,6 +191,7 @@ module _ (c : ℕ) (begin : 0 < c) (Like : Option (ℕ × List ℕ) → draw.Wor
       after_if IfGiven (λ got. Tells got.1) ((desktop_for d).read_data s fid.node.connection count) _ (read_told c begin Like Named laws names own d first other t s fid.node.connection count (few refl) is) (λ got told. told)
   file_told connections s fid offset count kind.Screen few away is = is
   file_told connections s fid offset count kind.Snarf few away is = is
+  file_told connections s fid offset count kind.Hwsize few away is = is
   file_told connections s fid offset count kind.Label few away is = is
   file_told connections s fid offset count kind.Text few away is = is
   file_told connections s fid offset count kind.Winid few away is = is
@@ -261,6 +263,8 @@ module _ (c : ℕ) (begin : 0 < c) (Like : Option (ℕ × List ℕ) → draw.Wor
       whole_told (value_or_refuse (pointer_of bytes) 51 >>= λ e. Ok (whole.moused s e)) (after_step Reaches (value_or_refuse (pointer_of bytes) 51) _ (λ e _. moused_reached c begin Like Named laws names own d first other t s e is given))
   file_reached s node offset bytes mark kind.Kbdin few leaves away given is =
       whole_told (refuse_if (not (are_keys bytes)) 51 >>= λ _. Ok (whole.typed s bytes)) (after_step Reaches (refuse_if (not (are_keys bytes)) 51) _ (λ _ _. typed_reached c begin Like Named laws names own d first other t s bytes is given))
+  file_reached s node offset bytes mark kind.Hwsize few leaves away given is =
+      whole_told (value_or_refuse (sides_of (line_of bytes)) 51 >>= λ size. whole.resized s size) (resized_reached c begin Like Named laws names own d first other t s (line_of bytes) is given)
   file_reached s node offset bytes mark kind.Snarf few leaves away given is =
       let old = (desktop_for d).snarf s node.serial in
       whole_told (snarf_written old offset bytes >>= λ new. Ok ((desktop_for d).with_snarf s node.serial new)) (after_step Reaches (snarf_written old offset bytes) _ (λ new _ bare. beside_told c begin Like Named laws names own d first other t s s.users _ is))

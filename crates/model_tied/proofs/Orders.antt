@@ -22,7 +22,7 @@ use Rattle.model_images.specs.Book.{Book, add_id, image, image_id, is_image_id_t
 use Rattle.model_images.specs.Release.{Freed, free_id, free_screen, freed_image_id, freed_screen_id, has_gone, is_tied_by, is_used, leave, nothing_freed, own_image_id, references, settled, steps_for, with_gone, with_ties_ended, without_image_id, without_screen_id}
 use Rattle.model_draw.specs.World.{World, after_freed, after_leave, at_number, next_image, with_book, with_images}
 use Rattle.model_draw.specs.Making.{with_made}
-use Rattle.model_draw.specs.Orders.{after_order, bordered, drop_window, fits, host_rio, image_freed, image_shown, inside_border, make_window, manager, next_white, ordered, place_window, replace_window, rio_screen, screen_freed, with_window_id, with_window_name}
+use Rattle.model_draw.specs.Orders.{after_order, bordered, drop_window, fits, host_rio, image_freed, image_shown, inside_border, make_window, manager, next_white, ordered, place_window, replace_window, resize_display, rio_screen, screen_freed, with_window_id, with_window_name}
 use Rattle.model_shown.proofs.Numbers.{gone-book}
 use Rattle.model_shown.proofs.Tests.{refuse_ok, same_Ok, split, then_ok, value_ok}
 
@@ -201,6 +201,10 @@ module _ (P : Tie → Type 0) where
       let filled = if fill then after_fill w.images (image_shown w window) (inside_border image.r) (pack image.chan (colour_of 0x777777ff)) else w.images in
       screened_keeps _ window _ _ (same_ties _ _ (ap (λ (b : Book). b.ties) (freed_book (with_images w filled) (screen_freed w.book window)) ∙ (screen_same_or w.book window).ties) all)
 
+  size_keeps : (w : World) (width height : ℕ) → AllTies w.book → AllTies (resize_display w width height).book
+  unfolding resize_display
+  size_keeps w width height all = all
+
   -- it holds of the tie of the name that an order gives
   abbrev pub GivesIn : Order → Type 0
   GivesIn (order.Make window host r name hide depth) = Gives window name
@@ -216,6 +220,7 @@ module _ (P : Tie → Type 0) where
   after_keeps w (order.Drop window) gives all = drop_keeps w window all
   after_keeps w (order.Host window fill) gives all = host_keeps w window fill all
   after_keeps w (order.Leave client) gives all = leave_keeps w client all
+  after_keeps w (order.Size width height) gives all = size_keeps w width height all
 
   pub ordered_keeps : (w : World) (o : Order) → GivesIn o → AllTies w.book → AllTies (ordered w o).book
   ordered_keeps w o gives all = cond_both (fits w o) (after_order w o) w (λ next. AllTies next.book) (λ _. after_keeps w o gives all) (λ _. all)

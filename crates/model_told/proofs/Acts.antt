@@ -1,11 +1,11 @@
 -- A window of the root rio in each act of the window manager.
-use Rattle.std.proofs.Common.{◌≡◌, ◌≢◌, ◌∙◌, ℕ, zero, suc, ◌==◌, ◌+◌, Bool, true, false, cond, not, List, [], ◌∷◌, ◌++◌, find, filter, fold, reverse, length, nat_le, Option, Some, None, is_some, Ok, Err, refl, sym, ap, subst, arith, eqb-true, eq-eqb, ne_eqb}
+use Rattle.std.proofs.Common.{◌≡◌, ◌≢◌, ◌∙◌, ℕ, zero, suc, pos, ◌==◌, ◌+◌, Bool, true, false, cond, not, List, [], ◌∷◌, ◌++◌, find, filter, fold, reverse, length, nat_le, Option, Some, None, is_some, Ok, Err, refl, sym, ap, subst, arith, eqb-true, eq-eqb, ne_eqb}
 use Rattle.std.specs.Option.{option_map}
 use Rattle.std.proofs.lemmas.Bool.{cond_both, eqb-false}
 use Rattle.std.proofs.lemmas.List.Sorted.{All-permutation, IsPermutation-reverse}
 use Rattle.r9_geom.specs.declared.Rect.{Rect}
 use Rattle.r9_geom.specs.declared.Point.{Point}
-use Rattle.r9_geom.specs.Geometry.{shifted}
+use Rattle.r9_geom.specs.Geometry.{is_empty, meet, shifted}
 use Rattle.r9_window.specs.Ways.{way}
 use Rattle.r9_event.specs.declared.rio.Note.TheVariants as note
 use Rattle.r9_event.specs.declared.rio.Order.TheVariants as order
@@ -14,19 +14,19 @@ use Rattle.model_mouse.specs.declared.Mouse.{Mouse}
 use Rattle.model_wctl.specs.declared.Choice.{Choice}
 use Rattle.model_wctl.specs.Command.{Wctl}
 use Rattle.model_wctl.specs.Command as wctl
-use Rattle.model_wctl.specs.Rectangle.{applied, is_near}
+use Rattle.model_wctl.specs.Rectangle.{applied, box, is_near}
 use Rattle.model_rio.specs.Table.{Window, Rio, Table, Hold, Free, Held, Nobody, deepest, hold_of, is_host, made_in, no_windows, path_of, rectangle_of, rio_of, topmost, window_of, windows_in}
 use Rattle.model_rio.specs.Act.{Act}
 use Rattle.model_rio.specs.Act as act
 use Rattle.model_rio.specs.Step.{Step, begun, noted, ordered, with_current}
 use Rattle.model_rio.specs.Moving.{carried, deleted, each, followed, moved, replaced}
 use Rattle.model_rio.specs.Routing.{focus, given, keyed, keys_of, moused, point_of, pressed, reacted, receiver}
-use Rattle.model_rio.specs.Rio.{command_to, commanded, first_rectangle, hidden, hosted, is_full, made_current, moved_by, new_in, new_window, rio, shown, to_bottom, to_top}
+use Rattle.model_rio.specs.Rio.{command_to, commanded, first_rectangle, hidden, hosted, is_full, made_current, moved_by, new_in, new_window, resized, rio, shown, to_bottom, to_corner, to_top, windows_off}
 use Rattle.model_rio.specs.Sound.{IsSound, IsSoundWindow}
 use Rattle.model_shown.proofs.Tests.{find-passes, refuse_ok, same_Ok, then_ok, value_ok}
-use Rattle.model_fitting.proofs.Lists.{Each, all_of, each_append, each_filter, each_found, each_of, fold_each}
+use Rattle.model_fitting.proofs.Lists.{Each, all_of, each_append, each_filter, each_found, each_of, each_then, fold_each}
 use Rattle.model_told.specs.Telling.{rect_in}
-use Rattle.model_told.proofs.Standing.{IsAmong, IsBare, IsOther, Stands, among_other, begun_stands, beside_stands, current_stands, hold_stands, no_host, small_stands}
+use Rattle.model_told.proofs.Standing.{IsAmong, IsBare, IsOther, IsRooted, Stands, among_other, among_rooted, begun_stands, beside_stands, current_stands, hold_stands, no_host, rooted_later, rooted_other, small_stands}
 use Rattle.model_told.proofs.Windows.{bottom_stands, dropped_stands, hidden_stands, made_current_stands, made_stands, own_dropped, own_made, own_replaced, replaced_stands, shown_stands, top_stands}
 
 -- where a window is led to
@@ -135,10 +135,10 @@ module _ (window : ℕ) (start now : Option Rect) where
       followed_stands (moved levels true) (moved_stands levels true) v.serial (not keep) (way v.r r) (replaced keep v r step) out other.counted other.other (replaced_stands window start now keep v r step other is) e
 
   -- the one in question moves alone
-  own_moved : (levels : ℕ) (keep : Bool) (v : Window) (r : Rect) (step out : Step) → At step → IsAmong window now v → v.serial ≡ window → moved (suc levels) keep v r step ≡ Ok out → Stands window start (Some r) out
+  own_moved : (levels : ℕ) (keep : Bool) (v : Window) (r : Rect) (step out : Step) → At step → IsRooted window now v → v.serial ≡ window → moved (suc levels) keep v r step ≡ Ok out → Stands window start (Some r) out
   unfolding moved
-  own_moved levels keep v r step out is among same e =
-      let next : Stands window start (Some r) (replaced keep v r step) = own_replaced window start now keep v r step is among same in
+  own_moved levels keep v r step out is rooted same e =
+      let next : Stands window start (Some r) (replaced keep v r step) = own_replaced window start now keep v r step is rooted same in
       let bare : is_host (replaced keep v r step).table v.serial ≡ false = ap (is_host (replaced keep v r step).table) same ∙ no_host (replaced keep v r step).table window next.bare in
       let done : ◌≡◌ {A = Outcome Step} (Ok (replaced keep v r step)) (Ok out) = rw bare at e in
       subst (Stands window start (Some r)) (same_Ok (replaced keep v r step) out done) next
@@ -195,7 +195,9 @@ module _ (window : ℕ) (start now : Option Rect) where
       let place = value_ok (applied keep options v.r) 47 _ out e in by (v.serial == window) refl place.0 place.2
     where
       by : (b : Bool) → (v.serial == window) ≡ b → (r : Rect) → moved deepest keep v r step ≡ Ok out → Led out
-      by true same r e = record { now = Some r; stands = own_moved 8 keep v r step out is among (eqb-true v.serial window same) e }
+      by true same r e =
+          let own = eqb-true v.serial window same in
+          record { now = Some r; stands = own_moved 8 keep v r step out is (among_rooted window now v among (among.place own).0) own e }
       by false same r e = led out (moved_stands deepest keep v r step out (among_other window now v among (eqb-false v.serial window same)) is e)
 
   deleted_led : (v : Window) (step : Step) → IsAmong window now v → At step → Led (deleted deepest v step)
@@ -265,6 +267,41 @@ module _ (window : ℕ) (start now : Option Rect) where
       let sound = each_found (IsSoundWindow step.table) (λ (v : Window). v.serial == serial) step.table.windows found.0 (each_of (IsSoundWindow step.table) step.table.windows ok.windows) found.1 in
       commanded_led what found.0 step out makes sound.housed bare (found_among (λ (v : Window). v.serial == serial) step found.0 is found.1) is found.2
 
+-- ---- another size of the display
+
+-- windows of the root rio move to the corner, one after the other
+each_led : (window : ℕ) (start : Option Rect) (vs : List Window) (now : Option Rect) (step out : Step) → Each (IsRooted window now) vs → Stands window start now step → each (moved_by true to_corner) vs step ≡ Ok out
+    → Leads window start out
+unfolding moved_by
+each_led window start [] now step out all is e = record { now = now; stands = subst (Stands window start now) (same_Ok step out e) is }
+each_led window start (v ∷ vs) now step out all is e =
+    let first = then_ok (moved_by true to_corner v step) (each (moved_by true to_corner) vs) out e in
+    let place = value_ok (applied true to_corner v.r) 47 _ first.0 first.1 in
+    by (v.serial == window) refl place.0 first.0 place.2 (λ later rooted stands. each_led window start vs later first.0 out rooted stands first.2)
+  where
+    by : (b : Bool) → (v.serial == window) ≡ b → (r : Rect) (next : Step) → moved deepest true v r step ≡ Ok next
+        → ((later : Option Rect) → Each (IsRooted window later) vs → Stands window start later next → Leads window start out) → Leads window start out
+    by true same r next e rest =
+        rest (Some r) (each_then (IsRooted window now) (IsRooted window (Some r)) (rooted_later window now r) vs all.1) (own_moved window start now 8 true v r step next is all.0 (eqb-true v.serial window same) e)
+    by false same r next e rest =
+        rest now all.1 (moved_stands window start now deepest true v r step next (rooted_other window now v all.0 (eqb-false v.serial window same)) is e)
+
+off_rooted : (window : ℕ) (start : Option Rect) (r : Rect) (step : Step) → Stands window start start step → Each (IsRooted window start) (windows_off r step.table)
+off_rooted window start r step is =
+    let inside = windows_in step.table 0 in
+    let off = filter (λ v. is_empty (meet v.r r)) inside in
+    let rooted = each_filter (IsAmong window start) (IsRooted window start) (λ v. v.host == 0) (λ v at among. among_rooted window start v among (eqb-true v.host 0 at)) step.table.windows is.each in
+    let lie = each_filter (IsRooted window start) (IsRooted window start) (λ v. is_empty (meet v.r r)) (λ v _ is. is) inside rooted in
+    each_of (IsRooted window start) (reverse off) (All-permutation (IsRooted window start) off (reverse off) (IsPermutation-reverse off) (all_of (IsRooted window start) off lie))
+
+resized_led : (window : ℕ) (start : Option Rect) (width height : ℕ) (step out : Step) → Stands window start start step → resized width height step ≡ Ok out → Leads window start out
+unfolding resized
+resized_led window start width height step out is e =
+    let r = box (pos 0) (pos 0) (pos width) (pos height) in
+    let next : Step = record step { table = record step.table { r = r } } in
+    each_led window start (windows_off r step.table) start (ordered (order.Size width height) next) out (off_rooted window start r step is)
+    (beside_stands window start start (order.Size width height) next tt (record { tells = is.tells; lives = is.lives; each = is.each; bare = is.bare })) e
+
 -- ---- each act
 
 -- an act that makes a window makes another
@@ -310,6 +347,7 @@ act_leads window table a out ok is makes bare = by a makes bare
     by (act.Keys bytes) makes bare e =
         done_led window start start (keyed (focus deepest table 0) (keys_of bytes) (begun table)) out (record { now = start; stands = keyed_stands window start start (focus deepest table 0) (keys_of bytes) (begun table) first }) e
     by (act.Gone at) makes bare e = command_to_led window start start at wctl.Delete (begun table) out tt ok bare first e
+    by (act.Size width height) makes bare e = resized_led window start width height (begun table) out first e
 
 -- ---- a new window of the root rio
 

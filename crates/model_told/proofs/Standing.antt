@@ -26,6 +26,22 @@ pub record IsAmong (window : ℕ) (now : Option Rect) (v : Window) : Type 0 wher
   pub counted : v.serial ≢ 0
   pub apart : v.host ≢ window
 
+-- a window of the root rio, which may be the one in question, with this rectangle or an earlier one
+pub record IsRooted (window : ℕ) (now : Option Rect) (v : Window) : Type 0 where
+  pub root : v.host ≡ 0
+  pub there : v.serial ≡ window → (old : Rect) × (now ≡ Some old)
+  pub counted : v.serial ≢ 0
+  pub apart : v.host ≢ window
+
+pub among_rooted : (window : ℕ) (now : Option Rect) (v : Window) → IsAmong window now v → v.host ≡ 0 → IsRooted window now v
+among_rooted window now v is root = record { root = root; there = λ same. (v.r, sym (is.place same).1); counted = is.counted; apart = is.apart }
+
+pub rooted_other : (window : ℕ) (now : Option Rect) (v : Window) → IsRooted window now v → v.serial ≢ window → IsOther window v
+rooted_other window now v is other = record { other = other; counted = is.counted; apart = is.apart }
+
+pub rooted_later : (window : ℕ) (now : Option Rect) (r : Rect) (v : Window) → IsRooted window now v → IsRooted window (Some r) v
+rooted_later window now r v is = record { root = is.root; there = λ _. (r, refl); counted = is.counted; apart = is.apart }
+
 pub other_among : (window : ℕ) (now : Option Rect) (v : Window) → IsOther window v → IsAmong window now v
 other_among window now v is = record { place = λ same. absurd (is.other same); counted = is.counted; apart = is.apart }
 

@@ -17,7 +17,7 @@ use Rattle.model_rio.specs.Sound.{window_in}
 use Rattle.model_fitting.proofs.Lists.{each_filter, each_map, each_then}
 use Rattle.model_fitting.proofs.Stepping.{each_in_place, each_lowered, each_raised}
 use Rattle.model_told.specs.Telling.{Tells, drops, makes, replaces, told_image}
-use Rattle.model_told.proofs.Standing.{IsAmong, IsNoHost, IsOther, Stands, beside_stands, current_stands, other_among, retired_stands, rio_none, rio_stands, small_stands, windows_stand}
+use Rattle.model_told.proofs.Standing.{IsAmong, IsNoHost, IsOther, IsRooted, Stands, beside_stands, current_stands, other_among, retired_stands, rio_none, rio_stands, small_stands, windows_stand}
 
 -- ---- which windows are found
 
@@ -214,13 +214,13 @@ module _ (window : ℕ) (start now : Option Rect) where
       small_stands window start now v.serial (told_image keep name r) (ordered o placed) (λ same. absurd (other.other same))
       (beside_stands window start now o placed (ne_eqb window v.serial (λ same. other.other (sym same))) one)
 
-  pub own_replaced : (keep : Bool) (v : Window) (r : Rect) (step : Step) → At step → IsAmong window now v → v.serial ≡ window → Then (Some r) (replaced keep v r step)
+  pub own_replaced : (keep : Bool) (v : Window) (r : Rect) (step : Step) → At step → IsRooted window now v → v.serial ≡ window → Then (Some r) (replaced keep v r step)
   unfolding replaced
-  own_replaced keep v r step is among same = record {
+  own_replaced keep v r step is rooted same = record {
     tells = subst (λ (s : ℕ). Tells window start (Some r) (step.orders ++ order.Replace s v.host r name keep v.hidden ∷ []) (step.notes ++ (s, told_image keep name r) ∷ [])) (sym same)
-        (subst (λ (h : ℕ). Tells window start (Some r) (step.orders ++ order.Replace window h r name keep v.hidden ∷ []) (step.notes ++ (window, told_image keep name r) ∷ [])) (sym root)
-        (replaces v.r step.orders step.notes first keep v.hidden name r));
-    lives = in_place_lives next step.table.windows window ∙ among_lives step is v among same;
+        (subst (λ (h : ℕ). Tells window start (Some r) (step.orders ++ order.Replace window h r name keep v.hidden ∷ []) (step.notes ++ (window, told_image keep name r) ∷ [])) (sym rooted.root)
+        (replaces there.0 step.orders step.notes (subst (λ (now : Option Rect). Tells window start now step.orders step.notes) there.1 is.tells) keep v.hidden name r));
+    lives = in_place_lives next step.table.windows window ∙ is.lives ∙ ap is_some there.1;
     each = each_map (IsAmong window now) (IsAmong window (Some r)) (λ u. if u.serial == v.serial then next else u) put step.table.windows is.each;
     bare = is.bare;
   }
@@ -231,14 +231,11 @@ module _ (window : ℕ) (start now : Option Rect) where
       next : Window
       next = renewed r v
 
-      root : v.host ≡ 0
-      root = (among.place same).0
-
-      first : Tells window start (Some v.r) step.orders step.notes
-      first = subst (λ (now : Option Rect). Tells window start now step.orders step.notes) (sym (among.place same).1) is.tells
+      there : (old : Rect) × (now ≡ Some old)
+      there = rooted.there same
 
       put : (u : Window) → IsAmong window now u → IsAmong window (Some r) (if u.serial == v.serial then next else u)
-      put u was = cond_both (u.serial == v.serial) next u (IsAmong window (Some r)) (λ _. record { place = λ _. (root, refl); counted = among.counted; apart = among.apart })
+      put u was = cond_both (u.serial == v.serial) next u (IsAmong window (Some r)) (λ _. record { place = λ _. (rooted.root, refl); counted = rooted.counted; apart = rooted.apart })
           (λ off. record { place = λ here. absurd (let two : false ≡ true = sym off ∙ eq-eqb u.serial v.serial (here ∙ sym same) in cc); counted = was.counted; apart = was.apart })
 
   -- ---- windows that go

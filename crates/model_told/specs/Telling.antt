@@ -29,6 +29,7 @@ IsBeside own (order.Lower window) = Unit {0}
 IsBeside own (order.Drop window) = is_own own window ≡ false
 IsBeside own (order.Host window fill) = is_own own window ≡ false
 IsBeside own (order.Leave client) = ⊥
+IsBeside own (order.Size width height) = Unit {0}
 
 -- a note that tells of no other image
 abbrev pub IsSmall : Note → Type 0

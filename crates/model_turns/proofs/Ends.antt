@@ -40,7 +40,7 @@ all_few made (n ∷ ns) few within = All-cons HasConnection n ns (omega (arith, 
 pub counted_few : (made : ℕ) (connections : List ℕ) → AreCounted made connections → All HasConnection connections
 counted_few made connections is = all_few made connections is.few is.within
 
-module _ (c : ℕ) (begin : 0 < c) (Like : Option (ℕ × List ℕ) → draw.World → draw.World → Type 0) (Named : draw.World → Table → List (ℕ × Pane) → Type 0) (laws : IsDeviceLike c Like) (names : AreNamesFree Named) (seen : Watched) where
+module _ (c : ℕ) (begin : 0 < c) (Like : Option (ℕ × ℕ) → Option (ℕ × List ℕ) → draw.World → draw.World → Type 0) (Named : draw.World → Table → List (ℕ × Pane) → Type 0) (laws : IsDeviceLike c Like) (names : AreNamesFree Named) (seen : Watched) where
   abbrev With : World → LoneWorld → Type 0
   With world lone = IsWith c begin Like Named laws names seen world lone
 

@@ -72,7 +72,7 @@ hosts_other seen table window (r ∷ rios) its bare fine = by (is_host table r.h
         let parts = others_parts seen (uses.Host r.host ∷ []) rest fine in
         rw (not_key r.host window (λ same. not_its seen r.host 10 [] parts.0 (its ∙ ap Some (sym same)))) (more parts.1)
 
-module _ (c : ℕ) (begin : 0 < c) (Like : Option (ℕ × List ℕ) → draw.World → draw.World → Type 0) (Named : draw.World → Table → List (ℕ × Pane) → Type 0) (laws : IsDeviceLike c Like) (names : AreNamesFree Named) (seen : Watched) where
+module _ (c : ℕ) (begin : 0 < c) (Like : Option (ℕ × ℕ) → Option (ℕ × List ℕ) → draw.World → draw.World → Type 0) (Named : draw.World → Table → List (ℕ × Pane) → Type 0) (laws : IsDeviceLike c Like) (names : AreNamesFree Named) (seen : Watched) where
   abbrev Have : Desktop → LoneDesktop → Type 0
   Have s t = SameDesktops Like Named seen.window s t
 

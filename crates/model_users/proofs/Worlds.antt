@@ -11,6 +11,7 @@ use Rattle.model_map.proofs.Ascending.{ascend-and, ascend-with, ascend-without, 
 use Rattle.model_map.proofs.Maps.{and-here, and-others, with-here, with-others, without-others}
 use Rattle.model_rio.specs.Table.{Table}
 use Rattle.model_rio.proofs.Soundness.{opened_sound}
+use Rattle.model_others.proofs.Display.{first_furnished}
 use Rattle.model_fitting.proofs.Opening.{first_orderly, first_shows}
 use Rattle.model_world.specs.Session.{Fid, Session, fresh}
 use Rattle.model_world.specs.Desktop.{Desktop}
@@ -223,7 +224,7 @@ opened_served opening = record {
   well = record {
     order = tt;
     begun = refl;
-    drawn = record { sound = opened_sound (display_of opening).r; orderly = first_orderly (display_of opening); shows = first_shows (display_of opening) };
+    drawn = record { sound = opened_sound (display_of opening).r; orderly = first_orderly (display_of opening); furnished = first_furnished (display_of opening) refl; shows = first_shows (display_of opening) };
     regular = record { sound = opened_sound (display_of opening).r; unused = λ window later. refl };
     within = λ d session there. absurd (cc there);
   };
