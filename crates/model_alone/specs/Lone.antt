@@ -107,6 +107,8 @@ lone_desktop = record {
   mouse = λ desktop e. desktop;
   keys = λ desktop bytes. desktop;
   picture = λ desktop window. picture_of desktop.device window;
+  size = λ desktop. record { width = 0; height = 0 };
+  with_size = λ desktop size. Ok desktop;
   snarf = λ desktop host. [];
   with_snarf = λ desktop host bytes. desktop;
   connect = λ desktop n. with_device desktop (draw.after_connect desktop.device (client 1 n));

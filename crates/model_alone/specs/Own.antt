@@ -12,6 +12,7 @@
 --   9   it writes to `wctl` for a window more, or for a rio in its window
 --   10  its window becomes the host of a rio
 --   11  its window is none of the root rio
+--   12  it reads `ctl` of the display after the display has changed its size
 use Rattle.std.specs.Prelude.{ℕ, ◌+◌, ◌==◌, Bool, true, false, not, is_none, List, [], ◌∷◌, ◌++◌, filter, map, min, Option, Some, None, if◌then◌else◌}
 use Rattle.std.specs.List.{fold, filter_map}
 use Rattle.std.specs.Option.{option_map_or}

@@ -1,6 +1,6 @@
 -- What an event used by which a session could notice another one: by this it is judged whether a session is alone (attach(5), draw(3),
 -- rio(4)).
-use Rattle.std.specs.Prelude.{ℕ, zero, suc, ◌+◌, ◌==◌, ◌&&◌, ◌||◌, Bool, true, false, not, is_none, List, [], ◌∷◌, ◌++◌, find, codes, slice_get, Option, Some, None, Ok, Err, if◌then◌else◌}
+use Rattle.std.specs.Prelude.{ℕ, zero, suc, ◌+◌, ◌==◌, ◌&&◌, ◌||◌, Bool, true, false, not, nat_lt, is_none, List, [], ◌∷◌, ◌++◌, find, codes, slice_get, Option, Some, None, Ok, Err, if◌then◌else◌}
 use Rattle.std.specs.List.{filter_map, flat_map, list_any}
 use Rattle.std.specs.Option.{option_map, option_map_or, unwrap_or}
 use Rattle.std.specs.Str.{bytes_eq}
@@ -10,25 +10,26 @@ use Rattle.r9_event.specs.declared.own.Use.{Use}
 use Rattle.r9_event.specs.declared.own.Use.TheVariants as uses
 use Rattle.model_text.specs.Map.{lookup}
 use Rattle.model_text.specs.Outcome.{Outcome, ◌>>=◌, refuse_if}
-use Rattle.model_wire.specs.Message.{T, Tattach, Twalk, Topen, Twrite, no_fid, no_tag, tag_of_t}
+use Rattle.model_wire.specs.Message.{T, Tattach, Twalk, Topen, Tread, Twrite, no_fid, no_tag, tag_of_t}
 use Rattle.model_wire.specs.Reading.{message_of}
 use Rattle.model_wctl.specs.Words.{words_of, without_last_newline}
 use Rattle.model_dmsg.specs.Message.{Message, LowB, UpA, LowC, LowD, UpD, LowF, UpF, LowI, LowL, UpN, LowN, LowO, UpO, LowR, LowS, UpS, LowT, LowV, LowX, LowY}
 use Rattle.model_dmsg.specs.Reading.{first_message}
 use Rattle.model_draw.specs.World as draw
+use Rattle.model_draw.specs.World.{client_of}
 use Rattle.model_draw.specs.Making.{flag}
 use Rattle.model_draw.specs.Act.{act, behind, spelled, no_memory, Written, written}
 use Rattle.model_window.specs.Pane.{Pane}
 use Rattle.model_rio.specs.Table.{Table, window_of, is_host}
 use Rattle.model_tree.specs.declared.Kind.{Kind}
 use Rattle.model_tree.specs.declared.Kind.TheVariants as kind
-use Rattle.model_tree.specs.Node.{Node, writes}
+use Rattle.model_tree.specs.Node.{Node, reads, writes}
 use Rattle.model_tree.specs.Attach.{Attach, Fresh, attach_of}
 use Rattle.model_tree.specs.Tree.{check_live}
 use Rattle.model_world.specs.Session.{Fid, Session}
 use Rattle.model_world.specs.Fids.{fid_of, is_bound, is_full}
 use Rattle.model_world.specs.Walking.{walked, walk_answer, open_answer}
-use Rattle.model_world.specs.Reading.{is_open_for}
+use Rattle.model_world.specs.Reading.{count_within, ctl_len, is_open_for}
 use Rattle.model_world.specs.Answer.{Taking, Reads, taking}
 use Rattle.model_world.specs.Desktop.{Desktop}
 use Rattle.model_world.specs.Whole.{client, desktop_for}
@@ -143,16 +144,36 @@ most_looked_at after = if option_map_or (λ n. n == no_memory) after.refusal fal
 unfoldable pub looked_at : (k : ℕ) → draw.World → List ℕ → (mark : Option ℕ) → List Message
 looked_at k device bytes mark = messages_within (most_looked_at (written k device bytes mark)) k device bytes
 
--- ---- writes
+-- ---- reads and writes
 
--- the file that a write reaches
-abbrev pub reached_file : (c : ℕ) → Session → Desktop → (number : ℕ) → Outcome Node
-reached_file c session desktop number = do
+-- the file that a read or a write reaches
+abbrev pub file_reached : (allows : ℕ → Bool) → (c : ℕ) → Session → Desktop → (number : ℕ) → Outcome Node
+file_reached allows c session desktop number = do
   fid ← fid_of session number
   _ ← refuse_if (is_none fid.mode) 37
-  _ ← refuse_if (not (is_open_for writes fid)) 38
+  _ ← refuse_if (not (is_open_for allows fid)) 38
   _ ← check_live ((desktop_for c).view desktop session.connections fid.node) fid.node
   Ok fid.node
+
+-- the file that a read reaches, and that a write does
+abbrev pub file_of_read : (c : ℕ) → Session → Desktop → (number : ℕ) → Outcome Node
+file_of_read c session desktop number = file_reached reads c session desktop number
+
+abbrev pub reached_file : (c : ℕ) → Session → Desktop → (number : ℕ) → Outcome Node
+reached_file c session desktop number = file_reached writes c session desktop number
+
+-- a read of the `ctl` of a connection tells of the display, which has changed its size
+abbrev pub tells_size : (k : ℕ) → Desktop → (offset count : ℕ) → Bool
+tells_size k desktop offset count =
+    desktop.sized && (offset == 0) && not (nat_lt count ctl_len) && ((client_of desktop.device k).described == 0)
+
+abbrev pub contents_used : (c : ℕ) → Desktop → Node → (offset count : ℕ) → Kind → List Use
+contents_used c desktop node offset count kind.Ctl = if tells_size (client c node.connection) desktop offset count then uses.Own 12 ∷ [] else []
+contents_used c desktop node offset count _ = []
+
+abbrev pub reading_used : (c : ℕ) → Desktop → (offset count : ℕ) → Outcome Node → List Use
+reading_used c desktop offset count (Ok node) = contents_used c desktop node offset count node.kind
+reading_used c desktop offset count (Err n) = []
 
 -- the four bytes of image id 0, which `ctl` then describes
 abbrev pub chooses_display : List ℕ → Bool
@@ -187,6 +208,8 @@ message_used c session desktop after table mark (Twalk tag fid newfid names) =
     (if_bound session fid (λ from. flat_map step_used (walked ((desktop_for c).view desktop session.connections) from.node names).0))
 message_used c session desktop after table mark (Topen tag fid mode) =
     if_done (open_answer (desktop_for c) session desktop tag fid mode) (if_bound session fid (λ f. open_used f.node.kind))
+message_used c session desktop after table mark (Tread tag fid offset count) =
+    reading_used c desktop offset (count_within session count) (file_of_read c session desktop fid)
 message_used c session desktop after table mark (Twrite tag fid offset bytes) =
     write_used c desktop bytes mark (reached_file c session desktop fid)
 message_used c session desktop after table mark _ = []

@@ -4,7 +4,7 @@ use Rattle.std.specs.Option.{option_map_or}
 use Rattle.r9_event.specs.declared.own.Use.{Use}
 use Rattle.model_text.specs.Map.{lookup}
 use Rattle.model_text.specs.Outcome.{Outcome, ◌>>=◌, refuse_if}
-use Rattle.model_wire.specs.Message.{T, Tattach, Twalk, Topen, Twrite, R, no_fid, no_tag, tag_of_t}
+use Rattle.model_wire.specs.Message.{T, Tattach, Twalk, Topen, Tread, Twrite, R, no_fid, no_tag, tag_of_t}
 use Rattle.model_wire.specs.Reading.{message_of, tag_of}
 use Rattle.model_rio.specs.Table.{Table}
 use Rattle.model_tree.specs.declared.Kind.{Kind}
@@ -147,6 +147,7 @@ message_seen c session desktop after table mark at (Topen tag fid mode) agreed t
     done_seen session desktop at (open_answer (desktop_for c) session desktop tag fid mode) used (opens_plain c session desktop tag fid mode)
     ∙ ap (λ (o : Outcome (Left Desktop)). if is_refusal (replied session desktop at o).reply then [] else used) (sym (tells_open c session desktop mark tag fid mode agreed tagged))
     ∙ sym (append-nil _)
+message_seen c session desktop after table mark at (Tread tag fid offset count) agreed tagged = sym (append-nil _)
 message_seen c session desktop after table mark at (Twrite tag fid offset bytes) agreed tagged = write_seen c desktop after table mark _ bytes (reached_file c session desktop fid)
 message_seen c session desktop after table mark at m agreed tagged = refl
 

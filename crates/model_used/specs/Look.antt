@@ -6,7 +6,7 @@ use Rattle.std.specs.Option.{option_map_or}
 use Rattle.r9_event.specs.declared.own.Use.{Use}
 use Rattle.r9_event.specs.declared.own.Use.TheVariants as uses
 use Rattle.model_text.specs.Outcome.{Outcome}
-use Rattle.model_wire.specs.Message.{T, Tattach, Twalk, Topen, Twrite, R, Rerror, no_tag, tag_of_t}
+use Rattle.model_wire.specs.Message.{T, Tattach, Twalk, Topen, Tread, Twrite, R, Rerror, no_tag, tag_of_t}
 use Rattle.model_wire.specs.Reading.{message_of}
 use Rattle.model_rio.specs.Table.{Table}
 use Rattle.model_tree.specs.declared.Kind.{Kind}
@@ -16,9 +16,10 @@ use Rattle.model_tree.specs.Attach.{attach_of}
 use Rattle.model_world.specs.Session.{Session}
 use Rattle.model_world.specs.Answer.{Taking, Reads, taking}
 use Rattle.model_world.specs.Desktop.{Desktop}
+use Rattle.model_world.specs.Reading.{count_within}
 use Rattle.model_world.specs.Walking.{walked}
 use Rattle.model_world.specs.Whole.{client, desktop_for}
-use Rattle.model_alone.specs.Uses.{asks_for_windows, chooses_display, if_bound, is_fresh, is_in_root, is_name_looked_at, look_used, looked_at, open_used, reached_file, step_used, window_at}
+use Rattle.model_alone.specs.Uses.{asks_for_windows, chooses_display, file_of_read, if_bound, is_fresh, is_in_root, is_name_looked_at, look_used, looked_at, open_used, reached_file, reading_used, step_used, window_at}
 
 -- what is seen of a message before it is answered
 pub data Look : Type 0 where
@@ -57,6 +58,8 @@ abbrev pub look_at_message : (c : ℕ) → Session → Desktop → T → Look
 look_at_message c session desktop (Tattach tag fid afid uname aname) = look_at_attach session fid afid aname
 look_at_message c session desktop (Twalk tag fid newfid names) = look_at_walk c session desktop fid names
 look_at_message c session desktop (Topen tag fid mode) = look_at_open session fid
+look_at_message c session desktop (Tread tag fid offset count) =
+    Uses (reading_used c desktop offset (count_within session count) (file_of_read c session desktop fid))
 look_at_message c session desktop (Twrite tag fid offset bytes) = look_at_write bytes (reached_file c session desktop fid)
 look_at_message c session desktop _ = Uses []
 

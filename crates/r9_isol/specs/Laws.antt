@@ -86,6 +86,7 @@ keeps = record {
   device_command = λ desktop text e. omega (arith, e);
   mouse = λ desktop e. refl;
   keys = λ desktop typed. refl;
+  with_size = λ desktop size. refl;
   with_snarf = λ desktop host bytes. refl;
   connect = λ desktop n. refl;
   leave = λ desktop n. refl;

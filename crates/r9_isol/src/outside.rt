@@ -9,12 +9,13 @@ ghost use Rattle.r9_isol.specs.Laws.{answer_links, answers_otherwise, cleared_li
 ghost use Rattle.r9_isol.specs.World.{desktop_of};
 
 use crate::desktop::Desktop;
+use model_words::Size;
 use r9_around::{Outside, Wrote};
 use r9_files::{BAD_WCTL_COMMAND, Fault};
 use r9_memory::Memory;
 use r9_mouse::Mouse;
 use r9_pane::Pane;
-use r9_text::{Bytes, Numbers};
+use r9_text::{Bytes, Numbers, push_number};
 use r9_tree::{Attach, Node, TreeView};
 
 impl Outside for Desktop {
@@ -103,6 +104,18 @@ impl Outside for Desktop {
 
     fn picture_part(&self, window: u32, offset: u64, count: u32) -> Result<Bytes, Memory> {
         Desktop::picture_part(self, window, offset, count)
+    }
+
+    // Of the display it finds nothing.
+    fn size_text(&self) -> Result<Bytes, Memory> {
+        let mut text = Bytes::new(self.alloc);
+        push_number(&mut text, 0)?;
+        push_number(&mut text, 0)?;
+        Ok(text)
+    }
+
+    fn resize(&mut self, _size: Size) -> Result<(), Fault> {
+        Ok(())
     }
 
     fn snarf(&self, _host: u32) -> &[u8] {

@@ -13,7 +13,7 @@ use Rattle.model_world.specs.Session.{Fid, Session}
 use Rattle.model_world.specs.Answer.{Taking, Reads, taking}
 use Rattle.model_world.specs.Desktop.{Desktop}
 use Rattle.model_world.proofs.Tags.{message_tag}
-use Rattle.model_alone.specs.Uses.{if_bound}
+use Rattle.model_alone.specs.Uses.{contents_used, if_bound, reading_used}
 use Rattle.model_used.specs.Look.{Uses, look_at, look_at_file, look_at_message, look_at_read, look_at_taken, look_at_write}
 use Rattle.r9_tree.specs.declared.node.Node.{Node}
 use Rattle.r9_tree.specs.View.{node_of}
@@ -104,3 +104,17 @@ other_file bytes node kind.Ctl ctl data_file wctl = absurd (ctl refl)
 other_file bytes node kind.Data ctl data_file wctl = absurd (data_file refl)
 other_file bytes node kind.Wctl ctl data_file wctl = absurd (wctl refl)
 other_file bytes node _ ctl data_file wctl = refl
+
+-- ---- the files that reads reach
+
+pub read_none : (c : ℕ) (desktop : Desktop) (offset count : ℕ) (o : Outcome model.Node) → is_ok o ≡ false → reading_used c desktop offset count o ≡ []
+read_none c desktop offset count (Ok node) none = absurd cc
+read_none c desktop offset count (Err n) none = refl
+
+pub read_file : (c : ℕ) (desktop : Desktop) (offset count : ℕ) (o : Outcome model.Node) (node : Node) (k : Kind) → o ≡ Ok (node_of node) → k ≡ model.kind_numbered node.kind
+    → reading_used c desktop offset count o ≡ contents_used c desktop (node_of node) offset count k
+read_file c desktop offset count o node k reached is = ap (reading_used c desktop offset count) reached ∙ ap (contents_used c desktop (node_of node) offset count) (sym is)
+
+pub other_contents : (c : ℕ) (desktop : Desktop) (node : model.Node) (offset count : ℕ) (k : Kind) → (k ≡ kind.Ctl → ⊥) → contents_used c desktop node offset count k ≡ []
+other_contents c desktop node offset count kind.Ctl ctl = absurd (ctl refl)
+other_contents c desktop node offset count _ ctl = refl

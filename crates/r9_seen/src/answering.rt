@@ -59,7 +59,7 @@ pub fn answer(
     ensures uses { watches ≡ true → IfOk result (λ s. s.uses ≡ used_then session (desktop_of desktop.old) (mark_after mark s.answered.short) (option_map r_of s.answered.reply) (look_at session found.old (desktop_of desktop.old) bytes.now)) }
     ensures unwatched { watches ≡ false → IfOk result (λ s. (s.uses ≡ []) × (look_of s.look ≡ model.Uses [])) }
 {
-    let look = look_at_watched(alloc, found, desktop, bytes, watches)?;
+    let look = look_at_watched(alloc, found, desktop, session, bytes, watches)?;
     let answered = found.answer(alloc, desktop, session, bytes, mark)?;
     let uses = used_then(alloc, desktop, &answered, &look)?;
     Ok(Seen {

@@ -4,8 +4,10 @@ ghost use Rattle.std.specs.Prelude.{◌≡◌, ◌≤◌, ◌==◌, ℕ, true, f
 ghost use Rattle.r9_event.specs.declared.own.Use.TheVariants.{Own};
 ghost use Rattle.model_wire.specs.Message.{no_tag};
 ghost use Rattle.model_wire.specs.Reading.{tag_of};
-ghost use Rattle.model_alone.specs.Uses.{if_bound, open_used, reached_file};
+ghost use Rattle.model_alone.specs.Uses.{file_of_read, if_bound, open_used, reached_file, reading_used, tells_size};
 ghost use Rattle.model_used.specs.Look as model;
+ghost use Rattle.model_world.specs.Reading.{count_within};
+ghost use Rattle.model_world.specs.Whole.{client};
 ghost use Rattle.model_used.specs.Look.{look_at, look_at_attach, look_at_message, look_at_open, look_at_walk, look_at_write};
 ghost use Rattle.r9_desktop.specs.World.{desktop_of};
 ghost use Rattle.r9_used.specs.Words.{uses_of};
@@ -24,6 +26,12 @@ use std::alloc::Global;
 
 /// The number of the reason that the display is chosen, for `ctl` to describe.
 const CHOOSES_DISPLAY: u8 = 7;
+
+/// The number of the reason that `ctl` tells of the display, which has changed its size.
+const TELLS_SIZE: u8 = 12;
+
+/// So many bytes tell what `ctl` describes (draw(3)).
+const CTL_LEN: u32 = 144;
 
 /// The number of the reason that a window more is asked for, or a rio in a window.
 const ASKS_FOR_WINDOWS: u8 = 9;
@@ -121,6 +129,42 @@ fn look_at_open(alloc: Global, session: &Session, fid: u32) -> Result<Look, Memo
     Ok(Look::UsesIfDone(uses))
 }
 
+/// Whether a read of the `ctl` of a session's connection, which gives so many bytes at most, tells of the display, which has changed its
+/// size.
+fn tells_size(desktop: &Desktop, number: u32, connection: u32, offset: u64, most: u32) -> bool
+    ensures { result ≡ tells_size (client number connection) (desktop_of desktop.now) offset most }
+{
+    desktop.has_changed_size()
+        && offset == 0
+        && most >= CTL_LEN
+        && desktop.describes_display(number, connection)
+}
+
+/// What is seen of a read, in the session of this number.
+fn look_at_read(
+    alloc: Global,
+    session: &Session,
+    desktop: &Desktop,
+    number: u32,
+    fid: u32,
+    offset: u64,
+    count: u32,
+) -> Result<Look, Memory>
+    ensures { IfOk result (λ look. look_of look ≡ model.Uses (reading_used number (desktop_of desktop.now) offset (count_within session.now count) (file_of_read number session.now (desktop_of desktop.now) fid))) }
+{
+    let Some(node) = session.reached_by_read(desktop, fid) else {
+        return Ok(unused(alloc));
+    };
+    match kind_of(node.kind) {
+        Kind::Ctl => {
+            let most = session.most_read(count);
+            let tells = tells_size(desktop, number, node.connection, offset, most);
+            look_at_shared(alloc, tells, TELLS_SIZE)
+        }
+        _ => Ok(unused(alloc)),
+    }
+}
+
 /// What is seen of a write.
 fn look_at_write(
     alloc: Global,
@@ -145,14 +189,15 @@ fn look_at_write(
     }
 }
 
-/// What is seen of a message that has a tag, in a session that has agreed on a version.
+/// What is seen of a message that has a tag, in the session of this number, which has agreed on a version.
 fn look_at_message(
     alloc: Global,
     session: &Session,
     desktop: &Desktop,
+    number: u32,
     message: Tmsg,
 ) -> Result<Look, Memory>
-    ensures { IfOk result (λ look. (c : ℕ) → look_of look ≡ look_at_message c session.now (desktop_of desktop.now) (t_of message)) }
+    ensures { IfOk result (λ look. look_of look ≡ look_at_message number session.now (desktop_of desktop.now) (t_of message)) }
 {
     match message {
         Tmsg::Attach {
@@ -165,6 +210,12 @@ fn look_at_message(
             look_at_walk(alloc, session, desktop, fid, names.as_slice())
         }
         Tmsg::Open { fid, .. } => look_at_open(alloc, session, fid),
+        Tmsg::Read {
+            fid,
+            offset,
+            count,
+            ..
+        } => look_at_read(alloc, session, desktop, number, fid, offset, count),
         Tmsg::Write { fid, bytes, .. } => look_at_write(alloc, session, desktop, fid, bytes),
         _ => Ok(unused(alloc)),
     }
@@ -179,21 +230,22 @@ fn has_tag(bytes: &[u8]) -> bool
     tag != NO_TAG
 }
 
-/// What is seen of the bytes of a message before it is answered.
+/// What is seen of the bytes of a message of the session of this number before it is answered.
 fn look_at_bytes(
     alloc: Global,
     session: &Session,
     desktop: &Desktop,
+    number: u32,
     bytes: &[u8],
 ) -> Result<Look, Memory>
     requires { 7 ≤ length bytes.now }
-    ensures { IfOk result (λ look. (c : ℕ) → look_of look ≡ look_at c session.now (desktop_of desktop.now) bytes.now) }
+    ensures { IfOk result (λ look. look_of look ≡ look_at number session.now (desktop_of desktop.now) bytes.now) }
 {
     if !has_tag(bytes) || !session.reads(bytes) {
         return Ok(unused(alloc));
     }
     match read_t(alloc, bytes) {
-        Ok(message) => look_at_message(alloc, session, desktop, message),
+        Ok(message) => look_at_message(alloc, session, desktop, number, message),
         Err(WireFault::Malformed(_)) => Ok(unused(alloc)),
         Err(WireFault::Memory) => Err(Memory),
     }
@@ -204,15 +256,16 @@ pub(crate) fn look_at_watched(
     alloc: Global,
     session: &Session,
     desktop: &Desktop,
+    number: u32,
     bytes: &[u8],
     watches: bool,
 ) -> Result<Look, Memory>
     requires { 7 ≤ length bytes.now }
-    ensures watched { watches ≡ true → IfOk result (λ look. (c : ℕ) → look_of look ≡ look_at c session.now (desktop_of desktop.now) bytes.now) }
+    ensures watched { watches ≡ true → IfOk result (λ look. look_of look ≡ look_at number session.now (desktop_of desktop.now) bytes.now) }
     ensures unwatched { watches ≡ false → IfOk result (λ look. look_of look ≡ model.Uses []) }
 {
     if !watches {
         return Ok(unused(alloc));
     }
-    look_at_bytes(alloc, session, desktop, bytes)
+    look_at_bytes(alloc, session, desktop, number, bytes)
 }

@@ -16,7 +16,7 @@ returns-clause-uses c = λ watched.
     let told = c.in_ok-answered.ensures in
     let mark = mark_after c.args.mark answered.short in
     let reply = option_map r_of answered.reply in
-    let look_is = c.in_ok-look.ensures.watched watched number in
+    let look_is = c.in_ok-look.ensures.watched watched in
     let tells = telling number c.args.found.now c.answer.new.self before after c.args.bytes.now c.args.mark answered.told answered.short reply told.answer told.short told.told told.messages in
     c.in_ok-uses.ensures number before mark (subst (IsTelling number before after mark answered.told answered.short) (sym look_is) tells)
     ∙ ap (used_then number before mark reply) look_is

@@ -11,7 +11,8 @@ use Rattle.r9_seen.proofs.look.look_at_bytes.Goals as goal
 use Rattle.r9_seen.proofs.look.look_at_bytes.Goals.{then-not-has_tag-via-then-not-has_tag, then-not-has_tag-via-else-not-has_tag+then-not-reads}
 
 pub returns-then-not-has_tag : goal.returns-then-not-has_tag
-returns-then-not-has_tag c = λ n.
+returns-then-not-has_tag c =
+    let n = c.args.number in
     let desktop = desktop_of c.args.desktop.now in
     c.unused.ensures
     ∙ sym (elim c.then-not-has_tag.branch [
@@ -23,12 +24,13 @@ pub returns-in-Ok : goal.returns-in-Ok
 returns-in-Ok c =
     let read = c.reads.ensures.0 c.if-not-reads.false in
     IfOk-weaker c.look_at_message.result _ _
-    (λ look is. λ n.
-    is n
-    ∙ sym (looks n c.args.session.now (desktop_of c.args.desktop.now) c.args.bytes.now (t_of c.in-Ok.message) read.0 read.1 (not_true (tag_of c.args.bytes.now == no_tag) (sym c.has_tag.ensures ∙ c.if-not-has_tag.false)) c.in-Ok.ensures.exact))
+    (λ look is.
+    is
+    ∙ sym (looks c.args.number c.args.session.now (desktop_of c.args.desktop.now) c.args.bytes.now (t_of c.in-Ok.message) read.0 read.1 (not_true (tag_of c.args.bytes.now == no_tag) (sym c.has_tag.ensures ∙ c.if-not-has_tag.false)) c.in-Ok.ensures.exact))
     c.look_at_message.ensures
 
 pub returns-in-Err-Malformed : goal.returns-in-Err-Malformed
-returns-in-Err-Malformed c = λ n.
+returns-in-Err-Malformed c =
+    let n = c.args.number in
     let none = subst (λ (fault : WireFault). GivesMessage c.args.bytes.now (Err fault)) c.in-Err-Malformed.field-0-is c.in-Err-Malformed.ensures.exact in
     c.unused-in-Err-Malformed.ensures ∙ sym (looks_malformed n c.args.session.now (desktop_of c.args.desktop.now) c.args.bytes.now none.0)
