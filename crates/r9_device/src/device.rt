@@ -48,7 +48,7 @@ pub struct Device {
     pub ghost spare: { AreSpare book.book },
     // An image that has a name is used.
     pub ghost ties: { HasTies book.book },
-    // A drawing of at most as many points as the display has takes no memory.
+    // A drawing of at most as many points as the display had at the start takes no memory.
     pub ghost room: { area_of opening.r ≤ room forest },
     // Number 0 is the window manager's.
     pub ghost manager: { lookup clients.entries 0 ≡ None },

@@ -6,6 +6,7 @@ ghost use Rattle.r9_geom.specs.Geometry.{IsRectNearBy};
 ghost use Rattle.model_text.specs.Map.{lookup};
 ghost use Rattle.r9_draw.specs.Described.{fields_of};
 ghost use Rattle.model_draw.specs.Files.{read_data, read_ctl, write_ctl};
+ghost use Rattle.model_draw.specs.World.{client_of};
 ghost use Rattle.r9_draw.specs.Refused.{IfRefused};
 ghost use Rattle.r9_draw.specs.World.{world_of};
 
@@ -65,6 +66,16 @@ impl Draw {
         }
         let none = Bytes::new(self.device.alloc);
         Ok(replace_pending(&mut self.device.clients, client, none))
+    }
+
+    /// The image id that `ctl` of a connection describes, 0 where there is no such connection. It takes no memory.
+    pub fn described(&self, client: u64) -> u32
+        ensures { result ≡ (client_of (world_of self.now) client).described }
+    {
+        if !self.device.is_live(client) {
+            return 0;
+        }
+        described_by(&self.device.clients, client)
     }
 
     /// What `ctl` says of the image that it describes: twelve fields, of which the first is the number of the connection that

@@ -212,7 +212,7 @@ pub distance-is : (low high d : ℤ) → neg_ℤ (pos (2 ^ 33)) ≤ℤ low → l
 distance-is low high d a b e f is = is ∙ (λ i. coordinate high e f i -ℤ coordinate low a b i)
 
 -- signed numbers are one where they are written alike
-alike : (x y : ℤ) → neg_ℤ (pos (2 ^ 34)) ≤ℤ x → x ≤ℤ pos (2 ^ 34) → neg_ℤ (pos (2 ^ 34)) ≤ℤ y → y ≤ℤ pos (2 ^ 34) → (of_z w64 x == of_z w64 y) ≡ int_eq x y
+pub alike : (x y : ℤ) → neg_ℤ (pos (2 ^ 34)) ≤ℤ x → x ≤ℤ pos (2 ^ 34) → neg_ℤ (pos (2 ^ 34)) ≤ℤ y → y ≤ℤ pos (2 ^ 34) → (of_z w64 x == of_z w64 y) ≡ int_eq x y
 alike x y a b c d =
     let back : of_z w64 x ≡ of_z w64 y → x ≡ y = λ e. sym (there_and_back x a b) ∙ ap (λ (n : ℕ). to_z w64 n) e ∙ there_and_back y c d in
     let on : x ≡ y → of_z w64 x ≡ of_z w64 y = λ e. ap (λ (z : ℤ). of_z w64 z) e in

@@ -7,3 +7,4 @@ pub mod Hosting
 pub mod Renewing
 pub mod Windows
 pub mod Freed
+pub mod Sizing

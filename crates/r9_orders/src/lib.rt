@@ -2,6 +2,7 @@
 //! (rio(4)).
 #![tactic(auto)]
 
+mod display;
 mod image;
 mod next;
 mod orders;

@@ -6,6 +6,7 @@ ghost use Rattle.r9_device.specs.World.{world_of};
 ghost use Rattle.r9_event.specs.declared.rio.Order.TheVariants.{Host};
 ghost use Rattle.std.specs.Prelude.{OnOk, true, ◌<◌, ◌≡◌};
 
+use crate::display::resize_display;
 use crate::rio::host_rio;
 use crate::there::{fits, rio_screen};
 use crate::window::{
@@ -47,6 +48,7 @@ fn obey(device: &mut Device, order: &Order) -> Result<(), Memory>
         Order::Drop { window } => drop_window(device, *window),
         Order::Host { window, fill } => host_rio(device, *window, *fill),
         Order::Leave { client } => device.leave(*client),
+        Order::Size { width, height } => resize_display(device, *width, *height),
     }
 }
 

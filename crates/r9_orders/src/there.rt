@@ -6,6 +6,7 @@ ghost use Rattle.r9_device.specs.World.{world_of};
 ghost use Rattle.r9_event.specs.declared.rio.Order.TheVariants.{Host};
 ghost use Rattle.std.specs.Prelude.{false, is_some, true, ◌==◌, ◌≡◌};
 
+use crate::display::can_resize;
 use crate::rects::{is_as_high, is_as_wide, is_window_rect};
 use r9_device::{Device, is_near_point};
 use r9_event::Order;
@@ -91,5 +92,6 @@ pub(crate) fn fits(device: &Device, order: &Order) -> bool
         }
         Order::Host { window, .. } => can_host(device, *window),
         Order::Leave { client } => device.is_live(*client),
+        Order::Size { width, height } => can_resize(device, *width, *height),
     }
 }

@@ -1,7 +1,7 @@
 use Rattle.std.proofs.Common.{◌≡◌, ℕ, true, ap, subst, ◌∙◌}
 use Rattle.std.specs.Prelude.{◌||◌, not}
 use Rattle.r9_event.specs.declared.rio.Order.{Order}
-use Rattle.r9_event.specs.declared.rio.Order.TheVariants.{Replace}
+use Rattle.r9_event.specs.declared.rio.Order.TheVariants.{Replace, Size}
 use Rattle.model_images.specs.declared.Thing.TheVariants.{Screen}
 use Rattle.model_images.specs.Release.{is_used}
 use Rattle.model_draw.specs.Orders.{can_keep, fits, has_rio, has_window, is_window_rect, rio_screen}
@@ -9,6 +9,7 @@ use Rattle.r9_orders.specs.Ordering.{IsNext}
 use Rattle.r9_device.specs.World.{world_of}
 use Rattle.r9_orders.proofs.Fitting.{rio-used}
 use Rattle.r9_orders.proofs.Hosting.{all-passed, where-kept}
+use Rattle.r9_orders.proofs.Sizing.{display-fits}
 use Rattle.r9_orders.proofs.orders.obey.Goals as goal
 
 pub next_of-next-requires-clause-screen : goal.next_of-next-requires-clause-screen
@@ -43,3 +44,8 @@ replace_window-requires-clause-window c =
 pub replace_window-requires-clause-next : goal.replace_window-requires-clause-next
 replace_window-requires-clause-next c =
     subst (λ (s : ℕ). IsNext (world_of c.args.device.now) c.in-Replace.window s c.next_of-next.result) c.rio_screen-screen.ensures c.next_of-next.ensures.next
+
+pub resize_display-requires : goal.resize_display-requires
+resize_display-requires c =
+    let w = world_of c.args.device.now in
+    display-fits w c.in-Size.width c.in-Size.height (subst (λ (o : Order). fits w o ≡ true) c.in-Size.is c.requires)

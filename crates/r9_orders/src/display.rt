@@ -1,0 +1,61 @@
+//! The display, and its size.
+
+ghost use Rattle.model_draw.specs.Orders.{fits, has_display, is_side, resize_display};
+ghost use Rattle.model_forest.specs.World.{origin_point};
+ghost use Rattle.r9_device.specs.World.{world_of};
+ghost use Rattle.r9_event.specs.declared.rio.Order.TheVariants.{Size};
+ghost use Rattle.r9_geom.specs.Geometry.{is_point, IsNearBy};
+ghost use Rattle.std.specs.Prelude.{OnOk, true, ◌^◌, ◌≡◌};
+
+use r9_chan::Colour;
+use r9_device::Device;
+use r9_geom::Point;
+use r9_memory::Memory;
+
+// How long a side of the display may be.
+const LONGEST_SIDE: u32 = 2048;
+
+// Whether a side of the display may be so long.
+fn is_side(length: u32) -> bool
+    ensures { result ≡ is_side length }
+{
+    1 <= length && length <= LONGEST_SIDE
+}
+
+// Whether a point is that of 0.
+fn is_origin(p: Point) -> bool
+    requires { IsNearBy (2 ^ 33) p }
+    ensures { result ≡ is_point p origin_point }
+{
+    p.x == 0 && p.y == 0
+}
+
+// Whether the display is there, stands nowhere, begins at 0 and does not repeat.
+fn has_display(device: &Device) -> bool
+    ensures { result ≡ has_display (world_of device.now) }
+{
+    let display = device.image_shown(0);
+    let info = device.image_info(display);
+    device.knows(0, 0)
+        && device.book.screen_of(display.0).is_none()
+        && is_origin(info.r.min)
+        && !info.repl
+}
+
+// Whether the display can get another size.
+pub(crate) fn can_resize(device: &Device, width: u32, height: u32) -> bool
+    ensures { result ≡ fits (world_of device.now) (Size width height) }
+{
+    is_side(width) && is_side(height) && has_display(device)
+}
+
+// The display has another size, where all that stands on it stays, and what shows newly of it is grey.
+pub(crate) fn resize_display(device: &mut Device, width: u32, height: u32) -> Result<(), Memory>
+    requires { has_display (world_of device.old) ≡ true }
+    ensures { OnOk result (world_of device.new ≡ resize_display (world_of device.old) width height) }
+{
+    let image = device.image_shown(0);
+    let info = device.forest.info(image);
+    let grey = info.chan.pack(Colour::of_word(0x7777_77ff));
+    device.forest.resize(image, width, height, grey)
+}
