@@ -14,6 +14,7 @@ act_of (act.Command window what) = model.Command window (wctl_of what)
 act_of (act.Mouse pointer) = model.Mouse pointer
 act_of (act.Keys bytes) = model.Keys bytes
 act_of (act.Gone window) = model.Gone window
+act_of (act.Size width height) = model.Size width height
 
 -- keys are characters of UTF-8
 abbrev pub AreKeys : Act → Type 0

@@ -29,6 +29,11 @@ pub enum Act {
     Gone {
         window: u32,
     },
+    /// The display has another size, in pixels.
+    Size {
+        width: u32,
+        height: u32,
+    },
 }
 
 /// What an act asks of the draw device, and what it tells windows, each in order.
@@ -41,7 +46,7 @@ pub struct Step {
 /// Why an act was not done.
 #[derive(Clone, Copy, Debug, PartialEq, Eq)]
 pub enum ActFault {
-    /// The number of the refusal: 42 where the window is gone, 47 where its rectangle or its host is refused, 49 where
+    /// The number of the refusal: 42 where the window is gone, 47 where a rectangle or its host is refused, 49 where
     /// there are too many windows, 50 where rios would be nested too deep.
     Refused(u8),
     /// There was no memory.

@@ -5,10 +5,10 @@ ghost use Rattle.model_rio.specs.Table as model;
 ghost use Rattle.model_rio.specs.Step.{ordered, noted, with_hold, with_windows, in_place, is_same, told_current, with_current, is_held, not_current, retired};
 ghost use Rattle.model_rio.specs.Rio.{to_top, to_bottom};
 
-use crate::lists::{Change, is_same};
 use crate::manager::Manager;
 use r9_event::{Note, Notes, Order, Orders};
 use r9_memory::Memory;
+use r9_stacking::{Change, is_same};
 use r9_window::{Hold, Window};
 use std::marker::Model;
 

@@ -9,13 +9,13 @@ ghost use Rattle.model_rio.specs.Step.{noted};
 ghost use Rattle.model_rio.specs.Routing as model;
 
 use crate::draft::Draft;
-use crate::lists::is_same;
 use crate::manager::Manager;
 use crate::naming::DEEPEST;
 use model_mouse::Mouse;
 use r9_event::Note;
 use r9_geom::Point;
 use r9_memory::Memory;
+use r9_stacking::is_same;
 use r9_text::Bytes;
 use r9_window::Hold;
 

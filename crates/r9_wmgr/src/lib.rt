@@ -5,12 +5,12 @@
 mod act;
 mod draft;
 mod input;
-mod lists;
 mod making;
 mod manager;
 mod moving;
 mod naming;
 mod showing;
+mod sizing;
 mod step;
 
 pub use act::{Act, ActFault, Step};

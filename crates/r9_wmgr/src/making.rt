@@ -8,12 +8,12 @@ ghost use Rattle.r9_wmgr.specs.Acts.{IfRefused};
 
 use crate::act::ActFault;
 use crate::draft::Draft;
-use crate::lists::Change;
 use crate::manager::Manager;
 use crate::naming::{DEEPEST, name_by};
 use r9_event::{Note, Order};
 use r9_geom::{Point, Rect};
 use r9_memory::Memory;
+use r9_stacking::Change;
 use r9_wctl::{Options, apply};
 use r9_window::{Bounds, Window};
 

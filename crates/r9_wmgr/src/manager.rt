@@ -4,15 +4,16 @@ ghost use Rattle.std.specs.Prelude.{◌≡◌, ◌==◌, ◌≤◌, ◌^◌, ◌
 ghost use Rattle.r9_geom.specs.Geometry.{IsRectNearBy};
 ghost use Rattle.model_rio.specs.Table as model;
 ghost use Rattle.model_rio.specs.Step.{changed, in_place, without, raised, lowered};
+ghost use Rattle.model_rio.specs.Rio.{windows_off};
 ghost use Rattle.model_rio.specs.Sound.{IsSound};
-ghost use Rattle.r9_wmgr.specs.Changes.{by};
+ghost use Rattle.r9_stacking.specs.Changes.{by};
 
-use crate::lists::{
-    Change, bottom_up, change_rios, changed, find_numbered, find_rio, find_topmost, find_window,
-    lower, made_in, push_hosts, raise, replace, without, without_rio,
-};
 use r9_geom::{Point, Rect};
 use r9_memory::Memory;
+use r9_stacking::{
+    Change, bottom_up, change_rios, changed, find_numbered, find_rio, find_topmost, find_window,
+    lower, made_in, push_hosts, raise, replace, windows_off, without, without_rio,
+};
 use r9_text::Numbers;
 use r9_window::{Hold, Rio, Window};
 use std::alloc::Global;
@@ -147,11 +148,26 @@ impl Manager {
         find_topmost(&self.windows, host, p)
     }
 
+    /// The rectangle of the root rio, which is the display's.
+    pub fn rect(&self) -> Rect
+        ensures value { result ≡ self.now.r }
+        ensures near { IsRectNearBy (2 ^ 33) result }
+    {
+        self.r
+    }
+
     /// The windows of the rio of a host, the lowest first.
     pub(crate) fn bottom_up(&self, host: u32) -> Result<Vec<Window>, Memory>
         ensures { IfOk result (λ ws. ws.items ≡ reverse (model.windows_in self.now host)) }
     {
         bottom_up(self.alloc, &self.windows, host)
+    }
+
+    /// The windows of the root rio whose rectangles have no point of this one, the lowest first.
+    pub(crate) fn windows_off(&self, r: &Rect) -> Result<Vec<Window>, Memory>
+        ensures { IfOk result (λ ws. ws.items ≡ windows_off r.now self.now) }
+    {
+        windows_off(self.alloc, &self.windows, r)
     }
 
     /// The windows of the rio of a host in ascending serial. 0 is the root rio.
@@ -189,6 +205,14 @@ impl Manager {
     {
         self.root = changed(self.root, host, what);
         change_rios(&mut self.rios, host, what);
+    }
+
+    /// The display has another rectangle.
+    pub(crate) fn set_rect(&mut self, r: Rect)
+        requires { IsRectNearBy (2 ^ 33) r }
+        ensures { self.new ≡ record self.old { r = r } }
+    {
+        self.r = r;
     }
 
     pub(crate) fn replace(&mut self, w: Window)

@@ -62,6 +62,7 @@ impl Draft {
             Act::New { rio, options, hide } => return self.new_in(*rio, options, *hide),
             Act::Command { window, what } => return self.command_to(*window, what),
             Act::Gone { window } => return self.command_to(*window, &Wctl::Delete),
+            Act::Size { width, height } => return self.resize(*width, *height),
             Act::Mouse(e) => self.mouse(DEEPEST, *e, 0)?,
             Act::Keys(bytes) => self.keys(bytes.as_slice())?,
         }
@@ -95,9 +96,10 @@ impl Manager {
 
     /// What an act does: the table changes, and it gives what that asks of the draw device and what windows are told.
     /// Refused by 42 exactly where the window, or the rio of a new one, is not there; then by 47 where a rectangle or a
-    /// host is refused, by 49 where there would be too many windows, and by 50 where rios would be nested too deep. Where it
-    /// is refused or memory is short, nothing changes. A sound table stays sound, and what one window is told stands in the
-    /// order made, moved or resized, hidden, current, mouse, key, deleted.
+    /// host is refused, by 49 where there would be too many windows, and by 50 where rios would be nested too deep; another
+    /// size of the display by 47 alone, where a window in one that moves would come too far out. Where it is refused or memory
+    /// is short, nothing changes. A sound table stays sound, and what one window is told stands in the order made, moved or
+    /// resized, hidden, current, mouse, key, deleted.
     pub fn step(&mut self, act: Act) -> Result<Step, ActFault>
         requires keys { AreKeys act }
         ensures done { IfOk result (λ s. model.rio self.old (act_of act) ≡ Ok (record { table = self.new; orders = s.orders; notes = s.notes })) }
