@@ -1,17 +1,20 @@
 -- Calls of a desktop, as what a write leaves of it.
-use Rattle.std.proofs.Common.{◌≡◌, ℕ, true, Option, Result, Ok, Err, OnOk, OnErr, refl, sym, ap, subst}
+use Rattle.std.proofs.Common.{◌≡◌, ℕ, true, List, Option, Some, Result, Ok, Err, OnOk, OnErr, refl, sym, ap, subst}
 use Rattle.std.specs.Prelude.{IfErr, IfOk}
 use Rattle.model_text.specs.Outcome.{Outcome}
 use Rattle.model_tree.specs.declared.Kind.{Kind}
 use Rattle.model_tree.specs.declared.Kind.TheVariants.{Ctl, Data}
 use Rattle.model_tree.specs.Node.{row}
 use Rattle.model_tree.specs.Tree.{is_of_connection}
+use Rattle.model_words.specs.declared.Size.{Size}
+use Rattle.model_words.specs.Values.{sides_of}
+use Rattle.model_world.specs.Outside.{Outside}
 use Rattle.r9_files.specs.declared.fault.Fault.{Fault}
 use Rattle.r9_files.specs.declared.fault.Fault.TheVariants as fault
 use Rattle.r9_around.specs.Words.{IfRefused}
-use Rattle.model_world.specs.Writing.{whole_or_refused}
+use Rattle.model_world.specs.Writing.{line_of, whole_or_refused}
 use Rattle.r9_around.specs.declared.wrote.Wrote.{Wrote}
-use Rattle.r9_access.specs.Writes.{IsDone, IsWritten, whole_of}
+use Rattle.r9_access.specs.Writes.{IsDone, IsWritten, size_left, whole_of}
 
 pub done_of : {S : Type 0} (r : Result (Unit {0}) Fault) (before after : S) (defined : ℕ → Outcome S) (c : ℕ) → OnOk r ((c : ℕ) → defined c ≡ Ok after)
     → IfErr r (λ f. IfRefused f (λ n. (c : ℕ) → defined c ≡ Err n)) → IfErr r (λ f. IfRefused f (λ n. after ≡ before)) → IsDone before r after (defined c)
@@ -25,6 +28,13 @@ pub done_if : {S : Type 0} (r : Result (Unit {0}) Fault) (before after : S) (def
 done_if (Ok done) before after defined is refused kept = is
 done_if (Err (fault.Refused n)) before after defined is refused kept = (refused, kept)
 done_if (Err fault.Memory) before after defined is refused kept = tt
+
+-- another size of the display, which a text spells
+pub size_done : {S : Type 0} (outside : ℕ → Outside S) (bytes : List ℕ) (size : Size) (r : Result (Unit {0}) Fault) (before after : S) → sides_of (line_of bytes) ≡ Some size
+    → OnOk r ((c : ℕ) → (outside c).with_size before size ≡ Ok after) → IfErr r (λ f. IfRefused f (λ n. (c : ℕ) → (outside c).with_size before size ≡ Err n))
+    → IfErr r (λ f. IfRefused f (λ n. after ≡ before)) → (c : ℕ) → IsDone before r after (size_left (outside c) before bytes)
+size_done outside bytes size r before after spelled is refused kept c =
+    rw spelled (done_of r before after (λ s. (outside s).with_size before size) c is refused kept)
 
 -- as a write that left nothing undone
 pub whole_written : {S : Type 0} (mark : Option ℕ) (r : Result (Unit {0}) Fault) (found : Result Wrote Fault) (before after : S) (defined : Outcome S) → found ≡ whole_of r → IsDone before r after defined

@@ -10,7 +10,7 @@ use Rattle.model_tree.specs.Node.{Node}
 use Rattle.model_tree.specs.Tree.{is_of_connection}
 use Rattle.model_world.specs.Session.{Fid}
 use Rattle.model_world.specs.Outside.{Outside}
-use Rattle.model_world.specs.Reading.{Given, given_by, at_offset, ctl_read, mouse_len, wctl_len}
+use Rattle.model_world.specs.Reading.{Given, given_by, at_offset, ctl_read, mouse_len, size_text, wctl_len}
 use Rattle.r9_memory.specs.declared.Memory.{Memory}
 use Rattle.r9_files.specs.declared.fault.Fault.{Fault}
 use Rattle.r9_files.specs.declared.fault.Fault.TheVariants as fault
@@ -44,6 +44,7 @@ abbrev pub told_of : {S : Type 0} → Outside S → S → Node → (offset count
 told_of outside rest node offset count kind.Ctl = Some (ctl_read outside rest node offset count)
 told_of outside rest node offset count kind.Screen = Some (Ok (file_part (outside.picture rest node.serial) offset count))
 told_of outside rest node offset count kind.Snarf = Some (Ok (at_offset (outside.snarf rest node.serial) offset count))
+told_of outside rest node offset count kind.Hwsize = Some (Ok (at_offset (size_text (outside.size rest)) offset count))
 told_of outside rest node offset count kind.Label = Some (Ok (at_offset (outside.pane rest node.serial).label offset count))
 told_of outside rest node offset count kind.Text = Some (Ok (at_offset (console.text (outside.pane rest node.serial).console) offset count))
 told_of outside rest node offset count kind.Winid = Some (Ok (at_offset (winid_text (outside.pane rest node.serial).known) offset count))

@@ -1,6 +1,7 @@
 -- What a write of a fid promises.
 use Rattle.std.specs.Prelude.{◌≡◌, ℕ, not, List, Option, None, Result, Ok, Err}
 use Rattle.model_text.specs.Outcome.{Outcome, ◌>>=◌, refuse_if, value_or_refuse}
+use Rattle.model_words.specs.Values.{sides_of}
 use Rattle.model_mouse.specs.Pointer.{pointer_of}
 use Rattle.model_world.specs.Outside.{Outside}
 use Rattle.model_world.specs.Writing.{are_keys, line_of, raw_asked, snarf_written, with_raw_asked}
@@ -42,6 +43,10 @@ mouse_left outside rest bytes = value_or_refuse (pointer_of bytes) 51 >>= λ e. 
 -- what characters that are typed leave
 abbrev pub keys_left : {S : Type 0} → Outside S → S → List ℕ → Outcome S
 keys_left outside rest bytes = refuse_if (not (are_keys bytes)) 51 >>= λ _. Ok (outside.keys rest bytes)
+
+-- what a text that spells a size of the display leaves
+abbrev pub size_left : {S : Type 0} → Outside S → S → List ℕ → Outcome S
+size_left outside rest bytes = value_or_refuse (sides_of (line_of bytes)) 51 >>= λ size. outside.with_size rest size
 
 -- what a write to `consctl` leaves
 abbrev pub raw_left : {S : Type 0} → Outside S → S → (window : ℕ) → List ℕ → Outcome S

@@ -6,7 +6,7 @@ ghost use Rattle.model_imgfile.specs.ImageFile.{file_part};
 ghost use Rattle.model_tree.specs.declared.Kind.TheVariants as kinds;
 ghost use Rattle.model_tree.specs.Node.{kind_numbered};
 ghost use Rattle.model_window.specs.Heard.{wctl_answer, winid_text};
-ghost use Rattle.model_world.specs.Reading.{at_offset, ctl_read, file_read, given_now};
+ghost use Rattle.model_world.specs.Reading.{at_offset, ctl_read, file_read, given_now, size_text};
 ghost use Rattle.r9_tree.specs.View.{node_of};
 ghost use Rattle.r9_access.specs.Reads.{HasClient, IsFileRead, IsGivenNow, IsTold, IsToldOf, least_of, told_of};
 
@@ -73,6 +73,20 @@ fn part_of_picture<O: Outside>(
     Ok(outside.picture_part(window, offset, count)?)
 }
 
+/// What a read gives of the text that tells the size of the display.
+fn part_of_size<O: Outside>(
+    alloc: Global,
+    outside: &O,
+    offset: u64,
+    count: u32,
+) -> Result<Bytes, Fault>
+    ensures read { (session : ℕ) → IsTold result (Ok (at_offset (size_text ((O.outside session).size (O.state outside.now))) offset count)) }
+    ensures short { IfOk result (λ bytes. length bytes ≤ count) }
+{
+    let text = outside.size_text()?;
+    part(alloc, text.as_slice(), offset, count)
+}
+
 /// Reads what the ctl of a connection tells: all at its front, and nothing behind it.
 #[tactic(auto, unfolding(model_world::specs::Reading::ctl_read))]
 fn read_ctl<O: Outside>(
@@ -120,6 +134,7 @@ fn read_told<O: Outside>(
         Kind::Ctl => Some(read_ctl(alloc, outside, session, node, offset, count)),
         Kind::Screen | Kind::Picture => Some(part_of_picture(outside, window, offset, count)),
         Kind::Snarf => Some(part(alloc, outside.snarf(window), offset, count)),
+        Kind::Hwsize => Some(part_of_size(alloc, outside, offset, count)),
         Kind::Label => Some(part(alloc, label(outside, window), offset, count)),
         Kind::Text => Some(part(alloc, text(outside, window), offset, count)),
         Kind::Winid => Some(part_of_winid(alloc, outside, window, offset, count)),

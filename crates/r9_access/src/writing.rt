@@ -10,12 +10,13 @@ ghost use Rattle.model_world.specs.Writing.{are_keys, file_written, line_of, mos
 ghost use Rattle.r9_tree.specs.View.{node_of, IsNode};
 ghost use Rattle.r9_around.specs.Words.{AreTold, mark_after};
 ghost use Rattle.r9_access.specs.Reads.{HasClient};
-ghost use Rattle.r9_access.specs.Writes.{IsDone, IsWritten, keys_left, mouse_left, raw_left, whole_of};
+ghost use Rattle.r9_access.specs.Writes.{IsDone, IsWritten, keys_left, mouse_left, raw_left, size_left, whole_of};
 
 use crate::windows::write_snarf;
 use r9_around::{Outside, Wrote};
 use r9_files::{BAD_INPUT, BAD_WCTL_COMMAND, Fault, PERMISSION_DENIED};
 use r9_mouse::read_mouse;
+use r9_sides::sides_of;
 use r9_text::Bytes;
 use r9_tree::{Kind, Node, kind_of};
 use std::alloc::Global;
@@ -113,6 +114,16 @@ fn write_keys<O: Outside>(alloc: Global, outside: &mut O, bytes: &[u8]) -> Resul
     Ok(outside.keys(keys)?)
 }
 
+/// The display gets the size that a text spells.
+fn write_size<O: Outside>(outside: &mut O, bytes: &[u8]) -> Result<(), Fault>
+    ensures { (session : ℕ) → IsDone (O.state outside.old) result (O.state outside.new) (size_left (O.outside session) (O.state outside.old) bytes.now) }
+{
+    match sides_of(line_of(bytes)) {
+        Some(size) => outside.resize(size),
+        None => Err(Fault::Refused(BAD_INPUT)),
+    }
+}
+
 /// Raw mode is asked for, or its end.
 fn write_consctl<O: Outside>(outside: &mut O, window: u32, bytes: &[u8]) -> Result<(), Fault>
     ensures { (session : ℕ) → IsDone (O.state outside.old) result (O.state outside.new) (raw_left (O.outside session) (O.state outside.old) window bytes.now) }
@@ -149,6 +160,7 @@ fn write_kind<O: Outside>(
         Kind::Data => Ok(outside.write_data(session, node.connection, bytes, mark)?),
         Kind::Mousein => whole(write_mouse(outside, bytes)),
         Kind::Kbdin => whole(write_keys(alloc, outside, bytes)),
+        Kind::Hwsize => whole(write_size(outside, bytes)),
         Kind::Snarf => whole(write_snarf(alloc, outside, window, offset, bytes)),
         Kind::DeviceWctl => whole(outside.device_command(bytes)),
         Kind::Cons => whole(Ok(outside.write_text(window, bytes)?)),

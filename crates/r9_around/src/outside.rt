@@ -17,6 +17,7 @@ ghost use Rattle.model_world.specs.Cut.{Wants};
 ghost use Rattle.model_world.specs.Fids.{Left, cleared};
 ghost use Rattle.model_world.specs.Links.{AreCounted, is_among};
 ghost use Rattle.model_world.specs.Outside as world;
+ghost use Rattle.model_world.specs.Reading.{size_text};
 ghost use Rattle.model_world.specs.Refusal.{IsRefused};
 ghost use Rattle.model_world.specs.Session.{Session};
 ghost use Rattle.model_world.specs.Waiting.{one_answered};
@@ -25,6 +26,7 @@ ghost use Rattle.r9_tree.specs.View.{node_of, view_of, most_connections, IsNode,
 ghost use Rattle.r9_around.specs.Words.{AreTold, IfRefused, Tells, mark_after};
 
 use crate::wrote::Wrote;
+use model_words::Size;
 use r9_files::Fault;
 use r9_memory::Memory;
 use r9_mouse::Mouse;
@@ -158,6 +160,17 @@ pub trait Outside {
     fn picture_part(&self, window: u32, offset: u64, count: u32) -> Result<Bytes, Memory>
         ensures part { IfOk result (λ bytes. (session : ℕ) → bytes ≡ file_part ((outside session).picture (state self.now) window) offset count) }
         ensures short { IfOk result (λ bytes. length bytes ≤ count) };
+
+    /// What `hwsize` tells: how many pixels the display has across and down, each in a field.
+    fn size_text(&self) -> Result<Bytes, Memory>
+        ensures { IfOk result (λ text. (session : ℕ) → text ≡ size_text ((outside session).size (state self.now))) };
+
+    /// Gives the display another size, 1 to 2,048 pixels each way; windows that have no point of it move to its corner. Refused by
+    /// 47 exactly where a window in one that moves would come too far out.
+    fn resize(&mut self, size: Size) -> Result<(), Fault>
+        ensures done { OnOk result ((session : ℕ) → (outside session).with_size (state self.old) size ≡ Ok (state self.new)) }
+        ensures refused { IfErr result (λ f. IfRefused f (λ n. (session : ℕ) → (outside session).with_size (state self.old) size ≡ Err n)) }
+        ensures kept { IfErr result (λ f. IfRefused f (λ n. state self.new ≡ state self.old)) };
 
     /// The text that was cut last in the rio of a host.
     fn snarf(&self, host: u32) -> &[u8]

@@ -5,3 +5,4 @@ mod Placing
 mod Viewed
 mod Display
 mod Panes
+mod Sides

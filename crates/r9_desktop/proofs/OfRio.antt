@@ -3,7 +3,7 @@ use Rattle.std.proofs.Common.{◌≡◌, Bool, true, false, refl}
 use Rattle.std.specs.Option.{option_map_or}
 use Rattle.model_rio.specs.Table.{Table, window_of}
 use Rattle.model_tree.specs.declared.Kind.{Kind}
-use Rattle.model_tree.specs.declared.Kind.TheVariants.{Device, Draw, New, Connection, Ctl, Data, Refresh, Mousein, Kbdin, Screen, Snarf, DeviceWctl, Wsys, Window, Cons, Consctl, Label, Mouse, Text, Wctl, Winid, Winname, Picture, Listed}
+use Rattle.model_tree.specs.declared.Kind.TheVariants.{Device, Draw, New, Connection, Ctl, Data, Refresh, Mousein, Kbdin, Screen, Snarf, DeviceWctl, Wsys, Window, Cons, Consctl, Label, Mouse, Text, Wctl, Winid, Winname, Picture, Listed, Hwsize}
 use Rattle.model_tree.specs.Node.{Node, row}
 use Rattle.model_world.specs.Whole.{host_by}
 use Rattle.r9_desktop.specs.Words.{is_of_rio}
@@ -34,6 +34,7 @@ host-rio table node Winid e = absurd (let f : ◌≡◌ {A = Bool} false true = 
 host-rio table node Winname e = absurd (let f : ◌≡◌ {A = Bool} false true = e in cc)
 host-rio table node Picture e = absurd (let f : ◌≡◌ {A = Bool} false true = e in cc)
 host-rio table node Listed e = absurd (let f : ◌≡◌ {A = Bool} false true = e in cc)
+host-rio table node Hwsize e = absurd (let f : ◌≡◌ {A = Bool} false true = e in cc)
 
 pub host-window : (table : Table) (node : Node) (kind : Kind) → is_of_rio kind ≡ false → option_map_or (λ w. w.host) (window_of table node.serial) 0 ≡ host_by table node kind
 unfolding row
@@ -61,3 +62,4 @@ host-window table node Winid e = refl
 host-window table node Winname e = refl
 host-window table node Picture e = refl
 host-window table node Listed e = refl
+host-window table node Hwsize e = refl

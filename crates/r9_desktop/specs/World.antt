@@ -8,6 +8,7 @@ abbrev pub parts_of : Desktop → model.Desktop
 parts_of d = record {
   device = world_of d.device;
   table = d.manager;
+  sized = d.sized;
   panes = d.panes.entries;
   users = d.users.entries;
   snarfs = d.snarfs.entries;

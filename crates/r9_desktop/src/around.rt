@@ -10,6 +10,7 @@ ghost use Rattle.r9_desktop.specs.Words.{tells_for};
 ghost use Rattle.r9_desktop.specs.Laws.{answer_links, answers_otherwise, cleared_links, late_links, leave_leaves, refuses_otherwise, view_has};
 
 use crate::desktop::Desktop;
+use model_words::Size;
 use r9_around::{Outside, Wrote};
 use r9_files::Fault;
 use r9_memory::Memory;
@@ -101,6 +102,14 @@ impl Outside for Desktop {
 
     fn picture_part(&self, window: u32, offset: u64, count: u32) -> Result<Bytes, Memory> {
         Desktop::picture_part(self, window, offset, count)
+    }
+
+    fn size_text(&self) -> Result<Bytes, Memory> {
+        Desktop::size_text(self)
+    }
+
+    fn resize(&mut self, size: Size) -> Result<(), Fault> {
+        Desktop::resize(self, size)
     }
 
     fn snarf(&self, host: u32) -> &[u8] {

@@ -1,9 +1,10 @@
 //! Connections of sessions to the draw device (draw(3)).
 
-ghost use Rattle.std.specs.Prelude.{◌≡◌, ◌≤◌, ◌<◌, ◌^◌, ◌⊎◌, ◌↔◌, length, None, Some, Ok, Err, IfOk, IfErr, IfSome, IsSome, OnOk, OnErr};
+ghost use Rattle.std.specs.Prelude.{◌≡◌, ◌==◌, ◌≤◌, ◌<◌, ◌^◌, ◌⊎◌, ◌↔◌, length, None, Some, Ok, Err, IfOk, IfErr, IfSome, IsSome, OnOk, OnErr};
 ghost use Rattle.model_text.specs.Map.{lookup};
 ghost use Rattle.model_draw.specs.Act.{no_memory};
 ghost use Rattle.model_draw.specs.Memory.{MayRunOut};
+ghost use Rattle.model_draw.specs.World.{client_of};
 ghost use Rattle.model_world.specs.Whole.{client, desktop_for};
 ghost use Rattle.r9_around.specs.Words.{AreTold, IfRefused, mark_after};
 ghost use Rattle.r9_desktop.specs.Words.{fault_of_draw, tells_for};
@@ -129,6 +130,14 @@ impl Desktop {
             Ok(bytes) => Ok(bytes),
             Err(fault) => Err(fault_of(fault)),
         }
+    }
+
+    /// Whether the `ctl` of a session's connection describes the display.
+    #[tactic(auto, unfolding(crate::specs::World::desktop_of))]
+    pub fn describes_display(&self, session: u32, connection: u32) -> bool
+        ensures { result ≡ ((client_of (desktop_of self.now).device (client session connection)).described == 0) }
+    {
+        self.device.described(client(session, connection)) == 0
     }
 
     /// Chooses the image id that `ctl` describes from now on. Refused by 27 exactly where there are not four bytes, and by 4

@@ -21,14 +21,15 @@ use r9_wmgr::Manager;
 use std::alloc::Global;
 use std::collections::BTreeMap;
 
-/// What all sessions share: the draw device; the windows of all rios; by a window's serial what its files have, and which
-/// sessions have a fid whose attach named it, in ascending order; by the serial of its host the snarf of each rio; and what
-/// windows were told since the notes were taken last.
+/// What all sessions share: the draw device; the windows of all rios; whether the display has changed its size; by a window's
+/// serial what its files have, and which sessions have a fid whose attach named it, in ascending order; by the serial of its host
+/// the snarf of each rio; and what windows were told since the notes were taken last.
 #[derive(Drop)]
 pub struct Desktop {
     pub(crate) alloc: Global,
     pub(crate) device: Draw,
     pub(crate) manager: Manager,
+    pub(crate) sized: bool,
     pub(crate) panes: Panes,
     pub(crate) users: Users,
     pub(crate) snarfs: Snarfs,
@@ -53,6 +54,7 @@ impl Desktop {
             alloc,
             device,
             manager: Manager::new(alloc, r),
+            sized: false,
             panes: BTreeMap::new(alloc),
             users: BTreeMap::new(alloc),
             snarfs,

@@ -10,6 +10,7 @@ mod files;
 mod finding;
 mod hearing;
 mod input;
+mod sizing;
 mod stepping;
 mod telling;
 mod using;

@@ -1,20 +1,22 @@
 //! Steps of the window manager, and what comes of them (rio(4)).
 
-ghost use Rattle.std.specs.Prelude.{◌≡◌, ◌++◌, Ok, Err, IfErr, OnOk};
+ghost use Rattle.std.specs.Prelude.{◌≡◌, ◌++◌, ◌||◌, not, Ok, Err, IfErr, OnOk};
 ghost use Rattle.std.specs.List.{fold};
 ghost use Rattle.model_draw.specs.Orders.{carried_out};
 ghost use Rattle.model_rio.specs.Rio.{rio};
-ghost use Rattle.model_world.specs.Desktop.{panes_told, snarfs_ordered, stepped_if, stepped_or, users_told};
+ghost use Rattle.model_world.specs.Desktop.{is_as_large, panes_told, snarfs_ordered, stepped_if, stepped_or, users_told};
 ghost use Rattle.r9_wmgr.specs.Acts.{act_of, AreKeys};
 ghost use Rattle.r9_around.specs.Words.{IfRefused};
 ghost use Rattle.r9_desktop.specs.Words.{SameClients};
 ghost use Rattle.r9_desktop.specs.World.{parts_of};
 
 use crate::desktop::Desktop;
+use crate::sizing::is_as_large;
 use crate::telling::{order_snarfs, tell_panes, tell_users};
 use model_draw::orders_keep_connections;
 use model_rio::acts_end_no_connection;
 use r9_files::Fault;
+use r9_geom::Rect;
 use r9_memory::Memory;
 use r9_wmgr::{Act, ActFault, Step};
 
@@ -25,6 +27,7 @@ impl Desktop {
         ensures { OnOk result (parts_of self.new ≡ record {
           device = carried_out (parts_of self.old).device step.orders;
           table = (parts_of self.old).table;
+          sized = (parts_of self.old).sized;
           panes = fold panes_told (parts_of self.old).panes step.notes;
           users = fold users_told (parts_of self.old).users step.notes;
           snarfs = fold snarfs_ordered (parts_of self.old).snarfs step.orders;
@@ -39,6 +42,13 @@ impl Desktop {
         self.notes.append(notes)
     }
 
+    /// Whether the display has changed its size, where it had this rectangle before.
+    fn notice_size(&mut self, before: &Rect)
+        ensures { parts_of self.new ≡ record (parts_of self.old) { sized = (parts_of self.old).sized || not (is_as_large before.now (parts_of self.old).table.r) } }
+    {
+        self.sized = self.sized || !is_as_large(before, &self.manager.rect());
+    }
+
     /// What an act does to all. Refused exactly as the window manager refuses it, and then all is as before; of Memory nothing
     /// is said.
     #[tactic(auto, unfolding(model_world::specs::Desktop::stepped))]
@@ -51,8 +61,12 @@ impl Desktop {
     {
         acts_end_no_connection();
         orders_keep_connections();
+        let before = self.manager.rect();
         match self.manager.step(act) {
-            Ok(step) => Ok(self.follow(step)?),
+            Ok(step) => {
+                self.notice_size(&before);
+                Ok(self.follow(step)?)
+            }
             Err(ActFault::Refused(refusal)) => Err(Fault::Refused(refusal)),
             Err(ActFault::Memory) => Err(Fault::Memory),
         }

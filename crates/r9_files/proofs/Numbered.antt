@@ -5,10 +5,10 @@ use Rattle.model_map.proofs.Keys.{not_key}
 use Rattle.model_tree.specs.Node.{Node, row, kind_numbered, qid, is_directory}
 
 -- the kind of a number has that number
-pub number_numbered : (n : ℕ) → 1 ≤ n → n ≤ 24 → (row (kind_numbered n)).number ≡ n
+pub number_numbered : (n : ℕ) → 1 ≤ n → n ≤ 25 → (row (kind_numbered n)).number ≡ n
 unfolding kind_numbered row
 number_numbered n from to =
-    let table = agree_below_at (λ k. eqb k 0 || eqb (row (kind_numbered k)).number k) (λ _. true) 25 n refl (omega arith) in
+    let table = agree_below_at (λ k. eqb k 0 || eqb (row (kind_numbered k)).number k) (λ _. true) 26 n refl (omega arith) in
     let some : eqb n 0 ≡ false = not_key n 0 (λ is. omega (arith, is)) in
     eqb-true _ _ (sym (ap (λ (b : Bool). b || eqb (row (kind_numbered n)).number n) some) ∙ table)
 

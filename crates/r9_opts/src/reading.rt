@@ -15,11 +15,12 @@ ghost use Rattle.r9_opts.specs.Rows.{IsAddressOf, IsCountOf, IsDisplay, IsNumber
 use crate::command::rio9;
 use crate::fit::are_fit;
 use crate::job::{Job, OptsFault};
-use crate::values::{counted, opening};
+use crate::values::opening;
 use clap::error::ErrorKind;
 use clap::{ArgMatches, Error};
 use r9_event::Opening;
 use r9_memory::Memory;
+use r9_sides::counted;
 use std::alloc::Global;
 
 /// The sides of the display where no others are asked for.

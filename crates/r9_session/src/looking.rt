@@ -9,6 +9,7 @@ ghost use Rattle.model_world.specs.Fids.{is_bound, is_full};
 ghost use Rattle.r9_tree.specs.View.{node_of, most_connections, IsNode};
 ghost use Rattle.r9_session.specs.Reached.{reached};
 
+use crate::reading::reads;
 use crate::session::Session;
 use crate::taking::Taking;
 use crate::writing::writes;
@@ -57,8 +58,27 @@ impl Session {
     /// The file that a write of a fid reaches; None where the fid is not bound or not open for writing, or its file's window or
     /// connection is gone.
     pub fn reached<O: Outside>(&self, outside: &O, fid: u32) -> Option<Node>
-        ensures file { IfSome result (λ node. (number : ℕ) → reached (O.outside number) self.now (O.state outside.now) fid ≡ Ok (node_of node)) }
-        ensures none { IfNone result ((number : ℕ) → is_ok (reached (O.outside number) self.now (O.state outside.now) fid) ≡ false) }
+        ensures file { IfSome result (λ node. (number : ℕ) → reached true (O.outside number) self.now (O.state outside.now) fid ≡ Ok (node_of node)) }
+        ensures none { IfNone result ((number : ℕ) → is_ok (reached true (O.outside number) self.now (O.state outside.now) fid) ≡ false) }
+        ensures sound { IfSome result IsNode }
+    {
+        self.open_file(outside, fid, true)
+    }
+
+    /// The file that a read of a fid reaches; None where the fid is not bound or not open for reading, or its file's window or
+    /// connection is gone.
+    pub fn reached_by_read<O: Outside>(&self, outside: &O, fid: u32) -> Option<Node>
+        ensures file { IfSome result (λ node. (number : ℕ) → reached false (O.outside number) self.now (O.state outside.now) fid ≡ Ok (node_of node)) }
+        ensures none { IfNone result ((number : ℕ) → is_ok (reached false (O.outside number) self.now (O.state outside.now) fid) ≡ false) }
+        ensures sound { IfSome result IsNode }
+    {
+        self.open_file(outside, fid, false)
+    }
+
+    /// The file of a fid that is open for writing, or for reading, where its window and its connection live.
+    fn open_file<O: Outside>(&self, outside: &O, fid: u32, writing: bool) -> Option<Node>
+        ensures file { IfSome result (λ node. (number : ℕ) → reached writing (O.outside number) self.now (O.state outside.now) fid ≡ Ok (node_of node)) }
+        ensures none { IfNone result ((number : ℕ) → is_ok (reached writing (O.outside number) self.now (O.state outside.now) fid) ≡ false) }
         ensures sound { IfSome result IsNode }
     {
         let Some(found) = self.fids.get(fid) else {
@@ -68,7 +88,8 @@ impl Session {
             return None;
         };
         let node = found.node();
-        if !writes(mode) || self.check_live(outside, &node).is_err() {
+        let is_open = if writing { writes(mode) } else { reads(mode) };
+        if !is_open || self.check_live(outside, &node).is_err() {
             return None;
         }
         Some(node)

@@ -6,7 +6,7 @@ ghost use Rattle.model_tree.specs.Tree.{check_live};
 ghost use Rattle.model_tree.specs.Listing.{stats};
 ghost use Rattle.model_text.specs.Map.{lookup};
 ghost use Rattle.model_world.specs.Session.{Fid};
-ghost use Rattle.model_world.specs.Reading.{directory_read, file_read, node_read, read_answer};
+ghost use Rattle.model_world.specs.Reading.{count_within, directory_read, file_read, node_read, read_answer};
 ghost use Rattle.model_world.specs.Waiting.{waits_for};
 ghost use Rattle.r9_access.specs.Reads.{HasClient};
 ghost use Rattle.r9_tree.specs.View.{node_of, IsNode, IsView};
@@ -32,7 +32,7 @@ use std::alloc::Global;
 const READ_HEAD: u32 = 11;
 
 /// Whether a mode is for reading (open(5)).
-fn reads(mode: u8) -> bool
+pub(crate) fn reads(mode: u8) -> bool
     ensures { result ≡ reads mode }
 {
     mode % 16 == 0 || mode % 16 == 2
@@ -131,6 +131,13 @@ impl Session {
         }
     }
 
+    /// How many bytes a read gives at most that asks for so many: no more than a message holds.
+    pub fn most_read(&self, count: u32) -> u32
+        ensures { result ≡ count_within self.now count }
+    {
+        count.min(self.msize.saturating_sub(READ_HEAD))
+    }
+
     /// Reads an open file, at most what a message holds. None where the read waits from now on.
     #[tactic(auto, unfolding(model_world::specs::Reading::read_answer))]
     pub fn read<O: Outside>(
@@ -158,7 +165,7 @@ impl Session {
             return Err(Fault::Refused(PERMISSION_DENIED));
         }
         self.check_live(outside, &node)?;
-        let count = count.min(self.msize.saturating_sub(READ_HEAD));
+        let count = self.most_read(count);
         match self.read_node(alloc, outside, number, fid, &node, offset, count)? {
             Some(bytes) => Ok(Some(Rmsg::Read { tag, bytes })),
             None => {

@@ -2,7 +2,7 @@
 use Rattle.std.proofs.Common.{◌≡◌, ◌<◌, ◌&&◌, ℕ, nat_le, refl}
 use Rattle.std.proofs.lemmas.Bool.{agree_below_at}
 use Rattle.model_tree.specs.declared.Kind.{Kind}
-use Rattle.model_tree.specs.declared.Kind.TheVariants.{Device, Draw, New, Connection, Ctl, Data, Refresh, Mousein, Kbdin, Screen, Snarf, DeviceWctl, Wsys, Window, Cons, Consctl, Label, Mouse, Text, Wctl, Winid, Winname, Picture, Listed}
+use Rattle.model_tree.specs.declared.Kind.TheVariants.{Device, Draw, New, Connection, Ctl, Data, Refresh, Mousein, Kbdin, Screen, Snarf, DeviceWctl, Wsys, Window, Cons, Consctl, Label, Mouse, Text, Wctl, Winid, Winname, Picture, Listed, Hwsize}
 use Rattle.model_tree.specs.Node.{row, kind_numbered}
 use Rattle.model_tree.specs.Tree.{is_of_connection}
 
@@ -32,6 +32,7 @@ kind_numbered_number Winid = refl
 kind_numbered_number Winname = refl
 kind_numbered_number Picture = refl
 kind_numbered_number Listed = refl
+kind_numbered_number Hwsize = refl
 
 -- the kinds of a connection's directory and files have numbers of their own
 pub of_connection_numbered : (n : ℕ) → n < 256 → (nat_le 4 n && nat_le n 7) ≡ is_of_connection (kind_numbered n)

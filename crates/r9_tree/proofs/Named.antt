@@ -10,7 +10,7 @@ use Rattle.std.proofs.lemmas.Fmt.{IsAscii-decimal, length-decimal-le}
 use Rattle.model_wire.specs.Message as model
 use Rattle.model_wire.specs.Spelling.{FitsStat, stat_body, stat_bytes, sized, qid_bytes}
 use Rattle.model_tree.specs.declared.Kind.{Kind}
-use Rattle.model_tree.specs.declared.Kind.TheVariants.{Device, Draw, New, Connection, Ctl, Data, Refresh, Mousein, Kbdin, Screen, Snarf, DeviceWctl, Wsys, Window, Cons, Consctl, Label, Mouse, Text, Wctl, Winid, Winname, Picture, Listed}
+use Rattle.model_tree.specs.declared.Kind.TheVariants.{Device, Draw, New, Connection, Ctl, Data, Refresh, Mousein, Kbdin, Screen, Snarf, DeviceWctl, Wsys, Window, Cons, Consctl, Label, Mouse, Text, Wctl, Winid, Winname, Picture, Listed, Hwsize}
 use Rattle.model_tree.specs.Node.{Node, row}
 use Rattle.model_tree.specs.Tree.{stat_named}
 use Rattle.r9_tree.specs.View.{IsName}
@@ -45,6 +45,7 @@ row_is_named Winid = record { utf8 = ascii _ refl refl; short = omega arith }
 row_is_named Winname = record { utf8 = ascii _ refl refl; short = omega arith }
 row_is_named Picture = record { utf8 = ascii _ refl refl; short = omega arith }
 row_is_named Listed = record { utf8 = ascii _ refl refl; short = omega arith }
+row_is_named Hwsize = record { utf8 = ascii _ refl refl; short = omega arith }
 
 pub decimal_is_named : (n : ℕ) → n < 2 ^ 32 → IsName (decimal n)
 decimal_is_named n small = record {

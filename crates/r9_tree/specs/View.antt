@@ -9,7 +9,7 @@ use Rattle.model_tree.specs.Tree.{View}
 
 -- the number of a kind of file
 abbrev pub IsKind : ℕ → Type 0
-IsKind number = (1 ≤ number) × (number ≤ 24)
+IsKind number = (1 ≤ number) × (number ≤ 25)
 
 -- the greatest number of a connection
 abbrev pub most_connections : ℕ

@@ -5,7 +5,7 @@ use r9_text::Numbers;
 /// A file of the served tree. 0 stands for no connection and no window.
 #[derive(Clone, Copy, Debug, PartialEq, Eq)]
 pub struct Node {
-    /// The number of its `Kind`, 1 to 24.
+    /// The number of its `Kind`, 1 to 25.
     pub kind: u8,
     /// The connection of a connection's directory and files.
     pub connection: u32,

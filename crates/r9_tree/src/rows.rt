@@ -12,7 +12,7 @@ use r9_wire::Qid;
 /// The permissions of a directory: it may be read by all, and not written.
 const DIRECTORY: u32 = 0x8000_016d;
 
-/// The kind of a number from 1 to 24.
+/// The kind of a number from 1 to 25.
 #[tactic(auto, unfolding(model_tree::specs::Node::kind_numbered))]
 pub fn kind_of(number: u8) -> Kind
     requires { IsKind number }
@@ -43,11 +43,12 @@ pub fn kind_of(number: u8) -> Kind
         22 => Kind::Winname,
         23 => Kind::Picture,
         24 => Kind::Listed,
+        25 => Kind::Hwsize,
         _ => unreachable!(),
     }
 }
 
-/// The number of a kind, from 1 to 24.
+/// The number of a kind, from 1 to 25.
 #[tactic(auto, unfolding(model_tree::specs::Node::row))]
 pub(crate) fn number_of(kind: Kind) -> u8
     ensures number { result ≡ (row kind).number }
@@ -82,6 +83,7 @@ pub(crate) fn name_of(kind: Kind) -> &'static [u8]
         Kind::Winid => b"winid",
         Kind::Winname => b"winname",
         Kind::Picture => b"window",
+        Kind::Hwsize => b"hwsize",
     }
 }
 
@@ -102,7 +104,8 @@ pub(crate) fn mode_of(kind: Kind) -> u32
         | Kind::Cons
         | Kind::Label
         | Kind::Mouse
-        | Kind::Wctl => 0x180,
+        | Kind::Wctl
+        | Kind::Hwsize => 0x180,
     }
 }
 

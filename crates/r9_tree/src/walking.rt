@@ -100,7 +100,8 @@ fn connection_for(node: &Node, kind: Kind, view: &TreeView) -> u32
         | Kind::Winid
         | Kind::Winname
         | Kind::Picture
-        | Kind::Listed => 0,
+        | Kind::Listed
+        | Kind::Hwsize => 0,
     }
 }
 
@@ -119,7 +120,8 @@ fn serial_for(node: &Node, kind: Kind, view: &TreeView) -> u32
         | Kind::Refresh
         | Kind::Mousein
         | Kind::Kbdin
-        | Kind::DeviceWctl => 0,
+        | Kind::DeviceWctl
+        | Kind::Hwsize => 0,
         Kind::Window
         | Kind::Cons
         | Kind::Consctl
@@ -176,8 +178,9 @@ pub(crate) fn window_at(node: &Node, serial: u32) -> Node
     }
 }
 
-const IN_DEVICE: [Kind; 7] = [
+const IN_DEVICE: [Kind; 8] = [
     Kind::Draw,
+    Kind::Hwsize,
     Kind::Kbdin,
     Kind::Mousein,
     Kind::Screen,
@@ -245,7 +248,8 @@ pub(crate) fn kinds_in(kind: Kind) -> &'static [Kind]
         | Kind::Wctl
         | Kind::Winid
         | Kind::Winname
-        | Kind::Picture => &[],
+        | Kind::Picture
+        | Kind::Hwsize => &[],
     }
 }
 

@@ -25,6 +25,10 @@ pub returns-in-Winid-clause-read : goal.returns-in-Winid-clause-read
 returns-in-Winid-clause-read g c =
     subst (λ (k : Kind). IsToldOf (Some c.part_of_winid.result) (told_of (g.O.Outside.outside c.args.session) (g.O.Outside.state c.args.outside.now) (node_of c.args.node.now) c.args.offset c.args.count k)) (sym c.in-Winid.is) (c.part_of_winid.ensures.read c.args.session)
 
+pub returns-in-Hwsize-clause-read : goal.returns-in-Hwsize-clause-read
+returns-in-Hwsize-clause-read g c =
+    subst (λ (k : Kind). IsToldOf (Some c.part_of_size.result) (told_of (g.O.Outside.outside c.args.session) (g.O.Outside.state c.args.outside.now) (node_of c.args.node.now) c.args.offset c.args.count k)) (sym c.in-Hwsize.is) (c.part_of_size.ensures.read c.args.session)
+
 pub returns-in-Snarf-clause-read : goal.returns-in-Snarf-clause-read
 returns-in-Snarf-clause-read g c =
     subst (λ (k : Kind). IsToldOf (Some c.part.result) (told_of (g.O.Outside.outside c.args.session) (g.O.Outside.state c.args.outside.now) (node_of c.args.node.now) c.args.offset c.args.count k)) (sym c.in-Snarf.is)

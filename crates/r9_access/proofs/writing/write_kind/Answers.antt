@@ -8,7 +8,7 @@ use Rattle.model_world.specs.Writing.{file_written}
 use Rattle.r9_tree.specs.View.{node_of}
 use Rattle.r9_around.specs.declared.wrote.Wrote.{Wrote}
 use Rattle.r9_around.specs.Words.{AreTold, mark_after}
-use Rattle.r9_access.specs.Writes.{IsWritten, keys_left, mouse_left, raw_left, snarf_left}
+use Rattle.r9_access.specs.Writes.{IsWritten, keys_left, mouse_left, raw_left, size_left, snarf_left}
 use Rattle.r9_access.proofs.Done.{done_of, done_if, other_told, whole_written, of_ctl, of_data}
 use Rattle.r9_access.proofs.writing.write_kind.Goals as goal
 
@@ -41,6 +41,14 @@ returns-in-Kbdin-clause-written g c =
     subst (λ (k : Kind). IsWritten c.args.mark before c.whole-in-Kbdin.result after (λ m. file_written (g.O.Outside.outside c.args.session) before (node_of c.args.node.now) c.args.offset c.args.bytes.now m k)) (sym c.in-Kbdin.is)
     (whole_written c.args.mark c.write_keys.result c.whole-in-Kbdin.result before after (keys_left (g.O.Outside.outside c.args.session) before c.args.bytes.now) c.whole-in-Kbdin.ensures.written
     (c.write_keys.ensures c.args.session))
+
+pub returns-in-Hwsize-clause-written : goal.returns-in-Hwsize-clause-written
+returns-in-Hwsize-clause-written g c =
+    let before = g.O.Outside.state c.args.outside.now in
+    let after = g.O.Outside.state c.write_size.new.outside in
+    subst (λ (k : Kind). IsWritten c.args.mark before c.whole-in-Hwsize.result after (λ m. file_written (g.O.Outside.outside c.args.session) before (node_of c.args.node.now) c.args.offset c.args.bytes.now m k)) (sym c.in-Hwsize.is)
+    (whole_written c.args.mark c.write_size.result c.whole-in-Hwsize.result before after (size_left (g.O.Outside.outside c.args.session) before c.args.bytes.now) c.whole-in-Hwsize.ensures.written
+    (c.write_size.ensures c.args.session))
 
 pub returns-in-Snarf-clause-written : goal.returns-in-Snarf-clause-written
 returns-in-Snarf-clause-written g c =
@@ -111,6 +119,11 @@ pub returns-in-Kbdin-clause-told : goal.returns-in-Kbdin-clause-told
 returns-in-Kbdin-clause-told g c =
     let told : Wrote → Type 0 = λ w. AreTold w.told (g.O.Outside.tells c.args.session c.args.node.now.connection (g.O.Outside.state c.args.outside.now) c.args.bytes.now (mark_after c.args.mark w.short)) in
     other_told told c.whole-in-Kbdin.result c.args.kind (λ same. let both : kinds.Kbdin ≡ Data = sym c.in-Kbdin.is ∙ same in absurd cc)
+
+pub returns-in-Hwsize-clause-told : goal.returns-in-Hwsize-clause-told
+returns-in-Hwsize-clause-told g c =
+    let told : Wrote → Type 0 = λ w. AreTold w.told (g.O.Outside.tells c.args.session c.args.node.now.connection (g.O.Outside.state c.args.outside.now) c.args.bytes.now (mark_after c.args.mark w.short)) in
+    other_told told c.whole-in-Hwsize.result c.args.kind (λ same. let both : kinds.Hwsize ≡ Data = sym c.in-Hwsize.is ∙ same in absurd cc)
 
 pub returns-in-Snarf-clause-told : goal.returns-in-Snarf-clause-told
 returns-in-Snarf-clause-told g c =
