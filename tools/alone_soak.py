@@ -4,7 +4,7 @@
     tools/alone_soak.py [PEER] [--program PATH] [--folder FOLDER].. [--records N] [--seed S] [--jobs N] [--keep FOLDER]
 
 For each session of a record, and for one that never begins, `alone` has to end in one of two ways: with the lines that `replay` has for
-the session; or as for a session that is not alone, with a line that names an entry by which that can be and one of the reasons 1 to 11,
+the session; or as for a session that is not alone, with a line that names an entry by which that can be and one of the reasons 1 to 12,
 and then the entries before that one have to end in the first way. Where PEER is given, `alone` has to end as the peer's does, byte for
 byte. PEER and PATH are programs or, in one word, the path and words that come before the command.
 
@@ -36,10 +36,10 @@ from guests import guests
 from made_records import Made
 from soak import Ending, difference, smaller
 
-NOT_ALONE, REASONS = 7, range(1, 12)
+NOT_ALONE, REASONS = 7, range(1, 13)
 LINE = re.compile(rb"rio9: not alone: entry ([1-9][0-9]*): reason ([1-9][0-9]*)\n")
 # The reasons that only the session's own messages give, and those that only the messages of others give.
-OWN_REASONS, OTHERS_REASONS = {1, 2, 6, 7, 8, 9, 11}, {3, 4, 5}
+OWN_REASONS, OTHERS_REASONS = {1, 2, 6, 7, 8, 9, 11, 12}, {3, 4, 5}
 
 
 def ending(program, words, text):

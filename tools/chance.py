@@ -16,7 +16,7 @@ from formats import BEGIN, END, MESSAGE, STOP, TAKE, Event
 from record import NOFID, NOTAG
 
 READ, WRITE, READWRITE = 0, 1, 2
-DEVICE_FILES = ("draw", "kbdin", "mousein", "screen", "snarf", "wctl", "wsys")
+DEVICE_FILES = ("draw", "hwsize", "kbdin", "mousein", "screen", "snarf", "wctl", "wsys")
 WINDOW_FILES = tuple("cons consctl draw label mouse screen snarf text wctl winid winname window wsys".split())
 CONNECTION_FILES = ("ctl", "data", "refresh")
 TO_BE_WRITTEN = ("consctl", "kbdin", "mousein")
@@ -32,6 +32,7 @@ EVERYWHERE = (-0x3FFFFFFF, -0x3FFFFFFF, 0x3FFFFFFF, 0x3FFFFFFF)
 MOUSE_TEXTS = [b"", b"m", b"x" * 49, b"r" + b"1 ".rjust(12) * 4]
 MOUSE_TEXTS += [b"m" + number.rjust(12) * 4 for number in (b"1048577 ", b"32 ", b"x ")]
 NO_KEYS = [b"", b"\0", b"\xff", b"a\0", b"\xed\xa0\x80"]
+NO_SIZES = "", "0x24", "032x24", "2049x1", "32x24x1", "32 24"
 KEYS = "abcdefg   \n\n\b\b\x15\x04é世\U0001f600\r\x7f"
 IMAGES, WINDOWS, SCREENS = range(1, 16), range(20, 36), range(1, 5)
 MOST_CONNECTIONS = 4
@@ -461,6 +462,15 @@ class Maker:
         keys = "".join(chance.pick(KEYS) for _ in range(chance.long(66)))
         self.write(session, fid, chance.pick(NO_KEYS) if chance.often(0.03) else keys.encode())
 
+    def resize(self, session):
+        """Asks for another size of the display, mostly one near the first."""
+        fid, chance = self.use(session, "hwsize"), self.chance
+        if chance.often(0.3):
+            self.read(session, fid)
+        width, height = (chance.between(1, 2 * side) for side in self.size)
+        texts = ["%dx%d" % (width, height)] * 8 + ["%dx%d\n" % self.size] * 3 + list(NO_SIZES)
+        self.write(session, fid, chance.pick(texts).encode())
+
     def listen(self, session):
         """A read that may wait, of the mouse, of keys, of a place, or one that always waits."""
         name = self.chance.pick(["mouse", "mouse", "cons", "cons", "wctl"])
@@ -804,7 +814,7 @@ ODDITIES = "Tclunk Tclunk Tremove Tstat Tcreate Twstat Tauth Tflush Tflush Tatta
 COMMANDS = "new resize resize move move top bottom hide unhide current delete scroll noscroll set host host hop".split()
 ACTS = (
     [Maker.browse, Maker.list, Maker.oddity, Maker.order, Maker.look, Maker.share, Maker.leave]
-    + [Maker.click, Maker.type, Maker.listen, Maker.console]
+    + [Maker.click, Maker.type, Maker.resize, Maker.listen, Maker.console]
     + [Maker.draw] * 4
     + [Maker.control]
 )

@@ -128,6 +128,13 @@ class Meeting(Maker):
         self.replaced[path] += new != old
         return f"resize -r {self.corners(new)}" if is_resized else f"move -minx {new[0]} -miny {new[1]}"
 
+    def show_within(self, width, height):
+        """Windows that have no point of a display of this size stand in its corner."""
+        for path, (left, upper, right, lower) in list(self.windows.items()):
+            if "/" not in path and (left >= width or upper >= height or right <= 0 or lower <= 0):
+                self.windows[path] = 0, 0, right - left, lower - upper
+                self.replaced[path] += 1
+
     def managed(self, path):
         """A command about a window that is there."""
         if self.chance.often(0.5):
@@ -349,6 +356,16 @@ def attach_within(maker, host, _guest):
     maker.arrive_as_guest(f"{path}/new -r {maker.corners(maker.rectangle_of_window())}")
 
 
+def tell_size(maker, host, guest):
+    """A guest reads the `ctl` of a new connection after a host gave the display another size, or the one that it had."""
+    width, height = maker.chance.pick([maker.size, (maker.size[0] + 1, maker.size[1]), (maker.size[0] // 2, maker.size[1] // 2)])
+    maker.write(host, maker.use(host, "hwsize"), f"{width}x{height}".encode())
+    maker.show_within(width, height)
+    fid = maker.walk(guest, maker.root(guest, True), ["draw", "new"])
+    maker.open(guest, fid, READWRITE)
+    maker.read(guest, fid, maker.chance.pick([8192, 8192, 144, 143]))
+
+
 BREACHES = {
     1: [attach_again, attach_for_no_window],
     2: [attach_in_vain],
@@ -361,6 +378,7 @@ BREACHES = {
     9: [ask_for_windows],
     10: [host_in_guest],
     11: [attach_within],
+    12: [tell_size],
 }
 
 

@@ -49,7 +49,7 @@ WRONG = [
     (not_alone(9, 1), "entry 9 cannot give reason 1"),
     (not_alone(4, 1), "entry 4 cannot give reason 1"),
     (not_alone(3, 4), "entry 3 cannot give reason 4"),
-    (not_alone(3, 12), "entry 3 cannot give reason 12"),
+    (not_alone(3, 13), "entry 3 cannot give reason 13"),
     (not_alone(3, 1), "the entries before it"),
 ]
 
