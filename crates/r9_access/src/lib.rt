@@ -5,5 +5,5 @@ mod reading;
 mod windows;
 mod writing;
 
-pub use reading::{read_file, read_now};
+pub use reading::{CTL_LEN, read_file, read_now};
 pub use writing::write_file;

@@ -18,8 +18,8 @@ use r9_text::Bytes;
 use r9_tree::{Kind, Node, kind_of};
 use std::alloc::Global;
 
-/// So many bytes tell what ctl describes.
-const CTL_LEN: u32 = 144;
+/// So many bytes tell what `ctl` describes (draw(3)).
+pub const CTL_LEN: u32 = 144;
 
 /// So many bytes hold what wctl tells.
 const WCTL_LEN: u32 = 72;

@@ -11,9 +11,7 @@ use r9_chan::Colour;
 use r9_device::Device;
 use r9_geom::Point;
 use r9_memory::Memory;
-
-// How long a side of the display may be.
-const LONGEST_SIDE: u32 = 2048;
+use r9_sides::LONGEST_SIDE;
 
 // Whether a side of the display may be so long.
 fn is_side(length: u32) -> bool

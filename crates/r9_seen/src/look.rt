@@ -14,6 +14,7 @@ ghost use Rattle.r9_used.specs.Words.{uses_of};
 ghost use Rattle.r9_wire.specs.View.{t_of};
 ghost use Rattle.r9_seen.specs.View.{look_of};
 
+use r9_access::CTL_LEN;
 use r9_desktop::Desktop;
 use r9_event::{Use, Uses};
 use r9_memory::Memory;
@@ -29,9 +30,6 @@ const CHOOSES_DISPLAY: u8 = 7;
 
 /// The number of the reason that `ctl` tells of the display, which has changed its size.
 const TELLS_SIZE: u8 = 12;
-
-/// So many bytes tell what `ctl` describes (draw(3)).
-const CTL_LEN: u32 = 144;
 
 /// The number of the reason that a window more is asked for, or a rio in a window.
 const ASKS_FOR_WINDOWS: u8 = 9;

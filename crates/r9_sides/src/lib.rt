@@ -8,7 +8,7 @@ use model_words::Size;
 use r9_text::read_digits;
 
 /// The longest side of a display that may be asked for.
-const LONGEST_SIDE: u32 = 2048;
+pub const LONGEST_SIDE: u32 = 2048;
 
 /// A number from 1 to a most one, in decimal digits without leading zeros.
 pub fn counted(most: u32, text: &[u8]) -> Option<u32>
