@@ -8,11 +8,28 @@ ghost use Rattle.r9_wire.specs.View.{t_of};
 
 use crate::lists::Names;
 use crate::message::Tmsg;
-use crate::put_replies::Body;
 use crate::puts::{put_names, put_sized, put_u16, put_u32, put_u64};
 use r9_memory::Memory;
 use r9_text::Bytes;
 use std::alloc::Global;
+
+/// What stands behind the size of a message.
+#[derive(Debug, Drop)]
+pub struct Body {
+    pub kind: u8,
+    pub tag: u16,
+    pub bytes: Bytes,
+}
+
+impl Body {
+    fn new(kind: u8, tag: u16, bytes: Bytes) -> Self
+        ensures kind { result.kind ≡ kind }
+        ensures tag { result.tag ≡ tag }
+        ensures bytes { result.bytes ≡ bytes }
+    {
+        Body { kind, tag, bytes }
+    }
+}
 
 /// msize[4] version[s]
 fn version_body(alloc: Global, msize: u32, version: &[u8]) -> Result<Bytes, Memory>

@@ -51,9 +51,18 @@ fn put_body(out: &mut Bytes, s: &Stat) -> Result<(), Memory>
     put_sized(out, s.muid.as_slice())
 }
 
+/// How many bytes a stat has with its size before it.
+#[tactic(auto, unfolding(model_wire::specs::Spelling::sized))]
+pub fn stat_len(s: &Stat) -> usize
+    requires { FitsStat (stat_of s.now) }
+    ensures { result ≡ length (stat_bytes (stat_of s.now)) }
+{
+    2 + body_len(s)
+}
+
 /// Adds a stat with its size before it.
 #[tactic(auto, unfolding(model_wire::specs::Spelling::sized))]
-fn put_stat(out: &mut Bytes, s: &Stat) -> Result<(), Memory>
+pub fn put_stat(out: &mut Bytes, s: &Stat) -> Result<(), Memory>
     requires { FitsStat (stat_of s.now) }
     ensures { OnOk result (out.new ≡ out.old ++ stat_bytes (stat_of s.now)) }
 {
@@ -67,22 +76,7 @@ pub fn sized_stat(alloc: Global, s: &Stat) -> Result<Bytes, Memory>
     ensures { IfOk result (λ b. b ≡ stat_bytes (stat_of s.now)) }
 {
     let mut out = Bytes::new(alloc);
-    out.reserve(2 + body_len(s))?;
-    put_stat(&mut out, s)?;
-    Ok(out)
-}
-
-/// A stat with its size before it, and before that how many bytes they are.
-#[tactic(auto, unfolding(model_wire::specs::Spelling::sized))]
-pub fn twice_sized_stat(alloc: Global, s: &Stat) -> Result<Bytes, Memory>
-    requires fits { FitsStat (stat_of s.now) }
-    requires short { length (stat_bytes (stat_of s.now)) < 2 ^ 16 }
-    ensures { IfOk result (λ b. b ≡ sized (stat_bytes (stat_of s.now))) }
-{
-    let mut out = Bytes::new(alloc);
-    let len = 2 + body_len(s);
-    out.reserve(2 + len)?;
-    put_u16(&mut out, len as u16)?;
+    out.reserve(stat_len(s))?;
     put_stat(&mut out, s)?;
     Ok(out)
 }

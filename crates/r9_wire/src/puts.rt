@@ -54,9 +54,12 @@ pub fn put_qid(out: &mut Bytes, qid: Qid) -> Result<(), Memory>
     ensures put { OnOk result (out.new ≡ out.old ++ qid_bytes (qid_of qid)) }
     ensures len { OnOk result (length out.new ≡ length out.old + 13) }
 {
-    out.push(qid.kind)?;
-    put_u32(out, qid.vers)?;
-    put_u64(out, qid.path)
+    let vers = qid.vers.to_le_bytes();
+    let path = qid.path.to_le_bytes();
+    out.push_all(&[
+        qid.kind, vers[0], vers[1], vers[2], vers[3], path[0], path[1], path[2], path[3], path[4],
+        path[5], path[6], path[7],
+    ])
 }
 
 /// Adds qids one after the other.
@@ -74,7 +77,7 @@ fn put_each_qid(out: &mut Bytes, qids: &[Qid]) -> Result<(), Memory>
 pub fn put_qids(out: &mut Bytes, qids: &Qids) -> Result<(), Memory>
     requires { length qids.now ≤ 16 }
     ensures put { OnOk result (out.new ≡ out.old ++ qids_bytes qids.now) }
-    ensures len { OnOk result (length out.new ≤ length out.old + 300) }
+    ensures len { OnOk result (length out.new ≡ length out.old + 2 + 13 * length qids.now) }
 {
     put_u16(out, qids.len() as u16)?;
     put_each_qid(out, qids.as_slice())
