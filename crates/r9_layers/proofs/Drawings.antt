@@ -1,5 +1,5 @@
 -- Drawings: where they are, and what they give.
-use Rattle.std.proofs.Common.{◌≡◌, ◌∙◌, ℕ, ◌+◌, ◌*◌, ◌/◌, ◌%◌, ◌^◌, ◌<◌, ◌&&◌, Bool, true, false, Option, None, Some, List, int_le, get_or, refl, sym, ap, subst, arith}
+use Rattle.std.proofs.Common.{◌≡◌, ◌∙◌, ℕ, ◌+◌, ◌*◌, ◌/◌, ◌%◌, ◌^◌, ◌<◌, ◌≤◌, ◌&&◌, Bool, true, false, Option, None, Some, List, int_le, get_or, refl, sym, ap, subst, arith}
 use Rattle.std.specs.Prelude.{if◌then◌else◌, IfSome}
 use Rattle.std.specs.Option.{option_map_or}
 use Rattle.std.proofs.lemmas.Bool.{and_parts, or_parts}
@@ -8,7 +8,7 @@ use Rattle.std.proofs.lemmas.Nat.{div-add-mod', div_below}
 use Rattle.r9_geom.specs.declared.Point.{Point}
 use Rattle.r9_geom.specs.declared.Rect.{Rect}
 use Rattle.r9_geom.specs.Geometry.{carried, distance, height, holds, is_empty, point_at, width, IsOrdered, IsRectNearBy}
-use Rattle.r9_geom.proofs.GeometryLemmas.{cell_of, int_le_false, points_span, same_point}
+use Rattle.r9_geom.proofs.GeometryLemmas.{cell_of, distance_is, int_le_false, points_span, same_point}
 use Rattle.r9_plane.specs.Pixels.{number_of}
 use Rattle.r9_chan.specs.Op.{number}
 use Rattle.model_pixel.specs.Channels.{channels, depth, expand, mask, pack, promoted}
@@ -148,3 +148,12 @@ solid_below world ok task live dst src through s m None is same = same
 solid_below world ok task live dst src through s m (Some raw) is same =
     subst (λ (n : ℕ). n < 2 ^ depth (image_at world task.dst).chan) (ap (λ chan. composed_raw chan src through (number task.op) s m 0) (sym is) ∙ same 0)
     (composed_raw_below (image_at world task.dst).chan src through (number task.op) s m 0 (ok.images task.dst live).chan)
+
+-- the area lies in the rectangle that is drawn into
+pub area_part : (world : World) (task : Task) (r : Rect) → r ≡ area world (drawing_of task) → is_empty r ≡ false → IsPart (2 ^ 34) r
+area_part world task r is some = part_of (2 ^ 34) r task.r some (λ p h. (area_at world (drawing_of task) r is p h).asked) task.near
+
+pub part_width : (r : Rect) → IsPart (2 ^ 34) r → width r ≤ 2 ^ 35
+part_width r is =
+    let w = distance_is r.min.x r.max.x is.ordered.across in
+    omega (arith, ints, w, is.near.min.left, is.near.max.right)

@@ -1,2 +1,4 @@
 mod Areas
+mod Blocks
 mod Drawings
+mod Rows

@@ -1,3 +1,6 @@
+pub mod Apart
 pub mod Area
+pub mod Bands
 pub mod Forest
 pub mod Told
+pub mod Way

@@ -1,33 +1,28 @@
 //! Drawing on an image from a source through a mask (draw(2)): the points that change, and what they get. The source and
 //! the mask are read through their windows; the target changes only where it is bare.
 
-ghost use Rattle.std.specs.Prelude.{◌≡◌, ◌+◌, ◌*◌, ◌^◌, ◌<◌, ◌≤◌, ℕ, false, true, length, slice_index, IfSome, IsTrue};
+ghost use Rattle.std.specs.Prelude.{◌≡◌, ◌+◌, ◌*◌, ◌^◌, ◌<◌, ◌≤◌, ℕ, false, true, int_le, length, slice_index, IfSome, IsTrue};
 ghost use Rattle.r9_geom.specs.declared.Point.{Point as Spot};
-ghost use Rattle.r9_geom.specs.Geometry.{area_of, carried, height, holds, is_empty, point_at, strip, width, IsNear, IsNearBy, IsOrdered, IsRectNear};
-ghost use Rattle.r9_plane.specs.Pixels.{along};
+ghost use Rattle.r9_geom.specs.Geometry.{area_of, height, holds, is_empty, point_at, width, IsNearBy, IsOrdered, IsRectNear};
 ghost use Rattle.model_pixel.specs.Channels as channels;
 ghost use Rattle.model_forest.specs.Cost as cost;
-ghost use Rattle.model_forest.specs.Draw.{after_draw, drawn, in_area, reaches};
-ghost use Rattle.model_forest.specs.View as model;
+ghost use Rattle.model_forest.specs.Draw.{after_draw, drawn, in_area, with_canvas};
 ghost use Rattle.model_forest.specs.View.{is_bare};
 ghost use Rattle.model_forest.specs.World.{image_at, IsLive};
 ghost use Rattle.r9_stack.specs.Table.{numbers, world};
-ghost use Rattle.r9_layers.specs.Area.{drawing_of, drawn_on, mask_at, mask_chan, IsTaskOf};
+ghost use Rattle.r9_layers.specs.Apart.{IsAhead, IsApart, IsSteady};
+ghost use Rattle.r9_layers.specs.Area.{drawing_of, IsTaskOf};
+ghost use Rattle.r9_layers.specs.Bands.{rows_of};
+ghost use Rattle.r9_layers.specs.Way.{IsWayOf};
 
+use super::composing::{Way, chan_of_mask, compose_row, single_mask, way_of};
 use super::task::Task;
-use r9_chan::Chan;
 use r9_geom::{Point, Rect};
-use r9_mem::{compose, fill, solid};
-use r9_stack::{Images, along, carried_rect};
+use r9_mem::solid;
+use r9_stack::{Images, carried_rect};
 
-// How many pixels of a row are composed at a time.
-const BLOCK: usize = 256;
-
-// The word of `k8`, the channels of a full mask.
-const FULL_CHAN: u32 = 0x38;
-
-// The raw pixel that a full mask has everywhere.
-const FULL: u32 = 255;
+// How many pixels of a drawing stand beside the images at a time, where rows can be drawn one after the other.
+const BAND: u64 = 4096;
 
 // The points of r that an image gives a pixel to, where its point `from` stands at `to`.
 fn reach(images: &Images, i: u32, from: Point, to: Point, r: &Rect) -> Rect
@@ -61,52 +56,6 @@ pub fn area(images: &Images, task: &Task) -> Rect
     }
 }
 
-// Reads what an image gives side by side where its point `start` stands at `corner`, from `at` to the right.
-fn read_at(images: &Images, i: u32, at: Point, corner: Point, start: Point, raws: &mut [u32])
-    requires live { IsLive (world images.now) i }
-    requires near { IsNear at }
-    requires corner { IsNearBy (2 ^ 34) corner }
-    requires start { IsNearBy (2 ^ 34) start }
-    requires width { length raws.old ≤ 2 ^ 41 }
-    requires inside { (p : Spot) → IsTrue (holds (strip at (length raws.old)) p) → IsTrue (reaches (image_at (world images.now) i) (carried p corner start)) }
-    ensures { (k : ℕ) → k < length raws.old → slice_index raws.new k ≡ model.at (world images.now) i (carried (along at k) corner start) }
-{
-    images.read_row(i, at.carried(corner, start), raws);
-}
-
-// The channels of a full mask.
-#[tactic(auto, unfolding(model_pixel::specs::Channels::channels))]
-fn full_chan() -> Chan
-    ensures { result ≡ 0x38 }
-{
-    match Chan::from_word(FULL_CHAN) {
-        Ok(chan) => chan,
-        Err(_) => unreachable!(),
-    }
-}
-
-// The channels of the mask.
-fn chan_of_mask(images: &Images, mask: Option<u32>) -> Chan
-    requires { IfSome mask (IsLive (world images.now)) }
-    ensures { result ≡ mask_chan (world images.now) mask }
-{
-    match mask {
-        Some(i) => images.info(i).chan,
-        None => full_chan(),
-    }
-}
-
-// The one pixel that the mask has everywhere, where it is full or repeats a single one.
-fn single_mask(images: &Images, task: &Task) -> Option<u32>
-    requires { IsTaskOf (world images.now) task.now }
-    ensures { IfSome result (λ raw. (p : Spot) → mask_at (world images.now) task.now p ≡ raw) }
-{
-    match task.mask {
-        Some(i) => images.single(i),
-        None => Some(FULL),
-    }
-}
-
 /// The one pixel that each point of the area gets, where source and mask are single pixels that hide the target.
 pub fn solid_pixel(images: &Images, task: &Task) -> Option<u32>
     requires { IsTaskOf (world images.now) task.now }
@@ -135,86 +84,10 @@ pub fn draw_solid(images: &mut Images, task: &Task, area: &Rect, raw: u32)
     images.fill(task.dst, *area, raw);
 }
 
-// Reads what the mask has over points of the area side by side, from `at` to the right.
-fn read_masks(images: &Images, task: &Task, at: Point, masks: &mut [u32])
-    requires live { IsTaskOf (world images.now) task.now }
-    requires near { IsNear at }
-    requires width { length masks.old ≤ 2 ^ 41 }
-    requires inside { (p : Spot) → IsTrue (holds (strip at (length masks.old)) p) → IsTrue (in_area (world images.now) (drawing_of task.now) p) }
-    ensures { (k : ℕ) → k < length masks.old → slice_index masks.new k ≡ mask_at (world images.now) task.now (along at k) }
-{
-    match task.mask {
-        Some(i) => read_at(images, i, at, task.r.min, task.mp, masks),
-        None => masks.fill(FULL),
-    }
-}
-
-// The pixels that at most a block of points side by side get, from `at` to the right. `row` has their own.
-fn compose_block(images: &Images, task: &Task, at: Point, row: &mut [u32])
-    requires live { IsTaskOf (world images.now) task.now }
-    requires near { IsNear at }
-    requires few { length row.old ≤ 256 }
-    requires inside { (p : Spot) → IsTrue (holds (strip at (length row.old)) p) → IsTrue (in_area (world images.now) (drawing_of task.now) p) }
-    ensures { (k : ℕ) → k < length row.old → slice_index row.new k ≡ drawn_on (world images.now) task.now (along at k) (slice_index row.old k) }
-{
-    let len = row.len();
-    let mut sources = [0; BLOCK];
-    let mut masks = [0; BLOCK];
-    let corner = task.r.min;
-    read_at(images, task.src, at, corner, task.sp, &mut sources[..len]);
-    read_masks(images, task, at, &mut masks[..len]);
-    compose(
-        images.info(task.dst).chan,
-        images.info(task.src).chan,
-        chan_of_mask(images, task.mask),
-        task.op,
-        row,
-        &sources[..len],
-        &masks[..len],
-    );
-}
-
-// The same of any number of points, block by block.
-fn compose_blocks(images: &Images, task: &Task, at: Point, row: &mut [u32])
-    requires live { IsTaskOf (world images.now) task.now }
-    requires near { IsNear at }
-    requires width { length row.old ≤ 2 ^ 41 }
-    requires inside { (p : Spot) → IsTrue (holds (strip at (length row.old)) p) → IsTrue (in_area (world images.now) (drawing_of task.now) p) }
-    ensures { (k : ℕ) → k < length row.old → slice_index row.new k ≡ drawn_on (world images.now) task.now (along at k) (slice_index row.old k) }
-{
-    let mut done = 0;
-    while done < row.len() {
-        let end = done + (row.len() - done).min(BLOCK);
-        compose_block(images, task, along(at, done), &mut row[done..end]);
-        done = end;
-    }
-}
-
-// The pixels that points of the area side by side get, from `at` to the right. Where a window stands, it is any pixel.
-fn compose_row(images: &Images, task: &Task, at: Point, row: &mut [u32])
-    requires live { IsTaskOf (world images.now) task.now }
-    requires near { IsNear at }
-    requires width { length row.old ≤ 2 ^ 41 }
-    requires inside { (p : Spot) → IsTrue (holds (strip at (length row.old)) p) → IsTrue (in_area (world images.now) (drawing_of task.now) p) }
-    ensures raws { (k : ℕ) → k < length row.old → is_bare (image_at (world images.now) task.now.dst).windows (along at k) ≡ true → slice_index row.new k ≡ drawn (world images.now) (drawing_of task.now) (along at k) }
-    ensures range { (k : ℕ) → k < length row.old → slice_index row.new k < 2 ^ channels.depth (image_at (world images.now) task.now.dst).chan }
-{
-    images.keeps();
-    images.read_bare_row(task.dst, at, row);
-    match (images.single(task.src), single_mask(images, task)) {
-        (Some(s), Some(m)) => {
-            let dst = images.info(task.dst).chan;
-            let src = images.info(task.src).chan;
-            let mask = chan_of_mask(images, task.mask);
-            fill(dst, src, mask, task.op, row, s, m);
-        }
-        _ => compose_blocks(images, task, at, row),
-    }
-}
-
 // The pixels that the points of a rectangle of the area get, row by row.
-fn compose_area(images: &Images, task: &Task, area: &Rect, pixels: &mut [u32])
+fn compose_area(images: &Images, task: &Task, way: &Way, area: &Rect, pixels: &mut [u32])
     requires live { IsTaskOf (world images.now) task.now }
+    requires way { IsWayOf (world images.now) task.now way.now }
     requires near { IsRectNear area.now }
     requires ordered { IsOrdered area.now }
     requires inside { (p : Spot) → IsTrue (holds area.now p) → IsTrue (in_area (world images.now) (drawing_of task.now) p) }
@@ -226,11 +99,144 @@ fn compose_area(images: &Images, task: &Task, area: &Rect, pixels: &mut [u32])
     for row in 0..area.height() {
         let start = row as usize * width;
         let pixels = &mut pixels[start..start + width];
-        compose_row(images, task, area.point_at(0, row), pixels);
+        compose_row(images, task, way, area.point_at(0, row), pixels);
     }
 }
 
-/// Draws on the points of an area. What they get stands in `pixels` first, since the target may be the source too.
+// Draws on the points of a rectangle of the area. What they get stands in `pixels` first, since the target may be the source.
+fn draw_band(images: &mut Images, task: &Task, way: &Way, r: &Rect, pixels: &mut [u32])
+    requires live { IsTaskOf (world images.old) task.now }
+    requires way { IsWayOf (world images.old) task.now way.now }
+    requires near { IsRectNear r.now }
+    requires ordered { IsOrdered r.now }
+    requires inside { (p : Spot) → IsTrue (holds r.now p) → IsTrue (in_area (world images.old) (drawing_of task.now) p) }
+    requires pixels { length pixels.old ≡ height r.now * width r.now }
+    ensures world { world images.new ≡ with_canvas (world images.old) task.now.dst (holds r.now) (drawn (world images.old) (drawing_of task.now)) }
+    ensures numbers { numbers images.new ≡ numbers images.old }
+{
+    compose_area(images, task, way, r, pixels);
+    images.put_pixels(task.dst, r, pixels);
+}
+
+// Draws on all points of an area at once.
+fn draw_by(images: &mut Images, task: &Task, way: &Way, area: &Rect, pixels: &mut [u32])
+    requires live { IsTaskOf (world images.old) task.now }
+    requires way { IsWayOf (world images.old) task.now way.now }
+    requires area { area.now ≡ cost.area (world images.old) (drawing_of task.now) }
+    requires some { is_empty area.now ≡ false }
+    requires pixels { length pixels.old ≡ height area.now * width area.now }
+    ensures world { world images.new ≡ after_draw (world images.old) (drawing_of task.now) }
+    ensures numbers { numbers images.new ≡ numbers images.old }
+{
+    draw_band(images, task, way, area, pixels);
+}
+
+// Whether what image i gives stays as it is whatever is drawn on image `dst`.
+fn is_apart(images: &Images, i: u32, dst: u32) -> bool
+    requires { IsLive (world images.now) i }
+    ensures { result ≡ true → IsApart (world images.now) dst i }
+{
+    let info = images.info(i);
+    if i == dst {
+        return false;
+    }
+    info.windows == 0
+}
+
+fn is_at_most(a: i64, b: i64) -> bool
+    ensures { result ≡ int_le a b }
+{
+    a <= b
+}
+
+// Whether the target is the source, and each point takes a pixel of its own row or of one below.
+fn is_ahead(images: &Images, task: &Task) -> bool
+    requires { IsTaskOf (world images.now) task.now }
+    ensures { result ≡ true → IsAhead (world images.now) task.now }
+{
+    let info = images.info(task.dst);
+    if task.src != task.dst {
+        return false;
+    }
+    if info.windows != 0 {
+        return false;
+    }
+    if info.repl {
+        return false;
+    }
+    is_at_most(task.r.min.y, task.sp.y)
+}
+
+// Whether no mask changes whatever is drawn.
+fn is_mask_apart(images: &Images, task: &Task) -> bool
+    requires { IsTaskOf (world images.now) task.now }
+    ensures { result ≡ true → IfSome task.now.mask (IsApart (world images.now) task.now.dst) }
+{
+    match task.mask {
+        Some(i) => is_apart(images, i, task.dst),
+        None => true,
+    }
+}
+
+// Whether rows can be drawn one after the other, from above.
+fn is_steady(images: &Images, task: &Task) -> bool
+    requires { IsTaskOf (world images.now) task.now }
+    ensures { result ≡ true → IsSteady (world images.now) task.now }
+{
+    if !is_mask_apart(images, task) {
+        return false;
+    }
+    if is_apart(images, task.src, task.dst) {
+        return true;
+    }
+    is_ahead(images, task)
+}
+
+// The rows of an area from one on, up to another.
+fn rows_of(area: &Rect, first: u64, end: u64) -> Rect
+    requires near { IsRectNear area.now }
+    requires first { first ≤ 2 ^ 41 }
+    requires end { end ≤ 2 ^ 41 }
+    ensures { result ≡ rows_of area.now first end }
+{
+    Rect {
+        min: Point {
+            x: area.min.x,
+            y: area.min.y + first as i64,
+        },
+        max: Point {
+            x: area.max.x,
+            y: area.min.y + end as i64,
+        },
+    }
+}
+
+// Draws on the points of an area some rows at a time, from above, where those that are drawn do not change what later ones
+// read. What they get stays in the first cache.
+fn draw_bands(images: &mut Images, task: &Task, way: &Way, area: &Rect, pixels: &mut [u32])
+    requires live { IsTaskOf (world images.old) task.now }
+    requires way { IsWayOf (world images.old) task.now way.now }
+    requires steady { IsSteady (world images.old) task.now }
+    requires area { area.now ≡ cost.area (world images.old) (drawing_of task.now) }
+    requires some { is_empty area.now ≡ false }
+    requires pixels { length pixels.old ≡ height area.now * width area.now }
+    ensures world { world images.new ≡ after_draw (world images.old) (drawing_of task.now) }
+    ensures numbers { numbers images.new ≡ numbers images.old }
+{
+    let width = area.width();
+    let height = area.height();
+    let rows = (BAND / width.max(1)).max(1);
+    let mut row = 0;
+    while row < height {
+        let end = row + rows.min(height - row);
+        let points = ((end - row) * width) as usize;
+        let band = rows_of(area, row, end);
+        draw_band(images, task, way, &band, &mut pixels[..points]);
+        row = end;
+    }
+}
+
+/// Draws on the points of an area, with a place for their pixels.
 pub fn draw(images: &mut Images, task: &Task, area: &Rect, pixels: &mut [u32])
     requires live { IsTaskOf (world images.old) task.now }
     requires area { area.now ≡ cost.area (world images.old) (drawing_of task.now) }
@@ -240,18 +246,11 @@ pub fn draw(images: &mut Images, task: &Task, area: &Rect, pixels: &mut [u32])
     ensures numbers { numbers images.new ≡ numbers images.old }
 {
     let points = (area.width() * area.height()) as usize;
-    draw_by(images, task, area, &mut pixels[..points]);
-}
-
-// The same with a place for just the pixels of the area.
-fn draw_by(images: &mut Images, task: &Task, area: &Rect, pixels: &mut [u32])
-    requires live { IsTaskOf (world images.old) task.now }
-    requires area { area.now ≡ cost.area (world images.old) (drawing_of task.now) }
-    requires some { is_empty area.now ≡ false }
-    requires pixels { length pixels.old ≡ height area.now * width area.now }
-    ensures world { world images.new ≡ after_draw (world images.old) (drawing_of task.now) }
-    ensures numbers { numbers images.new ≡ numbers images.old }
-{
-    compose_area(images, task, area, pixels);
-    images.put_pixels(task.dst, area, pixels);
+    let pixels = &mut pixels[..points];
+    let way = way_of(images, task);
+    if is_steady(images, task) {
+        draw_bands(images, task, &way, area, pixels);
+    } else {
+        draw_by(images, task, &way, area, pixels);
+    }
 }

@@ -1,6 +1,7 @@
 //! Images and the windows that stand on them (draw(2), draw(3)): made and given back, drawn on, loaded and read.
 #![tactic(auto)]
 
+mod composing;
 mod drawing;
 mod forest;
 mod task;

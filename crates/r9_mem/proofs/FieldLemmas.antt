@@ -35,7 +35,7 @@ joined_is r g b a R G B A =
     let ea : word % 256 ≡ a = omega arith in
     λ i. record { r = er i; g = eg i; b = eb i; a = ea i }
 
-byte : (v : ℕ) → v < 256 → v ≡ promoted 8 v
+pub byte : (v : ℕ) → v < 256 → v ≡ promoted 8 v
 unfolding promoted
 byte v h = promoted_by 8 (λ v. v) refl 8 v v refl h refl
 

@@ -11,7 +11,7 @@ use Rattle.model_pixel.specs.Composition.{mul, composed, comp, composed_raw}
 use Rattle.r9_chan.proofs.ChannelLemmas.{are_channels_of, mask_by_alpha, mask_by_grey}
 use Rattle.r9_mem.specs.Covering.{takes}
 use Rattle.r9_mem.specs.Packing.{packed_by}
-use Rattle.r9_mem.proofs.FieldLemmas.{and_none, bits-below}
+use Rattle.r9_mem.proofs.FieldLemmas.{and_none, bits-below, byte}
 use Rattle.r9_mem.proofs.PackingLemmas.{Occurs, occurs_of, times_of, times-here, times-other, times-later, packed_is, none_shifted}
 
 -- ---- promoted bits
@@ -245,3 +245,10 @@ pub mask_grey : (chan raw : ℕ) → is_descriptor chan ≡ true → count_of 4 
 mask_grey chan raw is none some =
     mask_by_grey chan raw none
     ∙ told_of chan raw (are_channels_of chan is) (occurs_of chan is) 3 (omega arith) (omega (arith, some))
+
+-- of a byte of grey the mask value is the byte
+pub grey_mask : (v : ℕ) → v < 256 → mask 56 v ≡ v
+unfolding channels
+grey_mask v small =
+    let low : v % 256 ≡ v = omega arith in
+    mask_grey 56 v refl refl (λ none. omega (arith, none)) ∙ sym (byte (v % 256) (omega arith)) ∙ low

@@ -1,6 +1,7 @@
 -- A part of a list, and a list whose part was written.
 use Rattle.std.proofs.Common.{◌≡◌, ◌∙◌, ℕ, ◌+◌, ◌-◌, ◌<◌, ◌≤◌, List, ◌++◌, length, get_or, take, drop, replicate, ap, arith, length-drop}
 use Rattle.std.proofs.lemmas.List.{get_or-append_right, get_or-drop, get_or-take, get_or_append_left, length-append, length-replicate, length-take-le}
+use Rattle.std.proofs.lemmas.Simd.{get_or-replicate}
 use borrow.Rule.Slice.PartMut.{put_mid}
 
 pub length-part : (xs : List ℕ) (a n : ℕ) → a + n ≤ length xs → length (take n (drop a xs)) ≡ n
@@ -45,3 +46,8 @@ block_written n raws k long below =
 
 pub block_short : (n : ℕ) → n ≤ 64 → length (take n block) ≡ n
 block_short n few = length-take-le n block (omega (arith, length-replicate {A = ℕ} 64 0))
+
+-- what stands in the first so many of a repeated value
+pub repeated : (n len i x : ℕ) → i < len → len ≤ n → get_or (take len (replicate n x)) i 0 ≡ x
+repeated n len i x h k =
+    get_or-take len (replicate n x) i 0 h ∙ get_or-replicate n i x 0 (omega arith)

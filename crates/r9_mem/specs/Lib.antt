@@ -1,4 +1,6 @@
 pub mod Covering
 pub mod Fields
+pub mod Kept
 pub mod Packing
 pub mod Rows
+pub mod Through

@@ -9,7 +9,9 @@ mod place;
 mod reading;
 mod repeated;
 mod rows;
+mod single;
 mod writing;
 
-pub use repeated::{fill, solid};
+pub use repeated::solid;
 pub use rows::compose;
+pub use single::Through;

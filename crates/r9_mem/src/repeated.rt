@@ -1,13 +1,9 @@
-ghost use Rattle.std.specs.Prelude.{◌≡◌, ◌↔◌, ◌≤◌, ℕ, length, slice_index, EachIndex, IfSome, IsSome, IsTrue};
+ghost use Rattle.std.specs.Prelude.{◌≡◌, ◌↔◌, ℕ, IfSome, IsSome, IsTrue};
 ghost use Rattle.model_pixel.specs.Composition.{composed_raw};
 ghost use Rattle.r9_chan.specs.Op.{number};
 ghost use Rattle.r9_mem.specs.Covering.{covers, hides};
 
-use super::rows::compose;
 use r9_chan::{Chan, Colour, Op, comp};
-
-// The pixels that are composed at a time where the target shows through.
-const BLOCK: usize = 64;
 
 fn is_covering(op: Op, alpha: u8, through: u8) -> bool
     ensures { result ≡ covers (number op) alpha through }
@@ -31,33 +27,5 @@ pub fn solid(dst: Chan, src: Chan, mask: Chan, op: Op, s: u32, m: u32) -> Option
         Some(dst.pack(comp(op, above, through, Colour::of_word(0))))
     } else {
         None
-    }
-}
-
-// Fills at most a block of pixels.
-fn fill_block(dst: &Chan, src: &Chan, mask: &Chan, op: Op, d: &mut [u32], s: u32, m: u32)
-    requires { length d.old ≤ 64 }
-    ensures { EachIndex d.new (λ i. slice_index d.new i ≡ composed_raw dst.now src.now mask.now (number op) s m (slice_index d.old i)) }
-{
-    let len = d.len();
-    let sources = [s; BLOCK];
-    let masks = [m; BLOCK];
-    compose(*dst, *src, *mask, op, d, &sources[..len], &masks[..len]);
-}
-
-/// Composes one raw pixel, seen through one mask pixel, onto each of `d`: what draw(2) does where source and mask are
-/// single pixels that repeat. Where `solid` tells the result, `d` is only written.
-pub fn fill(dst: Chan, src: Chan, mask: Chan, op: Op, d: &mut [u32], s: u32, m: u32)
-    ensures { EachIndex d.new (λ i. slice_index d.new i ≡ composed_raw dst src mask (number op) s m (slice_index d.old i)) }
-{
-    if let Some(raw) = solid(dst, src, mask, op, s, m) {
-        d.fill(raw);
-        return;
-    }
-    let mut at = 0;
-    while at < d.len() {
-        let end = at + (d.len() - at).min(BLOCK);
-        fill_block(&dst, &src, &mask, op, &mut d[at..end], s, m);
-        at = end;
     }
 }

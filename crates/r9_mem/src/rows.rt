@@ -1,11 +1,10 @@
 ghost use Rattle.std.specs.Prelude.{◌≡◌, ◌≤◌, ◌<◌, ℕ, length, slice_index, EachIndex};
 ghost use Rattle.model_pixel.specs.Composition.{composed_raw};
-ghost use Rattle.model_pixel.specs.Channels.{expand, pack};
 ghost use Rattle.r9_chan.specs.Op.{number};
-ghost use Rattle.r9_mem.specs.Rows.{IsReader, IsRow, IsWriter, Serves, Written};
+ghost use Rattle.r9_mem.specs.Rows.{IsRow, Serves};
 
 use super::layout::{layout_of, mask_layout_of};
-use super::moving::{is_moved, move_row};
+use super::moving::{change, is_moved, kept_bits};
 use super::reading::{Masker, Reader, mask_row, masker_of, read_row, reader_of};
 use super::writing::{Writer, write_row, writer_of};
 use r9_chan::{Chan, Op};
@@ -70,33 +69,25 @@ fn compose_blocks(dst: &Chan, src: &Chan, mask: &Chan, op: Op, d: &mut [u32], s:
     }
 }
 
-// Writes at most a block of pixels as they are read.
-fn change_block(source: &Reader, writer: &Writer, s: &[u32], d: &mut [u32])
-    requires reader { IsReader source.now }
-    requires writer { IsWriter writer.now }
-    requires few { length d.old ≤ 64 }
+// Composes pixels that target and mask have a part in.
+pub(crate) fn compose_row(
+    dst: &Chan,
+    src: &Chan,
+    mask: &Chan,
+    op: Op,
+    d: &mut [u32],
+    s: &[u32],
+    m: &[u32],
+)
     requires sources { length s.now ≡ length d.old }
-    ensures { (i : ℕ) → i < length d.old → Written writer.now source.now (slice_index s.now i) (slice_index d.new i) }
+    requires masks { length m.now ≡ length d.old }
+    ensures { EachIndex d.new (λ i. slice_index d.new i ≡ composed_raw dst.now src.now mask.now (number op) (slice_index s.now i) (slice_index m.now i) (slice_index d.old i)) }
 {
-    let len = d.len();
-    let mut words = [0; BLOCK];
-    let words = &mut words[..len];
-    read_row(source, s, words);
-    write_row(writer, words, d);
-}
-
-// Writes pixels under other channels.
-fn change_row(dst: &Chan, src: &Chan, s: &[u32], d: &mut [u32])
-    requires { length s.now ≡ length d.old }
-    ensures { EachIndex d.new (λ i. slice_index d.new i ≡ pack dst.now (expand src.now (slice_index s.now i))) }
-{
-    let source = reader_of(src);
-    let writer = writer_of(dst);
-    let mut at = 0;
-    while at < d.len() {
-        let end = at + (d.len() - at).min(BLOCK);
-        change_block(&source, &writer, &s[at..end], &mut d[at..end]);
-        at = end;
+    match (layout_of(dst), layout_of(src), mask_layout_of(mask)) {
+        (Some(below), Some(above), Some(through)) => {
+            comp_raw_row(below, above, through, op, d, s, m);
+        }
+        _ => compose_blocks(dst, src, mask, op, d, s, m),
     }
 }
 
@@ -110,17 +101,9 @@ pub fn compose(dst: Chan, src: Chan, mask: Chan, op: Op, d: &mut [u32], s: &[u32
 {
     if is_moved(op, &src, &mask, m) {
         let _ = src.word();
-        if dst == src {
-            move_row(&dst, s, d);
-        } else {
-            change_row(&dst, &src, s, d);
-        }
-        return;
-    }
-    match (layout_of(&dst), layout_of(&src), mask_layout_of(&mask)) {
-        (Some(below), Some(above), Some(through)) => {
-            comp_raw_row(below, above, through, op, d, s, m);
-        }
-        _ => compose_blocks(&dst, &src, &mask, op, d, s, m),
+        d.copy_from_slice(s);
+        change(&dst, &src, kept_bits(&dst, &src), d);
+    } else {
+        compose_row(&dst, &src, &mask, op, d, s, m);
     }
 }

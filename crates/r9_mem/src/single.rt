@@ -1,0 +1,109 @@
+// Rows seen through one mask pixel.
+ghost use Rattle.std.specs.Prelude.{◌≡◌, ◌≤◌, ℕ, true, length, slice_index, EachIndex};
+ghost use Rattle.std.proofs.Props.{props};
+ghost use Rattle.model_pixel.specs.Composition.{composed_raw};
+ghost use Rattle.r9_chan.specs.Op.{number};
+ghost use Rattle.r9_mem.specs.Kept.{AreKept};
+
+use super::kind::GREY_BYTE;
+use super::moving::{change, gives_source, kept_bits};
+use super::rows::compose_row;
+use r9_chan::{Chan, Op};
+
+// The masks that stand side by side at a time.
+const BLOCK: usize = 64;
+
+/// What rows of one drawing through one mask pixel are told once.
+#[derive(Clone, Copy)]
+pub struct Through {
+    dst: Chan,
+    src: Chan,
+    // The channels of a byte of grey, whose raw pixels are mask values.
+    grey: Chan,
+    op: Op,
+    value: u8,
+    // Whether the source alone decides.
+    moved: bool,
+    // The bits of a source pixel that stay, where the target has its channels.
+    kept: Option<u32>,
+    ghost are_kept: { AreKept kept dst src } by { Prim.hlevel props },
+}
+
+#[tactic(auto, unfolding(model_pixel::specs::Channels::channels))]
+fn grey_byte() -> Chan
+    ensures { result ≡ 0x38 }
+{
+    match Chan::from_word(GREY_BYTE) {
+        Ok(chan) => chan,
+        Err(_) => unreachable!(),
+    }
+}
+
+// Composes at most a block of pixels through one mask value.
+fn compose_block(dst: &Chan, src: &Chan, grey: &Chan, value: u8, op: Op, d: &mut [u32], s: &[u32])
+    requires few { length d.old ≤ 64 }
+    requires sources { length s.now ≡ length d.old }
+    ensures { EachIndex d.new (λ i. slice_index d.new i ≡ composed_raw dst.now src.now grey.now (number op) (slice_index s.now i) value (slice_index d.old i)) }
+{
+    let len = d.len();
+    let masks = [u32::from(value); BLOCK];
+    compose_row(dst, src, grey, op, d, s, &masks[..len]);
+}
+
+// The same of any number of pixels.
+fn compose_blocks(dst: &Chan, src: &Chan, grey: &Chan, value: u8, op: Op, d: &mut [u32], s: &[u32])
+    requires { length s.now ≡ length d.old }
+    ensures { EachIndex d.new (λ i. slice_index d.new i ≡ composed_raw dst.now src.now grey.now (number op) (slice_index s.now i) value (slice_index d.old i)) }
+{
+    let mut at = 0;
+    while at < d.len() {
+        let end = at + (d.len() - at).min(BLOCK);
+        compose_block(dst, src, grey, value, op, &mut d[at..end], &s[at..end]);
+        at = end;
+    }
+}
+
+impl Through {
+    ghost use Rattle.r9_mem.specs.Through.{IsThrough};
+
+    /// Rows of a source of these channels, drawn through a mask pixel onto a target.
+    pub fn of(dst: Chan, src: Chan, mask: Chan, op: Op, m: u32) -> Through
+        ensures { IsThrough result dst src mask (number op) m }
+    {
+        let _ = src.word();
+        let value = mask.mask(m);
+        Through {
+            dst,
+            src,
+            grey: grey_byte(),
+            op,
+            value,
+            moved: gives_source(op, &src, value),
+            kept: kept_bits(&dst, &src),
+        }
+    }
+
+    /// Whether the source alone decides what each point gets, so that `change` makes it of the source.
+    pub fn is_moved(&self) -> bool
+        ensures { result ≡ self.now.moved }
+    {
+        self.moved
+    }
+
+    /// Makes raw pixels of the source what a target gets, whatever it has, where the source alone decides.
+    pub fn change(&self, raws: &mut [u32])
+        requires { self.now.moved ≡ true }
+        ensures { (dst src mask op m : ℕ) → IsThrough self.now dst src mask op m → EachIndex raws.new (λ i. (d : ℕ) → slice_index raws.new i ≡ composed_raw dst src mask op (slice_index raws.old i) m d) }
+    {
+        change(&self.dst, &self.src, self.kept, raws);
+    }
+
+    /// Composes each raw pixel of `s`, seen through the mask pixel, onto that of `d`, as `compose` does through a row of such
+    /// mask pixels.
+    pub fn compose(&self, d: &mut [u32], s: &[u32])
+        requires { length s.now ≡ length d.old }
+        ensures { (dst src mask op m : ℕ) → IsThrough self.now dst src mask op m → EachIndex d.new (λ i. slice_index d.new i ≡ composed_raw dst src mask op (slice_index s.now i) m (slice_index d.old i)) }
+    {
+        compose_blocks(&self.dst, &self.src, &self.grey, self.value, self.op, d, s);
+    }
+}
