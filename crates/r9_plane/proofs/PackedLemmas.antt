@@ -1,6 +1,9 @@
 -- Raw pixels in packed bytes.
-use Rattle.std.proofs.Common.{◌≡◌, ℕ, zero, suc, ◌+◌, ◌-◌, ◌*◌, ◌/◌, ◌%◌, ◌^◌, ◌<◌, ◌≤◌, ◌≢◌, ◌⊎◌, inl, inr, ⊎_elim, true, refl, ap, ◌∙◌, sym, subst, arith, List, get_or, set, length, get_or-set_same, get_or-set_other}
+use Rattle.std.proofs.Common.{◌≡◌, ℕ, zero, suc, ◌+◌, ◌-◌, ◌*◌, ◌/◌, ◌%◌, ◌^◌, ◌<◌, ◌≤◌, ◌≢◌, ◌⊎◌, inl, inr, ⊎_elim, true, refl, ap, ◌∙◌, sym, subst, arith, List, drop, take, get_or, set, length, get_or-set_same, get_or-set_other}
 use Rattle.std.specs.Prelude.{nat_lt, slice_index}
+use Rattle.std.specs.Int.{from_le_bytes, to_le_bytes, w16, w32}
+use Rattle.std.specs.Simd.{first_chunks}
+use Rattle.std.proofs.lemmas.List.{get_or-take, get_or-drop}
 use Rattle.std.proofs.lemmas.Bool.{cond-true, cond-false, lt-ltb, le-ltb, cases_lt, cases_eq}
 use Rattle.std.proofs.lemmas.Bool.Decides.{nat_tests}
 use Rattle.std.proofs.lemmas.Nat.{shr-shr, shr_below, shr_high, mod_low, mod-pow-add, field_of, pow-add, pow_pos, mul-add-lt, shl_whole, one_shl, mod_below}
@@ -193,6 +196,51 @@ raw_32 depth bytes n is =
     let two : 4 * n + 1 + 1 ≡ 4 * n + 2 = omega arith in
     let three : 4 * n + 1 + 1 + 1 ≡ 4 * n + 3 = omega arith in
     omega (arith, raw_at_whole depth 4 bytes n (omega arith) is, ap (λ i. get_or bytes i 0) two, ap (λ i. get_or bytes i 0) three)
+
+-- a byte of a chunk
+chunk_at : (size count : ℕ) (bytes : List ℕ) (n j : ℕ) (none : List ℕ) → n < count → j < size → get_or (get_or (first_chunks size count bytes) n none) j 0 ≡ get_or bytes (size * n + j) 0
+chunk_at size zero bytes n j none h l = absurd (omega arith)
+chunk_at size (suc count) bytes zero j none h l =
+    let at : j ≡ size * 0 + j = omega arith in
+    get_or-take size bytes j 0 l ∙ ap (λ i. get_or bytes i 0) at
+chunk_at size (suc count) bytes (suc n) j none h l =
+    let at : size + (size * n + j) ≡ size * suc n + j = omega arith in
+    chunk_at size count (drop size bytes) n j none (omega arith) l
+    ∙ get_or-drop size bytes (size * n + j) 0 ∙ ap (λ i. get_or bytes i 0) at
+
+in_chunk : (size count : ℕ) (bytes : List ℕ) (cells : List (List ℕ)) (n j : ℕ) (none : List ℕ) → cells ≡ first_chunks size count bytes → n < count → j < size → get_or (get_or cells n none) j 0 ≡ get_or bytes (size * n + j) 0
+in_chunk size count bytes cells n j none is h l =
+    ap (λ chunks. get_or (get_or chunks n none) j 0) is ∙ chunk_at size count bytes n j none h l
+
+-- whole pixels that are read as numbers of so many bytes
+pub raw_16 : (depth : ℕ) (bytes : List ℕ) (n value : ℕ) (cells : List (List ℕ)) (none : List ℕ) → depth ≡ 16 → (n + 1) * depth ≤ 8 * length bytes → cells ≡ first_chunks 2 (length bytes / 2) bytes → value ≡ from_le_bytes w16 (get_or cells n none) → value ≡ raw_at depth bytes n
+raw_16 depth bytes n value cells none is fits cells_are value_is =
+    let count = length bytes / 2 in
+    let bits : (n + 1) * depth ≡ (n + 1) * 16 = ap (λ d. (n + 1) * d) is in
+    let within : n < count = omega (arith, bits, fits) in
+    let begin : 2 * n + 0 ≡ 2 * n = omega arith in
+    let low = in_chunk 2 count bytes cells n 0 none cells_are within (omega arith) ∙ ap (λ i. get_or bytes i 0) begin in
+    let high = in_chunk 2 count bytes cells n 1 none cells_are within (omega arith) in
+    omega (arith, value_is, low, high, raw_at_whole depth 2 bytes n (omega arith) is)
+
+pub raw_four : (depth : ℕ) (bytes : List ℕ) (n value : ℕ) (cells : List (List ℕ)) (none : List ℕ) → depth ≡ 32 → (n + 1) * depth ≤ 8 * length bytes → cells ≡ first_chunks 4 (length bytes / 4) bytes → value ≡ from_le_bytes w32 (get_or cells n none) → value ≡ raw_at depth bytes n
+raw_four depth bytes n value cells none is fits cells_are value_is =
+    let count = length bytes / 4 in
+    let bits : (n + 1) * depth ≡ (n + 1) * 32 = ap (λ d. (n + 1) * d) is in
+    let within : n < count = omega (arith, bits, fits) in
+    let begin : 4 * n + 0 ≡ 4 * n = omega arith in
+    let zeroth = in_chunk 4 count bytes cells n 0 none cells_are within (omega arith) ∙ ap (λ i. get_or bytes i 0) begin in
+    let first = in_chunk 4 count bytes cells n 1 none cells_are within (omega arith) in
+    let second = in_chunk 4 count bytes cells n 2 none cells_are within (omega arith) in
+    let third = in_chunk 4 count bytes cells n 3 none cells_are within (omega arith) in
+    omega (arith, value_is, zeroth, first, second, third, raw_32 depth bytes n is)
+
+pub le_digit : (raw j : ℕ) → j < 4 → get_or (to_le_bytes w32 raw) j 0 ≡ raw / 2 ^ (8 * j) % 256
+le_digit raw zero h = omega arith
+le_digit raw (suc zero) h = omega arith
+le_digit raw (suc (suc zero)) h = omega arith
+le_digit raw (suc (suc (suc zero))) h = omega arith
+le_digit raw (suc (suc (suc (suc j)))) h = absurd (omega arith)
 
 -- a whole pixel that was written byte by byte
 pub record Written (old new : List ℕ) (at size raw : ℕ) : Type 0 where

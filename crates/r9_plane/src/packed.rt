@@ -45,14 +45,9 @@ fn read_whole(bytes: &[u8], depth: u32, n: usize) -> u32
 {
     match depth {
         8 => byte(bytes, n),
-        16 => byte(bytes, 2 * n) + 256 * byte(bytes, 2 * n + 1),
+        16 => u32::from(u16::from_le_bytes(bytes.as_chunks::<2>().0[n])),
         24 => byte(bytes, 3 * n) + 256 * (byte(bytes, 3 * n + 1) + 256 * byte(bytes, 3 * n + 2)),
-        _ => u32::from_le_bytes([
-            bytes[4 * n],
-            bytes[4 * n + 1],
-            bytes[4 * n + 2],
-            bytes[4 * n + 3],
-        ]),
+        _ => u32::from_le_bytes(bytes.as_chunks::<4>().0[n]),
     }
 }
 
@@ -106,9 +101,8 @@ fn write_whole(bytes: &mut [u8], depth: u32, n: usize, raw: u32)
     ensures others { (m : ℕ) → m ≢ n → raw_at depth bytes.new m ≡ raw_at depth bytes.old m }
 {
     let size = depth as usize / 8;
-    for i in 0..size {
-        bytes[n * size + i] = (raw >> (8 * i as u32) & 255) as u8;
-    }
+    let start = n * size;
+    bytes[start..start + size].copy_from_slice(&raw.to_le_bytes()[..size]);
 }
 
 /// Writes raw pixel number n of packed pixels, and no other.

@@ -9,7 +9,7 @@ mod moving;
 
 use super::packed;
 use super::rows::{columns_before, row_bytes, rows_above, skip, strip};
-use super::runs::{self, BLOCK_BYTES, MOST_PIXELS};
+use super::runs::{self, MOST_PIXELS};
 use r9_chan::Chan;
 use r9_geom::{Point, Rect, distance};
 use r9_marks::{Marks, cells_over};
@@ -193,21 +193,20 @@ impl Plane {
         self.mark(&strip(at, raws.len()));
     }
 
-    // Writes pixels side by side, from a point to the right, all as those of a block.
-    fn fill_row(&mut self, at: Point, width: usize, block: &[u8])
+    // Writes one raw pixel side by side, from a point to the right.
+    fn fill_row(&mut self, at: Point, width: usize, raw: u32)
         requires inside { (p : Point) → IsTrue (holds (strip at width) p) → IsTrue (holds (rect_of self.old) p) }
-        requires room { 256 * channels.depth (chan_of self.old) ≤ 8 * length block.now }
-        requires block { (n : ℕ) → n < 256 → raw_at (channels.depth (chan_of self.old)) block.now n ≡ raw_at (channels.depth (chan_of self.old)) block.now 0 }
+        requires raw { raw < 2 ^ channels.depth (chan_of self.old) }
         ensures rect { rect_of self.new ≡ rect_of self.old }
         ensures chan { chan_of self.new ≡ chan_of self.old }
-        ensures pixels { (q : Point) → pixel_at self.new q ≡ (if holds (strip at width) q then raw_at (channels.depth (chan_of self.old)) block.now 0 else pixel_at self.old q) }
+        ensures pixels { (q : Point) → pixel_at self.new q ≡ (if holds (strip at width) q then raw else pixel_at self.old q) }
         ensures marks { marks_of self.new ≡ marks_of self.old }
     {
         if width == 0 {
             return;
         }
         let first = self.number(at);
-        runs::fill_run(&mut self.bytes, self.depth, first, width, block);
+        runs::fill_run(&mut self.bytes, self.depth, first, width, raw);
     }
 
     /// Writes one raw pixel at all points of a rectangle.
@@ -222,11 +221,9 @@ impl Plane {
         ensures marks { (column row : ℕ) → marked_at self.new column row ≡ (touched (rect_of self.old) r column row || marked_at self.old column row) }
         ensures few { mark_count self.new ≤ mark_count self.old + area_of r }
     {
-        let mut block = [0; BLOCK_BYTES];
-        runs::fill_block(&mut block, self.depth, raw);
         let width = r.width() as usize;
         for row in 0..r.height() {
-            self.fill_row(r.point_at(0, row), width, &block);
+            self.fill_row(r.point_at(0, row), width, raw);
         }
         self.mark(&r);
     }

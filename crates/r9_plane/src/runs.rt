@@ -11,11 +11,11 @@ use std::alloc::Global;
 // No memory holds so many pixels.
 pub const MOST_PIXELS: usize = 1 << 58;
 
-// How many pixels of one raw value are written at a time.
+// How many small pixels of one raw value are written at a time.
 const BLOCK: usize = 256;
 
-/// The bytes of a block of such pixels, of any depth.
-pub const BLOCK_BYTES: usize = 1024;
+// The bytes of a block of such pixels.
+const BLOCK_BYTES: usize = 128;
 
 fn read_run_of<const DEPTH: u32>(bytes: &[u8], first: usize, raws: &mut [u32])
     requires depth { IsTrue (is_depth DEPTH) }
@@ -211,14 +211,16 @@ pub fn copy_run(
     }
 }
 
-fn fill_whole<const DEPTH: u32>(bytes: &mut [u8], count: usize, raw: u32)
+fn fill_whole<const DEPTH: u32>(bytes: &mut [u8], first: usize, count: usize, raw: u32)
     requires depth { IsTrue (is_depth DEPTH) }
-    requires count { count * DEPTH ≤ 8 * length bytes.old }
+    requires numbers { first + count < 2 ^ 63 }
+    requires within { (first + count) * DEPTH ≤ 8 * length bytes.old }
     requires raw { raw < 2 ^ DEPTH }
-    ensures { (n : ℕ) → n < count → raw_at DEPTH bytes.new n ≡ raw }
+    ensures written { (i : ℕ) → i < count → raw_at DEPTH bytes.new (first + i) ≡ raw }
+    ensures others { (n : ℕ) → ((i : ℕ) → i < count → n ≢ first + i) → raw_at DEPTH bytes.new n ≡ raw_at DEPTH bytes.old n }
 {
-    for n in 0..count {
-        write(bytes, DEPTH, n, raw);
+    for i in 0..count {
+        write(bytes, DEPTH, first + i, raw);
     }
 }
 
@@ -237,40 +239,42 @@ fn byte_of(depth: u32, raw: u32) -> u8
     repeated as u8
 }
 
-/// Makes a block of 256 packed pixels of one raw value.
-pub fn fill_block(block: &mut [u8], depth: u32, raw: u32)
+// Small pixels become as those of a block of them, which are all equal.
+fn fill_small(bytes: &mut [u8], depth: u32, first: usize, count: usize, raw: u32)
     requires depth { IsTrue (is_depth depth) }
-    requires room { 256 * depth ≤ 8 * length block.old }
-    requires raw { raw < 2 ^ depth }
-    ensures { (n : ℕ) → n < 256 → raw_at depth block.new n ≡ raw }
-{
-    match depth {
-        8 => fill_whole::<8>(block, BLOCK, raw),
-        16 => fill_whole::<16>(block, BLOCK, raw),
-        24 => fill_whole::<24>(block, BLOCK, raw),
-        32 => fill_whole::<32>(block, BLOCK, raw),
-        _ => block.fill(byte_of(depth, raw)),
-    }
-}
-
-/// Writes `count` pixels from number `first` on, and no other. They become as those of a block of 256 packed ones, which are
-/// all equal.
-pub fn fill_run(bytes: &mut [u8], depth: u32, first: usize, count: usize, block: &[u8])
-    requires depth { IsTrue (is_depth depth) }
+    requires small { depth < 8 }
     requires numbers { first + count < 2 ^ 63 }
     requires within { (first + count) * depth ≤ 8 * length bytes.old }
-    requires room { 256 * depth ≤ 8 * length block.now }
-    requires block { (n : ℕ) → n < 256 → raw_at depth block.now n ≡ raw_at depth block.now 0 }
-    ensures written { (i : ℕ) → i < count → raw_at depth bytes.new (first + i) ≡ raw_at depth block.now 0 }
+    requires raw { raw < 2 ^ depth }
+    ensures written { (i : ℕ) → i < count → raw_at depth bytes.new (first + i) ≡ raw }
     ensures others { (n : ℕ) → ((i : ℕ) → i < count → n ≢ first + i) → raw_at depth bytes.new n ≡ raw_at depth bytes.old n }
 {
+    let block = [byte_of(depth, raw); BLOCK_BYTES];
     // Both then begin at one place of a byte.
     let skip = first % 8;
     let mut done = 0;
     while done < count {
         let size = (count - done).min(BLOCK - 8);
-        copy_run(bytes, depth, first + done, size, block, skip);
+        copy_run(bytes, depth, first + done, size, &block, skip);
         done += size;
+    }
+}
+
+/// Writes `count` pixels of one raw value from number `first` on, and no other.
+pub fn fill_run(bytes: &mut [u8], depth: u32, first: usize, count: usize, raw: u32)
+    requires depth { IsTrue (is_depth depth) }
+    requires numbers { first + count < 2 ^ 63 }
+    requires within { (first + count) * depth ≤ 8 * length bytes.old }
+    requires raw { raw < 2 ^ depth }
+    ensures written { (i : ℕ) → i < count → raw_at depth bytes.new (first + i) ≡ raw }
+    ensures others { (n : ℕ) → ((i : ℕ) → i < count → n ≢ first + i) → raw_at depth bytes.new n ≡ raw_at depth bytes.old n }
+{
+    match depth {
+        8 => fill_whole::<8>(bytes, first, count, raw),
+        16 => fill_whole::<16>(bytes, first, count, raw),
+        24 => fill_whole::<24>(bytes, first, count, raw),
+        32 => fill_whole::<32>(bytes, first, count, raw),
+        _ => fill_small(bytes, depth, first, count, raw),
     }
 }
 
@@ -287,8 +291,6 @@ pub fn filled(alloc: Global, depth: u32, count: usize, raw: u32) -> Result<Vec<u
         return Ok(vec![in alloc; byte_of(depth, raw); size]?);
     }
     let mut bytes = vec![in alloc; 0; count * (depth as usize / 8)]?;
-    let mut block = [0; BLOCK_BYTES];
-    fill_block(&mut block, depth, raw);
-    fill_run(&mut bytes, depth, 0, count, &block);
+    fill_run(&mut bytes, depth, 0, count, raw);
     Ok(bytes)
 }

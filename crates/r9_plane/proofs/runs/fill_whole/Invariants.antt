@@ -1,6 +1,5 @@
-use Rattle.std.proofs.Common.{◌≡◌, ℕ, ◌<◌}
-use Rattle.model_pixel.specs.Rows.{raw_at}
+use Rattle.r9_plane.proofs.RunLemmas.{Copied}
 use Rattle.r9_plane.proofs.runs.fill_whole.Given as goal
 
-abbrev pub invariant-loop-n : goal.invariant-loop-n
-invariant-loop-n g l = (m : ℕ) → m < l.n → raw_at g.row.DEPTH l.bytes m ≡ l.raw
+abbrev pub invariant-loop-i : goal.invariant-loop-i
+invariant-loop-i g l = Copied g.row.DEPTH l.first l.i (λ _. l.raw) l.fn.bytes l.bytes

@@ -22,4 +22,3 @@ returns-clause-pixels c n below =
     ap (λ items. raw_at depth items n) (with_items_is c.in_ok-bytes.bytes bytes size)
     ∙ ap (raw_at depth bytes) here
     ∙ c.fill_run.ensures.written n below
-    ∙ c.fill_block.ensures 0 (omega arith)

@@ -1,6 +1,5 @@
-use Rattle.std.proofs.Common.{◌≡◌, ◌+◌, ◌*◌, ◌∙◌, ap, sym, length, arith}
+use Rattle.std.proofs.Common.{◌≡◌, ◌+◌, ◌^◌, ◌<◌, ◌∙◌, ℕ, ap, sym, subst, length, arith}
 use Rattle.std.proofs.lemmas.List.{with_items_is}
-use Rattle.model_pixel.specs.Channels.{depth}
 use Rattle.model_pixel.specs.Rows.{raw_at}
 use Rattle.r9_plane.specs.Pixels.{pixel_at, pixel_of}
 use Rattle.r9_plane.proofs.PlaneLemmas.{row_written, run_below, run_fits, start_in}
@@ -20,13 +19,8 @@ fill_run-requires-clause-within c =
     let fits = run_fits plane.r c.args.at c.args.width c.number-first.result plane.depth plane.bytes.len (omega arith) c.requires.inside c.number-first.ensures.value plane.room in
     omega (arith, fits, c.deref_mut.ensures.len)
 
-pub fill_run-requires-clause-room : goal.fill_run-requires-clause-room
-fill_run-requires-clause-room c = omega (arith, ap (λ d. 256 * d) c.args.self.now.depth_is, c.requires.room)
-
-pub fill_run-requires-clause-block : goal.fill_run-requires-clause-block
-fill_run-requires-clause-block c n h =
-    let is = c.args.self.now.depth_is in
-    ap (λ d. raw_at d c.args.block.now n) is ∙ c.requires.block n h ∙ ap (λ d. raw_at d c.args.block.now 0) (sym is)
+pub fill_run-requires-clause-raw : goal.fill_run-requires-clause-raw
+fill_run-requires-clause-raw c = subst (λ (d : ℕ). c.args.raw < 2 ^ d) (sym c.args.self.now.depth_is) c.requires.raw
 
 pub returns-clause-pixels : goal.returns-clause-pixels
 unfolding pixel_at
@@ -36,9 +30,9 @@ returns-clause-pixels c q =
     let bytes = c.fill_run.new.bytes in
     let size : length bytes ≡ plane.bytes.len = omega arith in
     ap (λ items. pixel_of plane.r plane.chan items q) (with_items_is plane.bytes bytes size)
-    ∙ row_written plane.r plane.chan plane.bytes.items bytes c.args.at c.args.width (λ i. raw_at (depth plane.chan) c.args.block.now 0) c.requires.inside
+    ∙ row_written plane.r plane.chan plane.bytes.items bytes c.args.at c.args.width (λ i. c.args.raw) c.requires.inside
     (record {
-      written = λ i h. (λ t. raw_at (sym plane.depth_is t) bytes (sym first t + i)) ∙ c.fill_run.ensures.written i h ∙ ap (λ d. raw_at d c.args.block.now 0) plane.depth_is;
+      written = λ i h. (λ t. raw_at (sym plane.depth_is t) bytes (sym first t + i)) ∙ c.fill_run.ensures.written i h;
       others = λ n apart.
           ap (λ d. raw_at d bytes n) (sym plane.depth_is)
           ∙ c.fill_run.ensures.others n (λ i h same. apart i h (same ∙ ap (λ f. f + i) first))

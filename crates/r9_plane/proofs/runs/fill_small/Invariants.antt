@@ -1,12 +1,11 @@
 use Rattle.std.proofs.Common.{◌≤◌, ◌-◌}
-use Rattle.model_pixel.specs.Rows.{raw_at}
 use Rattle.r9_plane.proofs.RunLemmas.{Copied}
-use Rattle.r9_plane.proofs.runs.fill_run.Given as goal
+use Rattle.r9_plane.proofs.runs.fill_small.Given as goal
 
 abbrev pub invariant-loop-done : goal.invariant-loop-done
 invariant-loop-done l = record {
   within : l.done ≤ l.count;
-  copied : Copied l.depth l.first l.done (λ _. raw_at l.depth l.block 0) l.fn.bytes l.bytes;
+  copied : Copied l.depth l.first l.done (λ _. l.raw) l.fn.bytes l.bytes;
 }
 
 abbrev pub decreases-loop-done : goal.decreases-loop-done
