@@ -144,6 +144,10 @@ begun line text same is =
     let front : take 2 line ≡ 77 ∷ 32 ∷ [] = (bytes_eq-Decides (take 2 line) (77 ∷ 32 ∷ [])).0 same in
     sym (take-append-drop 2 line) ∙ ap (λ (t : List ℕ). t ++ drop 2 line) front ∙ ap (λ (t : List ℕ). 77 ∷ 32 ∷ t) (sym is)
 
+-- what a line tells that begins as a message's
+pub told_behind : (line text : List ℕ) → bytes_eq (take 2 line) (77 ∷ 32 ∷ []) ≡ true → text ≡ drop 2 line → message_of_line text ≡ event_of line
+told_behind line text same is = sym (line_is text) ∙ ap (λ (l : List ℕ). event_of l) (sym (begun line text same is))
+
 pub entered : (roll : Roll) (line text : List ℕ) (fits : Bool) → line ≡ 77 ∷ 32 ∷ text → IsTrue fits ↔ FitsMessage roll text → fits ≡ true → IsEntered roll line roll
 entered roll line text fits is told holds =
     let fit = told.0 holds in

@@ -1,5 +1,5 @@
 -- What the reader of digits tells of a number without leading zeros.
-use Rattle.std.proofs.Common.{◌≡◌, ℕ, zero, suc, ◌+◌, ◌-◌, ◌*◌, ◌<◌, ◌≤◌, ◌^◌, ◌&&◌, Bool, true, false, leb, List, [], ◌∷◌, length, get_or, slice_index, inl, inr, Option, Some, None, refl, sym, ap, subst, ◌∙◌, arith}
+use Rattle.std.proofs.Common.{◌≡◌, ℕ, zero, suc, ◌+◌, ◌-◌, ◌*◌, ◌<◌, ◌≤◌, ◌^◌, ◌&&◌, true, leb, List, length, get_or, slice_index, inl, inr, Some, None, refl, sym, ap, subst, ◌∙◌, arith}
 use Rattle.std.specs.Fmt.{decimal}
 use Rattle.std.specs.List.{fold}
 use Rattle.std.specs.Str.{all_ascii_digits}
@@ -12,17 +12,13 @@ use Rattle.std.proofs.lemmas.Str.Parse.{IsNumeralModel, numerals_by_fold, tells_
 use Rattle.model_text.specs.Field.{value, is_digits, number}
 use Rattle.model_text.proofs.Fields.{want_some}
 use Rattle.r9_journal.specs.Reading.{numeral}
-use Rattle.r9_journal.proofs.Texts.{no_numeral, numeral_is, numeral_wide}
+use Rattle.r9_journal.proofs.Texts.{both_true, no_numeral, numeral_is, numeral_wide}
 
 numerals : IsNumeralModel (λ ds. all_ascii_digits ds ≡ true) value
 numerals = numerals_by_fold _ tells_all_ascii_digits (λ n ds. fold (λ n digit. 10 * n + (digit - 48)) n ds) (record {
   empty = λ n. refl;
   more = λ n c cs k. ap (λ (m : ℕ). fold (λ n digit. 10 * n + (digit - 48)) m cs) (omega arith);
 })
-
-both : (a b : Bool) → (a && b) ≡ true → (a ≡ true) × (b ≡ true)
-both true b e = (refl, e)
-both false b e = absurd (cc e)
 
 -- ---- a number that was read
 
@@ -39,8 +35,8 @@ alone word some unled first = elim (cases_lt 1 (length word)) [
 pub read_is : (word : List ℕ) (n : ℕ) → Some n ≡ number 10 word → (IsLed word → ⊥) → (word ≡ decimal n) × (n < 2 ^ 64)
 read_is word n e unled =
     let found = want_some (is_digits word && leb (length word) 10) (value word) n (sym e) in
-    let tests = both (is_digits word) (leb (length word) 10) found.0 in
-    let digits = both (leb 1 (length word)) (all_ascii_digits word) tests.0 in
+    let tests = both_true (is_digits word) (leb (length word) 10) found.0 in
+    let digits = both_true (leb 1 (length word)) (all_ascii_digits word) tests.0 in
     let all : AllDigits 10 word = numerals.to word digits.1 in
     let low : digits_value 10 word < 10 ^ length word = digits_value-lt 10 word all in
     let bound : 10 ^ length word ≤ 10 ^ 10 = pow-le-pow_right (omega arith) (leb-true _ _ tests.1) in

@@ -6,13 +6,10 @@ ghost use Rattle.r9_journal.specs.Fitting.{FitsMessage, IsEntered, IsUnfit};
 ghost use Rattle.r9_journal.specs.Reading.{cut};
 
 use crate::digits::are_message_digits;
-use crate::line::{cut, event_of, exclaimed, numeral};
+use crate::line::{MESSAGE, cut, event_of, exclaimed, numeral};
 use crate::roll::{MAX_MARK, Roll};
 use r9_memory::Memory;
 use std::alloc::Global;
-
-/// What the line of a message begins with.
-const MESSAGE: &[u8] = b"M ";
 
 /// Whether a word is an exclamation mark and a mark that a message may have.
 fn is_mark(word: &[u8]) -> bool

@@ -1,6 +1,7 @@
 //! The event that a line of a record tells.
 
-ghost use Rattle.std.specs.Prelude.{◌≡◌, ◌<◌, ◌↔◌, None, Some, length, slice_index, IsTrue, IfOk};
+ghost use Rattle.std.specs.Prelude.{◌≡◌, ◌<◌, ◌↔◌, None, Some, codes, false, length, slice_index, take, IsTrue, IfOk};
+ghost use Rattle.std.specs.Str.{bytes_eq};
 ghost use Rattle.std.specs.Option.{option_map};
 ghost use Rattle.model_text.specs.Hex.{unhex};
 ghost use Rattle.r9_journal.specs.Reading.{cut, numeral, exclaimed, message_by, message_of_line, event_by, event_of};
@@ -10,6 +11,9 @@ use r9_event::Event;
 use r9_memory::Memory;
 use r9_text::{read_digits, read_hex};
 use std::alloc::Global;
+
+/// What the line of a message begins with.
+pub const MESSAGE: &[u8] = b"M ";
 
 /// What stands before the first such byte, and behind it.
 pub fn cut(mark: u8, text: &[u8]) -> Option<(&[u8], &[u8])>
@@ -99,28 +103,39 @@ fn message_of_line(alloc: Global, text: &[u8]) -> Result<Option<Event>, Memory>
     message_by(alloc, session, rest)
 }
 
-/// The event of a letter and what stands behind the blank.
+/// The event of a letter that is not a message's, and of what stands behind the blank.
 #[tactic(auto, unfolding(crate::specs::Reading::event_by))]
-fn event_by(alloc: Global, letter: &[u8], rest: &[u8]) -> Result<Option<Event>, Memory>
-    ensures { IfOk result (λ event. event ≡ event_by letter.now rest.now) }
+fn event_by(letter: &[u8], rest: &[u8]) -> Option<Event>
+    requires { bytes_eq letter.now (codes "M") ≡ false }
+    ensures { result ≡ event_by letter.now rest.now }
 {
     match letter {
-        b"B" => Ok(numeral(rest).map(|session| Event::Begin { session })),
-        b"T" => Ok(numeral(rest).map(|session| Event::Take { session })),
-        b"E" => Ok(numeral(rest).map(|session| Event::End { session })),
-        b"M" => message_of_line(alloc, rest),
-        _ => Ok(None),
+        b"B" => numeral(rest).map(|session| Event::Begin { session }),
+        b"T" => numeral(rest).map(|session| Event::Take { session }),
+        b"E" => numeral(rest).map(|session| Event::End { session }),
+        _ => None,
+    }
+}
+
+/// The event that the line of no message tells.
+#[tactic(auto, unfolding(crate::specs::Reading::event_by_parts))]
+fn other_event(line: &[u8]) -> Option<Event>
+    requires { bytes_eq (take 2 line.now) (codes "M ") ≡ false }
+    ensures { result ≡ event_of line.now }
+{
+    match cut(b' ', line) {
+        None if line == b"X".as_slice() => Some(Event::Stop),
+        None => None,
+        Some((letter, rest)) => event_by(letter, rest),
     }
 }
 
 /// The event that a line, without its newline, tells.
-#[tactic(auto, unfolding(crate::specs::Reading::event_by_parts))]
 pub fn event_of(alloc: Global, line: &[u8]) -> Result<Option<Event>, Memory>
     ensures { IfOk result (λ event. event ≡ event_of line.now) }
 {
-    match cut(b' ', line) {
-        None if line == b"X".as_slice() => Ok(Some(Event::Stop)),
-        None => Ok(None),
-        Some((letter, rest)) => event_by(alloc, letter, rest),
+    match line.strip_prefix(MESSAGE) {
+        Some(text) => message_of_line(alloc, text),
+        None => Ok(other_event(line)),
     }
 }

@@ -38,7 +38,7 @@ fn push_bytes(letter: &[u8], session: u32, bytes: &[u8], text: &mut Bytes) -> Re
     ensures err { OnErr result (take (length text.old) text.new ≡ text.old) }
 {
     push_session(letter, session, text)?;
-    text.push_all(b" ")?;
+    text.push(b' ')?;
     push_hex(text, bytes)
 }
 
