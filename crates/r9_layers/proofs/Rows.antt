@@ -1,9 +1,10 @@
 -- Rows that are drawn one after the other, where that does not change what is read.
-use Rattle.std.proofs.Common.{◌≡◌, ◌≢◌, ◌∙◌, ℕ, ℤ, pos, ◌-◌, ◌<◌, ◌≤◌, ◌^◌, ◌+ℤ◌, ◌≤ℤ◌, ◌<ℤ◌, ◌&&◌, ◌||◌, Bool, true, false, Option, Some, None, List, [], ◌∷◌, length, ⊎_elim, refl, sym, ap, subst, arith}
+use Rattle.std.proofs.Common.{◌≡◌, ◌≢◌, ◌∙◌, ℕ, pos, ◌-◌, ◌≤◌, ◌+ℤ◌, ◌≤ℤ◌, ◌<ℤ◌, ◌&&◌, ◌||◌, Bool, true, false, Option, Some, None, List, [], ◌∷◌, length, ⊎_elim, refl, sym, ap, subst, arith}
 use Rattle.std.specs.Prelude.{◌==◌, if◌then◌else◌, is_some, unwrap_or, IfSome}
 use Rattle.std.specs.Option.{option_map_or}
 use Rattle.std.proofs.lemmas.Bool.{and_parts, false_from_ne_true, false≢true, or_cases, or_left, or_right}
 use Rattle.std.proofs.lemmas.Int.{by_lt_z, ints}
+use Rattle.std.proofs.lemmas.Option.{IfSome_then}
 use Rattle.r9_geom.specs.declared.Point.{Point}
 use Rattle.r9_geom.specs.declared.Rect.{Rect}
 use Rattle.r9_geom.specs.Geometry.{carried, height, holds, reduced, IsOrdered, IsRectNear}
@@ -28,7 +29,7 @@ use Rattle.r9_layers.specs.declared.task.Task.{Task}
 use Rattle.r9_layers.specs.Apart.{IsAhead, IsApart, IsSteady}
 use Rattle.r9_layers.specs.Area.{drawing_of, mask_at, mask_chan, IsTaskOf}
 use Rattle.r9_layers.specs.Bands.{rows_of}
-use Rattle.r9_layers.specs.Way.{AreMasksOf, IsPlain, IsWayOf}
+use Rattle.r9_layers.specs.Way.{AreMasksOf, IsPlain, IsTint, IsWayOf}
 
 -- ---- what stays of images where pixels are written
 
@@ -215,6 +216,12 @@ masks-stays world task area new apart (masks.Image chans) is = record {
   mask = is.mask ∙ sym (mask_chan-stays world task.dst area new task.mask);
 }
 
+tint-stays : (world : World) (task : Task) (area : Point → Bool) (new : Point → ℕ) (raw : ℕ) → IsTint world task raw → IsTint (with_canvas world task.dst area new) task raw
+tint-stays world task area new raw is = record {
+  apart = record { other = is.apart.other; bare = (stays world task.dst area new task.src).windows ∙ is.apart.bare };
+  all = λ p. at-apart world task.dst area new task.src is.apart p ∙ is.all p;
+}
+
 way-stays : (world : World) (task : Task) (area : Point → Bool) (new : Point → ℕ) → IfSome task.mask (IsApart world task.dst) → (way : Way) → IsWayOf world task way → IsWayOf (with_canvas world task.dst area new) task way
 way-stays world task area new through way is =
     let s = stays world task.dst area new task.src in
@@ -224,6 +231,7 @@ way-stays world task area new through way is =
         bare = s.windows ∙ (is.source plain).bare;
         once = s.repl ∙ (is.source plain).once;
       };
+      tint = IfSome_then way.tint is.tint (tint-stays world task area new);
     }
 
 pub under_way-stays : (world : World) (task : Task) (way : Way) (area : Point → Bool) (new : Point → ℕ) → IfSome task.mask (IsApart world task.dst) → IsUnderWay world task way → IsUnderWay (with_canvas world task.dst area new) task way

@@ -1,15 +1,17 @@
 -- What a drawing is told once of its images.
-use Rattle.std.specs.Prelude.{◌≡◌, ℕ, true, false, []}
+use Rattle.std.specs.Prelude.{◌≡◌, ℕ, true, false, [], IfSome}
 use Rattle.r9_geom.specs.declared.Point.{Point}
 use Rattle.r9_chan.specs.Op.{number}
 use Rattle.r9_mem.specs.declared.single.Through.{Through}
 use Rattle.r9_mem.specs.Through.{IsThrough}
+use Rattle.model_forest.specs.View.{at}
 use Rattle.model_forest.specs.World.{World, image_at}
 use Rattle.r9_layers.specs.declared.composing.Chans.{Chans}
 use Rattle.r9_layers.specs.declared.composing.Masks.{Masks}
 use Rattle.r9_layers.specs.declared.composing.Masks.TheVariants as masks
 use Rattle.r9_layers.specs.declared.composing.Way.{Way}
 use Rattle.r9_layers.specs.declared.task.Task.{Task}
+use Rattle.r9_layers.specs.Apart.{IsApart}
 use Rattle.r9_layers.specs.Area.{mask_at, mask_chan}
 
 -- the mask is one pixel everywhere, and rows are drawn through it
@@ -33,6 +35,12 @@ pub record IsPlain (world : World) (i : ℕ) : Type 0 where
   pub bare : (image_at world i).windows ≡ []
   pub once : (image_at world i).repl ≡ false
 
+-- an image apart from the target gives this pixel everywhere
+pub record IsTint (world : World) (task : Task) (raw : ℕ) : Type 0 where
+  pub apart : IsApart world task.dst task.src
+  pub all : (p : Point) → at world task.src p ≡ raw
+
 pub record IsWayOf (world : World) (task : Task) (way : Way) : Type 0 where
   pub through : AreMasksOf world task way.masks
   pub source : way.plain ≡ true → IsPlain world task.src
+  pub tint : IfSome way.tint (IsTint world task)

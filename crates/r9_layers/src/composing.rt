@@ -10,8 +10,9 @@ ghost use Rattle.model_forest.specs.View as model;
 ghost use Rattle.model_forest.specs.View.{is_bare};
 ghost use Rattle.model_forest.specs.World.{image_at, IsLive};
 ghost use Rattle.r9_stack.specs.Table.{world};
+ghost use Rattle.r9_layers.specs.Apart.{IsApart};
 ghost use Rattle.r9_layers.specs.Area.{drawing_of, drawn_on, mask_at, mask_chan, IsTaskOf};
-ghost use Rattle.r9_layers.specs.Way.{AreMasksOf, IsChansOf, IsPlain, IsSingleOf, IsWayOf};
+ghost use Rattle.r9_layers.specs.Way.{AreMasksOf, IsChansOf, IsPlain, IsSingleOf, IsTint, IsWayOf};
 
 use super::task::Task;
 use r9_chan::Chan;
@@ -51,6 +52,8 @@ pub struct Way {
     pub masks: Masks,
     /// Whether the source has no window and does not repeat, so that it gives its own pixels.
     pub plain: bool,
+    /// The one pixel that the source gives everywhere, where it is another image than the target.
+    pub tint: Option<u32>,
 }
 
 // Reads what an image gives side by side, from a point to the right.
@@ -150,6 +153,30 @@ fn is_plain(images: &Images, i: u32) -> bool
     !info.repl
 }
 
+/// Whether what image i gives stays as it is whatever is drawn on image `dst`.
+pub(crate) fn is_apart(images: &Images, i: u32, dst: u32) -> bool
+    requires { IsLive (world images.now) i }
+    ensures { result ≡ true → IsApart (world images.now) dst i }
+{
+    let info = images.info(i);
+    if i == dst {
+        return false;
+    }
+    info.windows == 0
+}
+
+// The one pixel that the source gives everywhere, where it is another image than the target.
+fn tint_of(images: &Images, task: &Task) -> Option<u32>
+    requires { IsTaskOf (world images.now) task.now }
+    ensures { IfSome result (IsTint (world images.now) task.now) }
+{
+    if is_apart(images, task.src, task.dst) {
+        images.single(task.src)
+    } else {
+        None
+    }
+}
+
 /// What a drawing is told once.
 pub(crate) fn way_of(images: &Images, task: &Task) -> Way
     requires { IsTaskOf (world images.now) task.now }
@@ -158,6 +185,7 @@ pub(crate) fn way_of(images: &Images, task: &Task) -> Way
     Way {
         masks: masks_of(images, task),
         plain: is_plain(images, task.src),
+        tint: tint_of(images, task),
     }
 }
 
@@ -267,6 +295,21 @@ fn compose_blocks(images: &Images, task: &Task, way: &Way, at: Point, row: &mut 
     }
 }
 
+// The same where the source and the mask may be one pixel each.
+fn compose_points(images: &Images, task: &Task, way: &Way, at: Point, row: &mut [u32])
+    requires live { IsTaskOf (world images.now) task.now }
+    requires way { IsWayOf (world images.now) task.now way.now }
+    requires near { IsNear at }
+    requires width { length row.old ≤ 2 ^ 41 }
+    requires inside { (p : Spot) → IsTrue (holds (strip at (length row.old)) p) → IsTrue (in_area (world images.now) (drawing_of task.now) p) }
+    ensures { (k : ℕ) → k < length row.old → slice_index row.new k ≡ drawn_on (world images.now) task.now (along at k) (slice_index row.old k) }
+{
+    match (way.tint, &way.masks) {
+        (Some(raw), Masks::Single(through)) => through.fill(row, raw),
+        _ => compose_blocks(images, task, way, at, row),
+    }
+}
+
 // The pixels that points of the area side by side get, where the source alone decides.
 fn move_row(
     images: &Images,
@@ -304,7 +347,7 @@ pub(crate) fn compose_row(images: &Images, task: &Task, way: &Way, at: Point, ro
         Some(through) => move_row(images, task, &through, way.plain, at, row),
         None => {
             images.read_bare_row(task.dst, at, row);
-            compose_blocks(images, task, way, at, row);
+            compose_points(images, task, way, at, row);
         }
     }
 }

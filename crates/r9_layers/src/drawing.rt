@@ -15,7 +15,7 @@ ghost use Rattle.r9_layers.specs.Area.{drawing_of, IsTaskOf};
 ghost use Rattle.r9_layers.specs.Bands.{rows_of};
 ghost use Rattle.r9_layers.specs.Way.{IsWayOf};
 
-use super::composing::{Way, chan_of_mask, compose_row, single_mask, way_of};
+use super::composing::{Way, chan_of_mask, compose_row, is_apart, single_mask, way_of};
 use super::task::Task;
 use r9_geom::{Point, Rect};
 use r9_mem::solid;
@@ -129,18 +129,6 @@ fn draw_by(images: &mut Images, task: &Task, way: &Way, area: &Rect, pixels: &mu
     ensures numbers { numbers images.new ≡ numbers images.old }
 {
     draw_band(images, task, way, area, pixels);
-}
-
-// Whether what image i gives stays as it is whatever is drawn on image `dst`.
-fn is_apart(images: &Images, i: u32, dst: u32) -> bool
-    requires { IsLive (world images.now) i }
-    ensures { result ≡ true → IsApart (world images.now) dst i }
-{
-    let info = images.info(i);
-    if i == dst {
-        return false;
-    }
-    info.windows == 0
 }
 
 fn is_at_most(a: i64, b: i64) -> bool

@@ -11,7 +11,7 @@ use super::rows::compose_row;
 use r9_chan::{Chan, Op};
 
 // The masks that stand side by side at a time.
-const BLOCK: usize = 64;
+const BLOCK: usize = 256;
 
 /// What rows of one drawing through one mask pixel are told once.
 #[derive(Clone, Copy)]
@@ -41,7 +41,7 @@ fn grey_byte() -> Chan
 
 // Composes at most a block of pixels through one mask value.
 fn compose_block(dst: &Chan, src: &Chan, grey: &Chan, value: u8, op: Op, d: &mut [u32], s: &[u32])
-    requires few { length d.old ≤ 64 }
+    requires few { length d.old ≤ 256 }
     requires sources { length s.now ≡ length d.old }
     ensures { EachIndex d.new (λ i. slice_index d.new i ≡ composed_raw dst.now src.now grey.now (number op) (slice_index s.now i) value (slice_index d.old i)) }
 {
@@ -60,6 +60,21 @@ fn compose_blocks(dst: &Chan, src: &Chan, grey: &Chan, value: u8, op: Op, d: &mu
         let end = at + (d.len() - at).min(BLOCK);
         compose_block(dst, src, grey, value, op, &mut d[at..end], &s[at..end]);
         at = end;
+    }
+}
+
+// The same from one source pixel.
+fn fill_blocks(dst: &Chan, src: &Chan, grey: &Chan, value: u8, op: Op, d: &mut [u32], s: u32)
+    ensures { EachIndex d.new (λ i. slice_index d.new i ≡ composed_raw dst.now src.now grey.now (number op) s value (slice_index d.old i)) }
+{
+    let sources = [s; BLOCK];
+    let masks = [u32::from(value); BLOCK];
+    let mut at = 0;
+    while at < d.len() {
+        let len = (d.len() - at).min(BLOCK);
+        let part = &mut d[at..at + len];
+        compose_row(dst, src, grey, op, part, &sources[..len], &masks[..len]);
+        at += len;
     }
 }
 
@@ -105,5 +120,12 @@ impl Through {
         ensures { (dst src mask op m : ℕ) → IsThrough self.now dst src mask op m → EachIndex d.new (λ i. slice_index d.new i ≡ composed_raw dst src mask op (slice_index s.now i) m (slice_index d.old i)) }
     {
         compose_blocks(&self.dst, &self.src, &self.grey, self.value, self.op, d, s);
+    }
+
+    /// The same from one source pixel.
+    pub fn fill(&self, d: &mut [u32], s: u32)
+        ensures { (dst src mask op m : ℕ) → IsThrough self.now dst src mask op m → EachIndex d.new (λ i. slice_index d.new i ≡ composed_raw dst src mask op s m (slice_index d.old i)) }
+    {
+        fill_blocks(&self.dst, &self.src, &self.grey, self.value, self.op, d, s);
     }
 }

@@ -1,4 +1,4 @@
-use Rattle.std.proofs.Common.{◌≡◌, ◌∙◌, ◌<◌, ◌^◌, ℕ, get_or, sym, ap, subst, arith}
+use Rattle.std.proofs.Common.{◌∙◌, ◌<◌, ◌^◌, ℕ, get_or, sym, ap, subst, arith}
 use Rattle.model_pixel.specs.Channels.{depth}
 use Rattle.r9_plane.specs.Pixels.{along}
 use Rattle.model_forest.specs.World.{image_at}
@@ -36,7 +36,7 @@ returns-in-None-clause-raws c k below bare =
     let W = world c.args.images.now in
     let task = c.args.task.now in
     let p = along c.args.at k in
-    c.compose_blocks.ensures k (omega (arith, below, c.read_bare_row.auto.raws))
+    c.compose_points.ensures k (omega (arith, below, c.read_bare_row.auto.raws))
     ∙ ap (drawn_on W task p) (c.read_bare_row.ensures.raws k below bare)
     ∙ drawn_is W task p
 
@@ -47,5 +47,5 @@ returns-in-None-clause-range c k below =
     let p = along c.args.at k in
     let own = get_or c.read_bare_row.new.raws k 0 in
     subst (λ (n : ℕ). n < 2 ^ depth (image_at W task.dst).chan)
-    (sym (c.compose_blocks.ensures k (omega (arith, below, c.read_bare_row.auto.raws))))
+    (sym (c.compose_points.ensures k (omega (arith, below, c.read_bare_row.auto.raws))))
     (drawn_on_below W c.keeps.ensures task c.requires.live.dst p own)

@@ -1,4 +1,4 @@
-use Rattle.std.proofs.Common.{◌≡◌, ℕ, ap, subst}
+use Rattle.std.proofs.Common.{◌≡◌, subst}
 use Rattle.r9_chan.specs.Op.{number}
 use Rattle.r9_mem.specs.Through.{IsThrough}
 use Rattle.model_forest.specs.World.{image_at}

@@ -1,5 +1,4 @@
-use Rattle.std.proofs.Common.{◌≡◌, ◌∙◌, ◌^◌, ℕ, get_or, lit≤, sym, arith}
-use Rattle.r9_geom.specs.Geometry.{carried}
+use Rattle.std.proofs.Common.{◌∙◌, sym, arith}
 use Rattle.model_pixel.specs.Composition.{composed_raw}
 use Rattle.r9_chan.specs.Op.{number}
 use Rattle.r9_plane.specs.Pixels.{along}

@@ -1,4 +1,4 @@
-use Rattle.std.proofs.Common.{◌≡◌, ◌∙◌, ◌+◌, ◌-◌, ◌*◌, ◌<◌, ◌≤◌, ◌^◌, length, lit≤, refl, ap, sym, subst, arith}
+use Rattle.std.proofs.Common.{◌≡◌, ◌∙◌, ◌+◌, ◌-◌, ◌*◌, ◌≤◌, ◌^◌, length, lit≤, refl, ap, sym, subst, arith}
 use Rattle.std.proofs.lemmas.List.{length-take-le}
 use Rattle.std.proofs.lemmas.Nat.{mul-le}
 use Rattle.r9_geom.specs.Geometry.{height, holds, width, IsOrdered, IsRectNear}
@@ -23,6 +23,9 @@ loop-row-init c =
 
 pub width-width-requires : goal.width-width-requires
 width-width-requires c = (area_part (world c.args.images.now) c.args.task.now c.args.area.now c.requires.area c.requires.some).ordered
+
+pub height-height-requires : goal.height-height-requires
+height-height-requires c = (area_part (world c.args.images.now) c.args.task.now c.args.area.now c.requires.area c.requires.some).ordered
 
 pub rows_of-band-requires-clause-near : goal.rows_of-band-requires-clause-near
 rows_of-band-requires-clause-near c =

@@ -1,5 +1,5 @@
-use Rattle.std.proofs.Common.{◌≡◌, ◌≤◌, ◌+◌, ◌-◌, ◌*◌}
-use Rattle.r9_geom.specs.Geometry.{height, holds, width}
+use Rattle.std.proofs.Common.{◌≡◌, ◌≤◌, ◌-◌}
+use Rattle.r9_geom.specs.Geometry.{height, holds}
 use Rattle.r9_geom.proofs.GeometryLemmas.{band}
 use Rattle.model_forest.specs.Draw.{drawn, with_canvas}
 use Rattle.r9_stack.specs.Table.{numbers, world}

@@ -1,4 +1,4 @@
-use Rattle.std.proofs.Common.{◌≡◌, ◌<◌, ◌≤◌, ℕ, length, get_or, ap, arith, ◌∙◌, below_more, get_or-set_same, get_or-set_other}
+use Rattle.std.proofs.Common.{◌<◌, ℕ, length, get_or, ap, arith, ◌∙◌, below_more, get_or-set_same, get_or-set_other}
 use Rattle.std.specs.Int.Bits.{bit_and}
 use Rattle.r9_mem.proofs.moving.keep.Goals as goal
 

@@ -1,7 +1,7 @@
 use Rattle.std.proofs.lemmas.Bool.{eqb-true}
 use Rattle.r9_stack.specs.Table.{world}
 use Rattle.r9_layers.proofs.Rows.{apart_since}
-use Rattle.r9_layers.proofs.drawing.is_apart.Goals as goal
+use Rattle.r9_layers.proofs.composing.is_apart.Goals as goal
 
 pub returns : goal.returns
 returns c told =
