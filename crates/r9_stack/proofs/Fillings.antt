@@ -1,8 +1,10 @@
 -- What is written beneath windows.
-use Rattle.std.proofs.Common.{◌≡◌, ◌∙◌, ℕ, zero, suc, ℤ, pos, ◌+◌, ◌<◌, ◌≤◌, ◌^◌, ◌+ℤ◌, ◌<ℤ◌, ◌≤ℤ◌, Bool, true, false, List, [], ◌∷◌, Option, Some, None, length, get_or, take, lit≤, ⊎_elim, inl, inr, refl, sym, ap, arith}
+use Rattle.std.proofs.Common.{◌≡◌, ◌∙◌, ℕ, zero, suc, ℤ, pos, ◌+◌, ◌<◌, ◌≤◌, ◌^◌, ◌+ℤ◌, ◌<ℤ◌, ◌≤ℤ◌, Bool, true, false, List, [], ◌∷◌, Option, Some, None, length, get_or, lit≤, ⊎_elim, inl, inr, refl, sym, ap, arith}
 use Rattle.std.specs.Prelude.{◌&&◌, ◌||◌, ◌==◌, ◌⊎◌, int_le, if◌then◌else◌, is_none, is_some, unwrap_or, cond}
+use Rattle.std.specs.List.{count_by}
 use Rattle.std.proofs.lemmas.Bool.{false≢true}
 use Rattle.std.proofs.lemmas.Int.{ints}
+use Rattle.std.proofs.lemmas.List.Sums.{sum_by-cons}
 use Rattle.r9_geom.specs.declared.Point.{Point}
 use Rattle.r9_geom.specs.declared.Rect.{Rect}
 use Rattle.r9_geom.specs.Geometry.{distance, holds, is_empty, strip, width, IsNear, IsOrdered, IsRectNear, IsRectNearBy}
@@ -133,19 +135,6 @@ width_own world i r ok live solid inside =
 
 -- ---- the windows of a list, one after the other
 
--- the first so many of a list, and one more
-pub covers_more : (i : ℕ) (p : Point) (ws : List Window) (k : ℕ) (d : Window) → k < length ws → covers i p (take (suc k) ws) ≡ (((get_or ws k d).image == i && holds (get_or ws k d).place p) || covers i p (take k ws))
-covers_more i p [] k d lt = absurd (omega arith)
-covers_more i p (v ∷ ws) zero d lt = refl
-covers_more i p (v ∷ ws) (suc k) d lt =
-    ap (λ b. (v.image == i && holds v.place p) || b) (covers_more i p ws k d (omega arith))
-    ∙ swap (v.image == i && holds v.place p) ((get_or ws k d).image == i && holds (get_or ws k d).place p) (covers i p (take k ws))
-  where
-    swap : (a b c : Bool) → (a || (b || c)) ≡ (b || (a || c))
-    swap true true c = refl
-    swap true false c = refl
-    swap false b c = refl
-
 -- a window of a list covers its place
 pub place_covered : (p : Point) (ws : List Window) (k : ℕ) (d : Window) → k < length ws → holds (get_or ws k d).place p ≡ true → is_bare ws p ≡ false
 place_covered p [] k d lt h = absurd (omega arith)
@@ -155,10 +144,6 @@ place_covered p (v ∷ ws) (suc k) d lt h =
       | true ↦ refl
       | false ↦ place_covered p ws k d (omega arith) h
     ]
-
-pub within_or : (r a b : Bool) → (r && (a || b)) ≡ ((r && a) || (r && b))
-within_or true a b = refl
-within_or false a b = refl
 
 pub place_cut : (place own t : Bool) → t ≡ (place && own) → (test : Bool) → test ≡ true → t ≡ (own && (test && place))
 place_cut place own t is true e = is ∙ swap place own
@@ -173,3 +158,45 @@ place_cut place own t is false e = cc
 pub not_its : (own test place : Bool) → test ≡ false → false ≡ (own && (test && place))
 not_its true test place e = sym (ap (λ b. b && place) e)
 not_its false test place e = refl
+
+-- how often an image stands in a list and one more
+count_more : (i : ℕ) (v : Window) (ws : List Window) (b : Bool) → (v.image == i) ≡ b → count_by (λ w. w.image == i) (v ∷ ws) ≡ cond b 1 0 + count_by (λ w. w.image == i) ws
+count_more i v ws b e =
+    sum_by-cons (λ (w : Window). cond (w.image == i) 1 0) v ws ∙ ap (λ t. cond t 1 0 + count_by (λ w. w.image == i) ws) e
+
+-- an image that stands nowhere in a list covers nothing there
+none_covers : (i : ℕ) (p : Point) (ws : List Window) → count_by (λ w. w.image == i) ws ≤ 0 → covers i p ws ≡ false
+none_covers i p [] le = refl
+none_covers i p (v ∷ ws) le = by_test (v.image == i) refl (λ rest. none_covers i p ws rest)
+  where
+    by_test : (b : Bool) → (v.image == i) ≡ b → (count_by (λ w. w.image == i) ws ≤ 0 → covers i p ws ≡ false) → covers i p (v ∷ ws) ≡ false
+    by_test true e rest = absurd (omega (arith, le, count_more i v ws true e))
+    by_test false e rest =
+        ap (λ b. (b && holds v.place p) || covers i p ws) e
+        ∙ rest (omega (arith, le, count_more i v ws false e))
+
+-- and one that stands at one place alone covers that of the window there
+pub covers_once : (i : ℕ) (p : Point) (ws : List Window) (k : ℕ) (d : Window) → count_by (λ w. w.image == i) ws ≤ 1 → ((n : ℕ) (w : Window) → n < k → ((get_or ws n w).image == i) ≡ false) → k < length ws → ((get_or ws k d).image == i) ≡ true → covers i p ws ≡ ((get_or ws k d).image == i && holds (get_or ws k d).place p)
+covers_once i p [] k d le others lt is = absurd (omega (arith, lt))
+covers_once i p (v ∷ ws) zero d le others lt is =
+    ap (λ b. (v.image == i && holds v.place p) || b) (none_covers i p ws (omega (arith, le, count_more i v ws true is)))
+    ∙ or_false (v.image == i && holds v.place p)
+  where
+    or_false : (b : Bool) → (b || false) ≡ b
+    or_false true = refl
+    or_false false = refl
+covers_once i p (v ∷ ws) (suc k) d le others lt is =
+    let first : (v.image == i) ≡ false = others 0 v (omega arith) in
+    ap (λ b. (b && holds v.place p) || covers i p ws) first
+    ∙ covers_once i p ws k d (omega (arith, le, count_more i v ws false first)) (λ n w below. others (suc n) w (omega (arith, below))) (omega (arith, lt)) is
+
+pub covers_none : (i : ℕ) (p : Point) (ws : List Window) → ((n : ℕ) (w : Window) → n < length ws → ((get_or ws n w).image == i) ≡ false) → covers i p ws ≡ false
+covers_none i p [] others = refl
+covers_none i p (v ∷ ws) others =
+    ap (λ b. (b && holds v.place p) || covers i p ws) (others 0 v (omega arith))
+    ∙ covers_none i p ws (λ n w below. others (suc n) w (omega (arith, below)))
+
+-- nothing is filled where nothing is covered
+pub not_filled : (r b : Bool) (fill old : ℕ) → b ≡ false → old ≡ (if r && b then fill else old)
+not_filled true b fill old e = ap (λ t. if t then fill else old) (sym e)
+not_filled false b fill old e = refl

@@ -15,6 +15,7 @@ ghost use Rattle.r9_stack.specs.Images.{image_of};
 
 use super::images::Images;
 use super::kept::Kept;
+use super::lists;
 use super::reading::{Columns, along};
 use model_forest::Window;
 use r9_chan::Chan;
@@ -187,8 +188,10 @@ impl Images {
         ensures numbers { numbers self.new ≡ numbers self.old }
         ensures beneath { (p : Spot) → beneath self.new parent p ≡ (if holds (image_at (world self.old) parent).r p && covers i p (image_at (world self.old) parent).windows then fill_at (world self.old) (image_at (world self.old) parent).chan fill p else beneath self.old parent p) }
     {
-        for k in 0..self.get(parent).windows().len() {
-            let w = self.get(parent).windows()[k];
+        let windows = self.get(parent).windows();
+        let k = lists::place_of(windows, i);
+        if k < windows.len() {
+            let w = windows[k];
             self.fill_entry(parent, i, fill, w);
         }
     }

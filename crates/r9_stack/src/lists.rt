@@ -1,6 +1,6 @@
 //! Lists of windows, topmost first, and how they change.
 
-ghost use Rattle.std.specs.Prelude.{◌≡◌, ◌+◌, ◌<◌, ◌≤◌, ◌∷◌, [], length, map, vec_len, vec_capacity, IfOk};
+ghost use Rattle.std.specs.Prelude.{◌≡◌, ◌==◌, ◌+◌, ◌<◌, ◌≤◌, ◌∷◌, ℕ, [], false, true, length, map, slice_index_or, vec_len, vec_capacity, IfOk};
 ghost use Rattle.std.specs.List.Sorted.{IsNonDecreasing};
 ghost use Rattle.model_forest.specs.Stack as stack;
 ghost use Rattle.model_forest.specs.Steps as steps;
@@ -76,30 +76,39 @@ pub fn without(windows: &mut Vec<Window>, i: u32)
     windows.retain(|w| w.image != i);
 }
 
+// Only the one window is written: the others are not copied onto themselves.
+fn move_one(w: &mut Window, i: u32, place: Rect)
+    ensures { w.new ≡ stack.moved_window i place w.old }
+{
+    if w.image == i {
+        *w = Window { image: i, place };
+    }
+}
+
 /// Gives a window another place.
 pub fn moved(windows: &mut Vec<Window>, i: u32, place: Rect)
     ensures items { windows.new.items ≡ stack.moved i place windows.old.items }
     ensures len { vec_len windows.new ≡ vec_len windows.old }
 {
-    move_each(windows, i, place);
-}
-
-fn move_each(windows: &mut [Window], i: u32, place: Rect)
-    ensures { windows.new ≡ stack.moved i place windows.old }
-{
-    for k in 0..windows.len() {
-        windows[k] = moved_window(i, place, windows[k]);
+    for w in windows.iter_mut() {
+        move_one(w, i, place);
     }
 }
 
-fn moved_window(i: u32, place: Rect, w: Window) -> Window
-    ensures { result ≡ stack.moved_window i place w }
+/// The first place at which a window of an image stands, or how many windows there are.
+pub fn place_of(windows: &[Window], i: u32) -> usize
+    ensures high { result ≤ length windows.now }
+    ensures others { (n : ℕ) (w : Window) → n < result → ((slice_index_or windows.now n w).image == i) ≡ false }
+    ensures found { (w : Window) → result < length windows.now → ((slice_index_or windows.now result w).image == i) ≡ true }
 {
-    if w.image == i {
-        Window { image: i, place }
-    } else {
-        w
+    let mut k = 0;
+    while k < windows.len() {
+        if windows[k].image == i {
+            return k;
+        }
+        k += 1;
     }
+    k
 }
 
 // Puts a window directly above another, for which there is room.

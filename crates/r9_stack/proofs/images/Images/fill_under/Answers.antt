@@ -1,61 +1,43 @@
-use Rattle.std.proofs.Common.{◌≡◌, ◌∙◌, ◌+◌, ◌<◌, List, length, get_or, take, sym, ap, arith, add-one}
-use Rattle.std.specs.Prelude.{◌&&◌, ◌||◌, ◌==◌, if◌then◌else◌}
-use Rattle.std.proofs.lemmas.List.{take_all}
+use Rattle.std.proofs.Common.{◌≡◌, ◌∙◌, ◌≤◌, List, sym, ap, subst, arith}
+use Rattle.std.specs.Prelude.{◌&&◌, ◌==◌, if◌then◌else◌}
+use Rattle.std.specs.List.{count_by}
 use Rattle.r9_geom.specs.Geometry.{holds}
 use Rattle.model_forest.specs.declared.Window.{Window}
 use Rattle.model_forest.specs.View.{covers, is_bare}
-use Rattle.model_forest.specs.World.{Image, World, image_at, no_rect}
+use Rattle.model_forest.specs.World.{Image, image_at, no_rect}
 use Rattle.r9_stack.specs.Fills.{fill_at}
 use Rattle.r9_stack.specs.Table.{beneath, world}
-use Rattle.r9_stack.proofs.Fillings.{covers_more, filled_more, place_covered, within_or}
+use Rattle.r9_stack.proofs.Fillings.{covers_none, covers_once, not_filled, place_covered}
 use Rattle.r9_stack.proofs.images.Images.fill_under.Goals as goal
 
 pub fill_entry-requires-clause-covers : goal.fill_entry-requires-clause-covers
 fill_entry-requires-clause-covers c p h =
     let none : Window = record { image = 0; place = no_rect } in
-    let i = c.args.parent in
-    let first : c.windows-k-end.result.now ≡ (image_at (world c.args.self.now) i).windows = c.windows-k-end.ensures.items ∙ sym (ap (λ (im : Image). im.windows) c.get.ensures.image) in
-    let now : c.windows.result.now ≡ (image_at (world c.loop-k.self) i).windows = c.windows.ensures.items ∙ sym (ap (λ (im : Image). im.windows) c.get-in-loop-k.ensures.image) in
-    let same = ap (λ (w : World). (image_at w i).windows) c.loop-k.invariant.same_world in
-    let lt : c.loop-k.k < length c.windows.result.now = omega (arith, c.loop-k-test.true, ap length first, ap length (now ∙ same)) in
-    ap (λ (ws : List Window). is_bare ws p) (sym now) ∙ place_covered p c.windows.result.now c.loop-k.k none lt h
+    let listed : c.windows-windows.result.now ≡ (image_at (world c.args.self.now) c.args.parent).windows = c.windows-windows.ensures.items ∙ sym (ap (λ (im : Image). im.windows) c.get.ensures.image) in
+    ap (λ (ws : List Window). is_bare ws p) (sym listed)
+    ∙ place_covered p c.windows-windows.result.now c.place_of-k.result none c.if-k-windows.true h
 
-pub loop-k-preserved : goal.loop-k-preserved
-loop-k-preserved c =
+pub returns-then-k-windows-clause-beneath : goal.returns-then-k-windows-clause-beneath
+unfolding world
+returns-then-k-windows-clause-beneath c = λ p.
     let none : Window = record { image = 0; place = no_rect } in
-    let i = c.args.parent in
-    let n = c.args.i in
-    let k = c.loop-k.k in
+    let i = c.args.i in
     let w = world c.args.self.now in
-    let ws = (image_at w i).windows in
-    let same = c.loop-k.invariant.same_world in
-    let first : c.windows-k-end.result.now ≡ ws = c.windows-k-end.ensures.items ∙ sym (ap (λ (im : Image). im.windows) c.get.ensures.image) in
-    let now : c.windows.result.now ≡ ws = c.windows.ensures.items ∙ sym (ap (λ (im : Image). im.windows) c.get-in-loop-k.ensures.image) ∙ ap (λ (v : World). (image_at v i).windows) same in
-    let lt : k < length ws = omega (arith, c.loop-k-test.true, ap length first) in
-    record {
-      same_world = c.fill_entry.ensures.world ∙ same;
-      same_numbers = c.fill_entry.ensures.numbers ∙ c.loop-k.invariant.same_numbers;
-      below = λ p.
-          let r = holds (image_at w i).r p in
-          let t = (get_or c.windows.result.now k none).image == n && holds (get_or c.windows.result.now k none).place p in
-          filled_more (r && t) (r && covers n p (take k ws)) (r && covers n p (take (k + 1) ws))
-          (fill_at w (image_at w i).chan c.args.fill p) (beneath c.args.self.now i p) (beneath c.loop-k.self i p) (beneath c.fill_entry.new.self i p)
-          (ap (λ b. r && b)
-          (ap (λ m. covers n p (take m ws)) (add-one k)
-          ∙ covers_more n p ws k none lt
-          ∙ ap (λ (l : List Window). ((get_or l k none).image == n && holds (get_or l k none).place p) || covers n p (take k ws)) (sym now))
-          ∙ within_or r t (covers n p (take k ws)))
-          (c.fill_entry.ensures.beneath p
-          ∙ (λ j. if holds (image_at (same j) i).r p && t then fill_at (same j) (image_at (same j) i).chan c.args.fill p else beneath c.loop-k.self i p))
-          (c.loop-k.invariant.below p);
-    }
+    let own = image_at w c.args.parent in
+    let ws = c.windows-windows.result.now in
+    let listed : ws ≡ own.windows = c.windows-windows.ensures.items ∙ sym (ap (λ (im : Image). im.windows) c.get.ensures.image) in
+    let once : count_by (λ (v : Window). v.image == i) ws ≤ 1 = subst (λ (l : List Window). count_by (λ (v : Window). v.image == i) l ≤ 1) (sym listed) (c.args.self.now.forest.once c.args.parent i c.requires.live) in
+    let one = covers_once i p ws c.place_of-k.result none once c.place_of-k.ensures.others c.if-k-windows.true (c.place_of-k.ensures.found none c.if-k-windows.true) in
+    c.fill_entry.ensures.beneath p
+    ∙ ap (λ b. if holds own.r p && b then fill_at w own.chan c.args.fill p else beneath c.args.self.now c.args.parent p)
+    (sym one ∙ ap (λ (l : List Window). covers i p l) listed)
 
-pub returns-clause-beneath : goal.returns-clause-beneath
-returns-clause-beneath c p =
-    let i = c.args.parent in
+pub returns-else-k-windows-clause-beneath : goal.returns-else-k-windows-clause-beneath
+returns-else-k-windows-clause-beneath c = λ p.
     let w = world c.args.self.now in
-    let ws = (image_at w i).windows in
-    let first : c.windows-k-end.result.now ≡ ws = c.windows-k-end.ensures.items ∙ sym (ap (λ (im : Image). im.windows) c.get.ensures.image) in
-    c.loop-k.invariant.below p
-    ∙ ap (λ (l : List Window). if holds (image_at w i).r p && covers c.args.i p l then fill_at w (image_at w i).chan c.args.fill p else beneath c.args.self.now i p)
-    (take_all c.loop-k.k ws (omega (arith, c.loop-k-test.false, ap length first)))
+    let own = image_at w c.args.parent in
+    let ws = c.windows-windows.result.now in
+    let listed : ws ≡ own.windows = c.windows-windows.ensures.items ∙ sym (ap (λ (im : Image). im.windows) c.get.ensures.image) in
+    not_filled (holds own.r p) (covers c.args.i p own.windows) (fill_at w own.chan c.args.fill p) (beneath c.args.self.now c.args.parent p)
+    (ap (λ (l : List Window). covers c.args.i p l) (sym listed)
+    ∙ covers_none c.args.i p ws (λ n v lt. c.place_of-k.ensures.others n v (omega (arith, lt, c.if-k-windows.false))))
