@@ -32,6 +32,8 @@ pub struct Manager {
     rios: Vec<Rio>,
     // The windows of all rios, the topmost first.
     windows: Vec<Window>,
+    // The memory of the windows before the last step, which the next draft takes.
+    spare: Vec<Window>,
 }
 
 impl Model for Manager {
@@ -66,21 +68,35 @@ impl Manager {
             },
             rios: Vec::new(alloc),
             windows: Vec::new(alloc),
+            spare: Vec::new(alloc),
         }
     }
 
-    /// The same once more.
-    pub(crate) fn try_clone(&self) -> Result<Self, Memory>
-        ensures { IfOk result (λ m. m ≡ self.now) }
+    /// The same once more, in the memory that is kept for it.
+    pub(crate) fn try_clone(&mut self) -> Result<Self, Memory>
+        ensures same { IfOk result (λ m. m ≡ self.old) }
+        ensures kept { self.new ≡ self.old }
     {
+        let mut windows = std::mem::replace(&mut self.spare, Vec::new(self.alloc));
+        windows.clear();
+        windows.extend_from_slice(&self.windows)?;
         Ok(Manager {
             alloc: self.alloc,
             r: self.r,
             serials: self.serials,
             root: self.root,
             rios: Vec::from_slice(self.alloc, &self.rios)?,
-            windows: Vec::from_slice(self.alloc, &self.windows)?,
+            windows,
+            spare: Vec::new(self.alloc),
         })
+    }
+
+    /// Becomes another, and keeps the memory of its windows.
+    pub(crate) fn replace_by(&mut self, next: Manager)
+        ensures { self.new ≡ next }
+    {
+        let Manager { windows, .. } = std::mem::replace(self, next);
+        self.spare = windows;
     }
 
     pub(crate) fn rio_of(&self, host: u32) -> Option<Rio>

@@ -71,8 +71,9 @@ impl Draft {
 }
 
 impl Manager {
-    fn draft(&self) -> Result<Draft, Memory>
-        ensures { IfOk result (λ draft. draft ≡ begun self.now) }
+    fn draft(&mut self) -> Result<Draft, Memory>
+        ensures begun { IfOk result (λ draft. draft ≡ begun self.old) }
+        ensures kept { self.new ≡ self.old }
     {
         Ok(Draft {
             table: self.try_clone()?,
@@ -90,7 +91,7 @@ impl Manager {
             orders,
             notes,
         } = draft;
-        *self = table;
+        self.replace_by(table);
         Step { orders, notes }
     }
 
