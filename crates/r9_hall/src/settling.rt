@@ -17,8 +17,7 @@ use r9_desktop::Desktop;
 use r9_event::{Note, Replies, Reply};
 use r9_memory::Memory;
 use r9_session::Session;
-use r9_text::Bytes;
-use r9_wire::{Rmsg, write_r};
+use r9_wire::{Rmsg, reply_bytes};
 use std::alloc::Global;
 use std::collections::BTreeMap;
 
@@ -27,8 +26,7 @@ pub(crate) fn spelled(alloc: Global, session: u32, reply: &Rmsg) -> Result<Reply
     requires { FitsR (r_of reply.now) }
     ensures { IfOk result (λ r. r ≡ record { session = session; bytes = spelling_of_r (r_of reply.now) }) }
 {
-    let mut bytes = Bytes::new(alloc);
-    write_r(alloc, reply, &mut bytes)?;
+    let bytes = reply_bytes(alloc, reply)?;
     Ok(Reply { session, bytes })
 }
 

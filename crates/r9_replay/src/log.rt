@@ -8,7 +8,7 @@ ghost use Rattle.model_record.specs.Line.{reply_line, reply_lines};
 ghost use Rattle.r9_replay.specs.Log.{cut_replies, AreCut};
 
 use r9_event::Reply;
-use r9_journal::write_reply;
+use r9_journal::write_reply_of;
 use r9_memory::Memory;
 use r9_outside::{Sink, SinkFault, put_all};
 use r9_text::Bytes;
@@ -44,18 +44,9 @@ impl Model for ReplyLog {
     ghost invariant = { λ l. AreCut l.marks.items l.bytes };
 }
 
-/// Adds the line of a reply at the end, or nothing for want of memory.
-fn write_line(alloc: Global, session: u32, frame: &[u8], lines: &mut Bytes) -> Result<(), Memory>
-    ensures { OnOk result (lines.new ≡ lines.old ++ reply_line (record { session = session; bytes = frame.now })) }
-{
-    let bytes = Bytes::from_slice(alloc, frame)?;
-    write_reply(&Reply { session, bytes }, lines)
-}
-
 /// Adds the line of a reply to lines that wait, and puts these once they are many. After an `Err` only a front of them was
 /// put, which may be empty.
 fn put_line<O: Sink>(
-    alloc: Global,
     out: &mut O,
     lines: &mut Bytes,
     session: u32,
@@ -67,7 +58,7 @@ fn put_line<O: Sink>(
     ensures failed { IsErrOf result SinkFault.Failed → Rose (O.faults out.old) (O.faults out.new) }
     ensures counted { O.faults out.old ≤ O.faults out.new }
 {
-    let Ok(()) = write_line(alloc, session, frame, lines) else {
+    let Ok(()) = write_reply_of(session, frame, lines) else {
         return Err(SinkFault::Memory);
     };
     if lines.len() < PIECE {
@@ -96,7 +87,7 @@ fn put_most<O: Sink>(
     let mut rest = bytes;
     for mark in marks {
         let (frame, behind) = rest.split_at(mark.len);
-        put_line(alloc, out, &mut lines, mark.session, frame)?;
+        put_line(out, &mut lines, mark.session, frame)?;
         rest = behind;
     }
     Ok(lines)
