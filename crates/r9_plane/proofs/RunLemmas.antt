@@ -127,6 +127,20 @@ put_stretch old from ys start len from_start here there is =
     let put_len = subst (λ (n : ℕ). Stretch old (put_mid start (start + len - start) old ys) ys start n 0) same put in
     stretch_of old (put_mid start (start + len - start) old ys) ys from start len from_start (from_start + len - from_start) from_same is put_len
 
+-- a stretch that was copied from another before it, where the list was split
+pub stretch_repeated : (old above below ys : List ℕ) (start len from m : ℕ) → above ≡ take start old → below ≡ drop start old → from + len ≤ start → start + len ≤ length old → m ≡ len → ys ≡ take m (drop from above) → Stretch old (above ++ (ys ++ drop len below)) old start len from
+stretch_repeated old above below ys start len from m front back before room same is =
+    let long : length above ≡ start = ap length front ∙ omega (arith, room, length-take start old) in
+    let size : length ys ≡ len = ap length is ∙ omega (arith, same, long, before, length-take m (drop from above), length-drop from above) in
+    let put = stretch_of old (put_mid start len old ys) ys above start len from m same is (stretch_put old ys start len size room) in
+    let all : put_mid start len old ys ≡ above ++ (ys ++ drop len below) = λ i. sym front i ++ (ys ++ drop len (sym back i)) in
+    subst (λ (new : List ℕ). Stretch old new old start len from) all
+    (record {
+      before = put.before;
+      after = put.after;
+      written = λ j h. put.written j h ∙ ap (λ xs. get_or xs (from + j) 0) front ∙ get_or-take start old (from + j) 0 (omega arith);
+    })
+
 -- one more line of bytes was written below others
 pub lines_grow : (rows line : List ℕ) (row width k : ℕ) (f : ℕ → ℕ → ℕ) → k ≡ width → row * width + width ≤ length rows → length line ≡ width → ((j : ℕ) → j < row * width → get_or rows j 0 ≡ f (j / width) (j % width)) → ((j : ℕ) → j < width → get_or line j 0 ≡ f row j) → (j : ℕ) → j < (row + 1) * width → get_or (put_mid (row * width) k rows line) j 0 ≡ f (j / width) (j % width)
 lines_grow rows line row width k f same fits size above here j below =

@@ -189,6 +189,22 @@ fn copy_whole(
     bytes[start..start + len].copy_from_slice(&from[from_start..from_start + len]);
 }
 
+/// Copies `count` pixels of whole bytes from number `from_first` on to number `first` on, which stands behind them all.
+pub fn repeat_run(bytes: &mut [u8], depth: u32, first: usize, count: usize, from_first: usize)
+    requires depth { IsTrue (is_depth depth) }
+    requires whole { 8 ≤ depth }
+    requires within { (first + count) * depth ≤ 8 * length bytes.old }
+    requires before { from_first + count ≤ first }
+    ensures written { (i : ℕ) → i < count → raw_at depth bytes.new (first + i) ≡ raw_at depth bytes.old (from_first + i) }
+    ensures others { (n : ℕ) → ((i : ℕ) → i < count → n ≢ first + i) → raw_at depth bytes.new n ≡ raw_at depth bytes.old n }
+{
+    let size = depth as usize / 8;
+    let from = from_first * size;
+    let len = count * size;
+    let (above, below) = bytes.split_at_mut(first * size);
+    below[..len].copy_from_slice(&above[from..from + len]);
+}
+
 /// Copies `count` pixels from other packed ones of the same depth, there from number `from_first` on, here from
 /// number `first` on.
 pub fn copy_run(
