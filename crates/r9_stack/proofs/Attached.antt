@@ -1,6 +1,6 @@
 -- A window that is put into the list of its parent.
-use Rattle.std.proofs.Common.{◌≡◌, ◌≢◌, ◌∙◌, ℕ, ◌+◌, List, [], ◌∷◌, Option, Some, None, sym, ap, subst}
-use Rattle.std.specs.Prelude.{is_some, unwrap_or}
+use Rattle.std.proofs.Common.{◌≡◌, ◌≢◌, ◌∙◌, ℕ, ◌+◌, ◌<◌, List, [], ◌∷◌, length, Option, Some, None, Result, Ok, Err, sym, ap, subst, arith}
+use Rattle.std.specs.Prelude.{is_some, unwrap_or, IfOk, OnOk}
 use Rattle.r9_geom.specs.declared.Point.{Point}
 use Rattle.r9_geom.specs.declared.Rect.{Rect}
 use Rattle.model_forest.specs.declared.Standing.{Standing}
@@ -81,3 +81,10 @@ pub made_window : (world inserted : World) (i parent fill : ℕ) (r : Rect) (cha
 unfolding after_window
 made_window world inserted i parent fill r chan raw depth image free live is chan_is depth_is put =
     made_on_top world inserted i parent fill r r chan depth (λ _. raw) image free live is chan_is depth_is put
+
+-- the room beside an image that comes
+pub room_beside : {E : Type 0} (o : Result ℕ E) (start before after : World) (p : ℕ) (image : Image) (had has : ℕ) → before ≡ start → IsLive start p → IfOk o (λ i. before i ≡ None) → IfOk o (λ i. after ≡ with_image before i (Some image)) → length (image_at start p).windows < had → has ≡ had → OnOk o (length (image_at after p).windows < has)
+room_beside (Ok i) start before after p image had has same live free put room is =
+    let windows = ap (λ (w : World). (image_at w p).windows) put ∙ ap (λ (slot : Option Image). (unwrap_or slot no_image).windows) (with_image-free before i p (Some image) free (ap (λ (w : World). is_some (w p)) same ∙ live)) ∙ ap (λ (w : World). (image_at w p).windows) same in
+    omega (arith, ap (λ (ws : List Window). length ws) windows, is, room)
+room_beside (Err e) start before after p image had has same live free put room is = tt

@@ -12,8 +12,8 @@ use Rattle.model_forest.specs.Draw.{with_canvas}
 use Rattle.model_forest.specs.Stack.{seen}
 use Rattle.model_forest.specs.World.{Image, image_at, with_image, IsLive}
 use Rattle.r9_stack.specs.declared.kept.Kept.{Kept}
-use Rattle.r9_stack.specs.Images.{image_of, pixels_at, pixels_of, slot_at, world_of, IsTable}
-use Rattle.r9_stack.proofs.Tables.{image_is, live_below, pixels_are, pixels_set, slot_is, slot_live, world_of-set, IsTable-set}
+use Rattle.r9_stack.specs.Images.{image_of, pixels_at, pixels_of, room_at, room_of, slot_at, world_of, IsTable}
+use Rattle.r9_stack.proofs.Tables.{image_is, live_below, pixels_are, pixels_set, room_set, slot_is, slot_live, world_of-set, IsTable-set}
 use Rattle.r9_stack.proofs.Worlds.{world_of-written}
 
 -- what a read of a live slot gives, with the variant that it was found to be
@@ -57,6 +57,18 @@ changed-pixels slots i {slot = slot} old new live read is same = λ j n. at n (n
     at n false e =
         let apart : n ≢ i = λ here. both_ways _ e ((Decides-eqb n i).1 here) in
         ap (λ (o : Option Kept). option_map_or pixels_of o (λ _. 0)) (get_or-set_other slots i n (Some new) None apart)
+
+pub changed-room : (slots : List (Option Kept)) (i : ℕ) {slot : Option Kept} (old new : Kept) → IsLive (world_of slots) i → slot ≡ get_or slots i slot → slot ≡ Some old → room_of new ≡ room_of old → room_at (set slots i (Some new)) ≡ room_at slots
+changed-room slots i {slot = slot} old new live read is same = λ j n. at n (n == i) refl j
+  where
+    at : (n : ℕ) (b : Bool) → (n == i) ≡ b → room_at (set slots i (Some new)) n ≡ room_at slots n
+    at n true e =
+        let here : n ≡ i = (Decides-eqb n i).0 e in
+        subst (λ (k : ℕ). room_at (set slots i (Some new)) k ≡ room_at slots k) (sym here)
+        (room_set slots i new (live_below slots i live) ∙ same ∙ sym (ap (λ (o : Option Kept). option_map_or room_of o 0) (found slots i slot old live read is)))
+    at n false e =
+        let apart : n ≢ i = λ here. both_ways _ e ((Decides-eqb n i).1 here) in
+        ap (λ (o : Option Kept). option_map_or room_of o 0) (get_or-set_other slots i n (Some new) None apart)
 
 pub changed-table : (slots : List (Option Kept)) (i : ℕ) (new : Kept) → IsLive (world_of slots) i → (spare : List ℕ) → IsTable slots spare → IsTable (set slots i (Some new)) spare
 changed-table slots i new live spare is = IsTable-set slots spare i new (live_below slots i live) (slot_live slots i live) is

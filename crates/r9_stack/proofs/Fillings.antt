@@ -160,7 +160,7 @@ not_its true test place e = sym (ap (λ b. b && place) e)
 not_its false test place e = refl
 
 -- how often an image stands in a list and one more
-count_more : (i : ℕ) (v : Window) (ws : List Window) (b : Bool) → (v.image == i) ≡ b → count_by (λ w. w.image == i) (v ∷ ws) ≡ cond b 1 0 + count_by (λ w. w.image == i) ws
+pub count_more : (i : ℕ) (v : Window) (ws : List Window) (b : Bool) → (v.image == i) ≡ b → count_by (λ w. w.image == i) (v ∷ ws) ≡ cond b 1 0 + count_by (λ w. w.image == i) ws
 count_more i v ws b e =
     sum_by-cons (λ (w : Window). cond (w.image == i) 1 0) v ws ∙ ap (λ t. cond t 1 0 + count_by (λ w. w.image == i) ws) e
 

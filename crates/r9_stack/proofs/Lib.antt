@@ -8,6 +8,7 @@ mod Groups
 mod Ordered
 pub mod Parts
 mod Pictures
+mod Placed
 mod Planes
 mod Raws
 mod Repeats

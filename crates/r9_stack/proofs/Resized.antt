@@ -71,7 +71,7 @@ there (Some image) live = refl
 there None live = absurd cc
 
 -- an image in its own place changes nothing
-same_image : (world : World) (i : ℕ) → IsLive world i → with_image world i (Some (image_at world i)) ≡ world
+pub same_image : (world : World) (i : ℕ) → IsLive world i → with_image world i (Some (image_at world i)) ≡ world
 same_image world i live = sym (World-changed world world i (Some (image_at world i)) (there (world i) live) (λ n apart. refl))
 
 pub resized-world : {A E : Type 0} (o : Result A E) (slots : List (Option Kept)) (i : ℕ) {slot : Option Kept} (old new : Kept) (r : Rect) (raw : ℕ) → IsLive (world_of slots) i → slot ≡ get_or slots i slot → slot ≡ Some old → OnOk o (image_of new ≡ resized_image (image_of old) r raw) → OnOk o (world_of (set slots i (Some new)) ≡ with_image (world_of slots) i (Some (resized_image (image_at (world_of slots) i) r raw)))

@@ -9,7 +9,7 @@ use Rattle.model_forest.specs.Numbers.{given_back, next_number, next_of, taken, 
 use Rattle.model_forest.specs.World.{image_at, no_image, with_image, IsLive}
 use Rattle.model_forest.proofs.Changes.{World-changed}
 use Rattle.r9_stack.specs.declared.kept.Kept.{Kept}
-use Rattle.r9_stack.specs.Images.{image_of, numbers_of, pixels_at, pixels_of, slot_at, world_of, IsTable}
+use Rattle.r9_stack.specs.Images.{image_of, numbers_of, pixels_at, pixels_of, room_at, room_of, slot_at, world_of, IsTable}
 
 -- ---- one slot of the world
 
@@ -48,6 +48,21 @@ pixels_are slots i kept is = ap (λ o. option_map_or pixels_of o (λ _. 0)) is
 
 pub pixels_set : (slots : List (Option Kept)) (i : ℕ) (kept : Kept) → i < length slots → pixels_at (set slots i (Some kept)) i ≡ pixels_of kept
 pixels_set slots i kept below = pixels_are (set slots i (Some kept)) i kept (get_or-set_same slots i (Some kept) None below)
+
+pub image_set : (slots : List (Option Kept)) (i : ℕ) (kept : Kept) → i < length slots → image_at (world_of (set slots i (Some kept))) i ≡ image_of kept
+image_set slots i kept below = image_is (set slots i (Some kept)) i kept (get_or-set_same slots i (Some kept) None below)
+
+pub room_set : (slots : List (Option Kept)) (i : ℕ) (kept : Kept) → i < length slots → room_at (set slots i (Some kept)) i ≡ room_of kept
+room_set slots i kept below = ap (λ o. option_map_or room_of o 0) (get_or-set_same slots i (Some kept) None below)
+
+-- an image that comes leaves the room of the others
+pub room_other : (slots : List (Option Kept)) (i : ℕ) (kept : Kept) → is_some (slot_at slots i) ≡ false → (n : ℕ) → IsLive (world_of slots) n → room_at (set slots i (Some kept)) n ≡ room_at slots n
+room_other slots i kept free n live =
+    ap (λ o. option_map_or room_of o 0)
+    (get_or-set_other slots i n (Some kept) None (λ here. both_ways _ (ap (λ k. is_some (slot_at slots k)) here ∙ free) (slot_live slots n live)))
+
+pub room_pushed : (slots : List (Option Kept)) (kept : Kept) (n : ℕ) → IsLive (world_of slots) n → room_at (slots ++ Some kept ∷ []) n ≡ room_at slots n
+room_pushed slots kept n live = ap (λ o. option_map_or room_of o 0) (get_or_append_left slots (Some kept ∷ []) None n (live_below slots n live))
 
 pub world_of-set : (slots : List (Option Kept)) (i : ℕ) (slot : Option Kept) → i < length slots → world_of (set slots i slot) ≡ with_image (world_of slots) i (option_map image_of slot)
 world_of-set slots i slot below =
@@ -232,3 +247,10 @@ numbers_same old new spare long =
 pub on_err : {T E P : Type 0} (r : Result T E) → P → OnErr r P
 on_err (Ok x) p = tt
 on_err (Err e) p = p
+
+-- where no number came back, an image may come under the next one
+pub IsTable-pushed : (done : Bool) (slots : List (Option Kept)) (spare : List ℕ) (kept : Kept) → length slots + 1 < 2 ^ 32 → length spare ≡ 0 → IsTable slots spare → IsTable (if done then slots ++ Some kept ∷ [] else slots) spare
+IsTable-pushed true slots spare kept few none is =
+    let empty : spare ≡ [] = nil_from_length spare none in
+    subst (λ (ns : List ℕ). IsTable (slots ++ Some kept ∷ []) ns) (sym empty) (IsTable-push slots kept few (subst (λ (ns : List ℕ). IsTable slots ns) empty is))
+IsTable-pushed false slots spare kept few none is = is

@@ -1,5 +1,5 @@
 -- What kept images stand for.
-use Rattle.std.specs.Prelude.{◌≡◌, ◌≢◌, ℕ, ◌+◌, ◌^◌, ◌<◌, false, List, reverse, length, Option, None, is_some, option_map, slice_index, slice_index_or}
+use Rattle.std.specs.Prelude.{◌≡◌, ◌≢◌, ℕ, ◌+◌, ◌^◌, ◌<◌, false, List, reverse, length, Option, None, is_some, option_map, slice_index, slice_index_or, vec_capacity}
 use Rattle.std.specs.List.{count_by}
 use Rattle.std.specs.Option.{option_map_or}
 use Rattle.r9_geom.specs.declared.Point.{Point}
@@ -32,6 +32,14 @@ slot_at slots n = slice_index_or slots n None
 -- the own pixels of the image at a number
 abbrev pub pixels_at : List (Option Kept) → ℕ → Point → ℕ
 pixels_at slots n = option_map_or pixels_of (slot_at slots n) (λ _. 0)
+
+-- how many windows its list has memory for
+abbrev pub room_of : Kept → ℕ
+room_of kept = vec_capacity kept.windows
+
+-- and that of the image at a number
+abbrev pub room_at : List (Option Kept) → ℕ → ℕ
+room_at slots n = option_map_or room_of (slot_at slots n) 0
 
 -- the images of slots, by number
 abbrev pub world_of : List (Option Kept) → World

@@ -4,7 +4,7 @@ use Rattle.r9_geom.specs.declared.Point.{Point}
 use Rattle.model_forest.specs.Numbers.{Numbers}
 use Rattle.model_forest.specs.World.{World}
 use Rattle.r9_stack.specs.declared.images.Images.{Images}
-use Rattle.r9_stack.specs.Images.{numbers_of, pixels_at, world_of}
+use Rattle.r9_stack.specs.Images.{numbers_of, pixels_at, room_at, world_of}
 
 -- the image at each number
 unfoldable pub world : Images → World
@@ -17,6 +17,10 @@ numbers images = numbers_of images.slots.items images.spare.items
 -- the own pixels of an image, also beneath its windows
 unfoldable pub beneath : Images → ℕ → Point → ℕ
 beneath images = pixels_at images.slots.items
+
+-- how many windows the list of an image has memory for
+unfoldable pub room : Images → ℕ → ℕ
+room images = room_at images.slots.items
 
 -- both show the same
 pub record IsUnchanged (old new : Images) : Type 0 where

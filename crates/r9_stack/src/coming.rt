@@ -1,6 +1,6 @@
 //! Windows that come.
 
-ghost use Rattle.std.specs.Prelude.{◌≡◌, ◌≢◌, ◌+◌, ◌^◌, ◌<◌, [], ◌∷◌, Some, None, length, vec_capacity, IfOk, OnErr, OnOk};
+ghost use Rattle.std.specs.Prelude.{◌≡◌, ◌≢◌, ◌+◌, ◌^◌, ◌<◌, ◌∷◌, Some, None, length, IfOk, OnErr, OnOk};
 ghost use Rattle.r9_geom.specs.Geometry.{IsOrdered, IsRectNearBy};
 ghost use Rattle.model_pixel.specs.Channels as channels;
 ghost use Rattle.model_forest.specs.Numbers.{next_number, taken};
@@ -16,7 +16,7 @@ use r9_geom::Rect;
 use r9_memory::Memory;
 
 impl Images {
-    ghost use Rattle.r9_stack.specs.Table.{numbers, world, IsUnchanged};
+    ghost use Rattle.r9_stack.specs.Table.{numbers, room, world, IsUnchanged};
 
     /// Makes a window of one raw pixel on an image, topmost, with the channels of that image, all of r as its place and its
     /// clip rectangle, and an image that fills what it uncovers.
@@ -39,35 +39,26 @@ impl Images {
         if depth == u32::MAX || count as u32 == u32::MAX {
             return Err(Memory);
         }
-        let list = Vec::with_capacity(self.alloc, count + 1)?;
         let kept = Kept::new(self.alloc, r, chan, raw)?;
-        let i = self.insert(kept)?;
-        self.put_on_top(i, Standing { parent, fill }, depth + 1, r, list);
+        let i = self.insert_beside(kept, parent)?;
+        self.put_on_top(i, Standing { parent, fill }, depth + 1, r);
         Ok(i)
     }
 
-    /// Makes an image the topmost window on another. The list is empty, and has room for all windows there.
-    pub(crate) fn put_on_top(
-        &mut self,
-        i: u32,
-        standing: Standing,
-        depth: u32,
-        place: Rect,
-        mut list: Vec<Window>,
-    )
+    /// Makes an image the topmost window on another, which has room for it.
+    pub(crate) fn put_on_top(&mut self, i: u32, standing: Standing, depth: u32, place: Rect)
         requires live { IsLive (world self.old) i }
         requires parent { IsLive (world self.old) standing.parent }
         requires apart { i ≢ standing.parent }
-        requires empty { list.items ≡ [] }
-        requires room { length (image_at (world self.old) standing.parent).windows < vec_capacity list }
+        requires room { length (image_at (world self.old) standing.parent).windows < room self.old standing.parent }
         requires few { length (image_at (world self.old) standing.parent).windows + 1 < 2 ^ 32 }
         requires forest { IsForest (with_windows (stood (world self.old) i standing depth) standing.parent (record { image = i; place = place } ∷ (image_at (world self.old) standing.parent).windows)) }
         ensures world { world self.new ≡ with_windows (stood (world self.old) i standing depth) standing.parent (record { image = i; place = place } ∷ (image_at (world self.old) standing.parent).windows) }
         ensures numbers { numbers self.new ≡ numbers self.old }
     {
         slots::stand(&mut self.slots, i, Some(standing), depth);
-        let windows = slots::take_list(self.alloc, &mut self.slots, standing.parent);
-        lists::on_top(&mut list, Window { image: i, place }, &windows);
-        slots::set_list(&mut self.slots, standing.parent, list);
+        let mut windows = slots::take_list(self.alloc, &mut self.slots, standing.parent);
+        lists::put_first(&mut windows, Window { image: i, place });
+        slots::set_list(&mut self.slots, standing.parent, windows);
     }
 }

@@ -189,8 +189,7 @@ impl Images {
         ensures beneath { (p : Spot) → beneath self.new parent p ≡ (if holds (image_at (world self.old) parent).r p && covers i p (image_at (world self.old) parent).windows then fill_at (world self.old) (image_at (world self.old) parent).chan fill p else beneath self.old parent p) }
     {
         let windows = self.get(parent).windows();
-        let k = lists::place_of(windows, i);
-        if k < windows.len() {
+        if let Some(k) = lists::place_of(windows, i) {
             let w = windows[k];
             self.fill_entry(parent, i, fill, w);
         }

@@ -1,6 +1,6 @@
 //! Images by number, and the numbers that came back.
 
-ghost use Rattle.std.specs.Prelude.{◌≡◌, ◌^◌, ◌<◌, ◌≤◌, ℕ, Some, None, true, vec_len, vec_capacity, IfOk, IsOk, OnErr, OnOk};
+ghost use Rattle.std.specs.Prelude.{◌≡◌, ◌^◌, ◌<◌, ◌≤◌, ℕ, Some, None, true, length, vec_len, vec_capacity, IfOk, IsOk, OnErr, OnOk};
 ghost use Rattle.r9_geom.specs.Geometry.{HasPoints, IsOrdered, IsRectNearBy};
 ghost use Rattle.model_pixel.specs.Channels as channels;
 ghost use Rattle.model_forest.specs.Numbers.{given_back, next_number, no_numbers, taken};
@@ -10,6 +10,7 @@ ghost use Rattle.r9_stack.specs.Images.{image_of, pixels_of, world_of, IsTable};
 ghost use Rattle.r9_stack.specs.Told.{info_of};
 
 use super::kept::Kept;
+use super::slots;
 use r9_chan::Chan;
 use r9_geom::Rect;
 use r9_info::Info;
@@ -32,7 +33,7 @@ pub struct Images {
 }
 
 impl Images {
-    ghost use Rattle.r9_stack.specs.Table.{beneath, numbers, world, IsUnchanged};
+    ghost use Rattle.r9_stack.specs.Table.{beneath, numbers, room, world, IsUnchanged};
 
     /// No image, and no number given out.
     pub fn new(alloc: Global) -> Self
@@ -73,6 +74,7 @@ impl Images {
         ensures free { IfOk result (λ i. world self.old i ≡ None) }
         ensures world { IfOk result (λ i. world self.new ≡ with_image (world self.old) i (Some (image_of kept))) }
         ensures taken { OnOk result (numbers self.new ≡ taken (numbers self.old)) }
+        ensures room { (n : ℕ) → IsLive (world self.old) n → room self.new n ≡ room self.old n }
         ensures err { OnErr result (IsUnchanged self.old self.new) }
     {
         match self.spare.pop() {
@@ -84,6 +86,31 @@ impl Images {
         }
     }
 
+    /// Puts an image under the next number, beside one that gets room for one more window.
+    pub(crate) fn insert_beside(&mut self, kept: Kept, parent: u32) -> Result<u32, Memory>
+        requires live { IsLive (world self.old) parent }
+        requires forest { IsForest (with_image (world self.old) (next_number (numbers self.old)) (Some (image_of kept))) }
+        ensures number { IfOk result (λ i. i ≡ next_number (numbers self.old)) }
+        ensures free { IfOk result (λ i. world self.old i ≡ None) }
+        ensures world { IfOk result (λ i. world self.new ≡ with_image (world self.old) i (Some (image_of kept))) }
+        ensures taken { OnOk result (numbers self.new ≡ taken (numbers self.old)) }
+        ensures room { OnOk result (length (image_at (world self.new) parent).windows < room self.new parent) }
+        ensures err { OnErr result (IsUnchanged self.old self.new) }
+    {
+        self.make_room(parent)?;
+        self.insert(kept)
+    }
+
+    // Makes room for one more window in the list of an image.
+    fn make_room(&mut self, i: u32) -> Result<(), Memory>
+        requires { IsLive (world self.old) i }
+        ensures world { world self.new ≡ world self.old }
+        ensures numbers { numbers self.new ≡ numbers self.old }
+        ensures room { OnOk result (length (image_at (world self.old) i).windows < room self.new i) }
+    {
+        slots::make_room(&mut self.slots, i)
+    }
+
     // Puts an image under a number that was never given out.
     fn push(&mut self, kept: Kept) -> Result<u32, Memory>
         requires none { vec_len self.old.spare ≡ 0 }
@@ -92,6 +119,7 @@ impl Images {
         ensures free { IfOk result (λ i. world self.old i ≡ None) }
         ensures world { IfOk result (λ i. world self.new ≡ with_image (world self.old) i (Some (image_of kept))) }
         ensures taken { OnOk result (numbers self.new ≡ taken (numbers self.old)) }
+        ensures room { (n : ℕ) → IsLive (world self.old) n → room self.new n ≡ room self.old n }
         ensures err { OnErr result (IsUnchanged self.old self.new) }
     {
         let number = self.slots.len();

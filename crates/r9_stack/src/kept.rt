@@ -1,6 +1,6 @@
 //! One image and its pixels.
 
-ghost use Rattle.std.specs.Prelude.{◌≡◌, ◌*◌, ◌^◌, ◌<◌, ◌≤◌, ◌≤ℤ◌, neg_ℤ, pos, ℕ, [], false, true, length, map, slice_index, vec_len, All, EachIndex, IfOk, IsTrue, OnErr, OnOk, if◌then◌else◌};
+ghost use Rattle.std.specs.Prelude.{◌≡◌, ◌*◌, ◌^◌, ◌<◌, ◌≤◌, ◌≤ℤ◌, neg_ℤ, pos, ℕ, [], false, true, length, map, slice_index, vec_capacity, vec_len, All, EachIndex, IfOk, IsTrue, OnErr, OnOk, if◌then◌else◌};
 ghost use Rattle.r9_geom.specs.declared.Point.{Point as Spot};
 ghost use Rattle.r9_geom.specs.Geometry as geometry;
 ghost use Rattle.r9_geom.specs.Geometry.{carried, height, holds, strip, width, HasPoints, IsNear, IsNearBy, IsOrdered, IsRectNear, IsRectNearBy};
@@ -131,7 +131,7 @@ fn resized(alloc: Global, plane: &Plane, r: Rect, raw: u32) -> Result<Plane, Mem
 impl Kept {
     ghost use Rattle.model_forest.specs.Stack.{seen};
     ghost use Rattle.model_forest.specs.Steps.{new_image, shifted_image};
-    ghost use Rattle.r9_stack.specs.Images.{image_of, pixels_of};
+    ghost use Rattle.r9_stack.specs.Images.{image_of, pixels_of, room_of};
 
     /// An image of one raw pixel that stands nowhere.
     pub fn new(alloc: Global, r: Rect, chan: Chan, raw: u32) -> Result<Kept, Memory>
@@ -157,6 +157,7 @@ impl Kept {
     pub fn stand(&mut self, standing: Option<Standing>, depth: u32)
         ensures image { image_of self.new ≡ record (image_of self.old) { standing = standing; depth = depth } }
         ensures pixels { pixels_of self.new ≡ pixels_of self.old }
+        ensures room { room_of self.new ≡ room_of self.old }
     {
         self.standing = standing;
         self.depth = depth;
@@ -259,10 +260,19 @@ impl Kept {
         self.clipr = clipr;
     }
 
+    /// Makes memory for one more window in its list. After Memory it is as before.
+    pub fn make_room(&mut self) -> Result<(), Memory>
+        ensures image { image_of self.new ≡ image_of self.old }
+        ensures room { OnOk result (length (image_of self.new).windows < room_of self.new) }
+    {
+        Ok(self.windows.reserve(1)?)
+    }
+
     /// Takes its list of windows away, to be changed and set again.
     pub fn take_windows(&mut self, alloc: Global) -> Vec<Window>
         ensures items { result.items ≡ (image_of self.old).windows }
         ensures few { vec_len result < 2 ^ 32 }
+        ensures room { vec_capacity result ≡ room_of self.old }
         ensures image { image_of self.new ≡ record (image_of self.old) { windows = []; canvas = seen (image_of self.old).r [] (pixels_of self.old) } }
         ensures pixels { pixels_of self.new ≡ pixels_of self.old }
     {

@@ -1,6 +1,7 @@
 //! Lists of windows, topmost first, and how they change.
 
-ghost use Rattle.std.specs.Prelude.{◌≡◌, ◌==◌, ◌+◌, ◌<◌, ◌≤◌, ◌∷◌, ℕ, [], false, true, length, map, slice_index_or, vec_len, vec_capacity, IfOk};
+ghost use Rattle.std.specs.Prelude.{◌≡◌, ◌==◌, ◌+◌, ◌<◌, ◌≤◌, ◌∷◌, length, map, vec_len, vec_capacity, IfOk, IfSome};
+ghost use Rattle.std.specs.List.{count_by, position};
 ghost use Rattle.std.specs.List.Sorted.{IsNonDecreasing};
 ghost use Rattle.model_forest.specs.Stack as stack;
 ghost use Rattle.model_forest.specs.Steps as steps;
@@ -68,81 +69,52 @@ pub fn lowered(alloc: Global, windows: &[Window], images: &[ImageNo]) -> Result<
     group.lowered(alloc, windows)
 }
 
+/// The first place at which a window of an image stands, where there is one.
+pub fn place_of(windows: &[Window], i: u32) -> Option<usize>
+    ensures first { result ≡ position (λ w. w.image == i) windows.now }
+    ensures within { IfSome result (λ k. k < length windows.now) }
+{
+    windows.iter().position(|w| w.image == i)
+}
+
 /// Takes an image out of the list.
 pub fn without(windows: &mut Vec<Window>, i: u32)
+    requires { count_by (λ w. w.image == i) windows.old.items ≤ 1 }
     ensures items { windows.new.items ≡ stack.without i windows.old.items }
     ensures fewer { vec_len windows.new ≤ vec_len windows.old }
 {
-    windows.retain(|w| w.image != i);
-}
-
-// Only the one window is written: the others are not copied onto themselves.
-fn move_one(w: &mut Window, i: u32, place: Rect)
-    ensures { w.new ≡ stack.moved_window i place w.old }
-{
-    if w.image == i {
-        *w = Window { image: i, place };
+    if let Some(k) = place_of(windows, i) {
+        windows.remove(k);
     }
 }
 
 /// Gives a window another place.
 pub fn moved(windows: &mut Vec<Window>, i: u32, place: Rect)
+    requires { count_by (λ w. w.image == i) windows.old.items ≤ 1 }
     ensures items { windows.new.items ≡ stack.moved i place windows.old.items }
     ensures len { vec_len windows.new ≡ vec_len windows.old }
 {
-    for w in windows.iter_mut() {
-        move_one(w, i, place);
+    if let Some(k) = place_of(windows, i) {
+        windows[k] = Window { image: i, place };
     }
 }
 
-/// The first place at which a window of an image stands, or how many windows there are.
-pub fn place_of(windows: &[Window], i: u32) -> usize
-    ensures high { result ≤ length windows.now }
-    ensures others { (n : ℕ) (w : Window) → n < result → ((slice_index_or windows.now n w).image == i) ≡ false }
-    ensures found { (w : Window) → result < length windows.now → ((slice_index_or windows.now result w).image == i) ≡ true }
+/// Puts a window above the others, for which there is room.
+pub fn put_first(windows: &mut Vec<Window>, w: Window)
+    requires { vec_len windows.old < vec_capacity windows.old }
+    ensures items { windows.new.items ≡ w ∷ windows.old.items }
+    ensures more { vec_len windows.new ≡ vec_len windows.old + 1 }
 {
-    let mut k = 0;
-    while k < windows.len() {
-        if windows[k].image == i {
-            return k;
-        }
-        k += 1;
-    }
-    k
+    let _ = windows.insert(0, w);
 }
 
-// Puts a window directly above another, for which there is room.
-fn put_above(windows: &mut Vec<Window>, w: Window, old: u32)
+/// Puts a window directly above another, for which there is room.
+pub fn put_above(windows: &mut Vec<Window>, w: Window, old: u32)
     requires { vec_len windows.old < vec_capacity windows.old }
     ensures items { windows.new.items ≡ steps.put_above w old windows.old.items }
     ensures more { vec_len windows.new ≤ vec_len windows.old + 1 }
 {
-    for k in 0..windows.len() {
-        if windows[k].image == old {
-            let _ = windows.insert(k, w);
-            return;
-        }
+    if let Some(k) = place_of(windows, old) {
+        let _ = windows.insert(k, w);
     }
-}
-
-/// A window above others, in an empty list with room for all.
-pub fn on_top(list: &mut Vec<Window>, w: Window, windows: &[Window])
-    requires empty { list.old.items ≡ [] }
-    requires room { length windows.now < vec_capacity list.old }
-    ensures items { list.new.items ≡ w ∷ windows.now }
-    ensures len { vec_len list.new ≡ length windows.now + 1 }
-{
-    let _ = list.push(w);
-    let _ = list.extend_from_slice(windows);
-}
-
-/// A window directly above another of a list, in an empty list with room for all.
-pub fn above(list: &mut Vec<Window>, w: Window, old: u32, windows: &[Window])
-    requires empty { list.old.items ≡ [] }
-    requires room { length windows.now < vec_capacity list.old }
-    ensures items { list.new.items ≡ steps.put_above w old windows.now }
-    ensures len { vec_len list.new ≤ length windows.now + 1 }
-{
-    let _ = list.extend_from_slice(windows);
-    put_above(list, w, old);
 }

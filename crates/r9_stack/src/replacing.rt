@@ -1,6 +1,6 @@
 //! A window that takes the place of another, or comes with what another shows.
 
-ghost use Rattle.std.specs.Prelude.{◌≡◌, ◌≢◌, ◌+◌, ◌^◌, ◌<◌, ◌&&◌, [], true, Some, None, length, vec_capacity, IfOk, IsSome, IsTrue, OnErr, OnOk, if◌then◌else◌};
+ghost use Rattle.std.specs.Prelude.{◌≡◌, ◌≢◌, ◌+◌, ◌^◌, ◌<◌, ◌&&◌, true, Some, None, length, IfOk, IsSome, IsTrue, OnErr, OnOk, if◌then◌else◌};
 ghost use Rattle.r9_geom.specs.declared.Point.{Point as Spot};
 ghost use Rattle.r9_geom.specs.Geometry.{carried, holds, IsNearBy, IsOrdered, IsRectNear, IsRectNearBy};
 ghost use Rattle.model_pixel.specs.Channels as channels;
@@ -28,7 +28,7 @@ const OUTSIDE: Point = Point {
 };
 
 impl Images {
-    ghost use Rattle.r9_stack.specs.Table.{numbers, world, IsUnchanged};
+    ghost use Rattle.r9_stack.specs.Table.{numbers, room, world, IsUnchanged};
 
     /// Makes a window directly above another, with its parent, its fill and its depth, at the place of r's size whose min is
     /// `corner`. It shows what the other shows, counted from both mins, or one raw pixel. The other moves far outside.
@@ -63,11 +63,10 @@ impl Images {
         if count as u32 == u32::MAX {
             return Err(Memory);
         }
-        let list = Vec::with_capacity(self.alloc, count + 1)?;
         let kept = self.copy(old, r, chan, raw, keep)?;
-        let i = self.insert(kept)?;
+        let i = self.insert_beside(kept, standing.parent)?;
         let place = carried_rect(&r, r.min, corner);
-        self.put_over(i, standing, depth, place, old, list);
+        self.put_over(i, standing, depth, place, old);
         let far = carried_rect(&own, own.min, OUTSIDE);
         self.move_window(standing.parent, old, standing.fill, far);
         Ok(i)
@@ -113,40 +112,30 @@ impl Images {
         if depth == u32::MAX || count as u32 == u32::MAX {
             return Err(Memory);
         }
-        let list = Vec::with_capacity(self.alloc, count + 1)?;
         let kept = self.copy(old, r, chan, raw, keep)?;
-        let i = self.insert(kept)?;
+        let i = self.insert_beside(kept, parent)?;
         let place = carried_rect(&r, r.min, corner);
-        self.put_on_top(i, Standing { parent, fill }, depth + 1, place, list);
+        self.put_on_top(i, Standing { parent, fill }, depth + 1, place);
         let far = carried_rect(&own, own.min, OUTSIDE);
         self.move_window(left.parent, old, left.fill, far);
         Ok(i)
     }
 
-    // Makes an image a window directly above another. The list is empty, and has room for all windows there.
-    fn put_over(
-        &mut self,
-        i: u32,
-        standing: Standing,
-        depth: u32,
-        place: Rect,
-        old: u32,
-        mut list: Vec<Window>,
-    )
+    // Makes an image a window directly above another. What they stand on has room for it.
+    fn put_over(&mut self, i: u32, standing: Standing, depth: u32, place: Rect, old: u32)
         requires live { IsLive (world self.old) i }
         requires parent { IsLive (world self.old) standing.parent }
         requires apart { i ≢ standing.parent }
-        requires empty { list.items ≡ [] }
-        requires room { length (image_at (world self.old) standing.parent).windows < vec_capacity list }
+        requires room { length (image_at (world self.old) standing.parent).windows < room self.old standing.parent }
         requires few { length (image_at (world self.old) standing.parent).windows + 1 < 2 ^ 32 }
         requires forest { IsForest (with_windows (stood (world self.old) i standing depth) standing.parent (put_above (record { image = i; place = place }) old (image_at (world self.old) standing.parent).windows)) }
         ensures world { world self.new ≡ with_windows (stood (world self.old) i standing depth) standing.parent (put_above (record { image = i; place = place }) old (image_at (world self.old) standing.parent).windows) }
         ensures numbers { numbers self.new ≡ numbers self.old }
     {
         slots::stand(&mut self.slots, i, Some(standing), depth);
-        let windows = slots::take_list(self.alloc, &mut self.slots, standing.parent);
-        lists::above(&mut list, Window { image: i, place }, old, &windows);
-        slots::set_list(&mut self.slots, standing.parent, list);
+        let mut windows = slots::take_list(self.alloc, &mut self.slots, standing.parent);
+        lists::put_above(&mut windows, Window { image: i, place }, old);
+        slots::set_list(&mut self.slots, standing.parent, windows);
     }
 
     // An image of some channels that stands nowhere, with what another shows in them, or one raw pixel.

@@ -1,12 +1,12 @@
 //! Changes of one image of a table. Between two of them a window may be missing in the list of its parent.
 
-ghost use Rattle.std.specs.Prelude.{◌≡◌, ◌^◌, ◌<◌, ℕ, [], false, List, Some, vec_len, All, OnErr, OnOk};
+ghost use Rattle.std.specs.Prelude.{◌≡◌, ◌^◌, ◌<◌, ℕ, [], false, length, List, Some, vec_capacity, vec_len, All, OnErr, OnOk};
 ghost use Rattle.r9_geom.specs.Geometry.{IsNearBy, IsOrdered, IsRectNear, IsRectNearBy};
 ghost use Rattle.model_pixel.specs.Channels as channels;
 ghost use Rattle.model_forest.specs.World.{image_at, with_image, IsLive};
 ghost use Rattle.model_forest.specs.Steps.{shifted_image};
 ghost use Rattle.model_resize.specs.Resize.{resized_image};
-ghost use Rattle.r9_stack.specs.Images.{pixels_at, world_of, IsTable};
+ghost use Rattle.r9_stack.specs.Images.{pixels_at, room_at, world_of, IsTable};
 ghost use Rattle.r9_stack.specs.Lists.{relisted};
 
 use super::kept::Kept;
@@ -15,11 +15,26 @@ use r9_geom::{Point, Rect};
 use r9_memory::Memory;
 use std::alloc::Global;
 
+/// Makes memory for one more window in the list of an image. After Memory all is as before.
+pub fn make_room(slots: &mut Vec<Option<Kept>>, i: u32) -> Result<(), Memory>
+    requires { IsLive (world_of slots.old.items) i }
+    ensures world { world_of slots.new.items ≡ world_of slots.old.items }
+    ensures room { OnOk result (length (image_at (world_of slots.new.items) i).windows < room_at slots.new.items i) }
+    ensures table { (spare : List ℕ) → IsTable slots.old.items spare → IsTable slots.new.items spare }
+    ensures len { vec_len slots.new ≡ vec_len slots.old }
+{
+    match &mut slots[i as usize] {
+        Some(kept) => kept.make_room(),
+        None => unreachable!(),
+    }
+}
+
 /// Takes the list of the windows of an image away, to be changed and set again.
 pub fn take_list(alloc: Global, slots: &mut Vec<Option<Kept>>, i: u32) -> Vec<Window>
     requires { IsLive (world_of slots.old.items) i }
     ensures items { result.items ≡ (image_at (world_of slots.old.items) i).windows }
     ensures few { vec_len result < 2 ^ 32 }
+    ensures room { vec_capacity result ≡ room_at slots.old.items i }
     ensures world { world_of slots.new.items ≡ relisted (world_of slots.old.items) i (pixels_at slots.old.items i) [] }
     ensures pixels { pixels_at slots.new.items ≡ pixels_at slots.old.items }
     ensures table { (spare : List ℕ) → IsTable slots.old.items spare → IsTable slots.new.items spare }
@@ -50,6 +65,7 @@ pub fn stand(slots: &mut Vec<Option<Kept>>, i: u32, standing: Option<Standing>, 
     requires { IsLive (world_of slots.old.items) i }
     ensures world { world_of slots.new.items ≡ with_image (world_of slots.old.items) i (Some (record (image_at (world_of slots.old.items) i) { standing = standing; depth = depth })) }
     ensures pixels { pixels_at slots.new.items ≡ pixels_at slots.old.items }
+    ensures room { room_at slots.new.items ≡ room_at slots.old.items }
     ensures table { (spare : List ℕ) → IsTable slots.old.items spare → IsTable slots.new.items spare }
     ensures len { vec_len slots.new ≡ vec_len slots.old }
 {

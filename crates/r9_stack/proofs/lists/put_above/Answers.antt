@@ -1,36 +1,20 @@
-use Rattle.std.proofs.Common.{◌≡◌, ◌∙◌, ◌<◌, true, length, sym, ap, arith}
-use Rattle.std.specs.Prelude.{insert, if◌then◌else◌}
+use Rattle.std.proofs.Common.{◌≡◌, ◌∙◌, true, sym, ap}
+use Rattle.std.specs.List.{position}
+use Rattle.std.specs.Prelude.{◌==◌, insert, if◌then◌else◌}
 use Rattle.std.specs.Result.{is_ok}
-use Rattle.model_forest.specs.Steps.{put_above}
-use Rattle.r9_stack.proofs.Ordered.{split_found, split_past, split_none}
+use Rattle.model_forest.specs.declared.Window.{Window}
+use Rattle.r9_stack.proofs.Placed.{above-apart, above-placed, none_placed}
 use Rattle.r9_stack.proofs.lists.put_above.Goals as goal
 
-pub loop-k-preserved : goal.loop-k-preserved
-loop-k-preserved c =
-    let ws = c.loop-k.windows.items in
-    let lt : c.loop-k.k < length ws = omega (arith, c.loop-k.windows.ok.0, c.loop-k-test.true) in
-    record {
-      same = c.loop-k.invariant.same;
-      room = c.loop-k.invariant.room;
-      len = c.loop-k.invariant.len;
-      above =
-          c.loop-k.invariant.above
-          ∙ split_past c.args.w c.args.old ws c.loop-k.k c.index.result.now lt c.index.ensures c.if-index-old.false;
-    }
-
-pub returns-then-index-old-clause-items : goal.returns-then-index-old-clause-items
-returns-then-index-old-clause-items c =
-    let ws = c.loop-k.windows.items in
-    let lt : c.loop-k.k < length ws = omega (arith, c.loop-k.windows.ok.0, c.loop-k-test.true) in
-    let ok : is_ok c.insert.result ≡ true = c.insert.ensures.succeeds c.loop-k.invariant.room in
+pub returns-in-Some-clause-items : goal.returns-in-Some-clause-items
+returns-in-Some-clause-items c =
+    let ws = c.args.windows.now.items in
+    let ok : is_ok c.insert.result ≡ true = c.insert.ensures.succeeds c.requires in
     c.insert.ensures.items
-    ∙ ap (λ b. if b then insert ws c.loop-k.k c.args.w else ws) ok
-    ∙ sym (split_found c.args.w c.args.old ws c.loop-k.k c.index.result.now lt c.index.ensures c.if-index-old.true)
-    ∙ sym c.loop-k.invariant.above
-    ∙ ap (put_above c.args.w c.args.old) c.loop-k.invariant.same
+    ∙ ap (λ b. if b then insert ws c.in-Some.k c.args.w else ws) ok
+    ∙ above-placed c.args.w c.args.old ws c.in-Some.k (ap (position (λ (w : Window). w.image == c.args.old)) (sym c.deref.ensures.value) ∙ sym c.place_of.ensures.first ∙ c.in-Some.is)
 
-pub returns-clause-items : goal.returns-clause-items
-returns-clause-items c =
-    let ws = c.loop-k.windows.items in
-    sym (c.loop-k.invariant.above ∙ split_none c.args.w c.args.old ws c.loop-k.k (omega (arith, c.loop-k.windows.ok.0, c.loop-k-test.false)))
-    ∙ ap (put_above c.args.w c.args.old) c.loop-k.invariant.same
+pub returns-in_default-clause-items : goal.returns-in_default-clause-items
+returns-in_default-clause-items c =
+    let ws = c.args.windows.now.items in
+    above-apart c.args.w c.args.old ws (none_placed c.args.old ws (ap (position (λ (w : Window). w.image == c.args.old)) (sym c.deref.ensures.value) ∙ sym c.place_of.ensures.first ∙ c.in_default.is))

@@ -1,9 +1,15 @@
-use Rattle.std.proofs.Common.{rules}
-use Rattle.std.specs.Prelude.{◌==◌, not}
-use Rattle.std.proofs.lemmas.Fn.{filter_same}
-use borrow.Author.Tests.{tests}
+use Rattle.std.proofs.Common.{◌∙◌, ap, sym}
+use Rattle.std.specs.Prelude.{◌==◌}
+use Rattle.std.specs.List.{position}
+use Rattle.model_forest.specs.declared.Window.{Window}
+use Rattle.r9_stack.proofs.Placed.{none_placed, without-apart, without-placed}
 use Rattle.r9_stack.proofs.lists.without.Goals as goal
 
-pub returns-clause-items : goal.returns-clause-items
-returns-clause-items c =
-    filter_same _ (λ w. not (w.image == c.args.i)) _ (λ x b f r. search (rules, tests)) _ _ c.retain.ensures.filtered
+pub returns-in-Some-clause-items : goal.returns-in-Some-clause-items
+returns-in-Some-clause-items c =
+    c.remove.ensures.items ∙ without-placed c.args.i c.args.windows.now.items c.in-Some.k (ap (position (λ (w : Window). w.image == c.args.i)) (sym c.deref.ensures.value) ∙ sym c.place_of.ensures.first ∙ c.in-Some.is) c.requires
+
+pub returns-in_default-clause-items : goal.returns-in_default-clause-items
+returns-in_default-clause-items c =
+    let ws = c.args.windows.now.items in
+    without-apart c.args.i ws (none_placed c.args.i ws (ap (position (λ (w : Window). w.image == c.args.i)) (sym c.deref.ensures.value) ∙ sym c.place_of.ensures.first ∙ c.in_default.is))

@@ -4,7 +4,7 @@ use Rattle.r9_geom.specs.declared.Point.{Point}
 use Rattle.std.proofs.Common.{ℕ}
 use Rattle.model_forest.specs.World.{Image}
 use Rattle.r9_stack.proofs.Tables.{live_below}
-use Rattle.r9_stack.proofs.Changed.{changed-pixels, changed-table, changed-world, not_empty}
+use Rattle.r9_stack.proofs.Changed.{changed-pixels, changed-room, changed-table, changed-world, not_empty}
 use Rattle.r9_stack.proofs.slots.stand.Goals as goal
 
 pub index_mut-requires : goal.index_mut-requires
@@ -26,3 +26,7 @@ returns-in-Some-clause-table c = changed-table c.args.slots.now.items c.args.i c
 pub returns-in_default : goal.returns-in_default
 returns-in_default c =
     absurd (not_empty c.args.slots.now.items c.args.i c.index_mut.result.now c.requires c.index_mut.ensures.value (ap is_some c.in_default.is))
+
+pub returns-in-Some-clause-room : goal.returns-in-Some-clause-room
+returns-in-Some-clause-room c =
+    changed-room c.args.slots.now.items c.args.i c.in-Some.kept c.stand.new.self c.requires c.index_mut.ensures.value c.in-Some.is c.stand.ensures.room

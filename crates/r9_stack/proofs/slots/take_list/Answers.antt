@@ -1,11 +1,14 @@
-use Rattle.std.proofs.Common.{ap, arith}
+use Rattle.std.proofs.Common.{◌∙◌, Option, ap, sym, arith}
 use Rattle.std.specs.Prelude.{is_some}
+use Rattle.std.specs.Option.{option_map_or}
 use Rattle.r9_geom.specs.declared.Point.{Point}
 use Rattle.std.proofs.Common.{ℕ, []}
 use Rattle.model_forest.specs.World.{Image}
 use Rattle.model_forest.specs.Stack.{seen}
+use Rattle.r9_stack.specs.declared.kept.Kept.{Kept}
+use Rattle.r9_stack.specs.Images.{room_of}
 use Rattle.r9_stack.proofs.Tables.{live_below}
-use Rattle.r9_stack.proofs.Changed.{changed-pixels, changed-table, changed-world, not_empty}
+use Rattle.r9_stack.proofs.Changed.{changed-pixels, changed-table, changed-world, found, not_empty}
 use Rattle.r9_stack.proofs.slots.take_list.Goals as goal
 
 pub index_mut-requires : goal.index_mut-requires
@@ -27,3 +30,7 @@ returns-clause-table c = changed-table c.args.slots.now.items c.args.i c.take_wi
 pub unreachable-requires : goal.unreachable-requires
 unreachable-requires c =
     not_empty c.args.slots.now.items c.args.i c.index_mut.result.now c.requires c.index_mut.ensures.value (ap is_some c.in-None.is)
+
+pub returns-clause-room : goal.returns-clause-room
+returns-clause-room c =
+    c.take_windows.ensures.room ∙ sym (ap (λ (o : Option Kept). option_map_or room_of o 0) (found c.args.slots.now.items c.args.i c.index_mut.result.now c.in-Some.kept c.requires c.index_mut.ensures.value c.in-Some.is))

@@ -4,8 +4,8 @@ use Rattle.std.proofs.lemmas.Result.{on_err_weaker, on_ok_weaker, IfOk-weaker}
 use Rattle.model_forest.specs.Numbers.{Numbers, next_number, taken}
 use Rattle.model_forest.specs.World.{with_image, IsForest}
 use Rattle.r9_stack.specs.Images.{image_of, numbers_of, world_of, IsTable}
-use Rattle.r9_stack.specs.Table.{world, numbers}
-use Rattle.r9_stack.proofs.Tables.{last_below, last_free, next_back, numbers_kept, slot_none, taken_back, world_of-set, IsTable-put}
+use Rattle.r9_stack.specs.Table.{numbers, room, world}
+use Rattle.r9_stack.proofs.Tables.{last_below, last_free, next_back, numbers_kept, room_other, slot_none, taken_back, world_of-set, IsTable-put}
 use Rattle.r9_stack.proofs.images.Images.insert.Goals as goal
 
 pub index_mut-requires : goal.index_mut-requires
@@ -97,3 +97,13 @@ returns-in-None-clause-err c =
     on_err_weaker c.push.result
     (λ is. record { world = is.world; numbers = is.numbers ∙ same_numbers c })
     c.push.ensures.err
+
+pub returns-in-Some-clause-room : goal.returns-in-Some-clause-room
+unfolding world room
+returns-in-Some-clause-room c =
+    let table = c.args.self.now in
+    room_other table.slots.items c.in-Some.number c.args.kept (last_free table.slots.items table.spare.items c.pop.new.self.items c.in-Some.number c.in-Some.ensures.items table.table)
+
+pub returns-in-None-clause-room : goal.returns-in-None-clause-room
+unfolding world room
+returns-in-None-clause-room c = c.push.ensures.room

@@ -1,4 +1,7 @@
-use Rattle.std.proofs.Common.{◌≡◌, ◌∙◌, sym, subst, arith}
+use Rattle.std.proofs.Common.{◌≡◌, ◌∙◌, ◌≤◌, List, sym, subst, arith}
+use Rattle.std.specs.Prelude.{◌==◌}
+use Rattle.std.specs.List.{count_by}
+use Rattle.model_forest.specs.declared.Window.{Window}
 use Rattle.model_forest.specs.World.{World, image_at, IsForest, IsLive}
 use Rattle.model_forest.specs.Stack.{moved, with_windows}
 use Rattle.model_forest.proofs.Uncovers.{Uncovers-moved}
@@ -51,3 +54,10 @@ unfolding numbers
 returns-clause-numbers c =
     let filled = c.fill_under.new.self in
     numbers_same filled.slots c.set_list.new.slots filled.spare.items (c.set_list.ensures.len ∙ c.take_list-windows.ensures.len) ∙ c.fill_under.ensures.numbers
+
+pub moved-requires : goal.moved-requires
+unfolding world
+moved-requires c =
+    let filled = c.fill_under.new.self in
+    let live = subst (λ (w : World). IsLive w c.args.parent) (sym c.fill_under.ensures.world) c.requires.parent in
+    subst (λ (ws : List Window). count_by (λ w. w.image == c.args.i) ws ≤ 1) (sym c.take_list-windows.ensures.items) (filled.forest.once c.args.parent c.args.i live)

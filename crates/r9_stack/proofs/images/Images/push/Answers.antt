@@ -1,11 +1,12 @@
-use Rattle.std.proofs.Common.{◌≡◌, ◌∙◌, List, Option, Some, length, refl, sym, ap, subst, arith}
+use Rattle.std.proofs.Common.{◌≡◌, ◌∙◌, ℕ, ◌+◌, ◌^◌, ◌<◌, List, [], ◌∷◌, ◌++◌, Option, Some, length, refl, sym, ap, subst, arith}
+use Rattle.std.specs.Prelude.{if◌then◌else◌}
 use Rattle.std.specs.Result.{is_ok}
 use Rattle.std.proofs.lemmas.List.{length_push}
 use Rattle.model_forest.specs.World.{with_image, IsForest}
 use Rattle.r9_stack.specs.declared.kept.Kept.{Kept}
-use Rattle.r9_stack.specs.Images.{image_of, world_of}
-use Rattle.r9_stack.specs.Table.{world, numbers}
-use Rattle.r9_stack.proofs.Tables.{next_new, numbers_kept, on_err, slot_past, taken_new, world_of-push}
+use Rattle.r9_stack.specs.Images.{image_of, room_at, world_of, IsTable}
+use Rattle.r9_stack.specs.Table.{numbers, room, world}
+use Rattle.r9_stack.proofs.Tables.{next_new, numbers_kept, on_err, room_pushed, slot_past, taken_new, world_of-push, IsTable-pushed}
 use Rattle.r9_stack.proofs.Worlds.{IsForest-pushed}
 use Rattle.r9_stack.proofs.images.Images.push.Goals as goal
 
@@ -71,3 +72,24 @@ returns-clause-taken c =
     (omega (arith, c.requires.none, table.spare.ok.0))
     (ap length c.in_ok-push.ensures.items ∙ length_push table.slots.items (Some c.args.kept))
     c.reserve.ensures.items
+
+pub returns-in_err-push-clause-room : goal.returns-in_err-push-clause-room
+unfolding world room
+returns-in_err-push-clause-room c n live = ap (λ (items : List (Option Kept)). room_at items n) c.in_err-push.ensures.items
+
+pub returns-clause-room : goal.returns-clause-room
+unfolding world room
+returns-clause-room c n live = ap (λ (items : List (Option Kept)). room_at items n) c.in_ok-push.ensures.items ∙ room_pushed c.args.self.now.slots.items c.args.kept n live
+
+pub returns-in_err-reserve-clause-room : goal.returns-in_err-reserve-clause-room
+unfolding world room
+returns-in_err-reserve-clause-room c n live = refl
+
+pub invariant_of-self-2-clause-table : goal.invariant_of-self-2-clause-table
+invariant_of-self-2-clause-table c =
+    let table = c.args.self.now in
+    let slots = table.slots.items in
+    let few : length slots + 1 < 2 ^ 32 = omega (arith, c.if-number.false, c.len-number.ensures, table.slots.ok.0) in
+    subst (λ (items : List (Option Kept)). IsTable items c.reserve.new.self.items) (sym c.push.ensures.items)
+    (subst (λ (spare : List ℕ). IsTable (if is_ok c.push.result then slots ++ Some c.args.kept ∷ [] else slots) spare) (sym c.reserve.ensures.items)
+    (IsTable-pushed (is_ok c.push.result) slots table.spare.items c.args.kept few (omega (arith, c.requires.none, table.spare.ok.0)) table.table))

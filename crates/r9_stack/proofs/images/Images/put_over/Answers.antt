@@ -1,4 +1,4 @@
-use Rattle.std.proofs.Common.{◌≡◌, ◌∙◌, List, length, ap, sym, subst, arith}
+use Rattle.std.proofs.Common.{◌≡◌, ◌∙◌, ℕ, List, length, ap, sym, subst, arith}
 use Rattle.model_forest.specs.declared.Window.{Window}
 use Rattle.model_forest.specs.World.{image_at, IsForest}
 use Rattle.model_forest.specs.Stack.{with_windows}
@@ -6,27 +6,27 @@ use Rattle.model_forest.specs.Steps.{put_above}
 use Rattle.model_forest.proofs.Uncovers.{CoversMore-put_above}
 use Rattle.r9_stack.specs.Images.{world_of}
 use Rattle.r9_stack.specs.Lists.{stood}
-use Rattle.r9_stack.specs.Table.{numbers, world}
+use Rattle.r9_stack.specs.Table.{numbers, room, world}
 use Rattle.r9_stack.proofs.Attached.{attached, live-stood, read_stood}
 use Rattle.r9_stack.proofs.Shown.{live-taken}
 use Rattle.r9_stack.proofs.Tables.{numbers_same}
 use Rattle.r9_stack.proofs.images.Images.put_over.Goals as goal
-use Rattle.r9_stack.proofs.images.Images.put_over.Goals.{After-deref, After-set_list}
+use Rattle.r9_stack.proofs.images.Images.put_over.Goals.{After-set_list, After-take_list-windows}
 
 -- what is read of the list
-read : (c : After-deref) → c.deref.result.now ≡ (image_at (world c.args.self.now) c.args.standing.parent).windows
+read : (c : After-take_list-windows) → c.take_list-windows.result.items ≡ (image_at (world c.args.self.now) c.args.standing.parent).windows
 unfolding world
 read c =
-    read_stood (world c.args.self.now) (world_of c.stand.new.slots.items) c.args.i c.args.standing c.args.depth c.args.standing.parent c.deref.result.now
-    c.requires.apart c.stand.ensures.world (c.deref.ensures.value ∙ c.take_list-windows.ensures.items)
+    read_stood (world c.args.self.now) (world_of c.stand.new.slots.items) c.args.i c.args.standing c.args.depth c.args.standing.parent c.take_list-windows.result.items
+    c.requires.apart c.stand.ensures.world c.take_list-windows.ensures.items
 
 -- the world once the list has the window
 listed : (c : After-set_list) → world_of c.set_list.new.slots.items ≡ with_windows (stood (world c.args.self.now) c.args.i c.args.standing c.args.depth) c.args.standing.parent (put_above (record { image = c.args.i; place = c.args.place }) c.args.old (image_at (world c.args.self.now) c.args.standing.parent).windows)
 unfolding world
 listed c =
-    attached c.args.self.now.slots.items c.stand.new.slots.items c.take_list-windows.new.slots.items c.set_list.new.slots.items c.args.i c.args.standing c.args.depth c.above.new.list.items (λ (ws : List Window). put_above (record { image = c.args.i; place = c.args.place }) c.args.old ws)
+    attached c.args.self.now.slots.items c.stand.new.slots.items c.take_list-windows.new.slots.items c.set_list.new.slots.items c.args.i c.args.standing c.args.depth c.put_above.new.windows.items (λ (ws : List Window). put_above (record { image = c.args.i; place = c.args.place }) c.args.old ws)
     c.requires.apart c.requires.parent c.stand.ensures.world c.take_list-windows.ensures.world c.take_list-windows.ensures.pixels c.set_list.ensures.world
-    (c.above.ensures.items ∙ ap (λ (ws : List Window). put_above (record { image = c.args.i; place = c.args.place }) c.args.old ws) (c.deref.ensures.value ∙ c.take_list-windows.ensures.items))
+    (c.put_above.ensures.items ∙ ap (λ (ws : List Window). put_above (record { image = c.args.i; place = c.args.place }) c.args.old ws) c.take_list-windows.ensures.items)
     (CoversMore-put_above (record { image = c.args.i; place = c.args.place }) c.args.old)
 
 pub stand-requires : goal.stand-requires
@@ -38,8 +38,11 @@ unfolding world
 take_list-windows-requires c =
     live-stood (world c.args.self.now) (world_of c.stand.new.slots.items) c.args.i c.args.standing c.args.depth c.args.standing.parent c.requires.apart c.stand.ensures.world c.requires.parent
 
-pub above-requires-clause-room : goal.above-requires-clause-room
-above-requires-clause-room c = omega (arith, ap length (read (goal.at.above-requires-clause-room c).After-deref), c.requires.room)
+pub put_above-requires : goal.put_above-requires
+unfolding room
+put_above-requires c =
+    let same = read (goal.at.put_above-requires c).After-take_list-windows in
+    omega (arith, c.take_list-windows.result.ok.0, ap length same, c.take_list-windows.ensures.room, ap (λ (rooms : ℕ → ℕ). rooms c.args.standing.parent) c.stand.ensures.room, c.requires.room)
 
 pub set_list-requires-clause-live : goal.set_list-requires-clause-live
 unfolding world
@@ -49,7 +52,7 @@ set_list-requires-clause-live c =
     (live-stood (world c.args.self.now) (world_of c.stand.new.slots.items) c.args.i c.args.standing c.args.depth p c.requires.apart c.stand.ensures.world c.requires.parent)
 
 pub set_list-requires-clause-few : goal.set_list-requires-clause-few
-set_list-requires-clause-few c = omega (arith, ap length (read (goal.at.set_list-requires-clause-few c).After-deref), c.requires.few, c.above.ensures.len)
+set_list-requires-clause-few c = omega (arith, c.take_list-windows.result.ok.0, ap length (read (goal.at.set_list-requires-clause-few c).After-take_list-windows), c.requires.few, c.put_above.ensures.more)
 
 pub invariant_of-self : goal.invariant_of-self
 unfolding world

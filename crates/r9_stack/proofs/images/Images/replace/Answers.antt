@@ -20,7 +20,7 @@ use Rattle.r9_stack.proofs.images.Images.replace.Goals as goal
 use Rattle.r9_stack.proofs.images.Images.replace.Goals.{After-carried_rect-far, In_ok-i}
 
 -- the image beneath has as many windows where the new one is made
-beside : (c : In_ok-i) → length (image_at (world c.insert.new.self) c.in-Some.standing.parent).windows ≡ length c.windows-count.result.now
+beside : (c : In_ok-i) → length (image_at (world c.insert_beside.new.self) c.in-Some.standing.parent).windows ≡ length c.windows-count.result.now
 unfolding world
 beside c =
     let w = world c.args.self.now in
@@ -40,7 +40,7 @@ above c =
     let s = c.in-Some.standing in
     let here = c.get-below.ensures.image in
     c.put_over.ensures.world
-    ∙ above_is w (world c.insert.new.self) c.in_ok-i.i old s c.chan-chan.result c.depth-depth.result c.args.r c.carried_rect-place.result c.args.raw c.args.keep (image_of c.in_ok-kept.kept)
+    ∙ above_is w (world c.insert_beside.new.self) c.in_ok-i.i old s c.chan-chan.result c.depth-depth.result c.args.r c.carried_rect-place.result c.args.raw c.args.keep (image_of c.in_ok-kept.kept)
     c.in_ok-i.ensures.free (parent_of_window w old s c.args.self.now.forest c.requires.window here c.in-Some.ensures) c.in_ok-kept.ensures (stands_as w old here c.in-Some.ensures)
     (c.chan-chan.ensures ∙ sym (ap (λ (image : Image). image.chan) here)) (c.depth-depth.ensures ∙ sym (ap (λ (image : Image). image.depth) here)) c.in_ok-i.ensures.world
 
@@ -74,9 +74,9 @@ pub get-requires : goal.get-requires
 unfolding world
 get-requires c = parent_of_window (world c.args.self.now) c.args.old c.in-Some.standing c.args.self.now.forest c.requires.window c.get-below.ensures.image c.in-Some.ensures
 
-pub insert-requires : goal.insert-requires
+pub insert_beside-requires-clause-forest : goal.insert_beside-requires-clause-forest
 unfolding world numbers
-insert-requires c =
+insert_beside-requires-clause-forest c =
     let table = c.args.self.now in
     let w = world table in
     let i = next_number (numbers table) in
@@ -103,8 +103,11 @@ put_over-requires-clause-apart c same =
     live-apart w c.in_ok-i.i c.in-Some.standing.parent c.in_ok-i.ensures.free below (sym same)
 
 pub put_over-requires-clause-room : goal.put_over-requires-clause-room
+put_over-requires-clause-room c = c.in_ok-i.ensures.room
+
+pub insert_beside-requires-clause-live : goal.insert_beside-requires-clause-live
 unfolding world
-put_over-requires-clause-room c = omega (arith, beside (goal.at.put_over-requires-clause-room c).In_ok-i, c.in_ok-list.ensures.exact)
+insert_beside-requires-clause-live c = parent_of_window (world c.args.self.now) c.args.old c.in-Some.standing c.args.self.now.forest c.requires.window c.get-below.ensures.image c.in-Some.ensures
 
 pub put_over-requires-clause-few : goal.put_over-requires-clause-few
 unfolding world
@@ -124,7 +127,7 @@ put_over-requires-clause-forest c =
     let count = ap (λ (image : Image). length image.windows) c.get.ensures.image ∙ ap length (sym c.windows-count.ensures.items) in
     let room : length (image_at w p).windows + 1 < 2 ^ 32 = omega (arith, count, c.if-count.false, c.windows-count.ensures.few) in
     subst IsForest
-    (sym (above_is w (world c.insert.new.self) i old s c.chan-chan.result c.depth-depth.result c.args.r c.carried_rect-place.result c.args.raw c.args.keep (image_of c.in_ok-kept.kept) c.in_ok-i.ensures.free below c.in_ok-kept.ensures stands (c.chan-chan.ensures ∙ sym (ap (λ (image : Image). image.chan) here)) (c.depth-depth.ensures ∙ sym (ap (λ (image : Image). image.depth) here)) c.in_ok-i.ensures.world))
+    (sym (above_is w (world c.insert_beside.new.self) i old s c.chan-chan.result c.depth-depth.result c.args.r c.carried_rect-place.result c.args.raw c.args.keep (image_of c.in_ok-kept.kept) c.in_ok-i.ensures.free below c.in_ok-kept.ensures stands (c.chan-chan.ensures ∙ sym (ap (λ (image : Image). image.chan) here)) (c.depth-depth.ensures ∙ sym (ap (λ (image : Image). image.depth) here)) c.in_ok-i.ensures.world))
     (subst (λ (place : Rect). IsForest (above_world w i old p c.args.r place c.args.raw c.args.keep)) (sym c.carried_rect-place.ensures)
     (IsForest-replacement w i old p c.args.r c.args.corner c.args.raw c.args.keep c.in_ok-i.ensures.free (parent_stands w old s stands) room c.requires.near c.requires.ordered c.requires.corner c.requires.raw c.args.self.now.forest))
 

@@ -44,7 +44,7 @@ above : (c : After-carried_rect-far) → world c.put_on_top.new.self ≡ on_top 
 unfolding world
 above c =
     c.put_on_top.ensures.world
-    ∙ carried_is (world c.args.self.now) (world c.insert.new.self) c.in_ok-i.i c.args.old c.args.parent c.args.fill c.args.r c.carried_rect-place.result c.args.corner c.chan-chan.result c.depth-depth.result c.args.raw c.args.keep
+    ∙ carried_is (world c.args.self.now) (world c.insert_beside.new.self) c.in_ok-i.i c.args.old c.args.parent c.args.fill c.args.r c.carried_rect-place.result c.args.corner c.chan-chan.result c.depth-depth.result c.args.raw c.args.keep
     c.in_ok-i.ensures.free c.requires.parent c.get-below.ensures.image c.chan-chan.ensures c.depth-depth.ensures c.in_ok-kept.ensures c.in_ok-i.ensures.world c.carried_rect-place.ensures
 
 -- the other stands as it stood, in its rectangle
@@ -80,9 +80,9 @@ far c =
     c.carried_rect-far.ensures
     ∙ ap (λ (own : Rect). carried_rect own own.min outside) (c.rect-own.ensures.value ∙ sym (ap (λ (image : Image). image.r) c.get-shown.ensures.image))
 
-pub insert-requires : goal.insert-requires
+pub insert_beside-requires-clause-forest : goal.insert_beside-requires-clause-forest
 unfolding world numbers
-insert-requires c =
+insert_beside-requires-clause-forest c =
     let table = c.args.self.now in
     let w = world table in
     let i = next_number (numbers table) in
@@ -97,7 +97,7 @@ unfolding world
 put_on_top-requires-clause-forest c =
     let w = world c.args.self.now in
     subst IsForest
-    (sym (carried_is w (world c.insert.new.self) c.in_ok-i.i c.args.old c.args.parent c.args.fill c.args.r c.carried_rect-place.result c.args.corner c.chan-chan.result c.depth-depth.result c.args.raw c.args.keep
+    (sym (carried_is w (world c.insert_beside.new.self) c.in_ok-i.i c.args.old c.args.parent c.args.fill c.args.r c.carried_rect-place.result c.args.corner c.chan-chan.result c.depth-depth.result c.args.raw c.args.keep
     c.in_ok-i.ensures.free c.requires.parent c.get-below.ensures.image c.chan-chan.ensures c.depth-depth.ensures c.in_ok-kept.ensures c.in_ok-i.ensures.world c.carried_rect-place.ensures))
     (IsForest-carried_over w c.in_ok-i.i c.args.old c.args.parent c.args.fill c.args.r c.args.corner c.args.raw c.args.keep c.in_ok-i.ensures.free (needs (goal.at.put_on_top-requires-clause-forest c).In_ok-i) c.args.self.now.forest)
 
@@ -137,3 +137,6 @@ returns-clause-made c =
     ∙ ap (λ (there : Rect). with_windows v left.parent (moved old there (image_at v left.parent).windows)) (far before)
     ∙ sym (listed_at v old left (moved old own) (still_stands before))
     ∙ ap (λ (u : World). after_list u old (moved old own)) (above before)
+
+pub put_on_top-requires-clause-room : goal.put_on_top-requires-clause-room
+put_on_top-requires-clause-room c = c.in_ok-i.ensures.room

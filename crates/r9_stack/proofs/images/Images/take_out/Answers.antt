@@ -1,4 +1,7 @@
-use Rattle.std.proofs.Common.{◌≡◌, ◌∙◌, ◌++◌, ◌∷◌, [], None, length, set, sym, ap, subst, arith}
+use Rattle.std.proofs.Common.{◌≡◌, ◌∙◌, ◌≤◌, List, ◌++◌, ◌∷◌, [], None, length, set, sym, ap, subst, arith}
+use Rattle.std.specs.Prelude.{◌==◌}
+use Rattle.std.specs.List.{count_by}
+use Rattle.model_forest.specs.declared.Window.{Window}
 use Rattle.std.proofs.lemmas.List.{length-set}
 use Rattle.model_forest.specs.Numbers.{Numbers, given_back}
 use Rattle.model_forest.specs.World.{World, image_at, with_image, IsForest, IsLive}
@@ -87,3 +90,10 @@ returns-clause-back c =
     given filled.slots.items (set after c.args.i None) filled.spare.items c.push.new.self.items c.args.i (length-set after c.args.i None ∙ long)
     (back (goal.at.returns-clause-back c).After-push (lives before) (sound before))
     ∙ ap (λ (n : Numbers). given_back n c.args.i) c.fill_under.ensures.numbers
+
+pub without-requires : goal.without-requires
+unfolding world
+without-requires c =
+    let filled = c.fill_under.new.self in
+    let live = subst (λ (w : World). IsLive w c.args.parent) (sym c.fill_under.ensures.world) c.requires.parent in
+    subst (λ (ws : List Window). count_by (λ w. w.image == c.args.i) ws ≤ 1) (sym c.take_list-windows.ensures.items) (filled.forest.once c.args.parent c.args.i live)
