@@ -10,6 +10,7 @@ pub mod Parts
 mod Pictures
 mod Placed
 mod Planes
+mod Raised
 mod Raws
 mod Repeats
 mod Replaced

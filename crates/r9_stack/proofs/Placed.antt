@@ -33,7 +33,7 @@ none_placed i ws e n w lt =
     let past = position_past (position_or_len (λ (v : Window). v.image == i) ws) (length ws) e in
     fails_before_first (λ (v : Window). v.image == i) ws n w (omega (arith, past, lt))
 
-none_counted : (i : ℕ) (ws : List Window) → count_by (λ w. w.image == i) ws ≤ 0 → IsApart i ws
+pub none_counted : (i : ℕ) (ws : List Window) → count_by (λ w. w.image == i) ws ≤ 0 → IsApart i ws
 none_counted i [] le n w lt = absurd (omega (arith, lt))
 none_counted i (v ∷ ws) le n w lt = by_test (v.image == i) refl (λ few. none_counted i ws few) n lt
   where

@@ -1,6 +1,6 @@
 //! Lists of windows, topmost first, and how they change.
 
-ghost use Rattle.std.specs.Prelude.{◌≡◌, ◌==◌, ◌+◌, ◌<◌, ◌≤◌, ◌∷◌, length, map, vec_len, vec_capacity, IfOk, IfSome};
+ghost use Rattle.std.specs.Prelude.{◌≡◌, ◌==◌, ◌+◌, ◌<◌, ◌≤◌, ◌∷◌, [], length, map, vec_len, vec_capacity, IfOk, IfSome};
 ghost use Rattle.std.specs.List.{count_by, position};
 ghost use Rattle.std.specs.List.Sorted.{IsNonDecreasing};
 ghost use Rattle.model_forest.specs.Stack as stack;
@@ -116,5 +116,29 @@ pub fn put_above(windows: &mut Vec<Window>, w: Window, old: u32)
 {
     if let Some(k) = place_of(windows, old) {
         let _ = windows.insert(k, w);
+    }
+}
+
+/// Puts the window of an image above the others.
+pub fn raise(windows: &mut Vec<Window>, i: u32)
+    requires { count_by (λ w. w.image == i) windows.old.items ≤ 1 }
+    ensures items { windows.new.items ≡ stack.raised (i ∷ []) windows.old.items }
+    ensures len { vec_len windows.new ≡ vec_len windows.old }
+{
+    if let Some(k) = place_of(windows, i) {
+        let w = windows.remove(k);
+        let _ = windows.insert(0, w);
+    }
+}
+
+/// Puts the window of an image below the others.
+pub fn lower(windows: &mut Vec<Window>, i: u32)
+    requires { count_by (λ w. w.image == i) windows.old.items ≤ 1 }
+    ensures items { windows.new.items ≡ stack.lowered (i ∷ []) windows.old.items }
+    ensures len { vec_len windows.new ≡ vec_len windows.old }
+{
+    if let Some(k) = place_of(windows, i) {
+        let w = windows.remove(k);
+        let _ = windows.push(w);
     }
 }

@@ -1,8 +1,8 @@
 //! Windows that come and change their order.
 
-ghost use Rattle.std.specs.Prelude.{◌≡◌, ◌^◌, ◌<◌, [], map, vec_len, All, IfNone, IfSome, IsSome, OnErr, OnOk};
+ghost use Rattle.std.specs.Prelude.{◌≡◌, ◌^◌, ◌<◌, [], ◌∷◌, map, vec_len, All, IfNone, IfSome, IsSome, OnErr, OnOk};
 ghost use Rattle.model_forest.specs.World.{image_at, parent_of, IsForest, IsLive};
-ghost use Rattle.model_forest.specs.Stack.{after_lower, after_raise, seen, uncovered, with_windows};
+ghost use Rattle.model_forest.specs.Stack.{after_lower, after_raise, lowered, raised, seen, uncovered, with_windows};
 ghost use Rattle.r9_stack.specs.Lists.{StandsOn};
 
 use super::images::Images;
@@ -24,6 +24,10 @@ impl Images {
         let Some(parent) = self.parent_of_first(group) else {
             return Ok(());
         };
+        if let [image] = group {
+            self.raise_one(parent, image.0);
+            return Ok(());
+        }
         let list = lists::raised(self.alloc, self.get(parent).windows(), group)?;
         self.give_list(parent, list);
         Ok(())
@@ -39,9 +43,37 @@ impl Images {
         let Some(parent) = self.parent_of_first(group) else {
             return Ok(());
         };
+        if let [image] = group {
+            self.lower_one(parent, image.0);
+            return Ok(());
+        }
         let list = lists::lowered(self.alloc, self.get(parent).windows(), group)?;
         self.give_list(parent, list);
         Ok(())
+    }
+
+    // Raises one window above the others of an image.
+    fn raise_one(&mut self, parent: u32, i: u32)
+        requires live { IsLive (world self.old) parent }
+        requires forest { IsForest (with_windows (world self.old) parent (raised (i ∷ []) (image_at (world self.old) parent).windows)) }
+        ensures world { world self.new ≡ with_windows (world self.old) parent (raised (i ∷ []) (image_at (world self.old) parent).windows) }
+        ensures numbers { numbers self.new ≡ numbers self.old }
+    {
+        let mut windows = slots::take_list(self.alloc, &mut self.slots, parent);
+        lists::raise(&mut windows, i);
+        slots::set_list(&mut self.slots, parent, windows);
+    }
+
+    // Lowers one window below the others of an image.
+    fn lower_one(&mut self, parent: u32, i: u32)
+        requires live { IsLive (world self.old) parent }
+        requires forest { IsForest (with_windows (world self.old) parent (lowered (i ∷ []) (image_at (world self.old) parent).windows)) }
+        ensures world { world self.new ≡ with_windows (world self.old) parent (lowered (i ∷ []) (image_at (world self.old) parent).windows) }
+        ensures numbers { numbers self.new ≡ numbers self.old }
+    {
+        let mut windows = slots::take_list(self.alloc, &mut self.slots, parent);
+        lists::lower(&mut windows, i);
+        slots::set_list(&mut self.slots, parent, windows);
     }
 
     // The image on which the first of a group stands, if there is a first.

@@ -1,17 +1,18 @@
-use Rattle.std.proofs.Common.{◌≡◌, ◌∙◌, List, map, ap, sym, subst, arith}
+use Rattle.std.proofs.Common.{◌≡◌, ◌∙◌, ℕ, List, [], ◌∷◌, get_or, map, refl, ap, sym, subst, arith}
 use Rattle.std.specs.Prelude.{IsSome}
 use Rattle.std.proofs.lemmas.List.Elements.{All-map}
 use Rattle.r9_info.specs.declared.ImageNo.{ImageNo}
 use Rattle.model_forest.specs.World.{image_at, parent_of, IsForest}
-use Rattle.model_forest.specs.Stack.{after_lower, lowered}
+use Rattle.model_forest.specs.Stack.{after_lower, lowered, with_windows}
 use Rattle.model_forest.proofs.Stacks.{length-lowered}
 use Rattle.model_forest.proofs.Steps.{IsForest-after_lower}
 use Rattle.model_forest.proofs.Uncovers.{is_bare-lowered}
 use Rattle.r9_stack.specs.Table.{beneath, world}
 use Rattle.r9_stack.specs.Images.{image_of}
 use Rattle.r9_stack.proofs.Shown.{few-reordered, list_is, shown-reordered, StandsOn-listed}
+use Rattle.r9_stack.proofs.Raised.{group_alone}
 use Rattle.r9_stack.proofs.images.Images.lower.Goals as goal
-use Rattle.r9_stack.proofs.images.Images.lower.Goals.{In_ok-list}
+use Rattle.r9_stack.proofs.images.Images.lower.Goals.{In-len1, In_ok-list}
 
 -- the list that was made
 list : (c : In_ok-list) → c.in_ok-list.list.items ≡ lowered (map (λ i. i.0) c.args.group.now) (image_at (world c.args.self.now) c.in-Some.parent).windows
@@ -52,3 +53,24 @@ returns-clause-lowered c =
     let group = map (λ i. i.0) c.args.group.now in
     c.give_list.ensures.world
     ∙ StandsOn-listed (world c.args.self.now) group c.in-Some.parent c.in_ok-list.list.items (lowered group) c.in-Some.ensures.parent (list (goal.at.returns-clause-lowered c).In_ok-list)
+
+-- the world with the one window below the others
+alone : (c : In-len1) → with_windows (world c.args.self.now) c.in-Some.parent (lowered ((get_or c.args.group.now 0 (record { 0 = 0 })).0 ∷ []) (image_at (world c.args.self.now) c.in-Some.parent).windows) ≡ after_lower (world c.args.self.now) (map (λ i. i.0) c.args.group.now)
+unfolding after_lower
+alone c =
+    let group = map (λ (i : ImageNo). i.0) c.args.group.now in
+    let w = world c.args.self.now in
+    let p = c.in-Some.parent in
+    ap (λ (g : List ℕ). with_windows w p (lowered g (image_at w p).windows)) (sym (group_alone c.args.group.now (omega (arith, c.in-len1.len_at_least)) (omega (arith, c.in-len1.len_below))))
+    ∙ StandsOn-listed w group p (lowered group (image_at w p).windows) (lowered group) c.in-Some.ensures.parent refl
+
+pub lower_one-requires-clause-forest : goal.lower_one-requires-clause-forest
+unfolding world
+lower_one-requires-clause-forest c =
+    let group = map (λ (i : ImageNo). i.0) c.args.group.now in
+    let w = world c.args.self.now in
+    subst IsForest (sym (alone (goal.at.lower_one-requires-clause-forest c).In-len1))
+    (IsForest-after_lower w group (All-map (λ n. IsSome (parent_of w n)) (λ (i : ImageNo). i.0) c.args.group.now c.requires.windows) c.args.self.now.forest)
+
+pub returns-in-len1-clause-lowered : goal.returns-in-len1-clause-lowered
+returns-in-len1-clause-lowered c = c.lower_one.ensures.world ∙ alone (goal.at.returns-in-len1-clause-lowered c).In-len1
