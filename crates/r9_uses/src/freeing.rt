@@ -62,7 +62,7 @@ impl Uses {
     fn make_room(&mut self, most: usize) -> Result<Pending, Memory>
         ensures room { OnOk result (HasRoom self.new most) }
         ensures pending { IfOk result (λ p. p.things ≡ []) }
-        ensures most { IfOk result (λ p. p.most ≡ most) }
+        ensures most { IfOk result (λ p. most ≤ p.most) }
         ensures kept { (ties : List Tie) (next_tie : ℕ) → freed_of self.new ties next_tie ≡ freed_of self.old ties next_tie }
         ensures image_ids { self.new.image_ids ≡ self.old.image_ids }
         ensures screen_ids { self.new.screen_ids ≡ self.old.screen_ids }
@@ -73,7 +73,8 @@ impl Uses {
         self.gone.reserve(most)?;
         self.spare.reserve(most)?;
         self.images.know(0)?;
-        Pending::with_room(self.alloc, most)
+        let stack = std::mem::replace(&mut self.stack, Vec::new(self.alloc));
+        Pending::in_memory(stack, most)
     }
 
     // Gives what has gone.
@@ -200,6 +201,7 @@ impl Uses {
         let most = most(1, 0, self.windows.len())?;
         let mut pending = self.make_room(most)?;
         self.drop_image_id(e, &mut pending);
+        self.stack = pending.into_memory();
         Ok(self.take_gone())
     }
 
@@ -232,6 +234,7 @@ impl Uses {
         let most = most(0, 1, self.windows.len())?;
         let mut pending = self.make_room(most)?;
         self.drop_screen_id(e, &mut pending);
+        self.stack = pending.into_memory();
         Ok(self.take_gone())
     }
 
@@ -254,6 +257,7 @@ impl Uses {
         let mut pending = self.make_room(most)?;
         self.drop_image_ids(client, &mut pending);
         self.drop_screen_ids(client, &mut pending);
+        self.stack = pending.into_memory();
         Ok(self.take_gone())
     }
 }

@@ -4,7 +4,6 @@ ghost use Rattle.std.specs.Prelude.{◌≡◌, ◌<◌, ◌≤◌, ◌∷◌, []
 
 use model_images::Thing;
 use r9_memory::Memory;
-use std::alloc::Global;
 use std::marker::Model;
 
 /// Things that have lost a reference and are still to be looked at, the next one first.
@@ -24,14 +23,19 @@ impl Model for Pending {
 }
 
 impl Pending {
-    // None, with room for so many.
-    pub(crate) fn with_room(alloc: Global, most: usize) -> Result<Self, Memory>
+    // None, with room for so many, in memory that was kept.
+    pub(crate) fn in_memory(mut stack: Vec<Thing>, most: usize) -> Result<Self, Memory>
         ensures none { IfOk result (λ p. p.things ≡ []) }
-        ensures room { IfOk result (λ p. p.most ≡ most) }
+        ensures room { IfOk result (λ p. most ≤ p.most) }
     {
-        Ok(Pending {
-            stack: Vec::with_capacity(alloc, most)?,
-        })
+        stack.clear();
+        stack.reserve(most)?;
+        Ok(Pending { stack })
+    }
+
+    // Its memory, to be kept.
+    pub(crate) fn into_memory(self) -> Vec<Thing> {
+        self.stack
     }
 
     pub(crate) fn push(&mut self, thing: Thing)

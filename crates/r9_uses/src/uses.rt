@@ -28,6 +28,8 @@ pub struct Uses {
     pub(crate) spare: Vec<u32>,
     pub(crate) windows: Windows,
     pub(crate) gone: Vec<Thing>,
+    // Memory for things that are still to be looked at, which the next call takes.
+    pub(crate) stack: Vec<Thing>,
     // How often each image is referred to, how many screens are on it, and how often each screen is referred to.
     pub(crate) images: Tally,
     pub(crate) on: Tally,
@@ -59,6 +61,7 @@ impl Uses {
             spare: Vec::new(alloc),
             windows: Windows::new(alloc),
             gone: Vec::new(alloc),
+            stack: Vec::new(alloc),
             images: Tally::new(alloc),
             on: Tally::new(alloc),
             numbers: Tally::new(alloc),

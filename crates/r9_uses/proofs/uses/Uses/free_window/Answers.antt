@@ -1,6 +1,7 @@
-use Rattle.std.proofs.Common.{ap, ◌∙◌}
+use Rattle.std.proofs.Common.{ap, ◌∙◌, ◌≤◌, arith}
 use Rattle.model_images.specs.Release.{Freed, freed_image_id}
 use Rattle.r9_uses.proofs.Rooms.{all-given, on_err}
+use Rattle.r9_uses.specs.Room.{room}
 use Rattle.r9_uses.proofs.uses.Uses.free_window.Goals as goal
 
 pub returns-in_err-pending-clause-none : goal.returns-in_err-pending-clause-none
@@ -13,3 +14,9 @@ pub returns-clause-freed : goal.returns-clause-freed
 returns-clause-freed c = λ ties next_tie.
     all-given c.take_gone.new.self c.drop_image_id.new.self c.take_gone.result.items _ ties next_tie (c.take_gone.ensures.kept c.take_gone.result.items ties next_tie) c.take_gone.ensures.gone
     (c.drop_image_id.ensures.freed ties next_tie ∙ ap (λ (f : Freed). freed_image_id f c.args.e) (c.make_room.ensures.kept ties next_tie))
+
+pub returns-clause-more : goal.returns-clause-more
+unfolding room
+returns-clause-more c =
+    let last : room c.drop_image_id.new.self ≤ room c.take_gone.new.self = c.take_gone.ensures.more in
+    omega (arith, c.make_room.ensures.more, c.drop_image_id.ensures.more, last)

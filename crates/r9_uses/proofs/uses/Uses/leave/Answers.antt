@@ -1,4 +1,4 @@
-use Rattle.std.proofs.Common.{◌≡◌, ◌==◌, ◌+◌, ◌*◌, filter, length, ap, ◌∙◌, arith}
+use Rattle.std.proofs.Common.{◌≡◌, ◌==◌, ◌+◌, ◌*◌, filter, length, ap, ◌∙◌, arith, ◌≤◌}
 use Rattle.std.specs.List.{fold}
 use Rattle.model_images.specs.declared.ScreenId.{ScreenId}
 use Rattle.model_images.specs.Release.{Freed, freed_screen_id}
@@ -7,6 +7,7 @@ use Rattle.r9_ids.specs.ScreenIds as screens
 use Rattle.r9_uses.specs.Freed.{left_by, own_images, own_screens}
 use Rattle.r9_uses.specs.Windows.{Standing}
 use Rattle.r9_uses.proofs.Rooms.{all-given, less-room, on_err}
+use Rattle.r9_uses.specs.Room.{room}
 use Rattle.r9_uses.proofs.uses.Uses.leave.Goals as goal
 
 pub returns-in_err-pending-clause-none : goal.returns-in_err-pending-clause-none
@@ -36,3 +37,9 @@ returns-clause-freed c = λ ties next_tie.
     (c.drop_screen_ids.ensures.freed ties next_tie
     ∙ (λ i. fold freed_screen_id (c.drop_image_ids.ensures.freed ties next_tie i) (filter (λ (e : ScreenId). e.client == c.args.client) (c.drop_image_ids.ensures.screen_ids i).ids))
     ∙ ap (λ (f : Freed). left_by f c.args.client) (c.make_room.ensures.kept ties next_tie))
+
+pub returns-clause-more : goal.returns-clause-more
+unfolding room
+returns-clause-more c =
+    let last : room c.drop_screen_ids.new.self ≤ room c.take_gone.new.self = c.take_gone.ensures.more in
+    omega (arith, c.make_room.ensures.more, c.drop_image_ids.ensures.more, c.drop_screen_ids.ensures.more, last)
