@@ -36,11 +36,10 @@ fn has_window(device: &Device, window: u32) -> bool
     ensures { result ≡ has_window (world_of device.now) window }
 {
     window != 0
-        && device.knows(0, window)
-        && device
-            .book
-            .screen_of(device.image_shown(window).0)
-            .is_some()
+        && match device.book.shown(0, window) {
+            Some(image) => device.book.screen_of(image).is_some(),
+            None => false,
+        }
 }
 
 // Whether what the window shows can be kept in a rectangle on the screen of a rio.
