@@ -1,16 +1,19 @@
 -- Files found by their names.
-use Rattle.std.proofs.Common.{◌≡◌, refl, ap, ap₂, ◌∙◌, ◌+◌, ℕ, Bool, true, false, cond, List, [], ◌∷◌, ◌++◌, map, arith}
+use Rattle.std.proofs.Common.{◌≡◌, refl, sym, ap, ap₂, ◌∙◌, ◌+◌, ℕ, Bool, true, false, cond, List, [], ◌∷◌, ◌++◌, map, arith}
 use native.Mathlib.Numerals.{unary_clauses}
-use Rattle.std.specs.Prelude.{Some, IfSome}
+use Rattle.std.specs.Prelude.{Option, Some, None, IfSome, Ok, codes, not, if◌then◌else◌}
 use Rattle.std.specs.Fmt.{decimal}
 use Rattle.std.specs.Str.{bytes_eq}
 use Rattle.std.specs.List.{find, All}
 use Rattle.std.specs.Map.{lookup}
 use Rattle.std.specs.Option.{option_map, option_or}
+use Rattle.model_text.specs.Outcome.{Outcome, ◌>>=◌, refuse_if, value_or_refuse}
 use Rattle.model_tree.specs.declared.Kind.{Kind}
 use Rattle.model_tree.specs.declared.Kind.TheVariants.{Draw, Wsys}
-use Rattle.model_tree.specs.Node.{Node, row}
-use Rattle.model_tree.specs.Tree.{View, kinds_in, numbered_in, placed, connection_at, window_at, files}
+use Rattle.model_tree.specs.Node.{Node, row, is_directory}
+use Rattle.model_tree.specs.Tree.{View, kinds_in, numbered_in, placed, connection_at, window_at, files, above, check_live, walk}
+use Rattle.r9_tree.specs.declared.node.Node as code
+use Rattle.r9_tree.specs.View.{node_of}
 
 -- what was found is one of the list
 pub found_has : {X : Type 0} (P : X → Type 0) (test : X → Bool) (xs : List X) → All P xs → IfSome (find test xs) P
@@ -65,3 +68,25 @@ found_file view node name =
     by_number : (entries : List (ℕ × Node)) → lookup (bytes_eq name) (map (λ entry. (decimal entry.0, entry.1)) entries) ≡ lookup (is_number name) entries
     by_number [] = refl
     by_number (e ∷ es) = ap (cond (is_number name e.0) (Some e.1)) (by_number es)
+
+-- a step to a file that its directory always has
+pub walked_to : (view : View) (node : Node) (name : List ℕ) (kind : Kind) → is_directory node ≡ true → bytes_eq name (codes "..") ≡ false
+    → find (λ kind. bytes_eq name (row kind).name) (kinds_in node.kind) ≡ Some kind → check_live view node ≡ Ok tt
+    → walk view node name ≡ Ok (placed view node kind)
+unfolding walk
+walked_to view node name kind directory further there lives =
+    let by : Outcome Node = if bytes_eq name (codes "..") then Ok (above view node node.kind) else value_or_refuse (lookup (bytes_eq name) (files view node)) 34 in
+    ap (λ (o : Outcome (Unit {0})). o >>= λ _. refuse_if (not (is_directory node)) 35 >>= λ _. by) lives
+    ∙ ap (λ b. refuse_if (not b) 35 >>= λ _. by) directory
+    ∙ ap (λ b. if b then Ok (above view node node.kind) else value_or_refuse (lookup (bytes_eq name) (files view node)) 34) further
+    ∙ ap (λ (o : Option Node). value_or_refuse o 34) (found_file view node name)
+    ∙ ap (λ (o : Option Kind). value_or_refuse (option_or (option_map (placed view node) o) (lookup (is_number name) (numbered_in view node node.kind))) 34) there
+
+-- the same of a file that no view tells
+pub walked_without_view : (found : Option code.Node) (node : Node) (name : List ℕ) (kind : Kind) → is_directory node ≡ true → bytes_eq name (codes "..") ≡ false
+    → find (λ kind. bytes_eq name (row kind).name) (kinds_in node.kind) ≡ Some kind
+    → IfSome found (λ there. (view : View) → node_of there ≡ placed view node kind)
+    → IfSome found (λ next. (view : View) → check_live view node ≡ Ok tt → walk view node name ≡ Ok (node_of next))
+walked_without_view None node name kind directory further there is = tt
+walked_without_view (Some next) node name kind directory further there is =
+    λ view lives. walked_to view node name kind directory further there lives ∙ ap Ok (sym (is view))

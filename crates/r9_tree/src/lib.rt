@@ -17,8 +17,8 @@ pub use attach::{Attach, read_attach};
 pub use model_tree::Kind;
 pub use node::{Node, TreeView};
 pub use rows::{kind_of, may, qid};
-pub use stats::{listing, stat};
-pub use walking::{check_live, is_ended, root_of, walk};
+pub use stats::{listing, stat, stat_without_view};
+pub use walking::{check_live, is_ended, root_of, walk, walk_without_view};
 
 /// A listing is cut at whole stats: each begins with two bytes that give the length of what follows.
 pub fn listings_tell_their_pieces()

@@ -1,12 +1,13 @@
 //! What stat(5) tells of files, and the listings of directories.
 
-ghost use Rattle.std.specs.Prelude.{◌≡◌, ◌++◌, ◌==◌, ◌≤◌, length, IfOk, OnOk, ◌<◌, ◌^◌};
+ghost use Rattle.std.specs.Prelude.{◌≡◌, ◌++◌, ◌==◌, ◌≤◌, length, IfOk, IfSome, IfNone, OnOk, ◌<◌, ◌^◌};
 ghost use Rattle.std.specs.List.{All, find, flat_map, zip};
 ghost use Rattle.std.specs.Fmt.{decimal};
 ghost use Rattle.std.specs.Option.{option_map_or};
 ghost use Rattle.model_wire.specs.Spelling.{FitsStat, stat_bytes};
 ghost use Rattle.model_tree.specs.Node.{row};
-ghost use Rattle.model_tree.specs.Tree.{numbered_in, number_of, name_by, stat, stat_named, placed, connection_at, window_at};
+ghost use Rattle.model_tree.specs.declared.Kind.TheVariants.{Listed};
+ghost use Rattle.model_tree.specs.Tree.{View, numbered_in, number_of, name_by, stat, stat_named, placed, connection_at, window_at};
 ghost use Rattle.model_tree.specs.Listing.{listing};
 ghost use Rattle.r9_wire.specs.View.{stat_of};
 ghost use Rattle.r9_tree.specs.View.{node_of, view_of, IsNode, IsView, IsName, most_connections};
@@ -97,6 +98,35 @@ pub fn stat(alloc: Global, node: &Node, view: &TreeView) -> Result<Stat, Memory>
 {
     let name = name_by(alloc, node, kind_of(node.kind), view)?;
     stat_named(alloc, name, node)
+}
+
+/// The name of a file that no view tells: None for a window in the directory of windows.
+fn own_name(alloc: Global, node: &Node, kind: Kind) -> Result<Option<Bytes>, Memory>
+    ensures name { IfOk result (λ found. IfSome found (λ name. (view : View) → name ≡ name_by view (node_of node.now) kind)) }
+    ensures sound { IfOk result (λ found. IfSome found IsName) }
+    ensures none { IfOk result (λ found. IfNone found (kind ≡ Listed)) }
+{
+    let name = match kind {
+        Kind::Listed => return Ok(None),
+        Kind::Connection => number_name(alloc, node.connection)?,
+        _ => fixed_name(alloc, kind)?,
+    };
+    Ok(Some(name))
+}
+
+/// The same of a file whose name no view tells: None exactly for a window in the directory of windows.
+#[tactic(auto, unfolding(model_tree::specs::Tree::stat, model_tree::specs::Tree::name_of))]
+pub fn stat_without_view(alloc: Global, node: &Node) -> Result<Option<Stat>, Memory>
+    requires { IsNode node.now }
+    ensures stat { IfOk result (λ found. IfSome found (λ s. (view : View) → stat_of s ≡ stat view (node_of node.now))) }
+    ensures fits { IfOk result (λ found. IfSome found (λ s. FitsStat (stat_of s) × (length (stat_bytes (stat_of s)) < 2 ^ 16))) }
+    ensures none { IfOk result (λ found. IfNone found ((node_of node.now).kind ≡ Listed)) }
+{
+    let Some(name) = own_name(alloc, node, kind_of(node.kind))? else {
+        return Ok(None);
+    };
+    let stat = stat_named(alloc, name, node)?;
+    Ok(Some(stat))
 }
 
 fn put_stat(alloc: Global, name: Bytes, node: &Node, out: &mut Bytes) -> Result<(), Memory>

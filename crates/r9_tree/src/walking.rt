@@ -1,13 +1,13 @@
 //! Walks from one file to another (walk(5)).
 
-ghost use Rattle.std.specs.Prelude.{◌≡◌, ◌==◌, ◌≤◌, ◌&&◌, not, IfSome, IfOk, IfErr};
+ghost use Rattle.std.specs.Prelude.{◌≡◌, ◌==◌, ◌≤◌, ◌&&◌, not, IfSome, IfOk, IfErr, Ok, unwrap_or};
 ghost use Rattle.std.specs.List.{find, list_any, zip};
 ghost use Rattle.std.specs.Option.{option_map};
 ghost use Rattle.std.specs.Map.{lookup};
 ghost use Rattle.std.specs.Fmt.{decimal};
 ghost use Rattle.std.specs.Str.{bytes_eq};
 ghost use Rattle.model_tree.specs.Node.{row, kind_numbered};
-ghost use Rattle.model_tree.specs.Tree.{kinds_in, numbered_in, placed, connection_at, window_at, files, above, root_of, is_gone, is_of_connection, check_live, walk};
+ghost use Rattle.model_tree.specs.Tree.{View, kinds_in, numbered_in, placed, connection_at, window_at, files, above, root_of, is_gone, is_of_connection, check_live, walk};
 ghost use Rattle.r9_tree.specs.View.{node_of, view_of, IsNode, IsView, most_connections};
 
 use crate::rows::{is_directory, kind_of, name_of, number_of};
@@ -74,9 +74,9 @@ pub fn check_live(node: &Node, view: &TreeView) -> Result<(), u8>
 }
 
 #[tactic(auto, unfolding(model_tree::specs::Node::row))]
-fn connection_for(node: &Node, kind: Kind, view: &TreeView) -> u32
+fn connection_for(node: &Node, kind: Kind) -> u32
     requires { IsNode node.now }
-    ensures file { result ≡ (placed (view_of view.now) (node_of node.now) kind).connection }
+    ensures file { (view : View) → result ≡ (placed view (node_of node.now) kind).connection }
     ensures bound { result ≤ most_connections }
 {
     match kind {
@@ -105,12 +105,13 @@ fn connection_for(node: &Node, kind: Kind, view: &TreeView) -> u32
     }
 }
 
+/// The serial of the file of a kind in a directory: None where it is that of the host of the rio.
 #[tactic(auto, unfolding(model_tree::specs::Node::row))]
-fn serial_for(node: &Node, kind: Kind, view: &TreeView) -> u32
-    ensures { result ≡ (placed (view_of view.now) (node_of node.now) kind).serial }
+fn own_serial(node: &Node, kind: Kind) -> Option<u32>
+    ensures { (view : View) → (placed view (node_of node.now) kind).serial ≡ unwrap_or result view.host }
 {
-    match kind {
-        Kind::Screen | Kind::Snarf | Kind::Wsys => view.host,
+    let serial = match kind {
+        Kind::Screen | Kind::Snarf | Kind::Wsys => return None,
         Kind::Device
         | Kind::Draw
         | Kind::New
@@ -133,22 +134,43 @@ fn serial_for(node: &Node, kind: Kind, view: &TreeView) -> u32
         | Kind::Winname
         | Kind::Picture
         | Kind::Listed => node.serial,
+    };
+    Some(serial)
+}
+
+/// The file of a kind in a directory, by its serial.
+#[tactic(auto, using(crate::proofs::Placed::owned_is, crate::proofs::KindNumbers::kind_numbered_number))]
+fn with_serial(node: &Node, kind: Kind, serial: u32) -> Node
+    requires { IsNode node.now }
+    ensures file { (view : View) → serial ≡ (placed view (node_of node.now) kind).serial → node_of result ≡ placed view (node_of node.now) kind }
+    ensures sound { IsNode result }
+{
+    Node {
+        kind: number_of(kind),
+        connection: connection_for(node, kind),
+        serial,
+        root: node.root,
     }
 }
 
 /// The file of a kind in a directory.
-#[tactic(auto, using(crate::proofs::Placed::owned_is, crate::proofs::KindNumbers::kind_numbered_number))]
 pub(crate) fn placed(node: &Node, kind: Kind, view: &TreeView) -> Node
     requires { IsNode node.now }
     ensures file { node_of result ≡ placed (view_of view.now) (node_of node.now) kind }
     ensures sound { IsNode result }
 {
-    Node {
-        kind: number_of(kind),
-        connection: connection_for(node, kind, view),
-        serial: serial_for(node, kind, view),
-        root: node.root,
-    }
+    let serial = own_serial(node, kind).unwrap_or(view.host);
+    with_serial(node, kind, serial)
+}
+
+/// The same where no view tells its serial.
+fn placed_without_view(node: &Node, kind: Kind) -> Option<Node>
+    requires { IsNode node.now }
+    ensures file { IfSome result (λ placed_there. (view : View) → node_of placed_there ≡ placed view (node_of node.now) kind) }
+    ensures sound { IfSome result IsNode }
+{
+    let serial = own_serial(node, kind)?;
+    Some(with_serial(node, kind, serial))
 }
 
 #[tactic(auto, using(crate::proofs::KindNumbers::kind_numbered_number))]
@@ -359,4 +381,20 @@ pub fn walk(node: &Node, name: &[u8], view: &TreeView) -> Result<Node, u8>
         Some(next) => Ok(next),
         None => Err(34),
     }
+}
+
+/// One step of a walk from a file that may be used, to a file of which no view tells. None where a view is to be asked, or the step is
+/// refused.
+#[tactic(auto, unfolding(model_tree::specs::Tree::walk))]
+pub fn walk_without_view(node: &Node, name: &[u8]) -> Option<Node>
+    requires { IsNode node.now }
+    ensures found { IfSome result (λ next. (view : View) → check_live view (node_of node.now) ≡ Ok tt → walk view (node_of node.now) name.now ≡ Ok (node_of next)) }
+    ensures sound { IfSome result IsNode }
+{
+    let kind = kind_of(node.kind);
+    if !is_directory(kind) || name == b"..".as_slice() {
+        return None;
+    }
+    let named = kind_named(kinds_in(kind), name)?;
+    placed_without_view(node, named)
 }
