@@ -2,7 +2,7 @@
 use Rattle.std.specs.Prelude.{◌≡◌, ◌⊎◌, ◌==◌, ◌&&◌, not, ℕ, Bool, true, false, Option, Some, Result, Ok, Err, None, IfSome, option_map}
 use Rattle.model_text.specs.Map.{lookup}
 use Rattle.model_text.specs.Outcome.{Outcome}
-use Rattle.model_wire.specs.Message.{T, Tread, Twrite, no_tag, tag_of_t}
+use Rattle.model_wire.specs.Message.{R, T, Tread, Twrite, no_tag, tag_of_t}
 use Rattle.model_wire.specs.Spelling.{FitsR}
 use Rattle.model_world.specs.Session.{Session}
 use Rattle.model_world.specs.Answer.{Taking, Ignored, TooLong, Closes, Reads, is_version}
@@ -29,6 +29,12 @@ abbrev pub IsReach : {S : Type 0} → (old : Session) (before : S) (found : Resu
 IsReach old before (Ok reply) new after defined = (defined ≡ Ok (record { session = new; rest = after; reply = Some (r_of reply) })) × FitsR (r_of reply)
 IsReach old before (Err (fault.Refused n)) new after defined = (defined ≡ Err n) × (new ≡ old) × (after ≡ before)
 IsReach old before (Err fault.Memory) new after defined = Unit {0}
+
+-- the same of one whose reply is known where it is not refused
+abbrev pub IsDone : {S : Type 0} → (old : Session) (before : S) (reply : R) (found : Result (Unit {0}) Fault) (new : Session) (after : S) → Outcome (Left S) → Type 0
+IsDone old before reply (Ok _) new after defined = defined ≡ Ok (record { session = new; rest = after; reply = Some reply })
+IsDone old before reply (Err (fault.Refused n)) new after defined = (defined ≡ Err n) × (new ≡ old) × (after ≡ before)
+IsDone old before reply (Err fault.Memory) new after defined = Unit {0}
 
 -- the same of a read, which may have no reply yet
 abbrev pub IsReadEnd : {S : Type 0} → (old : Session) (before : S) (found : Result (Option Rmsg) Fault) (new : Session) (after : S) → Outcome (Left S) → Type 0

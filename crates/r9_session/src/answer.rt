@@ -203,11 +203,13 @@ impl Session {
             | Tmsg::Read { fid, .. }
             | Tmsg::Write { fid, .. } => self.deny(*fid),
             Tmsg::Clunk { tag, fid } => {
-                self.clunk(alloc, outside, number, *fid, Rmsg::Clunk { tag: *tag })
+                self.clunk(alloc, outside, number, *fid)?;
+                Ok(Rmsg::Clunk { tag: *tag })
             }
             Tmsg::Remove { tag, fid } => {
                 let reply = refusal(alloc, *tag, PERMISSION_DENIED)?;
-                self.clunk(alloc, outside, number, *fid, reply)
+                self.clunk(alloc, outside, number, *fid)?;
+                Ok(reply)
             }
             Tmsg::Stat { tag, fid } => self.stat(alloc, outside, *tag, *fid),
         }

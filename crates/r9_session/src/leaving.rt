@@ -9,9 +9,8 @@ ghost use Rattle.model_world.specs.Answer.{clunk_answer};
 ghost use Rattle.model_text.specs.Map.{lookup};
 ghost use Rattle.model_world.specs.Session as model;
 ghost use Rattle.model_world.specs.Fids.{cleared, has_root, is_kept, keeps, left_by, put};
-ghost use Rattle.model_wire.specs.Spelling.{FitsR};
-ghost use Rattle.r9_wire.specs.View.{r_of};
-ghost use Rattle.r9_session.specs.Answers.{IsReach};
+ghost use Rattle.model_wire.specs.Message.{R};
+ghost use Rattle.r9_session.specs.Answers.{IsDone};
 ghost use Rattle.r9_session.specs.Clients.{MayLeave, left_of, without_fid};
 ghost use Rattle.r9_session.specs.Roots.{roots_of, without_fids};
 
@@ -21,7 +20,6 @@ use r9_around::Outside;
 use r9_files::{Fault, Fid, UNKNOWN_FID};
 use r9_memory::Memory;
 use r9_text::Numbers;
-use r9_wire::Rmsg;
 use std::alloc::Global;
 
 /// Ends connections of a session, one after the other.
@@ -196,8 +194,8 @@ impl Session {
         outside.left(number, &windows)
     }
 
-    /// Lets a fid go, ends the connection that it alone kept alive and what it had open for itself, leaves the window that it alone
-    /// had as its root, and answers by the reply that is given.
+    /// Lets a fid go, ends the connection that it alone kept alive and what it had open for itself, and leaves the window that it alone
+    /// had as its root.
     #[tactic(auto, unfolding(model_world::specs::Answer::clunk_answer, model_world::specs::Fids::settled, model_world::specs::Fids::fids_gone))]
     pub(crate) fn clunk<O: Outside>(
         &mut self,
@@ -205,11 +203,9 @@ impl Session {
         outside: &mut O,
         number: u32,
         fid: u32,
-        reply: Rmsg,
-    ) -> Result<Rmsg, Fault>
-        requires linked { O.linked number self.old.made self.old.connections (O.state outside.old) }
-        requires fits { FitsR (r_of reply) }
-        ensures { IsReach self.old (O.state outside.old) result self.new (O.state outside.new) (clunk_answer (O.outside number) self.old (O.state outside.old) fid (r_of reply)) }
+    ) -> Result<(), Fault>
+        requires { O.linked number self.old.made self.old.connections (O.state outside.old) }
+        ensures { (reply : R) → IsDone self.old (O.state outside.old) reply result self.new (O.state outside.new) (clunk_answer (O.outside number) self.old (O.state outside.old) fid reply) }
     {
         if self.fids.get(fid).is_none() {
             return Err(Fault::Refused(UNKNOWN_FID));
@@ -220,7 +216,7 @@ impl Session {
             let_go(outside, &gone);
             self.leave_root(alloc, outside, number, gone.node().root)?;
         }
-        Ok(reply)
+        Ok(())
     }
 
     /// The root of the attach of each fid.

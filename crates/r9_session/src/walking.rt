@@ -1,12 +1,14 @@
 //! Walking and telling of files (walk(5), stat(5)).
 
-ghost use Rattle.std.specs.Prelude.{◌≡◌, ◌≢◌, ◌≤◌, ◌++◌, ℕ, List, false, length, map, IfOk, OnOk};
+ghost use Rattle.std.specs.Prelude.{◌≡◌, ◌≢◌, ◌≤◌, ◌++◌, ℕ, List, false, length, map, IfOk, IfErr, OnOk, Ok, Err};
 ghost use Rattle.model_tree.specs.Node.{qid};
 ghost use Rattle.model_tree.specs.Node as model;
+ghost use Rattle.model_tree.specs.Tree.{walk};
 ghost use Rattle.model_world.specs.Session.{fid_at};
 ghost use Rattle.model_world.specs.Fids.{with_fid, is_bound, is_full};
 ghost use Rattle.model_world.specs.Walking.{walk_answer, walk_ended, walked, last};
 ghost use Rattle.model_world.specs.Answer.{stat_answer, denied};
+ghost use Rattle.r9_around.specs.Words.{IfRefused};
 ghost use Rattle.r9_tree.specs.View.{node_of, IsNode};
 ghost use Rattle.r9_session.specs.Answers.{IsAnswer, IsClosed};
 
@@ -16,7 +18,7 @@ use r9_around::Outside;
 use r9_files::{FID_IS_OPEN, Fault, Fid, PERMISSION_DENIED, UNKNOWN_FID};
 use r9_memory::Memory;
 use r9_text::Bytes;
-use r9_tree::{Node, check_live, qid, stat, walk};
+use r9_tree::{Node, qid, stat, stat_without_view, walk, walk_without_view};
 use r9_wire::{Names, Qids, Rmsg};
 use std::alloc::Global;
 
@@ -28,6 +30,23 @@ struct Walked {
 }
 
 impl Session {
+    /// One step of a walk from a file. A view is asked for only where it tells of the next file.
+    #[tactic(auto, unfolding(model_tree::specs::Tree::walk))]
+    fn step<O: Outside>(&self, outside: &O, from: &Node, name: &[u8]) -> Result<Node, Fault>
+        requires { IsNode from.now }
+        ensures found { IfOk result (λ next. (number : ℕ) → walk ((O.outside number).view (O.state outside.now) self.now.connections (node_of from.now)) (node_of from.now) name.now ≡ Ok (node_of next)) }
+        ensures sound { IfOk result IsNode }
+        ensures refused { IfErr result (λ f. IfRefused f (λ n. (number : ℕ) → walk ((O.outside number).view (O.state outside.now) self.now.connections (node_of from.now)) (node_of from.now) name.now ≡ Err n)) }
+    {
+        self.check_live(outside, from)?;
+        if let Some(next) = walk_without_view(from, name) {
+            return Ok(next);
+        }
+        let view = self.view(outside, from)?;
+        let next = walk(from, name, &view)?;
+        Ok(next)
+    }
+
     /// Walks names one after the other from a file, and adds the qids of the files on the way.
     fn walk_names<O: Outside>(
         &self,
@@ -48,12 +67,12 @@ impl Session {
                 refusal: None,
             });
         };
-        let view = self.view(outside, &from)?;
-        match walk(&from, name.as_slice(), &view) {
-            Err(refusal) => Ok(Walked {
+        match self.step(outside, &from, name.as_slice()) {
+            Err(Fault::Refused(refusal)) => Ok(Walked {
                 node: from,
                 refusal: Some(refusal),
             }),
+            Err(Fault::Memory) => Err(Memory),
             Ok(next) => {
                 qids.push(qid(&next))?;
                 self.walk_names(outside, next, others, qids)
@@ -142,8 +161,11 @@ impl Session {
             return Err(Fault::Refused(UNKNOWN_FID));
         };
         let node = found.node();
+        self.check_live(outside, &node)?;
+        if let Some(stat) = stat_without_view(alloc, &node)? {
+            return Ok(Rmsg::Stat { tag, stat });
+        }
         let view = self.view(outside, &node)?;
-        check_live(&node, &view)?;
         let stat = stat(alloc, &node, &view)?;
         Ok(Rmsg::Stat { tag, stat })
     }
