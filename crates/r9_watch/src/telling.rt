@@ -17,8 +17,7 @@ use crate::reasons::Seen;
 use r9_event::{Did, Event, Item, Note, Reply};
 use r9_files::{NO_IMAGE_MEMORY, refusal};
 use r9_memory::Memory;
-use r9_text::Bytes;
-use r9_wire::write_r;
+use r9_wire::reply_bytes;
 use std::alloc::Global;
 
 /// The tag of the bytes of a message.
@@ -35,8 +34,7 @@ fn is_for_want(alloc: Global, bytes: &[u8], reply: &[u8]) -> Result<bool, Memory
     ensures { IfOk result (λ is. is ≡ bytes_eq reply.now (spelling_of_r (refusal (tag_of bytes.now) no_memory))) }
 {
     let refused = refusal(alloc, tag_of(bytes), NO_IMAGE_MEMORY)?;
-    let mut spelled = Bytes::new(alloc);
-    write_r(alloc, &refused, &mut spelled)?;
+    let spelled = reply_bytes(alloc, &refused)?;
     Ok(reply == spelled.as_slice())
 }
 
@@ -50,6 +48,9 @@ fn effective(
     requires { 7 ≤ length bytes.now }
     ensures { IfOk result (λ took. took ≡ effective bytes.now mark replies.now) }
 {
+    if mark.is_none() {
+        return Ok(None);
+    }
     let Some(reply) = replies.first() else {
         return Ok(None);
     };
