@@ -4,12 +4,10 @@ ghost use Rattle.std.specs.Prelude.{◌≡◌, ◌≤◌, ◌++◌, true, false,
 ghost use Rattle.std.specs.Option.{option_and_then};
 ghost use Rattle.model_alone.specs.Lone.{all_settled, answered_alone, first_lone_desktop, first_lone_world, left_by, lone, lone_desktop, lone_from, lone_step, made_by, made_in, note_in, notes_in, replied, with_notes};
 ghost use Rattle.model_near.specs.Steps.{IsSoundItem, IsSoundStep};
-ghost use Rattle.model_wire.specs.Spelling.{spelling_of_r, FitsR};
 ghost use Rattle.model_world.specs.Answer.{answer};
 ghost use Rattle.r9_around.specs.Words.{mark_after};
 ghost use Rattle.r9_isol.specs.World.{desktop_of};
 ghost use Rattle.r9_lone.specs.Settling.{IsLate};
-ghost use Rattle.r9_wire.specs.View.{r_of};
 
 use r9_event::{Item, Note, Opening};
 use r9_geom::{Point, Rect};
@@ -18,7 +16,7 @@ use r9_memory::Memory;
 use r9_session::Session;
 use r9_text::Bytes;
 use r9_watch::Items;
-use r9_wire::{Rmsg, write_r};
+use r9_wire::reply_bytes;
 use std::alloc::Global;
 
 /// The number of the session there.
@@ -43,16 +41,6 @@ fn start_desktop(alloc: Global, opening: &Opening) -> Result<Desktop, Memory>
         y: i64::from(opening.height),
     };
     Desktop::start(alloc, Rect { min, max }, opening.chan)
-}
-
-/// A reply in bytes.
-fn spelled(alloc: Global, reply: &Rmsg) -> Result<Bytes, Memory>
-    requires { FitsR (r_of reply.now) }
-    ensures { IfOk result (λ bytes. bytes ≡ spelling_of_r (r_of reply.now)) }
-{
-    let mut bytes = Bytes::new(alloc);
-    write_r(alloc, reply, &mut bytes)?;
-    Ok(bytes)
 }
 
 /// Whether memory ran out in a data write before its mark took effect.
@@ -124,7 +112,7 @@ impl Lone {
             return Err(Memory);
         }
         if let Some(reply) = &answered.reply {
-            replies.push(spelled(self.alloc, reply)?)?;
+            replies.push(reply_bytes(self.alloc, reply)?)?;
         }
         Ok(())
     }
@@ -170,7 +158,7 @@ impl Lone {
             .session
             .answer_waiting(self.alloc, &mut self.desktop, ITS_NUMBER)?
         {
-            Some(reply) => Ok(Some(spelled(self.alloc, &reply)?)),
+            Some(reply) => Ok(Some(reply_bytes(self.alloc, &reply)?)),
             None => Ok(None),
         }
     }
