@@ -1,26 +1,25 @@
 -- A window comes: it stands under its number, in no list yet, and then in that of its parent.
-use Rattle.std.proofs.Common.{◌≡◌, ◌≢◌, ◌∙◌, ℕ, suc, ◌+◌, ◌-◌, ◌*◌, ◌<◌, ◌≤◌, ◌^◌, All, Bool, true, false, List, [], ◌∷◌, Option, Some, None, cond, find, get_or, lit≤, refl, sym, ap, subst, add-one, arith, eq-eqb}
-use Rattle.std.specs.Prelude.{◌==◌, ◌||◌, is_none, is_some, option_map, unwrap_or, if◌then◌else◌}
+use Rattle.std.proofs.Common.{◌≡◌, ◌≢◌, ◌∙◌, ℕ, suc, ◌+◌, ◌-◌, ◌<◌, ◌≤◌, ◌^◌, All, Bool, true, false, List, [], ◌∷◌, Option, Some, None, cond, find, get_or, lit≤, refl, sym, ap, subst, add-one, arith, eq-eqb}
+use Rattle.std.specs.Prelude.{◌==◌, ◌||◌, is_some, option_map, unwrap_or, if◌then◌else◌}
 use Rattle.std.specs.Option.{option_map_or}
 use Rattle.std.specs.List.{list_any}
-use Rattle.std.proofs.lemmas.Bool.{false_from_ne_true, false≢true, ne_eqb, true≢false}
-use Rattle.std.proofs.lemmas.Int.{ints}
+use Rattle.std.proofs.lemmas.Bool.{ne_eqb, true≢false}
 use Rattle.std.proofs.lemmas.List.Elements.{All-nil, All-weaker}
 use Rattle.r9_geom.specs.declared.Point.{Point}
 use Rattle.r9_geom.specs.declared.Rect.{Rect}
-use Rattle.r9_geom.specs.Geometry.{area_of, carried, distance, height, holds, width, IsRectNearBy}
-use Rattle.r9_geom.proofs.GeometryLemmas.{bounds_of, distance_is, rect_near_wider}
+use Rattle.r9_geom.specs.Geometry.{carried, height, holds, width, IsRectNearBy}
+use Rattle.r9_geom.proofs.GeometryLemmas.{rect_near_wider}
 use Rattle.model_forest.specs.declared.Window.{Window}
 use Rattle.model_forest.specs.Stack.{seen, with_windows, without}
-use Rattle.model_forest.specs.View.{is_bare, top_window}
-use Rattle.model_forest.specs.World.{Image, World, deepest, image_at, no_image, no_rect, parent_of, with_image, IsForest, IsLive, IsWindowOf}
+use Rattle.model_forest.specs.View.{is_bare}
+use Rattle.model_forest.specs.World.{Image, World, deepest, image_at, no_image, no_rect, parent_of, with_image, IsForest, IsLive, IsWindowOf, SameSize}
 use Rattle.model_forest.proofs.Changes.{live-apart, with_image-at, with_image-each, with_image-free, with_image-other}
 use Rattle.model_forest.proofs.Listed.{unlisted-free}
 use Rattle.model_forest.proofs.Sound.{IsWindowOf-new_image}
 use Rattle.model_kept.specs.Cells.{cell_of, cell_part, hides_on, hides_under}
 use Rattle.model_kept.specs.Keeping.{is_top, keeping_within, outward, own, place_among, with_kept, HasOnePlaces, IsStanding, Place}
 use Rattle.model_kept.specs.Restack.{with_list, with_own, IsAlone}
-use Rattle.model_kept.proofs.Coming.{come-world, keeping-alike, unlisted-own, unlisted-top}
+use Rattle.model_kept.proofs.Coming.{come-world, keeping-alike, unlisted-own}
 use Rattle.model_kept.proofs.Once.{places-forest}
 use Rattle.model_kept.proofs.Worlds.{standing-forest}
 use Rattle.r9_locate.specs.Forms.{forms_of}
@@ -28,27 +27,13 @@ use Rattle.r9_locate.specs.Lists.{IsNearby}
 use Rattle.r9_pixels.specs.declared.keeping.KeptPixels.{KeptPixels}
 use Rattle.r9_pixels.specs.Kept.{form_at, has_place}
 use Rattle.r9_pixels.specs.Places.{HasCells, StandsOn}
-use Rattle.r9_relist.specs.Leaving.{HasPlaceOf}
 use Rattle.r9_relist.specs.Relisting.{HasPlacesBefore, IsAsBefore, IsRelisting}
 use Rattle.r9_arrive.specs.Arriving.{after_coming, bare_window, coming_window, with_coming, IsComing}
 use Rattle.r9_arrive.proofs.Bare.{bared, bared_forest, bared_image, bared_kept, bared_windows}
 use Rattle.r9_arrive.proofs.Canvases.{alone, bare_canvas}
 use Rattle.r9_relist.proofs.Near.{nearby}
-use Rattle.r9_relist.proofs.Relisted.{list_live, list_parent, relist_on}
+use Rattle.r9_relist.proofs.Relisted.{list_live, list_parent, list_rect, relist_on}
 use Rattle.r9_relist.proofs.Surfaces.{surface_has, unshown_has}
-
--- a rectangle of no points
-pub empty_holds : (p q : Point) → holds (record { min = p; max = p }) q ≡ false
-empty_holds p q =
-    false_from_ne_true (holds (record { min = p; max = p }) q)
-    (λ h. let b = bounds_of (record { min = p; max = p }) q h in absurd (omega (arith, ints, b.left, b.right)))
-
-pub empty_area : (p : Point) → area_of (record { min = p; max = p }) ≡ 0
-empty_area p =
-    let across = distance_is p.x p.x (omega (arith, ints)) in
-    let none : distance p.x p.x ≡ 0 = omega (arith, ints, across) in
-    let times : 0 * distance p.y p.y ≡ 0 = omega arith in
-    ap (λ n. n * distance p.y p.y) none ∙ times
 
 place-unlisted : (i : ℕ) (ws : List Window) → list_any (λ w. w.image == i) ws ≡ false → place_among ws i ≡ no_rect
 place-unlisted i [] none = refl
@@ -148,7 +133,7 @@ module _ (shape : World) (kept : Place → ℕ) (i parent fill : ℕ) (r : Rect)
       let alive : IsLive (with_list more parent ws) q = list_live more parent q ws coming_live ∙ ap is_some (with_image-free shape i q (Some image) is.free live) ∙ live in
       let lists = subst IsForest (bared_windows before q vs ∙ ap (λ (s : World). with_list s q vs) (coming_bared given ws)) (bared_forest (with_windows before q vs) ok) in
       let on = relist_on (with_list more parent ws) q vs alive lists in
-      λ k d below. record { stands = sym (list_parent more parent (get_or vs k d).image ws coming_live) ∙ (on k d below).stands; near = (on k d below).near }
+      λ k d below. record { stands = sym (list_parent more parent (get_or vs k d).image ws coming_live) ∙ (on k d below).stands; near = (on k d below).near; size = subst (SameSize (get_or vs k d).place) (list_rect more parent (get_or vs k d).image ws coming_live) (on k d below).size }
 
   -- there were places for what its parent showed, and for what it hid
   pub window_places : (pixels : KeptPixels) → form_at pixels ≡ forms_of shape → HasCells shape (has_place pixels) → HasPlacesBefore more parent i (has_place pixels)
@@ -163,6 +148,12 @@ module _ (shape : World) (kept : Place → ℕ) (i parent fill : ℕ) (r : Rect)
         let was : parent_of shape n ≡ Some parent = ap (λ (im : Image). option_map (λ s. s.parent) im.standing) (sym at_n) ∙ stands in
         let unseen : is_top old n (outward shape parent n x) ≡ false = sym (λ j. is_top (at_parent j).windows n (carried x (at_n j).r.min (place_among (at_parent j).windows n).min)) ∙ none in
         unshown_has shape (has_place pixels) n parent x shape_forest cells was (ap (λ (im : Image). holds im.r x) (sym at_n) ∙ inside) unseen;
+    cells = λ n x other stands inside.
+        let at_n = at_other n other in
+        let was : parent_of shape n ≡ Some parent = ap (λ (im : Image). option_map (λ s. s.parent) im.standing) (sym at_n) ∙ stands in
+        cells n parent x was (ap (λ (im : Image). holds im.r x) (sym at_n) ∙ inside)
+        ∙ ap (λ o. option_map_or (λ (m : ℕ). hides_on shape m n (cell_part (image_at shape n).r (cell_of (image_at shape n).r x))) o false) was
+        ∙ sym (λ j. hides_under (at_parent j).r (at_parent j).windows n (at_n j).r (cell_part (at_n j).r (cell_of (at_n j).r x)));
     others = λ n q x away stands inside.
         let other : n ≢ i = λ e. away (some_is q parent (sym stands ∙ ap (parent_of more) e ∙ coming_stands)) in
         let at_n = at_other n other in
@@ -175,10 +166,8 @@ module _ (shape : World) (kept : Place → ℕ) (i parent fill : ℕ) (r : Rect)
   }
 
   -- before it stood nowhere
-  pub window_nowhere : (area : Rect) → HasPlaceOf more parent i area
-  window_nowhere area z within stood =
-      let place : place_among (image_at more parent).windows i ≡ no_rect = ap (λ (im : Image). place_among im.windows i) at_parent ∙ place-unlisted i old in_no_list in
-      absurd (false≢true (sym (empty_holds no_rect.min z) ∙ ap (λ (s : Rect). holds s z) (sym place) ∙ stood))
+  pub window_came : place_among (image_at more parent).windows i ≡ no_rect
+  window_came = ap (λ (im : Image). place_among im.windows i) at_parent ∙ place-unlisted i old in_no_list
 
   -- the lists with the window in none of them
   coming_listed : (P : World → ℕ → Window → Type 0) → ((n : ℕ) → IsLive shape n → All (P more n) (image_at shape n).windows) → (n : ℕ) → IsLive more n → All (P more n) (image_at more n).windows

@@ -1,5 +1,5 @@
 -- A window that comes on an image, with another list of the windows there.
-use Rattle.std.specs.Prelude.{◌≡◌, ◌≢◌, ◌+◌, ℕ, Bool, true, false, List, [], Some}
+use Rattle.std.specs.Prelude.{◌≡◌, ◌≢◌, ◌+◌, ◌<◌, ℕ, Bool, true, false, List, [], Some}
 use Rattle.std.specs.List.{list_any}
 use Rattle.r9_geom.specs.declared.Point.{Point}
 use Rattle.r9_geom.specs.declared.Rect.{Rect}
@@ -7,7 +7,8 @@ use Rattle.model_forest.specs.declared.Window.{Window}
 use Rattle.model_forest.specs.Stack.{seen, with_windows, without}
 use Rattle.model_forest.specs.View.{is_bare}
 use Rattle.model_forest.specs.World.{Image, World, image_at, with_image}
-use Rattle.model_kept.specs.Cells.{above}
+use Rattle.model_kept.specs.Cells.{above, cell_count, cell_part, hides}
+use Rattle.r9_cells.specs.Fitting.{hides_cell, hides_listed, meets, standing_cell, IsWindowAt}
 use Rattle.model_kept.specs.Keeping.{place_among}
 use Rattle.model_kept.specs.Restack.{with_list}
 
@@ -46,3 +47,16 @@ pub record IsComing (world : World) (p : ℕ) (w : Window) (ws : List Window) : 
   pub places : (n : ℕ) → n ≢ w.image → place_among ws n ≡ place_among (image_at world p).windows n
   pub covered : (n : ℕ) (test : Window → Bool) → n ≢ w.image → list_any test (above n (image_at world p).windows) ≡ true → list_any test (above n ws) ≡ true
   pub bare : (z : Point) → is_bare ws z ≡ true → is_bare (image_at world p).windows z ≡ true
+
+-- in a later list of image q, which may be p too, what is hidden was hidden before, or is by the list, but for cells that meet one of
+-- these areas
+abbrev pub IsLeft : World → ℕ → List Window → ℕ → List Window → List Rect → Type 0
+IsLeft world p list q later areas =
+    (at : ℕ) (w : Window) (k : ℕ) → IsWindowAt later at w → k < cell_count (image_at world w.image).r → hides_cell (image_at world q).r later w.image (image_at world w.image).r k ≡ true
+    → hides world w.image (cell_part (image_at world w.image).r k) ≡ false → hides_listed world p list w.image k ≡ false → meets areas (standing_cell later w.image (image_at world w.image).r k) ≡ true
+
+-- and of the window that comes, image i of that rectangle
+abbrev pub IsLeftOf : World → ℕ → List Window → ℕ → List Window → List Rect → ℕ → Rect → Type 0
+IsLeftOf world p list q later areas i r =
+    (at : ℕ) (w : Window) (k : ℕ) → IsWindowAt later at w → w.image ≡ i → k < cell_count r → hides_cell (image_at world q).r later i r k ≡ true
+    → hides_cell (image_at world p).r list i r k ≡ false → meets areas (standing_cell later i r k) ≡ true

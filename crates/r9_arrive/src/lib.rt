@@ -1,27 +1,31 @@
 //! A window that comes: into the tables of lists and of pixels, and into another list of the image on which it stands.
 #![tactic(auto)]
 
-ghost use Rattle.std.specs.Prelude.{◌≡◌, ◌+◌, ◌*◌, ◌^◌, ◌<◌, ◌≤◌, ℕ, [], None, Some, false, is_some, length, max, true, All, OnErr, OnOk};
+ghost use Rattle.std.specs.Prelude.{◌≡◌, ◌+◌, ◌*◌, ◌^◌, ◌<◌, ◌≤◌, ℕ, [], None, Some, false, is_some, max, true, All, OnErr, OnOk};
 ghost use Rattle.r9_geom.specs.declared.Point.{Point as Spot};
 ghost use Rattle.r9_geom.specs.Geometry.{area_of, height, width, IsOrdered, IsRectNear, IsRectNearBy};
 ghost use Rattle.model_pixel.specs.Channels as channels;
 ghost use Rattle.model_forest.specs.World.{image_at, with_image, IsForest, IsLive};
-ghost use Rattle.model_kept.specs.Keeping.{with_kept, HasOnePlaces, IsStanding};
+ghost use Rattle.model_kept.specs.Keeping.{place_among, with_kept, HasOnePlaces, IsStanding};
+ghost use Rattle.model_kept.specs.Restack.{IsAlone};
 ghost use Rattle.r9_locate.specs.Forms.{forms_of};
 ghost use Rattle.r9_locate.specs.Lists.{frame_image, IsNearby};
 ghost use Rattle.r9_locate.specs.Table.{made, shape, HasRoom};
-ghost use Rattle.r9_pixels.specs.Kept.{form_at, has_place, kept_at, room_of, spare_in, wanted_in, IsUnchanged};
+ghost use Rattle.r9_pixels.specs.Kept.{form_at, has_place, kept_at, later_in, room_of, spare_in, wanted_in, IsUnchanged};
+ghost use Rattle.r9_cells.specs.Fitting.{AreOne};
 ghost use Rattle.r9_pixels.specs.Places.{HasCells, StandsOn};
-ghost use Rattle.r9_arrive.specs.Arriving.{after_coming, listed, with_coming, IsComing};
+ghost use Rattle.r9_restack.specs.Stacks.{IsFront};
+ghost use Rattle.r9_relist.specs.Relisting.{HasPlacesBefore, IsRelisting};
+ghost use Rattle.r9_arrive.specs.Arriving.{after_coming, listed, with_coming, IsComing, IsLeft, IsLeftOf};
 
 use model_forest::{Standing, Window};
 use r9_chan::Chan;
-use r9_geom::{Point, Rect};
+use r9_geom::Rect;
 use r9_locate::{Frame, Lists};
 use r9_memory::Memory;
 use r9_pixels::{Extent, KeptPixels};
-use r9_relist::relist;
-use r9_restack::Source;
+use r9_relist::add;
+use r9_restack::{Source, count_front};
 use r9_steps::Steps;
 use std::alloc::Global;
 use std::sync::ledger::Ledger;
@@ -50,8 +54,11 @@ fn enter(
     frame: Frame,
     parent: u32,
     list: &[Window],
+    from: usize,
+    place: &Rect,
     q: u32,
     later: &[Window],
+    areas: &[Rect],
 ) -> Result<(), Memory>
     requires room { HasRoom lists.old i }
     requires place { i < room_of pixels.old }
@@ -66,13 +73,20 @@ fn enter(
     requires ordered { IsOrdered frame.r }
     requires columns { width frame.r ≤ 2 ^ 35 }
     requires rows { height frame.r ≤ 2 ^ 35 }
-    requires live { IsLive (with_image (shape lists.old) i (Some (frame_image frame))) parent }
-    requires windows { All (StandsOn (with_image (shape lists.old) i (Some (frame_image frame))) parent) list.now }
-    requires also { IsLive (with_image (shape lists.old) i (Some (frame_image frame))) q }
+    requires also { IsLive (shape lists.old) q }
     requires later { All (StandsOn (with_image (shape lists.old) i (Some (frame_image frame))) q) later.now }
+    requires later_one { AreOne later.now }
+    requires place_is { place_among list.now i ≡ place.now }
+    requires change { IsRelisting (with_image (shape lists.old) i (Some (frame_image frame))) parent i list.now }
+    requires before { HasPlacesBefore (with_image (shape lists.old) i (Some (frame_image frame))) parent i (has_place pixels.old) }
+    requires cells { HasCells (shape lists.old) (has_place pixels.old) }
+    requires front { IsFront (image_at (with_image (shape lists.old) i (Some (frame_image frame))) parent).windows list.now i from }
+    requires alone { IsAlone (shape lists.old) i }
+    requires left { IsLeft (shape lists.old) parent list.now q later.now areas.now }
+    requires left_own { IsLeftOf (shape lists.old) parent list.now q later.now areas.now i frame.r }
     ensures lists { OnOk result (shape lists.new ≡ with_image (shape lists.old) i (Some (frame_image frame))) }
     ensures made { OnOk result (made lists.new ≡ max (made lists.old) (i + 1)) }
-    ensures spare { OnOk result (wanted_in pixels.new (shape lists.new) parent list.now + wanted_in pixels.new (shape lists.new) q later.now ≤ spare_in pixels.new) }
+    ensures spare { OnOk result (wanted_in pixels.new (shape lists.new) parent list.now + later_in pixels.new (shape lists.new) parent list.now q later.now ≤ spare_in pixels.new) }
     ensures lists_err { OnErr result (shape lists.new ≡ shape lists.old) }
     ensures made_err { OnErr result (made lists.new ≡ made lists.old) }
     ensures kept { kept_at pixels.new ≡ kept_at pixels.old }
@@ -86,7 +100,8 @@ fn enter(
     pixels.insert_hidden(i, extent)?;
     let made = lists.len();
     lists.insert(i, frame);
-    match pixels.reserve_both(lists, parent, list, q, later) {
+    let places = [*place];
+    match pixels.reserve_both(lists, parent, list, from, &places, q, later, 0, areas) {
         Ok(()) => Ok(()),
         Err(memory) => {
             lists.remove(i);
@@ -95,13 +110,6 @@ fn enter(
             Err(memory)
         }
     }
-}
-
-// A rectangle of no points.
-fn no_points(min: Point) -> Rect
-    ensures { result ≡ record { min = min; max = min } }
-{
-    Rect { min, max: min }
 }
 
 /// Makes a window with pixels that are given, in another list of the image on which it stands. All tiles are there before the
@@ -118,6 +126,7 @@ pub fn arrive<S: Source, L: Ledger>(
     list: Vec<Window>,
     q: u32,
     later: &[Window],
+    areas: &[Rect],
     steps: &mut Steps<L>,
 ) -> Result<(), Memory>
     requires room { HasRoom lists.old w.image }
@@ -136,6 +145,10 @@ pub fn arrive<S: Source, L: Ledger>(
     requires fill { (z : Spot) → S.fill source.now z < 2 ^ channels.depth (image_at (shape lists.old) standing.parent).chan }
     requires also { IsLive (shape lists.old) q }
     requires later { All (StandsOn (with_coming (shape lists.old) w.image standing.parent standing.fill r) q) later.now }
+    requires later_one { AreOne later.now }
+    requires left { IsLeft (shape lists.old) standing.parent list.items q later.now areas.now }
+    requires left_own { IsLeftOf (shape lists.old) standing.parent list.items q later.now areas.now w.image r }
+    requires stands { place_among list.items w.image ≡ w.place }
     ensures lists { OnOk result (shape lists.new ≡ listed (shape lists.old) w.image standing.parent standing.fill r list.items) }
     ensures made { OnOk result (made lists.new ≡ max (made lists.old) (w.image + 1)) }
     ensures world { OnOk result (with_kept (shape lists.new) (kept_at pixels.new) ≡ after_coming (with_kept (shape lists.old) (kept_at pixels.old)) w.image standing.parent standing.fill r (S.given source.now) list.items) }
@@ -149,6 +162,7 @@ pub fn arrive<S: Source, L: Ledger>(
 {
     let below = lists.get(standing.parent);
     let frame = window_frame(alloc, r, below.chan, standing, below.depth + 1);
+    let from = count_front(&below.windows, &list, w.image);
     enter(
         lists,
         pixels,
@@ -156,20 +170,12 @@ pub fn arrive<S: Source, L: Ledger>(
         frame,
         standing.parent,
         &list,
+        from,
+        &w.place,
         q,
         later,
+        areas,
     )?;
-    // It stood nowhere before.
-    let area = no_points(r.min);
-    relist(
-        lists,
-        pixels,
-        source,
-        standing.parent,
-        w.image,
-        list,
-        &area,
-        steps,
-    );
+    add(lists, pixels, source, standing.parent, w, list, from, steps);
     Ok(())
 }

@@ -1,17 +1,15 @@
 -- Cells of a rectangle, and the windows above one.
-use Rattle.std.proofs.Common.{◌≡◌, ◌∙◌, ℕ, ℤ, zero, suc, length, get_or, take, find, ◌+◌, ◌*◌, ◌/◌, ◌%◌, ◌<◌, ◌≤◌, ◌≢◌, ◌^◌, pos, ◌+ℤ◌, ◌≤ℤ◌, neg_ℤ, Bool, true, false, All, List, [], ◌∷◌, Some, None, cond, refl, sym, ap, subst, arith, ⊎_elim}
+use Rattle.std.proofs.Common.{◌≡◌, ◌∙◌, ℕ, zero, suc, length, get_or, take, find, ◌+◌, ◌*◌, ◌/◌, ◌%◌, ◌<◌, ◌≤◌, ◌≢◌, ◌^◌, pos, ◌+ℤ◌, Bool, true, false, All, List, [], ◌∷◌, Some, None, cond, refl, sym, ap, subst, arith, ⊎_elim}
 use Rattle.std.specs.Prelude.{◌==◌, ◌||◌, nat_lt, not, if◌then◌else◌}
-use Rattle.std.specs.Int.{int_max, int_min}
 use Rattle.std.specs.List.{list_any, position_or_len}
 use Rattle.std.specs.Option.{option_map_or}
 use Rattle.std.proofs.lemmas.Bool.{cases_eq, cases_lt}
 use Rattle.std.proofs.lemmas.Bool.Decides.{Decides-ltb}
-use Rattle.std.proofs.lemmas.Int.{ints}
 use Rattle.std.proofs.Math.Nat.{div-add-mod, div-lt_iff_lt-mul, mod-lt, mul_comm}
 use Rattle.r9_geom.specs.declared.Point.{Point}
 use Rattle.r9_geom.specs.declared.Rect.{Rect}
-use Rattle.r9_geom.specs.Geometry.{distance, height, holds, meet, point_at, width, IsNear, IsOrdered, IsRectNear}
-use Rattle.r9_geom.proofs.GeometryLemmas.{distance_is, point_holds, strip_distance}
+use Rattle.r9_geom.specs.Geometry.{distance, height, holds, meet, point_at, width, IsNear, IsRectNear}
+use Rattle.r9_geom.proofs.GeometryLemmas.{point_holds, strip_distance}
 use Rattle.model_forest.specs.declared.Window.{Window}
 use Rattle.model_forest.specs.World.{no_rect}
 use Rattle.model_kept.specs.Cells.{above, cell_count, cell_of, cell_part, cells_across, hides_under}
@@ -69,28 +67,6 @@ pub cell_is : (r : Rect) (k a : ℕ) (p : Point) → a ≡ cells_across r → p 
 cell_is r k a p a_is p_is =
     let at : p ≡ point_at r (32 * (k % cells_across r)) (32 * (k / cells_across r)) = p_is ∙ ap (λ n. point_at r (32 * (k % n)) (32 * (k / n))) a_is in
     ap (λ (q : Point). meet r (record { min = q; max = record { x = q.x +ℤ pos 32; y = q.y +ℤ pos 32 } })) at
-
-max_between : (a b low high : ℤ) → low ≤ℤ a → a ≤ℤ high → b ≤ℤ high → (low ≤ℤ int_max a b) × (int_max a b ≤ℤ high)
-max_between a b low high from to too = (grind (arith, ints), grind (arith, ints))
-
-min_between : (a b low high : ℤ) → low ≤ℤ a → low ≤ℤ b → a ≤ℤ high → (low ≤ℤ int_min a b) × (int_min a b ≤ℤ high)
-min_between a b low high from to too = (grind (arith, ints), grind (arith, ints))
-
-pub cell_near : (r : Rect) (k : ℕ) → IsRectNear r → IsOrdered r → k < cell_count r → IsRectNear (cell_part r k)
-cell_near r k near ordered below =
-    let begins = cell_begins r k below in
-    let across = distance_is r.min.x r.max.x ordered.across in
-    let down = distance_is r.min.y r.max.y ordered.down in
-    let x = r.min.x +ℤ pos (32 * (k % cells_across r)) in
-    let y = r.min.y +ℤ pos (32 * (k / cells_across r)) in
-    let left = max_between r.min.x x (neg_ℤ (pos (2 ^ 40))) (pos (2 ^ 40)) near.min.left near.min.right (omega (arith, ints, near.max.right, across, begins.0)) in
-    let top = max_between r.min.y y (neg_ℤ (pos (2 ^ 40))) (pos (2 ^ 40)) near.min.top near.min.bottom (omega (arith, ints, near.max.bottom, down, begins.1)) in
-    let right = min_between r.max.x (x +ℤ pos 32) (neg_ℤ (pos (2 ^ 40))) (pos (2 ^ 40)) near.max.left (omega (arith, ints, near.min.left)) near.max.right in
-    let bottom = min_between r.max.y (y +ℤ pos 32) (neg_ℤ (pos (2 ^ 40))) (pos (2 ^ 40)) near.max.top (omega (arith, ints, near.min.top)) near.max.bottom in
-    record {
-      min = record { left = left.0; right = left.1; top = top.0; bottom = top.1 };
-      max = record { left = right.0; right = right.1; top = bottom.0; bottom = bottom.1 };
-    }
 
 -- the windows above one are those before it
 pub above_before : (i : ℕ) (ws : List Window) → above i ws ≡ take (position_or_len (λ w. w.image == i) ws) ws

@@ -8,4 +8,14 @@ pub mod Places
 pub mod Remade
 pub mod Rows
 pub mod Carried
+pub mod Still
 pub mod Steps
+pub mod Spans
+pub mod Walks
+pub mod Windowed
+pub mod Skipped
+pub mod Bands
+pub mod Touching
+pub mod Passed
+pub mod Inner
+pub mod Sets

@@ -16,7 +16,7 @@ abbrev out : Rect → (from to : Point) → Rect
 out r from to = record { min = carried r.min from to; max = carried r.max from to }
 
 -- a point of a part of a rectangle is one of the rectangle
-wider : (r s : Rect) (from to q : Point) → holds (out (meet r s) from to) q ≡ true → holds (out r from to) q ≡ true
+pub wider : (r s : Rect) (from to q : Point) → holds (out (meet r s) from to) q ≡ true → holds (out r from to) q ≡ true
 wider r s from to q h =
     let b = bounds_of (out (meet r s) from to) q h in
     holds_from (out r from to) q

@@ -1,34 +1,12 @@
--- What becomes of the pixels of cells when one gets a tile or loses it, and when room is made.
-use Rattle.std.proofs.Common.{◌≡◌, ◌∙◌, ℕ, ◌<◌, false, List, [], length, Option, Some, None, refl, sym, ap}
-use Rattle.std.specs.Prelude.{◌==◌, ◌&&◌, is_some, slice_index, slice_index_or, unwrap_or, if◌then◌else◌}
+-- What becomes of the pixels of cells when one gets a tile or loses it.
+use Rattle.std.proofs.Common.{◌≡◌, ◌∙◌, ℕ, ◌<◌, false, List, length, Option, Some, None, refl, sym, ap}
+use Rattle.std.specs.Prelude.{◌==◌, ◌&&◌, if◌then◌else◌}
 use Rattle.std.specs.Option.{option_map_or}
-use Rattle.std.specs.List.{count_by}
 use Rattle.std.proofs.lemmas.Bool.{ne_eqb, true≢false}
 use Rattle.r9_geom.specs.declared.Point.{Point}
-use Rattle.r9_geom.specs.Geometry.{holds}
-use Rattle.r9_store.specs.Tiles.{Tiles, cell, held, pixel, place_of}
+use Rattle.r9_store.specs.Tiles.{Tiles, cell, pixel}
 use Rattle.r9_cells.specs.Rows.{cell_at, pixel_at, row_at, IsKept}
 use Rattle.r9_cells.proofs.Changed.{by_cell, cell_other, cell_same, changed}
-
--- the tiles that are held are the same, and what they keep
-pub kept-slots : (rows : List (List (Option ℕ))) (store new : Tiles) → new.slots ≡ store.slots → IsKept rows store → IsKept rows new
-kept-slots rows store new same is = record {
-  all = ap (count_by is_some) same ∙ is.all;
-  alive = λ i k t e. ap (λ slots. is_some (slice_index_or slots t None)) same ∙ is.alive i k t e;
-  apart = is.apart;
-}
-
-pub pixels-slots : (rows : List (List (Option ℕ))) (store new : Tiles) → new.slots ≡ store.slots → (j l : ℕ) (p : Point) → pixel_at rows new j l p ≡ pixel_at rows store j l p
-pixels-slots rows store new same j l p =
-    ap (λ slots. option_map_or (λ t. if holds cell p then slice_index (unwrap_or (slice_index_or slots t None) []) (place_of p) else 0) (cell_at rows j l) 0) same
-
--- no image has no tile
-pub kept-none : (store : Tiles) → held store ≡ 0 → IsKept [] store
-kept-none store none = record {
-  all = none;
-  alive = λ i k t e. cc;
-  apart = λ i k j l t e f. cc;
-}
 
 -- a cell that gets a tile, which is 0 everywhere, shows what it showed
 pub pixels-take : (rows : List (List (Option ℕ))) (i k t : ℕ) (store new : Tiles) → i < length rows → k < length (row_at rows i) → cell_at rows i k ≡ None → ((p : Point) → pixel new t p ≡ 0) → ((u : ℕ) (p : Point) → pixel new u p ≡ pixel store u p) → (j l : ℕ) (p : Point) → pixel_at (changed rows i k (Some t)) new j l p ≡ pixel_at rows store j l p

@@ -32,9 +32,6 @@ below_more l k =
     (λ (h : nat_lt l (k + 1) ≡ true). grind arith)
     (λ (h : (nat_lt l k || (l == k)) ≡ true). grind arith)
 
-pub below_none : (l : ℕ) → nat_lt l 0 ≡ false
-below_none l = grind arith
-
 -- what is so for the cell that is next, after those before it
 pub taken_more : (here before same is hid some : Bool) → (same ≡ true → is ≡ hid) → (((here && same) && is) || ((here && (before && hid)) || some)) ≡ ((here && ((before || same) && hid)) || some)
 taken_more false before same is hid some e = refl
@@ -104,3 +101,42 @@ pub wants_less : (hid mid was : Bool) → (was ≡ true → mid ≡ true) → (h
 wants_less true mid false grows e = refl
 wants_less true mid true grows e = absurd (false≢true (sym (ap not (grows refl)) ∙ e))
 wants_less false mid was grows e = e
+
+-- the same where a tile is taken for a cell that is to have one and lacks it, or given back from one that is to have none and has it
+pub taken_wanted : (here before same is hid some : Bool) → ((here && same) ≡ true → is ≡ (hid && not some)) → (((here && same) && is) || ((here && (before && hid)) || some)) ≡ ((here && ((before || same) && hid)) || some)
+taken_wanted false before same is hid some e = refl
+taken_wanted true false false is hid some e = refl
+taken_wanted true true false is hid some e = refl
+taken_wanted true false true is hid some e = ap (λ b. b || some) (e refl) ∙ join hid some
+  where
+    join : (h s : Bool) → ((h && not s) || s) ≡ (h || s)
+    join true true = refl
+    join true false = refl
+    join false s = refl
+taken_wanted true true true is hid some e = ap (λ b. b || (hid || some)) (e refl) ∙ join hid some
+  where
+    join : (h s : Bool) → ((h && not s) || (h || s)) ≡ (h || s)
+    join true true = refl
+    join true false = refl
+    join false s = refl
+
+pub given_spared : (here before same is hid some : Bool) → ((here && same) ≡ true → is ≡ (not hid && some)) → (not ((here && same) && is) && (not (here && (before && not hid)) && some)) ≡ (not (here && ((before || same) && not hid)) && some)
+given_spared false before same is hid some e = refl
+given_spared true false false is hid some e = refl
+given_spared true true false is hid some e = refl
+given_spared true false true is hid some e = ap (λ b. not b && some) (e refl) ∙ join hid some
+  where
+    join : (h s : Bool) → (not (not h && s) && s) ≡ (not (not h) && s)
+    join true s = refl
+    join false true = refl
+    join false false = refl
+given_spared true true true is hid some e = ap (λ b. not b && (not (not hid) && some)) (e refl) ∙ join hid some
+  where
+    join : (h s : Bool) → (not (not h && s) && (not (not h) && s)) ≡ (not (not h) && s)
+    join true s = refl
+    join false true = refl
+    join false false = refl
+
+pub given_next : (here before hid some : Bool) → before ≡ false → (not (here && (before && hid)) && some) ≡ some
+given_next true before hid some e = ap (λ b. not (b && hid) && some) e
+given_next false before hid some e = refl

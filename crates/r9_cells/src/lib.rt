@@ -6,6 +6,7 @@ ghost use Rattle.model_forest.specs.World.{World};
 ghost use Rattle.model_kept.specs.Cells.{cells_below};
 ghost use Rattle.r9_cells.specs.Rows.{tiles_of, IsFitting};
 
+mod blocks;
 mod fitting;
 mod hiding;
 mod runs;

@@ -2,13 +2,14 @@
 
 ghost use Rattle.std.specs.Prelude.{◌≡◌, ◌≢◌, ◌+◌, ◌^◌, ◌<◌, ◌==◌, ◌&&◌, ◌||◌, ℕ, Some, None, false, not, length, is_some, max, replicate, slice_index, slice_index_or, slice_set, [], ◌∷◌, ◌++◌, IsTrue, OnErr, OnOk, if◌then◌else◌};
 ghost use Rattle.r9_geom.specs.declared.Point.{Point as Spot};
-ghost use Rattle.r9_geom.specs.Geometry.{holds, strip};
+ghost use Rattle.r9_geom.specs.Geometry.{carried, holds, strip, HasPoints, IsRectNear};
 ghost use Rattle.model_pixel.specs.Channels.{depth};
+ghost use Rattle.r9_plane.specs.Blocks.{number_in, HasRows};
 ghost use Rattle.r9_plane.specs.Pixels.{along, chan_of, pixel_at, rect_of};
 ghost use Rattle.r9_store.specs.Tiles.{cell, held, spare};
 ghost use Rattle.r9_cells.specs.Rows.{cell_at, row_at, rows_of, tiles_of, CellPlace, IsKept};
 
-use r9_geom::Point;
+use r9_geom::{Point, Rect};
 use r9_memory::Memory;
 use r9_plane::Plane;
 use r9_store::{Store, TileNo};
@@ -213,5 +214,60 @@ impl Cells {
     {
         let tile = self.tile(i, k);
         self.store.copy_row(tile, at, len, plane, from);
+    }
+
+    /// Puts pixels into a rectangle of the tile of a cell, which stand among rows of so many, and changes nothing else.
+    pub fn put_block(
+        &mut self,
+        i: usize,
+        k: usize,
+        r: &Rect,
+        raws: &[u32],
+        first: usize,
+        width: usize,
+    )
+        requires tile { IsTrue (is_some (cell_at (all_rows self.old) i k)) }
+        requires some { HasPoints r.now }
+        requires inside { (p : Spot) → IsTrue (holds r.now p) → IsTrue (holds cell p) }
+        requires rows { HasRows r.now first width (length raws.now) }
+        ensures at { (p : Spot) → IsTrue (holds r.now p) → cell_pixel self.new i k p ≡ slice_index raws.now (number_in r.now first width p) }
+        ensures others { (place : CellPlace) → ((p : Spot) → IsTrue (holds r.now p) → place ≢ record { image = i; cell = k; at = p }) → place_pixel self.new place ≡ place_pixel self.old place }
+        ensures rows { all_rows self.new ≡ all_rows self.old }
+        ensures spare { spare (tiles_in self.new) ≡ spare (tiles_in self.old) }
+    {
+        let tile = self.tile(i, k);
+        self.store.put_block(tile, r, raws, first, width);
+    }
+
+    /// Puts one pixel at all points of a rectangle of the tile of a cell, and changes nothing else.
+    pub fn fill_in(&mut self, i: usize, k: usize, r: &Rect, raw: u32)
+        requires tile { IsTrue (is_some (cell_at (all_rows self.old) i k)) }
+        requires some { HasPoints r.now }
+        requires inside { (p : Spot) → IsTrue (holds r.now p) → IsTrue (holds cell p) }
+        ensures at { (p : Spot) → IsTrue (holds r.now p) → cell_pixel self.new i k p ≡ raw }
+        ensures others { (place : CellPlace) → ((p : Spot) → IsTrue (holds r.now p) → place ≢ record { image = i; cell = k; at = p }) → place_pixel self.new place ≡ place_pixel self.old place }
+        ensures rows { all_rows self.new ≡ all_rows self.old }
+        ensures spare { spare (tiles_in self.new) ≡ spare (tiles_in self.old) }
+    {
+        let tile = self.tile(i, k);
+        self.store.fill_block(tile, r, raw);
+    }
+
+    /// Puts the pixels of a rectangle of a plane into the tile of a cell, from a point of that on, and changes nothing else. They
+    /// have no more bits than the plane's channels tell.
+    pub fn copy_block(&mut self, i: usize, k: usize, at: Point, plane: &Plane, from: &Rect)
+        requires tile { IsTrue (is_some (cell_at (all_rows self.old) i k)) }
+        requires some { HasPoints from.now }
+        requires near { IsRectNear from.now }
+        requires inside { (p : Spot) → IsTrue (holds from.now p) → IsTrue (holds cell (carried p from.now.min at)) }
+        requires inside_plane { (p : Spot) → IsTrue (holds from.now p) → IsTrue (holds (rect_of plane.now) p) }
+        ensures at { (p : Spot) → IsTrue (holds from.now p) → cell_pixel self.new i k (carried p from.now.min at) ≡ pixel_at plane.now p }
+        ensures below { (p : Spot) → IsTrue (holds from.now p) → pixel_at plane.now p < 2 ^ depth (chan_of plane.now) }
+        ensures others { (place : CellPlace) → ((p : Spot) → IsTrue (holds from.now p) → place ≢ record { image = i; cell = k; at = carried p from.now.min at }) → place_pixel self.new place ≡ place_pixel self.old place }
+        ensures rows { all_rows self.new ≡ all_rows self.old }
+        ensures spare { spare (tiles_in self.new) ≡ spare (tiles_in self.old) }
+    {
+        let tile = self.tile(i, k);
+        self.store.copy_block(tile, at, plane, from);
     }
 }

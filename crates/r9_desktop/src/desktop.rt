@@ -2,6 +2,7 @@
 
 ghost use Rattle.std.specs.Prelude.{◌≡◌, ◌^◌, ◌∷◌, ◌<ℤ◌, pos, [], map, IfOk};
 ghost use Rattle.r9_geom.specs.Geometry.{IsOrdered};
+ghost use Rattle.model_cost.specs.Cells.{cells};
 ghost use Rattle.model_draw.specs.Files.{screen_file};
 ghost use Rattle.model_draw.specs.Orders.{picture_of};
 ghost use Rattle.model_rio.specs.Table.{window_of};
@@ -110,5 +111,14 @@ impl Desktop {
         ensures picture { picture_of (desktop_of self.now).device 0 ≡ screen_file (desktop_of self.now).device }
     {
         self.device.screen()
+    }
+
+    /// How many tiles keep hidden pixels: one for each pair of a window and a cell of it, of 32 by 32 points counted from the window's
+    /// min, that has a hidden point. It takes no memory.
+    #[tactic(auto, unfolding(crate::specs::World::desktop_of))]
+    pub fn tiles(&self) -> usize
+        ensures { result ≡ cells (desktop_of self.now).device }
+    {
+        self.device.tiles()
     }
 }

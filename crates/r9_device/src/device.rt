@@ -24,8 +24,10 @@ use r9_geom::{Point, Rect};
 use r9_images::{Book, Thing};
 use r9_layers::{Forest, ImageNo};
 use r9_memory::Memory;
+use r9_steps::Steps;
 use std::alloc::Global;
 use std::collections::BTreeMap;
+use std::sync::ledger::Ledger;
 
 /// The display with which a device starts.
 #[derive(Clone, Copy, PartialEq, Eq, Debug)]
@@ -107,7 +109,7 @@ fn add_root(book: &mut Book, display: ImageNo, fill: ImageNo) -> Result<(), Memo
 }
 
 /// The images among the things that have gone go, one after the other, and their numbers come back.
-pub fn release(forest: &mut Forest, gone: &[Thing])
+pub fn release<L: Ledger>(forest: &mut Forest, gone: &[Thing], steps: &mut Steps<L>)
     requires { (book : Ids) × CanRelease (world forest.old) book gone.now }
     ensures world { world forest.new ≡ fold images_without (world forest.old) gone.now }
     ensures numbers { numbers forest.new ≡ fold numbers_without (numbers forest.old) gone.now }
@@ -117,7 +119,7 @@ pub fn release(forest: &mut Forest, gone: &[Thing])
     for thing in gone {
         if let Thing::Image(i) = thing {
             forest.keeps();
-            forest.release(ImageNo(*i));
+            forest.release(ImageNo(*i), steps);
         }
     }
 }
@@ -177,7 +179,7 @@ impl Device {
     }
 
     /// A connection ends: its ids are freed, and what nothing refers to any more goes. After Memory all is as before.
-    pub fn leave(&mut self, client: u64) -> Result<(), Memory>
+    pub fn leave<L: Ledger>(&mut self, client: u64, steps: &mut Steps<L>) -> Result<(), Memory>
         requires { IsSome (lookup (world_of self.old).clients client) }
         ensures left { OnOk result (world_of self.new ≡ after_leave (world_of self.old) client) }
         ensures kept { OnErr result (world_of self.new ≡ world_of self.old) }
@@ -185,7 +187,7 @@ impl Device {
         leave_frees();
         self.forest.keeps();
         let gone = self.book.leave(client)?;
-        release(&mut self.forest, gone.as_slice());
+        release(&mut self.forest, gone.as_slice(), steps);
         remove(&mut self.clients, client);
         Ok(())
     }

@@ -6,13 +6,40 @@ ghost use Rattle.model_text.specs.Map.{lookup};
 ghost use Rattle.model_draw.specs.Sound.{IsAllUsed};
 ghost use Rattle.model_draw.specs.Orders.{carried_out, with_root_rio};
 ghost use Rattle.model_draw.specs.World.{started, after_connect, after_leave};
+ghost use Rattle.r9_device.specs.World.{world_of as device_world};
 
 use r9_chan::Chan;
 use r9_device::Device;
 use r9_event::Orders;
 use r9_geom::Rect;
 use r9_memory::Memory;
+use r9_orders::carry_out;
+use r9_steps::Steps;
 use std::alloc::Global;
+use std::marker::Brand;
+use std::sync::ledger::{Blank, Ledger};
+
+// A connection ends, with a count of the pixels that this writes.
+fn leave<L: Ledger>(device: &mut Device, client: u64, blank: Blank) -> Result<(), Memory>
+    requires name { blank.name ≡ L.name }
+    requires parts { blank.parts ≡ L.parts }
+    requires some { 0 < L.parts }
+    requires live { IsSome (lookup (device_world device.old).clients client) }
+    ensures left { OnOk result (device_world device.new ≡ after_leave (device_world device.old) client) }
+    ensures kept { OnErr result (device_world device.new ≡ device_world device.old) }
+{
+    device.leave(client, &mut Steps::<L>::new(blank))
+}
+
+// Carries out orders, with a count of the pixels that they write.
+fn obey<L: Ledger>(device: &mut Device, list: &Orders, blank: Blank) -> Result<(), Memory>
+    requires name { blank.name ≡ L.name }
+    requires parts { blank.parts ≡ L.parts }
+    requires some { 0 < L.parts }
+    ensures { OnOk result (device_world device.new ≡ carried_out (device_world device.old) list.now) }
+{
+    carry_out(device, list, &mut Steps::<L>::new(blank))
+}
 
 /// The draw device: images, what the ids of connections refer to, and the connections, each of which has a number of its own
 /// that the caller chooses, from 1 on.
@@ -68,7 +95,7 @@ impl Draw {
         ensures left { OnOk result (world_of self.new ≡ after_leave (world_of self.old) client) }
         ensures kept { OnErr result (world_of self.new ≡ world_of self.old) }
     {
-        self.device.leave(client)
+        leave::<Brand>(&mut self.device, client, Blank::new(1))
     }
 
     /// Carries out orders of the window manager, one after the other. One that does not fit changes nothing. After Memory some
@@ -76,6 +103,6 @@ impl Draw {
     pub fn orders(&mut self, list: &Orders) -> Result<(), Memory>
         ensures done { OnOk result (world_of self.new ≡ carried_out (world_of self.old) list.now) }
     {
-        r9_orders::carry_out(&mut self.device, list)
+        obey::<Brand>(&mut self.device, list, Blank::new(1))
     }
 }

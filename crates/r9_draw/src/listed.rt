@@ -11,14 +11,17 @@ use crate::message::Step;
 use r9_device::Device;
 use r9_dmsg::Listed;
 use r9_messages::{do_listed, look_listed};
+use r9_steps::Steps;
+use std::sync::ledger::Ledger;
 
 /// The message that stands first in the bytes. Where it is marked, it is looked at, and not done.
-pub(crate) fn listed_message(
+pub(crate) fn listed_message<L: Ledger>(
     device: &mut Device,
     client: u64,
     bytes: &[u8],
     asked: &Listed<'_>,
     marked: bool,
+    steps: &mut Steps<L>,
 ) -> Step
     requires live { IsSome (lookup (world_of device.old).clients client) }
     requires near { IsNearListed asked.now }
@@ -33,7 +36,7 @@ pub(crate) fn listed_message(
     if marked {
         return Step::Short;
     }
-    match do_listed(device, client, asked) {
+    match do_listed(device, client, asked, steps) {
         Ok(()) => Step::Done(asked.spelled_len()),
         Err(_) => Step::Short,
     }

@@ -17,7 +17,10 @@ use r9_device::Device;
 use r9_dmsg::{Dmsg, DmsgFault, next_listed, next_msg};
 use r9_memory::Memory;
 use r9_messages::{Plan, carry_out, plan_message};
+use r9_steps::Steps;
 use r9_text::Numbers;
+use std::marker::Brand;
+use std::sync::ledger::{Blank, Ledger};
 
 /// What became of one message.
 #[derive(Clone, Copy)]
@@ -52,13 +55,14 @@ fn push_rows(rows: &mut Numbers, message: &Dmsg, len: u32) -> Result<(), Memory>
 
 // Does what a message without a list asks for, behind which these bytes stand, and adds the length of its rows where it is a `y`: the
 // room for it is taken first. After Memory all is as before.
-fn do_plan(
+fn do_plan<L: Ledger>(
     device: &mut Device,
     client: u64,
     message: &Dmsg,
     plan: &Plan,
     rest: &[u8],
     rows: &mut Numbers,
+    steps: &mut Steps<L>,
 ) -> Result<(), Memory>
     requires live { IsSome (lookup (world_of device.old).clients client) }
     requires ready { IsReady client (world_of device.old) plan.now rest.now }
@@ -72,7 +76,7 @@ fn do_plan(
 {
     let known = rows.len();
     push_rows(rows, message, plan.rows_behind() as u32)?;
-    match carry_out(device, client, plan, rest) {
+    match carry_out(device, client, plan, rest, steps) {
         Ok(()) => Ok(()),
         Err(fault) => {
             rows.truncate(known);
@@ -82,12 +86,13 @@ fn do_plan(
 }
 
 // The first message of the bytes, which has no list. Where it is done, the length of its rows is added if it is a `y`.
-pub(crate) fn plain_message(
+pub(crate) fn plain_message<L: Ledger>(
     device: &mut Device,
     client: u64,
     bytes: &[u8],
     marked: bool,
     rows: &mut Numbers,
+    steps: &mut Steps<L>,
 ) -> Step
     requires live { IsSome (lookup (world_of device.old).clients client) }
     requires few { length bytes.now < 2 ^ 32 }
@@ -112,9 +117,33 @@ pub(crate) fn plain_message(
     if marked {
         return Step::Short;
     }
-    match do_plan(device, client, &message, &plan, rest, rows) {
+    match do_plan(device, client, &message, &plan, rest, rows, steps) {
         Ok(()) => Step::Done(len + plan.rows_behind()),
         Err(_) => Step::Short,
+    }
+}
+
+// The first message of the bytes, with a count of the pixels that it writes.
+fn counted_message<L: Ledger>(
+    device: &mut Device,
+    client: u64,
+    bytes: &[u8],
+    marked: bool,
+    rows: &mut Numbers,
+    blank: Blank,
+) -> Step
+    requires name { blank.name ≡ L.name }
+    requires parts { blank.parts ≡ L.parts }
+    requires some { 0 < L.parts }
+    requires live { IsSome (lookup (world_of device.old).clients client) }
+    requires few { length bytes.now < 2 ^ 32 }
+    ensures step { IsStep client (world_of device.old) bytes.now marked result (world_of device.new) }
+    ensures rows { HasRows client (world_of device.old) bytes.now result rows.old rows.new }
+{
+    let mut steps = Steps::<L>::new(blank);
+    match next_listed(bytes) {
+        Some(asked) => listed_message(device, client, bytes, &asked, marked, &mut steps),
+        None => plain_message(device, client, bytes, marked, rows, &mut steps),
     }
 }
 
@@ -132,8 +161,5 @@ pub(crate) fn one_message(
     ensures step { IsStep client (world_of device.old) bytes.now marked result (world_of device.new) }
     ensures rows { HasRows client (world_of device.old) bytes.now result rows.old rows.new }
 {
-    match next_listed(bytes) {
-        Some(asked) => listed_message(device, client, bytes, &asked, marked),
-        None => plain_message(device, client, bytes, marked, rows),
-    }
+    counted_message::<Brand>(device, client, bytes, marked, rows, Blank::new(1))
 }

@@ -7,6 +7,7 @@ ghost use Rattle.model_pixel.specs.Channels.{depth};
 ghost use Rattle.model_pixel.specs.Rows.{rows_of};
 ghost use Rattle.model_forest.specs.Paint.{paint};
 ghost use Rattle.model_imgfile.specs.ImageFile.{file_part};
+ghost use Rattle.model_cost.specs.Cells.{cells};
 ghost use Rattle.model_draw.specs.Files.{screen_file};
 ghost use Rattle.model_draw.specs.Orders.{picture_of};
 ghost use Rattle.model_draw.specs.World.{at_number};
@@ -59,6 +60,14 @@ impl Draw {
         ensures { IfOk result (λ rows. rows ≡ rows_of r (depth (at_number (world_of self.now) (shown_in (world_of self.now) image)).chan) (paint (world_of self.now).images (shown_in (world_of self.now) image))) }
     {
         self.device.forest.unload(self.image_of(image), r)
+    }
+
+    /// How many tiles keep hidden pixels: one for each pair of a window and a cell of it, of 32 by 32 points counted from the window's
+    /// min, that has a hidden point. It takes no memory.
+    pub fn tiles(&self) -> usize
+        ensures { result ≡ cells (world_of self.now) }
+    {
+        self.device.forest.tiles()
     }
 
     /// The display as an image file: what is painted from back to front, on it and on all that stands on it (image(6)). It is the

@@ -4,9 +4,10 @@ ghost use Rattle.std.specs.Prelude.{◌≡◌, ◌^◌, ◌<◌, ◌≤◌, ℕ,
 ghost use Rattle.r9_geom.specs.declared.Point.{Point as Spot};
 ghost use Rattle.r9_geom.specs.Geometry.{area_of, holds, IsOrdered, IsRectNear};
 ghost use Rattle.r9_plane.specs.Pixels.{along, number_of};
+ghost use Rattle.r9_restack.specs.Giving.{IsSupply};
 
 use r9_geom::{Point, Rect, distance};
-use r9_restack::Source;
+use r9_restack::{Source, Supply};
 
 /// Pixels of a rectangle, row by row, and 0 outside.
 #[derive(Clone, Copy)]
@@ -75,6 +76,23 @@ impl<'a> Picture<'a> {
         Some(&self.raws[first..last + 1])
     }
 
+    // The pixels of a rectangle, where they are all in that of the picture.
+    fn rows(&self, r: &Rect) -> Supply<'a>
+        ensures { IsSupply result (pictured self.now) r.now }
+    {
+        if r.is_empty() || !r.inside(&self.r) {
+            return Supply::Untold;
+        }
+        let width = self.r.width() as usize;
+        let row = distance(self.r.min.y, r.min.y) as usize;
+        let column = distance(self.r.min.x, r.min.x) as usize;
+        Supply::Rows {
+            raws: self.raws,
+            first: row * width + column,
+            width,
+        }
+    }
+
     // Pixels side by side, from a point to the right, one after the other.
     fn each_pixel(&self, q: Point, raws: &mut [u32])
         ensures { (k : ℕ) → k < length raws.old → slice_index raws.new k ≡ pictured self.now (along q k) }
@@ -98,19 +116,50 @@ impl<'a> Picture<'a> {
     }
 }
 
+/// Pixels side by side: those of a picture, or one raw pixel everywhere.
+#[derive(Clone, Copy)]
+pub enum Content<'a> {
+    Shown(Picture<'a>),
+    Plain(u32),
+}
+
+impl Content<'_> {
+    ghost use Rattle.r9_fills.specs.Content.{content};
+
+    // The pixels of a rectangle.
+    fn supply(&self, r: &Rect) -> Supply<'_>
+        ensures { IsSupply result (content self.now) r.now }
+    {
+        match self {
+            Content::Shown(picture) => picture.rows(r),
+            Content::Plain(raw) => Supply::Plain(*raw),
+        }
+    }
+
+    // Pixels side by side, from a point to the right.
+    fn row(&self, x: Point, raws: &mut [u32])
+        ensures { (k : ℕ) → k < length raws.old → slice_index raws.new k ≡ content self.now (along x k) }
+    {
+        match self {
+            Content::Shown(picture) => picture.row(x, raws),
+            Content::Plain(raw) => raws.fill(*raw),
+        }
+    }
+}
+
 /// The pixels of a window, and those that fill what becomes bare.
 #[derive(Clone, Copy)]
 pub struct Gathered<'a> {
-    pub given: Picture<'a>,
-    pub fill: Picture<'a>,
+    pub given: Content<'a>,
+    pub fill: Content<'a>,
 }
 
 impl Source for Gathered<'_> {
-    ghost use Rattle.r9_fills.specs.Gathered.{pictured};
+    ghost use Rattle.r9_fills.specs.Content.{content};
 
-    ghost given = { λ gathered. pictured gathered.given };
+    ghost given = { λ gathered. content gathered.given };
 
-    ghost fill = { λ gathered. pictured gathered.fill };
+    ghost fill = { λ gathered. content gathered.fill };
 
     fn give(&self, x: Point, raws: &mut [u32]) {
         self.given.row(x, raws);
@@ -119,30 +168,12 @@ impl Source for Gathered<'_> {
     fn fills(&self, q: Point, raws: &mut [u32]) {
         self.fill.row(q, raws);
     }
-}
 
-/// The pixels of a window that comes, where nothing becomes bare: those of a picture, or one raw pixel everywhere.
-#[derive(Clone, Copy)]
-pub enum Content<'a> {
-    Shown(Picture<'a>),
-    Plain(u32),
-}
-
-impl Source for Content<'_> {
-    ghost use Rattle.r9_fills.specs.Content.{content};
-
-    ghost given = { content };
-
-    ghost fill = { λ _. λ _. 0 };
-
-    fn give(&self, x: Point, raws: &mut [u32]) {
-        match self {
-            Content::Shown(picture) => picture.row(x, raws),
-            Content::Plain(raw) => raws.fill(*raw),
-        }
+    fn given_in(&self, r: &Rect) -> Supply<'_> {
+        self.given.supply(r)
     }
 
-    fn fills(&self, _q: Point, raws: &mut [u32]) {
-        raws.fill(0);
+    fn fill_in(&self, r: &Rect) -> Supply<'_> {
+        self.fill.supply(r)
     }
 }

@@ -1,8 +1,9 @@
 -- A window comes with what another shows, and the other moves far outside.
-use Rattle.std.proofs.Common.{◌≡◌, ◌≢◌, ◌∙◌, ℕ, ◌+◌, ◌*◌, ◌<◌, ◌^◌, ◌+ℤ◌, ◌-ℤ◌, Bool, true, false, List, [], Option, Some, None, Result, Ok, Err, get_or, length, refl, sym, ap, subst, arith, ⊎_elim, eq-eqb}
-use Rattle.std.specs.Prelude.{◌==◌, is_some, IfOk, option_map, unwrap_or, if◌then◌else◌}
+use Rattle.std.proofs.Common.{◌≡◌, ◌≢◌, ◌∙◌, ℕ, ◌+◌, ◌*◌, ◌<◌, ◌≤◌, ◌^◌, ◌+ℤ◌, ◌-ℤ◌, Bool, true, false, List, [], ◌∷◌, Option, Some, None, Result, Ok, Err, cond, find, get_or, length, refl, sym, ap, subst, arith, ⊎_elim, eq-eqb}
+use Rattle.std.specs.List.{list_any}
+use Rattle.std.specs.Prelude.{◌==◌, ◌||◌, is_some, IfOk, IfSome, option_map, unwrap_or, if◌then◌else◌}
 use Rattle.std.specs.Option.{option_map_or}
-use Rattle.std.proofs.lemmas.Bool.{cases_eq, ne_eqb}
+use Rattle.std.proofs.lemmas.Bool.{cases_eq, false_from_ne_true, false≢true, ne_eqb, or_parts}
 use Rattle.std.proofs.lemmas.Int.{ints}
 use Rattle.std.proofs.lemmas.Nat.{pow_pos}
 use Rattle.r9_geom.specs.declared.Point.{Point}
@@ -15,20 +16,25 @@ use Rattle.model_forest.specs.declared.Window.{Window}
 use Rattle.model_forest.specs.Stack.{moved, seen, with_windows}
 use Rattle.model_forest.specs.Steps.{after_list, after_replace, after_replace_on, carried_rect, outside, put_above}
 use Rattle.model_forest.specs.View.{view}
-use Rattle.model_forest.specs.World.{Image, World, image_at, no_image, parent_of, with_image, IsForest, IsLive, SameSize}
+use Rattle.model_forest.specs.World.{Image, World, image_at, no_image, no_rect, parent_of, with_image, IsForest, IsLive, SameSize}
 use Rattle.model_forest.proofs.Changes.{live-standing, with_image-free}
-use Rattle.model_forest.proofs.Listed.{window_of}
-use Rattle.model_forest.proofs.Sound.{view-below}
+use Rattle.model_forest.proofs.Listed.{stands_on, window_of}
+use Rattle.model_forest.proofs.Sound.{times, view-below}
 use Rattle.model_forest.proofs.Steps.{replacement, IsForest-carried_over, IsForest-moved_to, IsForest-replacement}
 use Rattle.model_forest.proofs.Uncovers.{seen-same}
-use Rattle.model_forest.proofs.Windows.{rect-with_windows, windows-with_windows, with_windows-other, IsStill-with_windows}
-use Rattle.model_kept.specs.Keeping.{with_kept, Place}
+use Rattle.model_forest.proofs.Windows.{lives-with_windows, rect-with_windows, windows-with_windows, with_windows-other, IsStill-with_windows}
+use Rattle.model_kept.specs.Keeping.{is_top, place_among, with_kept, Place}
 use Rattle.r9_plane.specs.Pixels.{number_of}
-use Rattle.r9_arrive.specs.Arriving.{after_coming, bare_window, coming_window, IsComing}
+use Rattle.r9_cells.specs.Fitting.{AreOne}
+use Rattle.r9_relist.proofs.Front.{are_one}
+use Rattle.r9_arrive.specs.Arriving.{after_coming, bare_window, coming_window, IsComing, IsLeft, IsLeftOf}
 use Rattle.r9_arrive.proofs.Canvases.{bare_canvas}
 use Rattle.r9_arrive.proofs.Coming.{on_top_comes, put_above_comes}
 use Rattle.r9_forest.specs.Groups.{IsMoved}
-use Rattle.r9_forest.specs.Replaced.{moved_out, put_in, replaced, taken_over, IsLater, IsReplacing}
+use Rattle.r9_forest.specs.declared.coming.Given.TheVariants.{Plain, Read}
+use Rattle.r9_forest.specs.Given.{given_at}
+use Rattle.r9_forest.specs.Replaced.{moved_out, put_in, replaced, taken_over, IsFarOff, IsLater, IsReplacing}
+use Rattle.r9_forest.proofs.Leftover.{hidden_top, later_left, later_left_own}
 
 -- ---- pixels of one rectangle as those of another of its size
 
@@ -263,6 +269,30 @@ pub if_ok_both : {T E : Type 0} (P Q R : T → Type 0) (r : Result T E) → IfOk
 if_ok_both P Q R (Ok x) p q follows = follows x p q
 if_ok_both P Q R (Err e) p q follows = tt
 
+-- directly above another that stands there, a window that stood nowhere has its place
+put_stands : (w : Window) (old : ℕ) (ws : List Window) → list_any (λ (v : Window). v.image == w.image) ws ≡ false → list_any (λ (v : Window). v.image == old) ws ≡ true → place_among (put_above w old ws) w.image ≡ w.place
+put_stands w old [] alone some = absurd (false≢true some)
+put_stands w old (v ∷ vs) alone some = by_image (v.image == old) (put_stands w old vs) some
+  where
+    parts : ((v.image == w.image) ≡ false) × (list_any (λ (u : Window). u.image == w.image) vs ≡ false)
+    parts = or_parts (v.image == w.image) (list_any (λ (u : Window). u.image == w.image) vs) alone
+
+    at : Bool → Window → List Window → Rect
+    at b u us = option_map_or (λ (t : Window). t.place) (cond b (Some u) (find (λ (t : Window). t.image == w.image) us)) no_rect
+
+    by_image : (b : Bool) → (list_any (λ (u : Window). u.image == w.image) vs ≡ false → list_any (λ (u : Window). u.image == old) vs ≡ true → place_among (put_above w old vs) w.image ≡ w.place) → (b || list_any (λ (u : Window). u.image == old) vs) ≡ true → place_among (if b then w ∷ v ∷ vs else v ∷ put_above w old vs) w.image ≡ w.place
+    by_image true rest some = ap (λ b. at b w (v ∷ vs)) (eq-eqb w.image w.image refl)
+    by_image false rest some = ap (λ b. at b v (put_above w old vs)) parts.0 ∙ rest parts.1 some
+
+-- what a window comes with, read or plain
+pub given_keeps : (keep : Bool) (raw : ℕ) (r : Rect) (room : List ℕ) (p : Point) → given_at (if keep then Read else Plain raw) r room p ≡ (if keep then (if holds r p then get_or room (number_of r p) 0 else 0) else raw)
+given_keeps true raw r room p = refl
+given_keeps false raw r room p = refl
+
+pub if_some_more : {T : Type 0} (o : Option T) (P Q : T → Type 0) → ((x : T) → P x → Q x) → IfSome o P → IfSome o Q
+if_some_more None P Q more h = tt
+if_some_more (Some x) P Q more h = more x h
+
 -- ---- over lists and kept pixels
 
 module _ (shape : World) (kept : Place → ℕ) (w : Window) (old : ℕ) (left standing : Standing) (over : Option ℕ) (r : Rect) (corner : Point) (raw : ℕ) (keep : Bool) (ok : IsForest (with_kept shape kept)) (is : IsReplacing (with_kept shape kept) w.image old left standing over r corner raw keep) (placed : w.place ≡ carried_rect r r.min corner) (list : List Window) (listed : list ≡ put_in over w (image_at shape standing.parent).windows) where
@@ -316,3 +346,69 @@ module _ (shape : World) (kept : Place → ℕ) (w : Window) (old : ℕ) (left s
     carried_rect (image_at shown_world old).r (image_at shown_world old).r.min outside,
     later_is later told ∙ ap (λ (v : World). moved old (carried_rect (image_at shown_world old).r (image_at shown_world old).r.min outside) (image_at v left.parent).windows) (sym same),
   )
+
+  -- the window stands where it is said to in the list
+  pub first_stands : place_among list w.image ≡ w.place
+  first_stands = ap (λ (ws : List Window). place_among ws w.image) listed ∙ by_over over refl
+    where
+      windows : (p : ℕ) → List Window
+      windows p = (image_at shape p).windows
+
+      fresh : list_any (λ (v : Window). v.image == w.image) (windows standing.parent) ≡ false
+      fresh =
+          false_from_ne_true (list_any (λ (v : Window). v.image == w.image) (windows standing.parent))
+          (λ here.
+          let stands : parent_of shown_world w.image ≡ Some standing.parent = stands_on shown_world ok standing.parent w.image is.parent_live (sym (ap (list_any (λ (v : Window). v.image == w.image)) ((bare_canvas shape kept).windows standing.parent)) ∙ here) in
+          let none : parent_of shown_world w.image ≡ None = ap (λ (o : Option Image). option_map (λ (t : Standing). t.parent) (unwrap_or o no_image).standing) is.free in
+          let clash : None ≡ Some standing.parent = sym none ∙ stands in
+          absurd (cc))
+
+      by_over : (o : Option ℕ) → over ≡ o → place_among (put_in o w (windows standing.parent)) w.image ≡ w.place
+      by_over None e = ap (λ b. option_map_or (λ (v : Window). v.place) (cond b (Some w) (find (λ (v : Window). v.image == w.image) (windows standing.parent))) no_rect) (eq-eqb w.image w.image refl)
+      by_over (Some n) e =
+          let both = is.beside n e in
+          let there : list_any (λ (v : Window). v.image == old) (image_at shown_world left.parent).windows ≡ true =
+          ok.listed old left.parent (old_live shown_world w.image old left standing over r corner raw keep ok is) (stands_at shown_world old left is.left_at) in
+          put_stands w n (windows standing.parent) fresh
+          ((λ j. list_any (λ (v : Window). v.image == both.0 j) ((bare_canvas shape kept).windows (both.1 j).parent j)) ∙ there)
+
+  -- each image has one window in the later list
+  pub left_ones : (world : World) (later : List Window) → world ≡ comes_then → IsLater shape old left.parent standing.parent list later → AreOne later
+  left_ones world later same told =
+      let below : IsLive world left.parent = subst (λ (v : World). IsLive v left.parent) (sym same) (left_then shown_world w.image old left standing over r corner raw keep ok is) in
+      are_one later
+      (λ n.
+      subst (λ (ws : List Window). times ws n ≤ 1) (windows-with_windows world left.parent later)
+      ((left_forest world later same told).once left.parent n (lives-with_windows world left.parent later left.parent below ∙ below)))
+
+  -- what it hides was hidden, or is by the list with the window, or lies where the other moves
+  pub left_cells : (later : List Window) → IsForest shape → IsLater shape old left.parent standing.parent list later → IsLeft shape standing.parent list left.parent later (place_among later old ∷ [])
+  left_cells later lists told =
+      let same = bare_canvas shape kept in
+      let own = (image_at shape old).r in
+      let alive : IsLive shape old = same.live old ∙ old_live shown_world w.image old left standing over r corner raw keep ok is in
+      let below : IsLive shape left.parent = same.live left.parent ∙ left_live shown_world w.image old left standing over r corner raw keep ok is in
+      later_left shape standing.parent left.parent old list later (carried_rect own own.min outside) lists below
+      (record { width = omega (arith, ints); height = omega (arith, ints) }) (lists.images old alive).ordered told
+
+  pub left_own : (later : List Window) → IsForest shape → IsLater shape old left.parent standing.parent list later → IsLeftOf shape standing.parent list left.parent later (place_among later old ∷ []) w.image r
+  left_own later lists told =
+      let same = bare_canvas shape kept in
+      let own = (image_at shape old).r in
+      let alive : IsLive shape old = same.live old ∙ old_live shown_world w.image old left standing over r corner raw keep ok is in
+      let below : IsLive shape left.parent = same.live left.parent ∙ left_live shown_world w.image old left standing over r corner raw keep ok is in
+      let free : is_some (shape w.image) ≡ false = same.live w.image ∙ ap is_some is.free in
+      later_left_own shape standing.parent left.parent old list later (carried_rect own own.min outside) lists below
+      (record { width = omega (arith, ints); height = omega (arith, ints) }) (lists.images old alive).ordered told w.image r free
+      (λ e. false≢true (sym free ∙ ap (λ n. is_some (shape n)) e ∙ alive))
+
+  -- and where that has no points, nothing of it shows
+  pub left_hidden : (world : World) (later : List Window) → world ≡ comes_then → IsLater shape old left.parent standing.parent list later → IsFarOff shape old left.parent → (z : Point) → holds (image_at world left.parent).r z ≡ true → is_top later old z ≡ false
+  left_hidden world later same told off z inside =
+      let own = (image_at shape old).r in
+      let below = (image_at shape left.parent).r in
+      let rect : below ≡ (image_at world left.parent).r =
+      (bare_canvas shape kept).r left.parent
+      ∙ sym (rect_still shown_world w.image standing.parent standing.fill r (taken_over shown_world old r raw keep) (put_in over (record { image = w.image; place = carried_rect r r.min corner }) (image_at shown_world standing.parent).windows) is.free is.parent_live left.parent (left_live shown_world w.image old left standing over r corner raw keep ok is))
+      ∙ ap (λ (v : World). (image_at v left.parent).r) (sym same) in
+      hidden_top old (carried_rect own own.min outside) below (if left.parent == standing.parent then list else (image_at shape left.parent).windows) later told off z (ap (λ (s : Rect). holds s z) rect ∙ inside)

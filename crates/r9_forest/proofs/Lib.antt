@@ -4,9 +4,11 @@ pub mod Gathering
 pub mod Going
 pub mod Groups
 pub mod Keepers
+pub mod Leftover
 pub mod Making
 pub mod Moves
 pub mod Numbers
+pub mod Placing
 pub mod Putting
 pub mod Raws
 pub mod Repeats

@@ -15,6 +15,7 @@ use Rattle.model_forest.proofs.Listed.{parent-apart}
 use Rattle.model_forest.proofs.Placed.{height-carried, width-carried, IsForest-shifted}
 use Rattle.model_forest.proofs.Uncovers.{Uncovers, Uncovers-moved}
 use Rattle.model_forest.proofs.Windows.{with_windows-other}
+use Rattle.model_kept.specs.Cells.{cell_of, cell_part, hides_on}
 use Rattle.model_kept.specs.Keeping.{keeping, with_kept, Place}
 use Rattle.model_kept.specs.Restack.{shifted_shape, with_list}
 use Rattle.model_kept.proofs.Once.{places-forest}
@@ -66,6 +67,9 @@ pub moved_places : (pixels : KeptPixels) (shape : World) (p i : ℕ) → IsFores
 moved_places pixels shape p i ok forms cells live = record {
   surface = λ z inside. surface_has pixels shape ok forms cells (image_at shape p).depth p z refl live inside;
   hidden = λ n x other stands inside none. unshown_has shape (has_place pixels) n p x ok cells stands inside none;
+  cells = λ n x other stands inside.
+      let r = (image_at shape n).r in
+      cells n p x stands inside ∙ ap (λ o. option_map_or (λ (m : ℕ). hides_on shape m n (cell_part r (cell_of r x))) o false) stands;
   others = λ n q x away stands inside. cells n q x stands inside;
 }
 

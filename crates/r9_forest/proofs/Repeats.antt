@@ -64,12 +64,6 @@ run_inside r p q n inside fits h =
       bottom = omega (arith, ints, a.bottom, b.bottom);
     })
 
-pub run_some : (r : Rect) (p : Point) → holds r p ≡ true → 0 < distance p.x r.max.x
-run_some r p inside =
-    let a = bounds_of r p inside in
-    let edge = distance_is p.x r.max.x (omega (arith, ints, a.right)) in
-    omega (arith, ints, edge, a.right)
-
 rem_one : (z d : ℤ) → d ≡ pos 1 → int_rem_euclid z d ≡ pos 0
 rem_one (pos a) d one = ap (int_rem_euclid (pos a)) one ∙ ap pos (omega arith)
 rem_one (negsuc a) d one = ap (int_rem_euclid (negsuc a)) one ∙ ap pos (omega arith)

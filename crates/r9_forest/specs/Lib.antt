@@ -1,3 +1,4 @@
+pub mod Given
 pub mod Groups
 pub mod Images
 pub mod Keeping

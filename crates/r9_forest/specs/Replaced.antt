@@ -2,7 +2,7 @@
 use Rattle.std.specs.Prelude.{◌≡◌, ◌+◌, ◌==◌, ◌<◌, ◌^◌, ℕ, Bool, true, List, ◌∷◌, Option, Some, None, length, slice_index, if◌then◌else◌}
 use Rattle.r9_geom.specs.declared.Point.{Point}
 use Rattle.r9_geom.specs.declared.Rect.{Rect}
-use Rattle.r9_geom.specs.Geometry.{carried, holds, IsNearBy, IsOrdered, IsRectNearBy}
+use Rattle.r9_geom.specs.Geometry.{carried, holds, is_empty, meet, IsNearBy, IsOrdered, IsRectNearBy}
 use Rattle.r9_plane.specs.Pixels.{number_of}
 use Rattle.model_pixel.specs.Channels.{depth}
 use Rattle.model_forest.specs.declared.Standing.{Standing}
@@ -37,6 +37,12 @@ abbrev pub IsLater : World → ℕ → (q p : ℕ) → (list later : List Window
 IsLater world old q p list later =
     let own = (image_at world old).r in
     later ≡ moved old (carried_rect own own.min outside) (if q == p then list else (image_at world q).windows)
+
+-- image q has no point where its window is then
+abbrev pub IsFarOff : World → ℕ → ℕ → Type 0
+IsFarOff world old q =
+    let own = (image_at world old).r in
+    is_empty (meet (carried_rect own own.min outside) (image_at world q).r) ≡ true
 
 -- pixels row by row are what an image shows
 abbrev pub IsShown : World → ℕ → List ℕ → Type 0

@@ -2,28 +2,51 @@
 
 ghost use Rattle.std.specs.Prelude.{◌≡◌, ◌+◌, ◌*◌, ◌^◌, ◌<◌, ◌≤◌, ℕ, None, false, length, vec_capacity, vec_len, All, IfOk, OnErr, OnOk};
 ghost use Rattle.r9_geom.specs.declared.Point.{Point as Spot};
-ghost use Rattle.r9_geom.specs.Geometry.{area_of, IsOrdered, IsRectNearBy};
+ghost use Rattle.r9_geom.specs.Geometry.{area_of, IsOrdered, IsRectNear, IsRectNearBy};
 ghost use Rattle.model_pixel.specs.Channels as channels;
 ghost use Rattle.model_forest.specs.Numbers.{next_number, taken};
 ghost use Rattle.model_forest.specs.World.{image_at, IsForest, IsLive};
 ghost use Rattle.model_forest.specs.Stack.{after_window};
+ghost use Rattle.model_kept.specs.Keeping.{place_among};
 ghost use Rattle.r9_locate.specs.Table.{made, shape, HasRoom};
 ghost use Rattle.r9_pixels.specs.Kept.{room_of, spare_in, wanted_in};
+ghost use Rattle.r9_cells.specs.Fitting.{AreOne};
 ghost use Rattle.r9_pixels.specs.Places.{StandsOn};
-ghost use Rattle.r9_arrive.specs.Arriving.{after_coming, with_coming, IsComing};
+ghost use Rattle.r9_fills.specs.Content as contents;
+ghost use Rattle.r9_arrive.specs.Arriving.{after_coming, with_coming, IsComing, IsLeft, IsLeftOf};
 ghost use Rattle.r9_forest.specs.Numbered.{numbers_of};
+ghost use Rattle.r9_forest.specs.Given.{given_at};
 
 use super::images::{Images, take_number};
 use model_forest::{Standing, Window};
 use r9_arrive::arrive;
-use r9_fills::Content;
+use r9_fills::{Content, Gathered, Picture};
 use r9_geom::Rect;
 use r9_lists::on_top;
 use r9_locate::Frame;
 use r9_memory::Memory;
-use r9_restack::Source;
 use r9_steps::Steps;
 use std::sync::ledger::Ledger;
+
+/// The pixels with which a window comes: one raw pixel, or those that were read into the room.
+#[derive(Clone, Copy)]
+pub(crate) enum Given {
+    Plain(u32),
+    Read,
+}
+
+/// The pixels of a rectangle that are given.
+pub(crate) fn content(given: Given, r: Rect, room: &[u32]) -> Content<'_>
+    requires near { IsRectNear r }
+    requires ordered { IsOrdered r }
+    requires room { area_of r ≤ length room.now }
+    ensures { (p : Spot) → contents.content result p ≡ given_at given r room.now p }
+{
+    match given {
+        Given::Plain(raw) => Content::Plain(raw),
+        Given::Read => Content::Shown(Picture::new(r, room)),
+    }
+}
 
 impl Images {
     ghost use Rattle.r9_forest.specs.Images.{numbers, world, IsUnchanged};
@@ -61,22 +84,32 @@ impl Images {
         let w = Window { image: i, place: r };
         on_top(&mut list, w, &below.windows);
         let standing = Standing { parent, fill };
-        let plain = Content::Plain(raw);
-        self.come(w, standing, r, list, &plain, parent, &[], steps)?;
+        self.come(
+            w,
+            standing,
+            r,
+            list,
+            Given::Plain(raw),
+            parent,
+            &[],
+            &[],
+            steps,
+        )?;
         Ok(i)
     }
 
     // Makes a window under the next number, for which there is room, with pixels that are given, in another list of the image
     // on which it stands. Tiles are there then, too, for the windows that image q is to get later.
-    pub(crate) fn come<S: Source, L: Ledger>(
+    pub(crate) fn come<L: Ledger>(
         &mut self,
         w: Window,
         standing: Standing,
         r: Rect,
         list: Vec<Window>,
-        source: &S,
+        given: Given,
         q: u32,
         later: &[Window],
+        areas: &[Rect],
         steps: &mut Steps<L>,
     ) -> Result<(), Memory>
         requires number { w.image ≡ next_number (numbers self.old) }
@@ -86,32 +119,42 @@ impl Images {
         requires fills { area_of r ≤ vec_len self.old.room }
         requires parent { IsLive (world self.old) standing.parent }
         requires near { IsRectNearBy (2 ^ 34) r }
+        requires ordered { IsOrdered r }
         requires few { (image_at (shape self.old.lists) standing.parent).depth + 1 < 2 ^ 32 }
         requires coming { IsComing (shape self.old.lists) standing.parent w list.items }
-        requires forest { IsForest (after_coming (world self.old) w.image standing.parent standing.fill r (S.given source.now) list.items) }
-        requires given { (x : Spot) → S.given source.now x < 2 ^ channels.depth (image_at (shape self.old.lists) standing.parent).chan }
-        requires fill { (z : Spot) → S.fill source.now z < 2 ^ channels.depth (image_at (shape self.old.lists) standing.parent).chan }
+        requires forest { IsForest (after_coming (world self.old) w.image standing.parent standing.fill r (given_at given r self.old.room.items) list.items) }
+        requires given { (x : Spot) → given_at given r self.old.room.items x < 2 ^ channels.depth (image_at (shape self.old.lists) standing.parent).chan }
         requires also { IsLive (shape self.old.lists) q }
         requires later { All (StandsOn (with_coming (shape self.old.lists) w.image standing.parent standing.fill r) q) later.now }
+        requires later_one { AreOne later.now }
+        requires left { IsLeft (shape self.old.lists) standing.parent list.items q later.now areas.now }
+        requires left_own { IsLeftOf (shape self.old.lists) standing.parent list.items q later.now areas.now w.image r }
+        requires stands { place_among list.items w.image ≡ w.place }
         ensures free { world self.old w.image ≡ None }
-        ensures world { OnOk result (world self.new ≡ after_coming (world self.old) w.image standing.parent standing.fill r (S.given source.now) list.items) }
+        ensures world { OnOk result (world self.new ≡ after_coming (world self.old) w.image standing.parent standing.fill r (given_at given r self.old.room.items) list.items) }
         ensures taken { OnOk result (numbers self.new ≡ taken (numbers self.old)) }
         ensures later { OnOk result (wanted_in self.new.pixels (shape self.new.lists) q later.now ≤ spare_in self.new.pixels) }
         ensures err { OnErr result (IsUnchanged self.old self.new) }
         ensures steps { steps.new ≤ steps.old + 2 * area_of r }
     {
         let made = self.lists.len();
+        // Nothing becomes bare.
+        let gathered = Gathered {
+            given: content(given, r, &self.room),
+            fill: Content::Plain(0),
+        };
         arrive(
             self.alloc,
             &mut self.lists,
             &mut self.pixels,
-            source,
+            &gathered,
             w,
             standing,
             r,
             list,
             q,
             later,
+            areas,
             steps,
         )?;
         let _ = take_number(made, &mut self.spare);

@@ -8,7 +8,7 @@ ghost use Rattle.model_forest.specs.Steps.{after_release};
 
 use super::images::Images;
 use model_forest::Standing;
-use r9_fills::{Gathered, Picture};
+use r9_fills::{Content, Gathered, Picture};
 use r9_locate::place_among;
 use r9_relist::{common, take_away, take_whole};
 use r9_steps::Steps;
@@ -45,8 +45,10 @@ impl Images {
         let area = common(&place_among(&below.windows, i), &below.r);
         self.gather(standing.fill, &chan, &area);
         // Nothing asks for its own pixels.
-        let fill = Picture::new(area, &self.room);
-        let gathered = Gathered { given: fill, fill };
+        let gathered = Gathered {
+            given: Content::Plain(0),
+            fill: Content::Shown(Picture::new(area, &self.room)),
+        };
         take_away(
             self.alloc,
             &mut self.lists,

@@ -115,7 +115,8 @@ impl Images {
         ensures err { OnErr result (world self.new ≡ world self.old) }
         ensures steps { steps.new ≤ steps.old + 2 * sum_by area_of areas.now }
     {
-        self.pixels.reserve_hidden(&self.lists, parent, &list)?;
+        self.pixels
+            .reserve_hidden(&self.lists, parent, &list, 0, areas)?;
         reorder_windows(
             &mut self.lists,
             &mut self.pixels,

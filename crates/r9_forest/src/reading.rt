@@ -3,8 +3,8 @@
 ghost use Rattle.std.specs.Prelude.{◌≡◌, ◌*◌, ◌^◌, ◌<◌, ◌≤◌, ℕ, None, true, length, slice_index, IfOk, IfSome, IsTrue, OnOk};
 ghost use Rattle.r9_geom.specs.declared.Point.{Point as Spot};
 ghost use Rattle.r9_geom.specs.Geometry as geometry;
-ghost use Rattle.r9_geom.specs.Geometry.{height, holds, reduced, strip, IsNearBy, IsOrdered, IsRectNearBy};
-ghost use Rattle.r9_plane.specs.Pixels.{along, chan_of, pixel_at, rect_of};
+ghost use Rattle.r9_geom.specs.Geometry.{height, holds, reduced, strip, width, IsNearBy, IsOrdered, IsRectNear, IsRectNearBy};
+ghost use Rattle.r9_plane.specs.Pixels.{along, chan_of, number_of, pixel_at, rect_of};
 ghost use Rattle.model_pixel.specs.Channels as channels;
 ghost use Rattle.model_pixel.specs.Rows.{row_bytes, rows_of};
 ghost use Rattle.model_forest.specs.World.{image_at, parent_of, IsLive};
@@ -18,6 +18,7 @@ use r9_geom::{Point, Rect, distance};
 use r9_locate::{along, read_view};
 use r9_memory::Memory;
 use r9_plane::{Plane, row_bytes};
+use r9_shown::read_area;
 use r9_text::Bytes;
 
 // How many columns a rectangle has from a point of it on.
@@ -95,15 +96,49 @@ impl Images {
         }
     }
 
-    /// Reads an image's own pixels side by side, from a point of it to the right. Where a window stands there, what is read
-    /// is any pixel.
-    pub fn read_bare_row(&self, i: u32, from: Point, raws: &mut [u32])
+    // Reads what an image gives at the points of a rectangle, one row after the other.
+    fn read_rows(&self, i: u32, r: &Rect, raws: &mut [u32])
         requires live { IsLive (world self.now) i }
-        requires inside { (p : Spot) → IsTrue (holds (strip from (length raws.old)) p) → IsTrue (holds (image_at (world self.now) i).r p) }
-        ensures raws { (k : ℕ) → k < length raws.old → is_bare (image_at (world self.now) i).windows (along from k) ≡ true → slice_index raws.new k ≡ model.view (world self.now) i (along from k) }
-        ensures range { (k : ℕ) → k < length raws.old → slice_index raws.new k < 2 ^ channels.depth (image_at (world self.now) i).chan }
+        requires near { IsRectNear r.now }
+        requires ordered { IsOrdered r.now }
+        requires inside { (p : Spot) → IsTrue (holds r.now p) → IsTrue (reaches (image_at (world self.now) i) p) }
+        requires raws { length raws.old ≡ height r.now * width r.now }
+        ensures { (p : Spot) → IsTrue (holds r.now p) → slice_index raws.new (number_of r.now p) ≡ at (world self.now) i p }
     {
-        self.read_view(i, from, raws);
+        let width = r.width() as usize;
+        for row in 0..r.height() {
+            let first = row as usize * width;
+            self.read_row(i, r.point_at(0, row), &mut raws[first..first + width]);
+        }
+    }
+
+    /// Reads what an image gives where it is drawn from, at the points of a rectangle, row by row.
+    pub fn read_area(&self, i: u32, r: &Rect, raws: &mut [u32])
+        requires live { IsLive (world self.now) i }
+        requires near { IsRectNear r.now }
+        requires ordered { IsOrdered r.now }
+        requires inside { (p : Spot) → IsTrue (holds r.now p) → IsTrue (reaches (image_at (world self.now) i) p) }
+        requires raws { length raws.old ≡ height r.now * width r.now }
+        ensures { (p : Spot) → IsTrue (holds r.now p) → slice_index raws.new (number_of r.now p) ≡ at (world self.now) i p }
+    {
+        if self.lists.get(i).repl {
+            self.read_rows(i, r, raws);
+        } else {
+            read_area(&self.lists, &self.pixels, i, r, raws);
+        }
+    }
+
+    /// Reads an image's own pixels at the points of a rectangle of it, row by row. Where a window stands there, what is read is any
+    /// pixel.
+    pub fn read_bare_area(&self, i: u32, r: &Rect, raws: &mut [u32])
+        requires live { IsLive (world self.now) i }
+        requires near { IsRectNear r.now }
+        requires ordered { IsOrdered r.now }
+        requires inside { (p : Spot) → IsTrue (holds r.now p) → IsTrue (holds (image_at (world self.now) i).r p) }
+        requires raws { length raws.old ≡ height r.now * width r.now }
+        ensures { (p : Spot) → IsTrue (holds r.now p) → is_bare (image_at (world self.now) i).windows p ≡ true → slice_index raws.new (number_of r.now p) ≡ model.view (world self.now) i p }
+    {
+        read_area(&self.lists, &self.pixels, i, r, raws);
     }
 
     /// The raw pixel that an image shows at a point of it.

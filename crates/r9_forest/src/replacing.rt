@@ -1,6 +1,6 @@
 //! A window that takes the place of another, or comes with what another shows.
 
-ghost use Rattle.std.specs.Prelude.{◌≡◌, ◌+◌, ◌*◌, ◌^◌, ◌<◌, ◌≤◌, ℕ, None, Some, true, length, slice_index, vec_len, IfOk, IsSome, IsTrue, OnErr, OnOk, if◌then◌else◌};
+ghost use Rattle.std.specs.Prelude.{◌≡◌, ◌+◌, ◌*◌, ◌^◌, ◌<◌, ◌≤◌, ℕ, None, Some, true, length, slice_index, vec_len, IfOk, IfSome, IsSome, IsTrue, OnErr, OnOk, if◌then◌else◌};
 ghost use Rattle.r9_geom.specs.declared.Point.{Point as Spot};
 ghost use Rattle.r9_geom.specs.Geometry.{area_of, holds, IsNearBy, IsOrdered, IsRectNearBy};
 ghost use Rattle.r9_plane.specs.Pixels.{number_of};
@@ -12,15 +12,16 @@ ghost use Rattle.model_forest.specs.View as model;
 ghost use Rattle.model_forest.specs.World.{image_at, parent_of, IsLive, SameSize};
 ghost use Rattle.r9_locate.specs.Table.{shape};
 ghost use Rattle.r9_fills.specs.Content as fills;
-ghost use Rattle.r9_forest.specs.Replaced.{moved_out, put_in, replaced, IsLater, IsReplacing, IsShown};
+ghost use Rattle.r9_forest.specs.declared.coming.Given.TheVariants.{Plain, Read};
+ghost use Rattle.r9_forest.specs.Replaced.{moved_out, put_in, replaced, IsFarOff, IsLater, IsReplacing, IsShown};
 
-use super::coming::{is_full, peek_number};
-use super::images::Images;
+use super::coming::{Given, is_full, peek_number};
+use super::images::{Images, zeros};
 use super::moving::moved_list;
 use model_forest::{Standing, Window};
-use r9_fills::{Content, Picture};
 use r9_geom::{Point, Rect};
 use r9_lists::{above, carried_rect, on_top};
+use r9_locate::place_among;
 use r9_memory::Memory;
 use r9_steps::Steps;
 use std::alloc::Global;
@@ -33,12 +34,12 @@ const OUTSIDE: Point = Point {
 };
 
 // What a replacement takes before anything changes: the new window, the list with it, the list in which the other then moves,
-// and room for what that shows.
+// and room for what fills where that stood, where it shows still.
 struct Exchange {
     window: Window,
     list: Vec<Window>,
     later: Vec<Window>,
-    shown: Vec<u32>,
+    rows: Option<Vec<u32>>,
 }
 
 // The list with a window more, directly above another or on top.
@@ -56,20 +57,6 @@ fn with_window(
         None => on_top(&mut list, w, windows),
     }
     Ok(list)
-}
-
-// What a window comes with: what was gathered of its size, or one raw pixel.
-fn content(keep: bool, raw: u32, r: Rect, shown: &[u32]) -> Content<'_>
-    requires near { IsRectNearBy (2 ^ 34) r }
-    requires ordered { IsOrdered r }
-    requires room { keep ≡ true → area_of r ≤ length shown.now }
-    ensures { (p : Spot) → fills.content result p ≡ (if keep then (if holds r p then slice_index shown.now (number_of r p) else 0) else raw) }
-{
-    if keep {
-        Content::Shown(Picture::new(r, shown))
-    } else {
-        Content::Plain(raw)
-    }
 }
 
 impl Images {
@@ -175,26 +162,27 @@ impl Images {
         ensures steps { steps.new ≤ steps.old + 2 * area_of r + 4 * area_of (image_at (world self.old) old).r }
     {
         self.reserve_window(&r)?;
-        let exchange = self.prepare(old, left, standing.parent, over, &r, corner, keep)?;
+        let exchange = self.prepare(old, left, standing.parent, over, &r, corner)?;
         let Exchange {
             window,
             list,
             later,
-            shown,
+            rows,
         } = exchange;
-        let content = content(keep, raw, r, &shown);
+        let given = self.given(old, keep, raw);
+        let areas = [place_among(&later, old)];
         self.come(
             window,
             standing,
             r,
             list,
-            &content,
+            given,
             left.parent,
             &later,
+            &areas,
             steps,
         )?;
-        let shown = self.show(old, shown);
-        self.take_place(old, left, &shown, later, steps);
+        self.move_away(old, left, rows, later, steps);
         Ok(window.image)
     }
 
@@ -207,7 +195,6 @@ impl Images {
         over: Option<u32>,
         r: &Rect,
         corner: Point,
-        keep: bool,
     ) -> Result<Exchange, Memory>
         requires left { (image_at (world self.now) old).standing ≡ Some left }
         requires parent { IsLive (world self.now) parent }
@@ -218,51 +205,60 @@ impl Images {
         ensures few { OnOk result (((image_at (shape self.now.lists) parent).depth + 1 < 2 ^ 32) × (length (image_at (shape self.now.lists) parent).windows + 1 < 2 ^ 32)) }
         ensures list { IfOk result (λ exchange. exchange.list.items ≡ put_in over exchange.window (image_at (shape self.now.lists) parent).windows) }
         ensures later { IfOk result (λ exchange. IsLater (shape self.now.lists) old left.parent parent exchange.list.items exchange.later.items) }
-        ensures room { IfOk result (λ exchange. area_of (image_at (world self.now) old).r ≤ vec_len exchange.shown) }
-        ensures shown { IfOk result (λ exchange. keep ≡ true → IsShown (world self.now) old exchange.shown.items) }
+        ensures hidden { IfOk result (λ exchange. exchange.rows ≡ None → IsFarOff (shape self.now.lists) old left.parent) }
+        ensures enough { IfOk result (λ exchange. IfSome exchange.rows (λ rows. area_of (image_at (shape self.now.lists) old).r ≤ vec_len rows)) }
     {
         let below = self.lists.get(parent);
         if is_full(below) {
             return Err(Memory);
         }
-        let shown = self.room_for(old, left.parent, keep)?;
         let made = self.lists.len();
         let image = peek_number(made, &self.spare);
         let place = carried_rect(r, r.min, corner);
         let window = Window { image, place };
         let list = with_window(self.alloc, &below.windows, window, over)?;
         let later = self.later(old, left.parent, parent, &list)?;
+        let rows = self.room_left(old, left.parent)?;
         Ok(Exchange {
             window,
             list,
             later,
-            shown,
+            rows,
         })
     }
 
-    // Room for what a window shows, with that in it where it is kept.
-    fn room_for(&self, old: u32, p: u32, keep: bool) -> Result<Vec<u32>, Memory>
-        requires { parent_of (world self.now) old ≡ Some p }
-        ensures room { IfOk result (λ shown. area_of (image_at (world self.now) old).r ≤ vec_len shown) }
-        ensures shown { IfOk result (λ shown. keep ≡ true → IsShown (world self.now) old shown.items) }
+    // Room for what fills where a window of image q stood, where it shows still once it moves far outside.
+    fn room_left(&self, old: u32, q: u32) -> Result<Option<Vec<u32>>, Memory>
+        requires { parent_of (world self.now) old ≡ Some q }
+        ensures hidden { IfOk result (λ rows. rows ≡ None → IsFarOff (shape self.now.lists) old q) }
+        ensures enough { IfOk result (λ rows. IfSome rows (λ room. area_of (image_at (shape self.now.lists) old).r ≤ vec_len room)) }
     {
-        let shown = self.room_of(old)?;
-        if keep {
-            Ok(self.show(old, shown))
-        } else {
-            Ok(shown)
+        let own = self.lists.get(old).r;
+        let far = carried_rect(&own, own.min, OUTSIDE);
+        if far.meet(&self.lists.get(q).r).is_empty() {
+            return Ok(None);
         }
+        let count = (own.width() * own.height()) as usize;
+        Ok(Some(zeros(self.alloc, count)?))
     }
 
-    // Reads what an image shows into room for it.
-    fn show(&self, i: u32, mut raws: Vec<u32>) -> Vec<u32>
-        requires live { IsLive (world self.now) i }
-        requires room { area_of (image_at (world self.now) i).r ≤ vec_len raws }
-        ensures len { vec_len result ≡ vec_len raws }
-        ensures shown { IsShown (world self.now) i result.items }
+    // What a window comes with in place of another: what that shows, which is read into the room, or one raw pixel.
+    fn given(&mut self, old: u32, keep: bool, raw: u32) -> Given
+        requires live { IsLive (world self.old) old }
+        requires room { area_of (image_at (world self.old) old).r ≤ vec_len self.old.room }
+        ensures lists { self.new.lists ≡ self.old.lists }
+        ensures pixels { self.new.pixels ≡ self.old.pixels }
+        ensures spare { self.new.spare ≡ self.old.spare }
+        ensures len { vec_len self.new.room ≡ vec_len self.old.room }
+        ensures shown { keep ≡ true → IsShown (world self.old) old self.new.room.items }
+        ensures value { result ≡ (if keep then Read else Plain raw) }
     {
-        self.read_shown(i, &mut raws);
-        raws
+        if keep {
+            self.read_shown(old);
+            Given::Read
+        } else {
+            Given::Plain(raw)
+        }
     }
 
     // The list in which a window of image q moves far outside, once image p got another list.

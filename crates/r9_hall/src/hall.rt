@@ -3,6 +3,7 @@
 ghost use Rattle.std.specs.Prelude.{◌≡◌, ◌<◌, ◌≤◌, ◌+◌, ◌^◌, ◌++◌, ◌∷◌, ◌↔◌, [], true, false, length, None, IsTrue, IfOk, OnOk, OnErr, IsOk};
 ghost use Rattle.std.specs.Vec.{vec_len, vec_capacity};
 ghost use Rattle.r9_event.specs.declared.event.Event.{Event};
+ghost use Rattle.model_cost.specs.Cells.{cells};
 ghost use Rattle.model_draw.specs.Files.{screen_file};
 ghost use Rattle.model_draw.specs.Orders.{picture_of};
 ghost use Rattle.model_event.specs.Legal.{roll_after};
@@ -195,6 +196,14 @@ impl Hall {
         ensures picture { self.now.broken ≡ false → picture_of (world_in self.now.world).desktop.device 0 ≡ screen_file (world_in self.now.world).desktop.device }
     {
         self.world.screen()
+    }
+
+    /// How many tiles keep hidden pixels: one for each pair of a window and a cell of it, of 32 by 32 points counted from the window's
+    /// min, that has a hidden point. It takes no memory. Nothing is said of those of a broken hall.
+    pub fn tiles(&self) -> usize
+        ensures { self.now.broken ≡ false → result ≡ cells (world_in self.now.world).desktop.device }
+    {
+        self.world.tiles()
     }
 
     /// Whether an event may come next.

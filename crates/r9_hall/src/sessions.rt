@@ -2,6 +2,7 @@
 
 ghost use Rattle.std.specs.Prelude.{◌≡◌, ◌≤◌, ℕ, [], true, length, None, Option, IfOk, OnOk, IfSome, IsSome};
 ghost use Rattle.model_text.specs.Map.{lookup};
+ghost use Rattle.model_cost.specs.Cells.{cells};
 ghost use Rattle.model_draw.specs.Files.{screen_file};
 ghost use Rattle.model_draw.specs.Orders.{picture_of};
 ghost use Rattle.model_world.specs.Cut.{IsCutEvent, IsWantingEvent};
@@ -291,5 +292,13 @@ impl Sessions {
         ensures picture { picture_of (desktop_of self.now.desktop).device 0 ≡ screen_file (desktop_of self.now.desktop).device }
     {
         self.desktop.screen()
+    }
+
+    /// How many tiles keep hidden pixels: one for each pair of a window and a cell of it, of 32 by 32 points counted from the window's
+    /// min, that has a hidden point. It takes no memory.
+    pub fn tiles(&self) -> usize
+        ensures { result ≡ cells (desktop_of self.now.desktop).device }
+    {
+        self.desktop.tiles()
     }
 }

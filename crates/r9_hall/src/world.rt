@@ -3,6 +3,7 @@
 ghost use Rattle.std.specs.Prelude.{◌≡◌, true, false, None, option_map, IfOk, IfSome, IsSome};
 ghost use Rattle.std.specs.Option.{option_map_or};
 ghost use Rattle.model_text.specs.Map.{lookup};
+ghost use Rattle.model_cost.specs.Cells.{cells};
 ghost use Rattle.model_draw.specs.Files.{screen_file};
 ghost use Rattle.model_draw.specs.Orders.{picture_of};
 ghost use Rattle.model_alone.specs.Uses.{event_used};
@@ -134,5 +135,13 @@ impl World {
         ensures picture { picture_of (world_in self.now).desktop.device 0 ≡ screen_file (world_in self.now).desktop.device }
     {
         self.sessions.screen()
+    }
+
+    /// How many tiles keep hidden pixels: one for each pair of a window and a cell of it, of 32 by 32 points counted from the window's
+    /// min, that has a hidden point. It takes no memory.
+    pub fn tiles(&self) -> usize
+        ensures { result ≡ cells (world_in self.now).desktop.device }
+    {
+        self.sessions.tiles()
     }
 }

@@ -1,4 +1,5 @@
 mod Areas
 mod Blocks
+mod Carrying
 mod Drawings
 mod Rows

@@ -1,19 +1,21 @@
 -- Rows that are drawn one after the other, where that does not change what is read.
-use Rattle.std.proofs.Common.{◌≡◌, ◌≢◌, ◌∙◌, ℕ, pos, ◌-◌, ◌≤◌, ◌+ℤ◌, ◌≤ℤ◌, ◌<ℤ◌, ◌&&◌, ◌||◌, Bool, true, false, Option, Some, None, List, [], ◌∷◌, length, ⊎_elim, refl, sym, ap, subst, arith}
-use Rattle.std.specs.Prelude.{◌==◌, if◌then◌else◌, is_some, unwrap_or, IfSome}
+use Rattle.std.proofs.Common.{◌≡◌, ◌≢◌, ◌∙◌, ℕ, ℤ, pos, ◌-◌, ◌<◌, ◌≤◌, ◌^◌, ◌+ℤ◌, ◌≤ℤ◌, ◌<ℤ◌, ◌&&◌, ◌||◌, Bool, true, false, Option, Some, None, List, [], ◌∷◌, length, ⊎_elim, refl, sym, ap, subst, arith}
+use Rattle.std.specs.Prelude.{◌==◌, if◌then◌else◌, is_some, option_map, unwrap_or, IfSome}
 use Rattle.std.specs.Option.{option_map_or}
 use Rattle.std.proofs.lemmas.Bool.{and_parts, false_from_ne_true, false≢true, or_cases, or_left, or_right}
 use Rattle.std.proofs.lemmas.Int.{by_lt_z, ints}
 use Rattle.std.proofs.lemmas.Option.{IfSome_then}
 use Rattle.r9_geom.specs.declared.Point.{Point}
 use Rattle.r9_geom.specs.declared.Rect.{Rect}
-use Rattle.r9_geom.specs.Geometry.{carried, height, holds, reduced, IsOrdered, IsRectNear}
+use Rattle.r9_geom.specs.Geometry.{carried, height, holds, reduced, IsOrdered, IsRectNearBy}
 use Rattle.r9_geom.proofs.GeometryLemmas.{band, bounds_of, distance_is, holds_from, same_tests}
 use Rattle.model_pixel.specs.Channels.{expand, mask, pack}
 use Rattle.model_pixel.specs.Composition.{comp}
 use Rattle.r9_chan.specs.Op.{number}
 use Rattle.r9_mem.specs.Through.{IsThrough}
+use Rattle.r9_info.specs.declared.ImageNo.{ImageNo}
 use Rattle.r9_info.specs.declared.Info.{Info}
+use Rattle.model_forest.specs.declared.Standing.{Standing}
 use Rattle.model_forest.specs.declared.Window.{Window}
 use Rattle.model_forest.specs.World.{Image, World, deepest, image_at, no_image, with_image, IsLive}
 use Rattle.model_forest.specs.View.{at, inward, is_bare, view, view_within}
@@ -39,6 +41,7 @@ pub record SameBeside (a : Image) (b : Image) : Type 0 where
   pub clipr : a.clipr ≡ b.clipr
   pub repl : a.repl ≡ b.repl
   pub chan : a.chan ≡ b.chan
+  pub standing : a.standing ≡ b.standing
   pub windows : a.windows ≡ b.windows
 
 -- an image whose bare points of an area are written
@@ -48,8 +51,8 @@ written image area new = record image { canvas = λ p. if area p && is_bare imag
 pub stays : (world : World) (i : ℕ) (area : Point → Bool) (new : Point → ℕ) (n : ℕ) → SameBeside (image_at (with_canvas world i area new) n) (image_at world n)
 stays world i area new n =
     with_image-each world i (Some (written (image_at world i) area new)) (λ n slot. SameBeside (unwrap_or slot no_image) (image_at world n))
-    (record { r = refl; clipr = refl; repl = refl; chan = refl; windows = refl })
-    (λ n other. record { r = refl; clipr = refl; repl = refl; chan = refl; windows = refl })
+    (record { r = refl; clipr = refl; repl = refl; chan = refl; standing = refl; windows = refl })
+    (λ n other. record { r = refl; clipr = refl; repl = refl; chan = refl; standing = refl; windows = refl })
     n
 
 reaches-stays : (world : World) (i : ℕ) (area : Point → Bool) (new : Point → ℕ) (n : ℕ) (p : Point) → reaches (image_at (with_canvas world i area new) n) p ≡ reaches (image_at world n) p
@@ -73,13 +76,21 @@ reaches-plain world i p is h =
 
 -- ---- what an image tells of itself
 
+-- the number of the image that it stands on, as it is told
+abbrev parent_no : Standing → ImageNo
+parent_no s = record { 0 = s.parent }
+
+nobody : (o : Option Standing) → is_some (option_map parent_no o) ≡ false → option_map (λ s. s.parent) o ≡ None
+nobody None none = refl
+nobody (Some s) none = absurd (false≢true (sym none))
+
 no_items : (ws : List Window) → length ws ≡ 0 → ws ≡ []
 no_items [] none = refl
 no_items (w ∷ ws) none = absurd (omega (arith, none))
 
-pub plain_since : (world : World) (i : ℕ) (info : Info) → info ≡ info_of (image_at world i) → info.windows ≡ 0 → info.repl ≡ false → IsPlain world i
+pub plain_since : (world : World) (i : ℕ) (info : Info) → info ≡ info_of (image_at world i) → is_some info.parent ≡ false → info.repl ≡ false → IsPlain world i
 plain_since world i info is none once = record {
-  bare = no_items (image_at world i).windows (sym (ap (λ (n : Info). n.windows) is) ∙ none);
+  nowhere = nobody (image_at world i).standing (sym (ap (λ (n : Info). is_some n.parent) is) ∙ none);
   once = sym (ap (λ (n : Info). n.repl) is) ∙ once;
 }
 
@@ -228,7 +239,7 @@ way-stays world task area new through way is =
     record {
       through = masks-stays world task area new through way.masks is.through;
       source = λ plain. record {
-        bare = s.windows ∙ (is.source plain).bare;
+        nowhere = ap (option_map (λ t. t.parent)) s.standing ∙ (is.source plain).nowhere;
         once = s.repl ∙ (is.source plain).once;
       };
       tint = IfSome_then way.tint is.tint (tint-stays world task area new);
@@ -283,8 +294,8 @@ canvas-none world i area new live none =
 
 -- ---- some rows
 
-pub rows_near : (r : Rect) (first end : ℕ) → end ≤ height r → first ≤ end → IsOrdered r → IsRectNear r → IsRectNear (rows_of r first end)
-rows_near r first end most some ordered near =
+pub rows_near : (n : ℕ) (r : Rect) (first end : ℕ) → end ≤ height r → first ≤ end → IsOrdered r → IsRectNearBy n r → IsRectNearBy n (rows_of r first end)
+rows_near n r first end most some ordered near =
     let h = distance_is r.min.y r.max.y ordered.down in
     record {
       min = record {

@@ -3,7 +3,7 @@ use Rattle.std.specs.Prelude.{◌≡◌, ℕ, vec_len}
 use Rattle.model_forest.specs.Numbers.{Numbers}
 use Rattle.model_forest.specs.World.{World}
 use Rattle.r9_layers.specs.declared.forest.Forest.{Forest}
-use Rattle.r9_stack.specs.Table as table
+use Rattle.r9_forest.specs.Images as table
 
 -- the image at each number
 unfoldable pub world : Forest → World

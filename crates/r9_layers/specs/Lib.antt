@@ -2,5 +2,6 @@ pub mod Apart
 pub mod Area
 pub mod Bands
 pub mod Forest
+pub mod Keeping
 pub mod Told
 pub mod Way

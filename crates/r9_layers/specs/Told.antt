@@ -1,2 +1,2 @@
 -- What is told of an image.
-pub use Rattle.r9_stack.specs.Told.{info_of}
+pub use Rattle.r9_forest.specs.Told.{info_of}

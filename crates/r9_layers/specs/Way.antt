@@ -1,11 +1,11 @@
 -- What a drawing is told once of its images.
-use Rattle.std.specs.Prelude.{◌≡◌, ℕ, true, false, [], IfSome}
+use Rattle.std.specs.Prelude.{◌≡◌, ℕ, true, false, None, IfSome}
 use Rattle.r9_geom.specs.declared.Point.{Point}
 use Rattle.r9_chan.specs.Op.{number}
 use Rattle.r9_mem.specs.declared.single.Through.{Through}
 use Rattle.r9_mem.specs.Through.{IsThrough}
 use Rattle.model_forest.specs.View.{at}
-use Rattle.model_forest.specs.World.{World, image_at}
+use Rattle.model_forest.specs.World.{World, image_at, parent_of}
 use Rattle.r9_layers.specs.declared.composing.Chans.{Chans}
 use Rattle.r9_layers.specs.declared.composing.Masks.{Masks}
 use Rattle.r9_layers.specs.declared.composing.Masks.TheVariants as masks
@@ -30,9 +30,9 @@ abbrev pub AreMasksOf : World → Task → Masks → Type 0
 AreMasksOf world task (masks.Single through) = IsSingleOf world task through
 AreMasksOf world task (masks.Image chans) = IsChansOf world task chans
 
--- an image that has no window and does not repeat
+-- an image that stands nowhere and does not repeat
 pub record IsPlain (world : World) (i : ℕ) : Type 0 where
-  pub bare : (image_at world i).windows ≡ []
+  pub nowhere : parent_of world i ≡ None
   pub once : (image_at world i).repl ≡ false
 
 -- an image apart from the target gives this pixel everywhere

@@ -1,24 +1,26 @@
 //! How the pixels of a row are composed, from what a drawing is told once of its images.
 
-ghost use Rattle.std.specs.Prelude.{◌≡◌, ◌+◌, ◌^◌, ◌<◌, ◌≤◌, ℕ, true, length, slice_index, IfSome, IsTrue};
+ghost use Rattle.std.specs.Prelude.{◌≡◌, ◌+◌, ◌*◌, ◌^◌, ◌<◌, ◌≤◌, ℕ, true, length, slice_index, IfSome, IsTrue};
 ghost use Rattle.r9_geom.specs.declared.Point.{Point as Spot};
-ghost use Rattle.r9_geom.specs.Geometry.{carried, holds, strip, IsNear, IsNearBy};
+ghost use Rattle.r9_geom.specs.Geometry.{carried, height, holds, point_at, strip, width, IsNear, IsNearBy, IsOrdered, IsRectNearBy};
 ghost use Rattle.r9_plane.specs.Pixels.{along};
 ghost use Rattle.model_pixel.specs.Channels as channels;
 ghost use Rattle.model_forest.specs.Draw.{drawn, in_area, reaches};
 ghost use Rattle.model_forest.specs.View as model;
 ghost use Rattle.model_forest.specs.View.{is_bare};
 ghost use Rattle.model_forest.specs.World.{image_at, IsLive};
-ghost use Rattle.r9_stack.specs.Table.{world};
+ghost use Rattle.r9_forest.specs.Images.{world};
 ghost use Rattle.r9_layers.specs.Apart.{IsApart};
 ghost use Rattle.r9_layers.specs.Area.{drawing_of, drawn_on, mask_at, mask_chan, IsTaskOf};
 ghost use Rattle.r9_layers.specs.Way.{AreMasksOf, IsChansOf, IsPlain, IsSingleOf, IsTint, IsWayOf};
 
 use super::task::Task;
 use r9_chan::Chan;
-use r9_geom::Point;
+use r9_forest::Images;
+use r9_geom::{Point, Rect};
+use r9_lists::carried_rect;
+use r9_locate::along;
 use r9_mem::{Through, compose};
-use r9_stack::{Images, along};
 
 // How many pixels of a row are composed at a time.
 const BLOCK: usize = 256;
@@ -50,7 +52,7 @@ pub enum Masks {
 #[derive(Clone, Copy)]
 pub struct Way {
     pub masks: Masks,
-    /// Whether the source has no window and does not repeat, so that it gives its own pixels.
+    /// Whether the source stands nowhere and does not repeat, so that its plane has what it gives.
     pub plain: bool,
     /// The one pixel that the source gives everywhere, where it is another image than the target.
     pub tint: Option<u32>,
@@ -66,7 +68,7 @@ fn read_from(images: &Images, i: u32, plain: bool, from: Point, raws: &mut [u32]
     ensures { (k : ℕ) → k < length raws.old → slice_index raws.new k ≡ model.at (world images.now) i (along from k) }
 {
     if plain {
-        images.read_bare_row(i, from, raws);
+        images.plane(i).get_row(from, raws);
     } else {
         images.read_row(i, from, raws);
     }
@@ -141,13 +143,13 @@ fn masks_of(images: &Images, task: &Task) -> Masks
     }
 }
 
-// Whether an image has no window and does not repeat.
+// Whether an image stands nowhere and does not repeat.
 fn is_plain(images: &Images, i: u32) -> bool
     requires { IsLive (world images.now) i }
     ensures { result ≡ true → IsPlain (world images.now) i }
 {
     let info = images.info(i);
-    if info.windows != 0 {
+    if info.parent.is_some() {
         return false;
     }
     !info.repl
@@ -295,59 +297,73 @@ fn compose_blocks(images: &Images, task: &Task, way: &Way, at: Point, row: &mut 
     }
 }
 
-// The same where the source and the mask may be one pixel each.
-fn compose_points(images: &Images, task: &Task, way: &Way, at: Point, row: &mut [u32])
+// The pixels that the points of a rectangle of the area get, row by row, where the source alone decides.
+fn move_area(images: &Images, task: &Task, through: &Through, area: &Rect, pixels: &mut [u32])
+    requires live { IsTaskOf (world images.now) task.now }
+    requires single { IsSingleOf (world images.now) task.now through.now }
+    requires moved { through.now.moved ≡ true }
+    requires near { IsRectNearBy (2 ^ 34) area.now }
+    requires ordered { IsOrdered area.now }
+    requires inside { (p : Spot) → IsTrue (holds area.now p) → IsTrue (in_area (world images.now) (drawing_of task.now) p) }
+    requires pixels { length pixels.old ≡ height area.now * width area.now }
+    ensures { (column row own : ℕ) → column < width area.now → row < height area.now → slice_index pixels.new (row * width area.now + column) ≡ drawn_on (world images.now) task.now (point_at area.now column row) own }
+{
+    let from = carried_rect(area, task.r.min, task.sp);
+    images.read_area(task.src, &from, pixels);
+    through.change(pixels);
+}
+
+// The same of pixels that are composed with those of the target, which `pixels` has.
+fn compose_rows(images: &Images, task: &Task, way: &Way, area: &Rect, pixels: &mut [u32])
     requires live { IsTaskOf (world images.now) task.now }
     requires way { IsWayOf (world images.now) task.now way.now }
-    requires near { IsNear at }
-    requires width { length row.old ≤ 2 ^ 41 }
-    requires inside { (p : Spot) → IsTrue (holds (strip at (length row.old)) p) → IsTrue (in_area (world images.now) (drawing_of task.now) p) }
-    ensures { (k : ℕ) → k < length row.old → slice_index row.new k ≡ drawn_on (world images.now) task.now (along at k) (slice_index row.old k) }
+    requires near { IsRectNearBy (2 ^ 34) area.now }
+    requires ordered { IsOrdered area.now }
+    requires inside { (p : Spot) → IsTrue (holds area.now p) → IsTrue (in_area (world images.now) (drawing_of task.now) p) }
+    requires pixels { length pixels.old ≡ height area.now * width area.now }
+    ensures { (column row : ℕ) → column < width area.now → row < height area.now → slice_index pixels.new (row * width area.now + column) ≡ drawn_on (world images.now) task.now (point_at area.now column row) (slice_index pixels.old (row * width area.now + column)) }
 {
-    match (way.tint, &way.masks) {
-        (Some(raw), Masks::Single(through)) => through.fill(row, raw),
-        _ => compose_blocks(images, task, way, at, row),
+    let width = area.width() as usize;
+    for row in 0..area.height() {
+        let start = row as usize * width;
+        let pixels = &mut pixels[start..start + width];
+        compose_blocks(images, task, way, area.point_at(0, row), pixels);
     }
 }
 
-// The pixels that points of the area side by side get, where the source alone decides.
-fn move_row(
-    images: &Images,
-    task: &Task,
-    through: &Through,
-    plain: bool,
-    at: Point,
-    row: &mut [u32],
-)
-    requires live { IsTaskOf (world images.now) task.now }
-    requires single { IsSingleOf (world images.now) task.now through.now }
-    requires plain { plain ≡ true → IsPlain (world images.now) task.now.src }
-    requires moved { through.now.moved ≡ true }
-    requires near { IsNear at }
-    requires width { length row.old ≤ 2 ^ 41 }
-    requires inside { (p : Spot) → IsTrue (holds (strip at (length row.old)) p) → IsTrue (in_area (world images.now) (drawing_of task.now) p) }
-    ensures { (k own : ℕ) → k < length row.old → slice_index row.new k ≡ drawn_on (world images.now) task.now (along at k) own }
-{
-    read_at(images, task.src, plain, at, task.r.min, task.sp, row);
-    through.change(row);
-}
-
-/// The pixels that points of the area side by side get, from `at` to the right. Where a window stands, it is any pixel.
-pub(crate) fn compose_row(images: &Images, task: &Task, way: &Way, at: Point, row: &mut [u32])
+// The same where the source and the mask may be one pixel each.
+fn compose_points(images: &Images, task: &Task, way: &Way, area: &Rect, pixels: &mut [u32])
     requires live { IsTaskOf (world images.now) task.now }
     requires way { IsWayOf (world images.now) task.now way.now }
-    requires near { IsNear at }
-    requires width { length row.old ≤ 2 ^ 41 }
-    requires inside { (p : Spot) → IsTrue (holds (strip at (length row.old)) p) → IsTrue (in_area (world images.now) (drawing_of task.now) p) }
-    ensures raws { (k : ℕ) → k < length row.old → is_bare (image_at (world images.now) task.now.dst).windows (along at k) ≡ true → slice_index row.new k ≡ drawn (world images.now) (drawing_of task.now) (along at k) }
-    ensures range { (k : ℕ) → k < length row.old → slice_index row.new k < 2 ^ channels.depth (image_at (world images.now) task.now.dst).chan }
+    requires near { IsRectNearBy (2 ^ 34) area.now }
+    requires ordered { IsOrdered area.now }
+    requires inside { (p : Spot) → IsTrue (holds area.now p) → IsTrue (in_area (world images.now) (drawing_of task.now) p) }
+    requires pixels { length pixels.old ≡ height area.now * width area.now }
+    ensures { (column row : ℕ) → column < width area.now → row < height area.now → slice_index pixels.new (row * width area.now + column) ≡ drawn_on (world images.now) task.now (point_at area.now column row) (slice_index pixels.old (row * width area.now + column)) }
+{
+    match (way.tint, &way.masks) {
+        (Some(raw), Masks::Single(through)) => through.fill(pixels, raw),
+        _ => compose_rows(images, task, way, area, pixels),
+    }
+}
+
+/// The pixels that the points of a rectangle of the area get, row by row. Where a window stands, it is any pixel.
+pub(crate) fn compose_area(images: &Images, task: &Task, way: &Way, area: &Rect, pixels: &mut [u32])
+    requires live { IsTaskOf (world images.now) task.now }
+    requires way { IsWayOf (world images.now) task.now way.now }
+    requires near { IsRectNearBy (2 ^ 34) area.now }
+    requires ordered { IsOrdered area.now }
+    requires inside { (p : Spot) → IsTrue (holds area.now p) → IsTrue (in_area (world images.now) (drawing_of task.now) p) }
+    requires pixels { length pixels.old ≡ height area.now * width area.now }
+    ensures raws { (column row : ℕ) → column < width area.now → row < height area.now → is_bare (image_at (world images.now) task.now.dst).windows (point_at area.now column row) ≡ true → slice_index pixels.new (row * width area.now + column) ≡ drawn (world images.now) (drawing_of task.now) (point_at area.now column row) }
+    ensures range { (column row : ℕ) → column < width area.now → row < height area.now → slice_index pixels.new (row * width area.now + column) < 2 ^ channels.depth (image_at (world images.now) task.now.dst).chan }
 {
     images.keeps();
     match moved(&way.masks) {
-        Some(through) => move_row(images, task, &through, way.plain, at, row),
+        Some(through) => move_area(images, task, &through, area, pixels),
         None => {
-            images.read_bare_row(task.dst, at, row);
-            compose_points(images, task, way, at, row);
+            images.read_bare_area(task.dst, area, pixels);
+            compose_points(images, task, way, area, pixels);
         }
     }
 }

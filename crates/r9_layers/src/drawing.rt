@@ -3,23 +3,26 @@
 
 ghost use Rattle.std.specs.Prelude.{◌≡◌, ◌+◌, ◌*◌, ◌^◌, ◌<◌, ◌≤◌, ℕ, false, true, int_le, length, slice_index, IfSome, IsTrue};
 ghost use Rattle.r9_geom.specs.declared.Point.{Point as Spot};
-ghost use Rattle.r9_geom.specs.Geometry.{area_of, height, holds, is_empty, point_at, width, IsNearBy, IsOrdered, IsRectNear};
+ghost use Rattle.r9_geom.specs.Geometry.{area_of, height, holds, is_empty, width, IsNearBy, IsOrdered, IsRectNear, IsRectNearBy};
 ghost use Rattle.model_pixel.specs.Channels as channels;
 ghost use Rattle.model_forest.specs.Cost as cost;
 ghost use Rattle.model_forest.specs.Draw.{after_draw, drawn, in_area, with_canvas};
 ghost use Rattle.model_forest.specs.View.{is_bare};
 ghost use Rattle.model_forest.specs.World.{image_at, IsLive};
-ghost use Rattle.r9_stack.specs.Table.{numbers, world};
+ghost use Rattle.r9_forest.specs.Images.{numbers, world};
 ghost use Rattle.r9_layers.specs.Apart.{IsAhead, IsApart, IsSteady};
 ghost use Rattle.r9_layers.specs.Area.{drawing_of, IsTaskOf};
 ghost use Rattle.r9_layers.specs.Bands.{rows_of};
 ghost use Rattle.r9_layers.specs.Way.{IsWayOf};
 
-use super::composing::{Way, chan_of_mask, compose_row, is_apart, single_mask, way_of};
+use super::composing::{Way, chan_of_mask, compose_area, is_apart, single_mask, way_of};
 use super::task::Task;
+use r9_forest::Images;
 use r9_geom::{Point, Rect};
+use r9_lists::carried_rect;
 use r9_mem::solid;
-use r9_stack::{Images, carried_rect};
+use r9_steps::Steps;
+use std::sync::ledger::Ledger;
 
 // How many pixels of a drawing stand beside the images at a time, where rows can be drawn one after the other.
 const BAND: u64 = 4096;
@@ -72,7 +75,13 @@ pub fn solid_pixel(images: &Images, task: &Task) -> Option<u32>
 }
 
 /// Draws on the points of an area that all get one pixel. The target is not read.
-pub fn draw_solid(images: &mut Images, task: &Task, area: &Rect, raw: u32)
+pub fn draw_solid<L: Ledger>(
+    images: &mut Images,
+    task: &Task,
+    area: &Rect,
+    raw: u32,
+    steps: &mut Steps<L>,
+)
     requires live { IsTaskOf (world images.old) task.now }
     requires area { area.now ≡ cost.area (world images.old) (drawing_of task.now) }
     requires some { is_empty area.now ≡ false }
@@ -80,46 +89,43 @@ pub fn draw_solid(images: &mut Images, task: &Task, area: &Rect, raw: u32)
     requires raw { raw < 2 ^ channels.depth (image_at (world images.old) task.now.dst).chan }
     ensures world { world images.new ≡ after_draw (world images.old) (drawing_of task.now) }
     ensures numbers { numbers images.new ≡ numbers images.old }
+    ensures steps { steps.new ≤ steps.old + area_of area.now }
 {
-    images.fill(task.dst, *area, raw);
-}
-
-// The pixels that the points of a rectangle of the area get, row by row.
-fn compose_area(images: &Images, task: &Task, way: &Way, area: &Rect, pixels: &mut [u32])
-    requires live { IsTaskOf (world images.now) task.now }
-    requires way { IsWayOf (world images.now) task.now way.now }
-    requires near { IsRectNear area.now }
-    requires ordered { IsOrdered area.now }
-    requires inside { (p : Spot) → IsTrue (holds area.now p) → IsTrue (in_area (world images.now) (drawing_of task.now) p) }
-    requires pixels { length pixels.old ≡ height area.now * width area.now }
-    ensures raws { (column row : ℕ) → column < width area.now → row < height area.now → is_bare (image_at (world images.now) task.now.dst).windows (point_at area.now column row) ≡ true → slice_index pixels.new (row * width area.now + column) ≡ drawn (world images.now) (drawing_of task.now) (point_at area.now column row) }
-    ensures range { (column row : ℕ) → column < width area.now → row < height area.now → slice_index pixels.new (row * width area.now + column) < 2 ^ channels.depth (image_at (world images.now) task.now.dst).chan }
-{
-    let width = area.width() as usize;
-    for row in 0..area.height() {
-        let start = row as usize * width;
-        let pixels = &mut pixels[start..start + width];
-        compose_row(images, task, way, area.point_at(0, row), pixels);
-    }
+    images.fill(task.dst, *area, raw, steps);
 }
 
 // Draws on the points of a rectangle of the area. What they get stands in `pixels` first, since the target may be the source.
-fn draw_band(images: &mut Images, task: &Task, way: &Way, r: &Rect, pixels: &mut [u32])
+fn draw_band<L: Ledger>(
+    images: &mut Images,
+    task: &Task,
+    way: &Way,
+    r: &Rect,
+    pixels: &mut [u32],
+    steps: &mut Steps<L>,
+)
     requires live { IsTaskOf (world images.old) task.now }
     requires way { IsWayOf (world images.old) task.now way.now }
-    requires near { IsRectNear r.now }
+    requires near { IsRectNearBy (2 ^ 34) r.now }
     requires ordered { IsOrdered r.now }
     requires inside { (p : Spot) → IsTrue (holds r.now p) → IsTrue (in_area (world images.old) (drawing_of task.now) p) }
     requires pixels { length pixels.old ≡ height r.now * width r.now }
     ensures world { world images.new ≡ with_canvas (world images.old) task.now.dst (holds r.now) (drawn (world images.old) (drawing_of task.now)) }
     ensures numbers { numbers images.new ≡ numbers images.old }
+    ensures steps { steps.new ≤ steps.old + area_of r.now }
 {
     compose_area(images, task, way, r, pixels);
-    images.put_pixels(task.dst, r, pixels);
+    images.put_pixels(task.dst, r, pixels, steps);
 }
 
 // Draws on all points of an area at once.
-fn draw_by(images: &mut Images, task: &Task, way: &Way, area: &Rect, pixels: &mut [u32])
+fn draw_by<L: Ledger>(
+    images: &mut Images,
+    task: &Task,
+    way: &Way,
+    area: &Rect,
+    pixels: &mut [u32],
+    steps: &mut Steps<L>,
+)
     requires live { IsTaskOf (world images.old) task.now }
     requires way { IsWayOf (world images.old) task.now way.now }
     requires area { area.now ≡ cost.area (world images.old) (drawing_of task.now) }
@@ -127,8 +133,9 @@ fn draw_by(images: &mut Images, task: &Task, way: &Way, area: &Rect, pixels: &mu
     requires pixels { length pixels.old ≡ height area.now * width area.now }
     ensures world { world images.new ≡ after_draw (world images.old) (drawing_of task.now) }
     ensures numbers { numbers images.new ≡ numbers images.old }
+    ensures steps { steps.new ≤ steps.old + area_of area.now }
 {
-    draw_band(images, task, way, area, pixels);
+    draw_band(images, task, way, area, pixels, steps);
 }
 
 fn is_at_most(a: i64, b: i64) -> bool
@@ -201,7 +208,14 @@ fn rows_of(area: &Rect, first: u64, end: u64) -> Rect
 
 // Draws on the points of an area some rows at a time, from above, where those that are drawn do not change what later ones
 // read. What they get stays in the first cache.
-fn draw_bands(images: &mut Images, task: &Task, way: &Way, area: &Rect, pixels: &mut [u32])
+fn draw_bands<L: Ledger>(
+    images: &mut Images,
+    task: &Task,
+    way: &Way,
+    area: &Rect,
+    pixels: &mut [u32],
+    steps: &mut Steps<L>,
+)
     requires live { IsTaskOf (world images.old) task.now }
     requires way { IsWayOf (world images.old) task.now way.now }
     requires steady { IsSteady (world images.old) task.now }
@@ -210,6 +224,7 @@ fn draw_bands(images: &mut Images, task: &Task, way: &Way, area: &Rect, pixels: 
     requires pixels { length pixels.old ≡ height area.now * width area.now }
     ensures world { world images.new ≡ after_draw (world images.old) (drawing_of task.now) }
     ensures numbers { numbers images.new ≡ numbers images.old }
+    ensures steps { steps.new ≤ steps.old + area_of area.now }
 {
     let width = area.width();
     let height = area.height();
@@ -219,26 +234,33 @@ fn draw_bands(images: &mut Images, task: &Task, way: &Way, area: &Rect, pixels: 
         let end = row + rows.min(height - row);
         let points = ((end - row) * width) as usize;
         let band = rows_of(area, row, end);
-        draw_band(images, task, way, &band, &mut pixels[..points]);
+        draw_band(images, task, way, &band, &mut pixels[..points], steps);
         row = end;
     }
 }
 
 /// Draws on the points of an area, with a place for their pixels.
-pub fn draw(images: &mut Images, task: &Task, area: &Rect, pixels: &mut [u32])
+pub fn draw<L: Ledger>(
+    images: &mut Images,
+    task: &Task,
+    area: &Rect,
+    pixels: &mut [u32],
+    steps: &mut Steps<L>,
+)
     requires live { IsTaskOf (world images.old) task.now }
     requires area { area.now ≡ cost.area (world images.old) (drawing_of task.now) }
     requires some { is_empty area.now ≡ false }
     requires room { area_of area.now ≤ length pixels.old }
     ensures world { world images.new ≡ after_draw (world images.old) (drawing_of task.now) }
     ensures numbers { numbers images.new ≡ numbers images.old }
+    ensures steps { steps.new ≤ steps.old + area_of area.now }
 {
     let points = (area.width() * area.height()) as usize;
     let pixels = &mut pixels[..points];
     let way = way_of(images, task);
     if is_steady(images, task) {
-        draw_bands(images, task, &way, area, pixels);
+        draw_bands(images, task, &way, area, pixels, steps);
     } else {
-        draw_by(images, task, &way, area, pixels);
+        draw_by(images, task, &way, area, pixels, steps);
     }
 }

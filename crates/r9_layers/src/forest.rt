@@ -1,6 +1,6 @@
 //! A forest of images: every call is one step of the world that it stands for.
 
-ghost use Rattle.std.specs.Prelude.{◌≡◌, ◌+◌, ◌*◌, ◌^◌, ◌<◌, ◌≤◌, ℕ, None, Some, true, length, map, pos, All, IfOk, IsOk, IsSome, IsTrue, OnErr, OnOk};
+ghost use Rattle.std.specs.Prelude.{◌≡◌, ◌+◌, ◌*◌, ◌^◌, ◌<◌, ◌≤◌, ◌↔◌, ℕ, None, Some, true, length, map, pos, All, IfOk, IsOk, IsSome, IsTrue, OnErr, OnOk};
 ghost use Rattle.r9_geom.specs.declared.Point.{Point as Spot};
 ghost use Rattle.r9_geom.specs.Geometry.{area_of, height, holds, meet, HasPoints, IsNearBy, IsOrdered, IsRectNearBy};
 ghost use Rattle.model_pixel.specs.Channels as channels;
@@ -10,28 +10,40 @@ ghost use Rattle.model_forest.specs.Draw.{after_draw, after_fill, after_load};
 ghost use Rattle.model_forest.specs.Numbers.{given_back, next_number, no_numbers, taken};
 ghost use Rattle.model_forest.specs.Steps.{after_image, after_origin, after_release, after_replace, after_replace_on, after_set};
 ghost use Rattle.model_forest.specs.Stack.{after_lower, after_raise, after_window};
+ghost use Rattle.model_forest.specs.Cost as cost;
 ghost use Rattle.model_forest.specs.Paint.{paint};
 ghost use Rattle.model_forest.specs.View as model;
 ghost use Rattle.model_forest.specs.World.{image_at, parent_of, CanGo, IsForest, IsLive, SameSize};
 ghost use Rattle.model_resize.specs.Resize.{after_resize, CanResize};
+ghost use Rattle.model_kept.specs.Cells.{cell_of, cells_below, in_cell};
+ghost use Rattle.model_kept.specs.Keeping.{is_hidden, is_shown, outward};
+ghost use Rattle.r9_plane.specs.Pixels.{chan_of, pixel_at, rect_of};
+ghost use Rattle.r9_store.specs.Tiles.{held, is_held};
+ghost use Rattle.r9_forest.specs.Groups.{group_area};
+ghost use Rattle.r9_forest.specs.declared.keeping.Kept.TheVariants.{Plane as OnPlane, Tile as InTile};
 ghost use Rattle.r9_layers.specs.Area.{drawing_of, IsTaskOf};
 ghost use Rattle.r9_layers.specs.Told.{info_of};
 
 use super::drawing;
 use super::task::Task;
 use r9_chan::{Chan, Op};
+use r9_forest::{Images, Kept};
 use r9_geom::{Point, Rect};
 use r9_info::{ImageNo, Info};
 use r9_memory::Memory;
-use r9_stack::Images;
+use r9_plane::Plane;
+use r9_steps::Steps;
+use r9_store::Store;
 use r9_text::Bytes;
 use std::alloc::Global;
+use std::sync::ledger::Ledger;
 
 /// Images by number, and the windows that stand on them.
 ///
 /// Contracts see the world of images, `world`; the numbers that were given out and came back, `numbers`; and `room`, for
 /// how many points a drawing takes no memory, which no call lowers. A call that answers `Memory` leaves world and numbers
-/// as they were. Coordinates that are given are within 2^34 of 0.
+/// as they were. A call that writes pixels is lent a count, to which it adds one for each that it writes: `steps` says how
+/// many those are at most. Coordinates that are given are within 2^34 of 0.
 #[derive(Drop)]
 pub struct Forest {
     images: Images,
@@ -39,9 +51,10 @@ pub struct Forest {
     pixels: Vec<u32>,
 }
 
-#[tactic(auto, unfolding(crate::specs::Forest::world, crate::specs::Forest::numbers, crate::specs::Forest::room,))]
+#[tactic(auto, unfolding(crate::specs::Forest::world, crate::specs::Forest::numbers, crate::specs::Forest::room, crate::specs::Keeping::on_plane, crate::specs::Keeping::tiles_of, crate::specs::Keeping::pixel_in, crate::specs::Keeping::tile_of, crate::specs::Keeping::kept_of,))]
 impl Forest {
     ghost use Rattle.r9_layers.specs.Forest.{numbers, room, world, IsUnchanged};
+    ghost use Rattle.r9_layers.specs.Keeping.{kept_of, on_plane, pixel_in, tile_of, tiles_of};
 
     /// A forest with no image.
     pub fn new(alloc: Global) -> Self
@@ -80,12 +93,13 @@ impl Forest {
 
     /// Makes a window of one raw pixel on an image, topmost, with the channels of that image, all of r as its place and its
     /// clip rectangle, and an image that fills what it uncovers.
-    pub fn window(
+    pub fn window<L: Ledger>(
         &mut self,
         parent: ImageNo,
         fill: ImageNo,
         r: Rect,
         raw: u32,
+        steps: &mut Steps<L>,
     ) -> Result<ImageNo, Memory>
         requires parent { IsLive (world self.old) parent.0 }
         requires fill { IsLive (world self.old) fill.0 }
@@ -98,14 +112,21 @@ impl Forest {
         ensures taken { OnOk result (numbers self.new ≡ taken (numbers self.old)) }
         ensures room { room self.old ≤ room self.new }
         ensures err { OnErr result (IsUnchanged self.old self.new) }
+        ensures steps { steps.new ≤ steps.old + 2 * area_of r }
     {
-        let number = self.images.window(parent.0, fill.0, r, raw)?;
+        let number = self.images.window(parent.0, fill.0, r, raw, steps)?;
         Ok(ImageNo(number))
     }
 
     /// Gives an image another min in its own coordinates, where its pixels and its windows move along, and a window another
     /// corner on its parent.
-    pub fn origin(&mut self, i: ImageNo, min: Point, corner: Point) -> Result<(), Memory>
+    pub fn origin<L: Ledger>(
+        &mut self,
+        i: ImageNo,
+        min: Point,
+        corner: Point,
+        steps: &mut Steps<L>,
+    ) -> Result<(), Memory>
         requires live { IsLive (world self.old) i.0 }
         requires min { IsNearBy (2 ^ 34) min }
         requires corner { IsNearBy (2 ^ 34) corner }
@@ -113,55 +134,74 @@ impl Forest {
         ensures numbers { numbers self.new ≡ numbers self.old }
         ensures room { room self.old ≤ room self.new }
         ensures err { OnErr result (world self.new ≡ world self.old) }
+        ensures steps { steps.new ≤ steps.old + 4 * area_of (image_at (world self.old) i.0).r }
     {
-        self.images.origin(i.0, min, corner);
-        Ok(())
+        self.images.origin(i.0, min, corner, steps)
     }
 
     /// Gives an image that stands nowhere, such as the display, another size, and all of it as its clip rectangle. Its windows
     /// stay where they stand; points that it had keep their pixels, and each other one has a raw pixel.
-    pub fn resize(&mut self, i: ImageNo, width: u32, height: u32, raw: u32) -> Result<(), Memory>
+    pub fn resize<L: Ledger>(
+        &mut self,
+        i: ImageNo,
+        width: u32,
+        height: u32,
+        raw: u32,
+        steps: &mut Steps<L>,
+    ) -> Result<(), Memory>
         requires can { CanResize (world self.old) i.0 }
         requires raw { raw < 2 ^ channels.depth (image_at (world self.old) i.0).chan }
         ensures resized { OnOk result (world self.new ≡ after_resize (world self.old) i.0 width height raw) }
         ensures numbers { numbers self.new ≡ numbers self.old }
         ensures room { room self.old ≤ room self.new }
         ensures err { OnErr result (IsUnchanged self.old self.new) }
+        ensures steps { steps.new ≤ steps.old + 2 * area_of (image_at (world self.old) i.0).r + width * height }
     {
-        self.images.resize(i.0, width, height, raw)
+        self.images.resize(i.0, width, height, raw, steps)
     }
 
     /// Raises windows of one image above its others, in their order.
-    pub fn raise(&mut self, group: &[ImageNo]) -> Result<(), Memory>
+    pub fn raise<L: Ledger>(
+        &mut self,
+        group: &[ImageNo],
+        steps: &mut Steps<L>,
+    ) -> Result<(), Memory>
         requires windows { All (λ i. IsSome (parent_of (world self.old) i.0)) group.now }
         ensures raised { OnOk result (world self.new ≡ after_raise (world self.old) (map (λ i. i.0) group.now)) }
         ensures numbers { numbers self.new ≡ numbers self.old }
         ensures room { room self.old ≤ room self.new }
         ensures err { OnErr result (world self.new ≡ world self.old) }
+        ensures steps { steps.new ≤ steps.old + 2 * group_area (world self.old) (map (λ i. i.0) group.now) }
     {
-        self.images.raise(group)
+        self.images.raise(group, steps)
     }
 
     /// Lowers windows of one image below its others, in their order.
-    pub fn lower(&mut self, group: &[ImageNo]) -> Result<(), Memory>
+    pub fn lower<L: Ledger>(
+        &mut self,
+        group: &[ImageNo],
+        steps: &mut Steps<L>,
+    ) -> Result<(), Memory>
         requires windows { All (λ i. IsSome (parent_of (world self.old) i.0)) group.now }
         ensures lowered { OnOk result (world self.new ≡ after_lower (world self.old) (map (λ i. i.0) group.now)) }
         ensures numbers { numbers self.new ≡ numbers self.old }
         ensures room { room self.old ≤ room self.new }
         ensures err { OnErr result (world self.new ≡ world self.old) }
+        ensures steps { steps.new ≤ steps.old + 2 * group_area (world self.old) (map (λ i. i.0) group.now) }
     {
-        self.images.lower(group)
+        self.images.lower(group, steps)
     }
 
     /// Makes a window directly above another, with its parent, its fill and its depth, at the place of r's size whose min is
     /// `corner`. It shows what the other shows, counted from both mins, or one raw pixel. The other moves far outside.
-    pub fn replace(
+    pub fn replace<L: Ledger>(
         &mut self,
         old: ImageNo,
         r: Rect,
         corner: Point,
         raw: u32,
         keep: bool,
+        steps: &mut Steps<L>,
     ) -> Result<ImageNo, Memory>
         requires window { IsSome (parent_of (world self.old) old.0) }
         requires near { IsRectNearBy (2 ^ 34) r }
@@ -175,15 +215,16 @@ impl Forest {
         ensures taken { OnOk result (numbers self.new ≡ taken (numbers self.old)) }
         ensures room { room self.old ≤ room self.new }
         ensures err { OnErr result (IsUnchanged self.old self.new) }
+        ensures steps { steps.new ≤ steps.old + 2 * area_of r + 4 * area_of (image_at (world self.old) old.0).r }
     {
-        let number = self.images.replace(old.0, r, corner, raw, keep)?;
+        let number = self.images.replace(old.0, r, corner, raw, keep, steps)?;
         Ok(ImageNo(number))
     }
 
     /// Makes a window that shows what another shows, counted from both mins, or one raw pixel, topmost on any image, with the
     /// channels of that image and an image that fills what it uncovers, at the place of r's size whose min is `corner`. The
     /// other moves far outside.
-    pub fn replace_on(
+    pub fn replace_on<L: Ledger>(
         &mut self,
         old: ImageNo,
         parent: ImageNo,
@@ -192,6 +233,7 @@ impl Forest {
         corner: Point,
         raw: u32,
         keep: bool,
+        steps: &mut Steps<L>,
     ) -> Result<ImageNo, Memory>
         requires window { IsSome (parent_of (world self.old) old.0) }
         requires parent { IsLive (world self.old) parent.0 }
@@ -208,22 +250,24 @@ impl Forest {
         ensures taken { OnOk result (numbers self.new ≡ taken (numbers self.old)) }
         ensures room { room self.old ≤ room self.new }
         ensures err { OnErr result (IsUnchanged self.old self.new) }
+        ensures steps { steps.new ≤ steps.old + 2 * area_of r + 4 * area_of (image_at (world self.old) old.0).r }
     {
         let number = self
             .images
-            .replace_on(old.0, parent.0, fill.0, r, corner, raw, keep)?;
+            .replace_on(old.0, parent.0, fill.0, r, corner, raw, keep, steps)?;
         Ok(ImageNo(number))
     }
 
     /// Takes an image away on which nothing stands and which fills for no window: first from the list that it stands in,
     /// where the fill then shows. It takes no memory.
-    pub fn release(&mut self, i: ImageNo)
+    pub fn release<L: Ledger>(&mut self, i: ImageNo, steps: &mut Steps<L>)
         requires { CanGo (world self.old) i.0 }
         ensures world { world self.new ≡ after_release (world self.old) i.0 }
         ensures back { numbers self.new ≡ given_back (numbers self.old) i.0 }
         ensures room { room self.old ≤ room self.new }
+        ensures steps { steps.new ≤ steps.old + 2 * area_of (image_at (world self.old) i.0).r }
     {
-        self.images.release(i.0);
+        self.images.release(i.0, steps);
     }
 
     /// Makes an image repeat or not, and gives it another clip rectangle. It takes no memory.
@@ -255,7 +299,7 @@ impl Forest {
     /// Draws on `dst`, within `clip`, into `r`, the source so that its point `sp` stands at `r.min`, seen through the mask
     /// so that its point `mp` stands there (draw(2)). All three are read in the state before. There is no want of memory
     /// where r, cut to the rectangle of `dst`, has at most `room` points.
-    pub fn draw(
+    pub fn draw<L: Ledger>(
         &mut self,
         dst: ImageNo,
         clip: Rect,
@@ -265,6 +309,7 @@ impl Forest {
         mask: ImageNo,
         mp: Point,
         op: Op,
+        steps: &mut Steps<L>,
     ) -> Result<(), Memory>
         requires dst { IsLive (world self.old) dst.0 }
         requires src { IsLive (world self.old) src.0 }
@@ -277,21 +322,25 @@ impl Forest {
         ensures room { room self.old ≤ room self.new }
         ensures err { OnErr result (world self.new ≡ world self.old) }
         ensures memory { area_of (meet r (image_at (world self.old) dst.0).r) ≤ room self.old → IsOk result }
+        ensures steps { steps.new ≤ steps.old + area_of (cost.area (world self.old) (record { dst = dst.0; clip = clip; r = r; src = src.0; sp = sp; mask = Some mask.0; mp = mp; op = number op })) }
     {
-        self.run(&Task {
-            dst: dst.0,
-            clip,
-            r,
-            src: src.0,
-            sp,
-            mask: Some(mask.0),
-            mp,
-            op,
-        })
+        self.run(
+            &Task {
+                dst: dst.0,
+                clip,
+                r,
+                src: src.0,
+                sp,
+                mask: Some(mask.0),
+                mp,
+                op,
+            },
+            steps,
+        )
     }
 
     /// The same with a full mask, which shows all of the source.
-    pub fn draw_unmasked(
+    pub fn draw_unmasked<L: Ledger>(
         &mut self,
         dst: ImageNo,
         clip: Rect,
@@ -299,6 +348,7 @@ impl Forest {
         src: ImageNo,
         sp: Point,
         op: Op,
+        steps: &mut Steps<L>,
     ) -> Result<(), Memory>
         requires dst { IsLive (world self.old) dst.0 }
         requires src { IsLive (world self.old) src.0 }
@@ -309,34 +359,39 @@ impl Forest {
         ensures room { room self.old ≤ room self.new }
         ensures err { OnErr result (world self.new ≡ world self.old) }
         ensures memory { area_of (meet r (image_at (world self.old) dst.0).r) ≤ room self.old → IsOk result }
+        ensures steps { steps.new ≤ steps.old + area_of (cost.area (world self.old) (record { dst = dst.0; clip = clip; r = r; src = src.0; sp = sp; mask = None; mp = record { x = pos 0; y = pos 0 }; op = number op })) }
     {
-        self.run(&Task {
-            dst: dst.0,
-            clip,
-            r,
-            src: src.0,
-            sp,
-            mask: None,
-            mp: Point { x: 0, y: 0 },
-            op,
-        })
+        self.run(
+            &Task {
+                dst: dst.0,
+                clip,
+                r,
+                src: src.0,
+                sp,
+                mask: None,
+                mp: Point { x: 0, y: 0 },
+                op,
+            },
+            steps,
+        )
     }
 
     // One drawing, through an image or through a full mask.
-    fn run(&mut self, task: &Task) -> Result<(), Memory>
+    fn run<L: Ledger>(&mut self, task: &Task, steps: &mut Steps<L>) -> Result<(), Memory>
         requires { IsTaskOf (world self.old) task.now }
         ensures ok { OnOk result (world self.new ≡ after_draw (world self.old) (drawing_of task.now)) }
         ensures numbers { numbers self.new ≡ numbers self.old }
         ensures room { room self.old ≤ room self.new }
         ensures err { OnErr result (world self.new ≡ world self.old) }
         ensures memory { area_of (meet task.now.r (image_at (world self.old) task.now.dst).r) ≤ room self.old → IsOk result }
+        ensures steps { steps.new ≤ steps.old + area_of (cost.area (world self.old) (drawing_of task.now)) }
     {
         let area = drawing::area(&self.images, task);
         if area.is_empty() {
             return Ok(());
         }
         if let Some(raw) = drawing::solid_pixel(&self.images, task) {
-            drawing::draw_solid(&mut self.images, task, &area, raw);
+            drawing::draw_solid(&mut self.images, task, &area, raw, steps);
             return Ok(());
         }
         let points = match area.width().checked_mul(area.height()) {
@@ -344,12 +399,18 @@ impl Forest {
             None => return Err(Memory),
         };
         self.room(points)?;
-        drawing::draw(&mut self.images, task, &area, &mut self.pixels);
+        drawing::draw(&mut self.images, task, &area, &mut self.pixels, steps);
         Ok(())
     }
 
     /// Takes the pixels of a rectangle of an image from its rows (image(6)).
-    pub fn load(&mut self, i: ImageNo, r: Rect, rows: &[u8]) -> Result<(), Memory>
+    pub fn load<L: Ledger>(
+        &mut self,
+        i: ImageNo,
+        r: Rect,
+        rows: &[u8],
+        steps: &mut Steps<L>,
+    ) -> Result<(), Memory>
         requires live { IsLive (world self.old) i.0 }
         requires near { IsRectNearBy (2 ^ 34) r }
         requires ordered { IsOrdered r }
@@ -359,13 +420,14 @@ impl Forest {
         ensures numbers { numbers self.new ≡ numbers self.old }
         ensures room { room self.old ≤ room self.new }
         ensures err { OnErr result (world self.new ≡ world self.old) }
+        ensures steps { steps.new ≤ steps.old + area_of r }
     {
-        self.images.load(i.0, r, rows);
+        self.images.load(i.0, r, rows, steps);
         Ok(())
     }
 
     /// Writes one raw pixel at the points of a rectangle of an image that no window covers. It takes no memory.
-    pub fn fill(&mut self, i: ImageNo, r: Rect, raw: u32)
+    pub fn fill<L: Ledger>(&mut self, i: ImageNo, r: Rect, raw: u32, steps: &mut Steps<L>)
         requires live { IsLive (world self.old) i.0 }
         requires near { IsRectNearBy (2 ^ 34) r }
         requires ordered { IsOrdered r }
@@ -374,8 +436,9 @@ impl Forest {
         ensures world { world self.new ≡ after_fill (world self.old) i.0 r raw }
         ensures numbers { numbers self.new ≡ numbers self.old }
         ensures room { room self.old ≤ room self.new }
+        ensures steps { steps.new ≤ steps.old + area_of r }
     {
-        self.images.fill(i.0, r, raw);
+        self.images.fill(i.0, r, raw, steps);
     }
 
     /// The rows of what an image shows in a rectangle (image(6)): the picture that is painted from back to front, too.
@@ -406,5 +469,49 @@ impl Forest {
         ensures { result ≡ info_of (image_at (world self.now) i.0) }
     {
         self.images.info(i.0)
+    }
+
+    /// Where the pixel is kept that an image shows at a point of it. An image that stands nowhere keeps it on its plane. Of a
+    /// window that its parent shows there, it is kept where the parent keeps the point on which it stands; and where the parent
+    /// hides it, in the tile of one cell of that window, of 32 by 32 points counted from the window's min. It takes no memory.
+    pub fn kept(&self, i: ImageNo, p: Point) -> Kept
+        requires live { IsLive (world self.now) i.0 }
+        requires inside { IsTrue (holds (image_at (world self.now) i.0).r p) }
+        ensures value { result ≡ kept_of self.now i.0 p }
+        ensures nowhere { parent_of (world self.now) i.0 ≡ None → result ≡ OnPlane i p }
+        ensures shown { (parent : ℕ) → parent_of (world self.now) i.0 ≡ Some parent → is_shown (world self.now) parent i.0 (outward (world self.now) parent i.0 p) ≡ true → result ≡ kept_of self.now parent (outward (world self.now) parent i.0 p) }
+        ensures hidden { is_hidden (world self.now) i.0 p ≡ true → (tile : ℕ) × (result ≡ InTile tile (in_cell (image_at (world self.now) i.0).r p)) × (is_held (tiles_of self.now) tile ≡ true) }
+        ensures alone { (j : ℕ) (q : Spot) → is_hidden (world self.now) i.0 p ≡ true → IsLive (world self.now) j → IsTrue (holds (image_at (world self.now) j).r q) → is_hidden (world self.now) j q ≡ true → tile_of (kept_of self.now j q) ≡ tile_of result ↔ ((j ≡ i.0) × (cell_of (image_at (world self.now) j).r q ≡ cell_of (image_at (world self.now) i.0).r p)) }
+        ensures view { model.view (world self.now) i.0 p ≡ pixel_in self.now result }
+    {
+        self.images.kept(i.0, p)
+    }
+
+    /// The pixels of an image that stands nowhere, with those of the windows that it shows.
+    pub fn plane(&self, i: ImageNo) -> &Plane
+        requires live { IsLive (world self.now) i.0 }
+        requires nowhere { parent_of (world self.now) i.0 ≡ None }
+        ensures rect { rect_of result.now ≡ (image_at (world self.now) i.0).r }
+        ensures chan { chan_of result.now ≡ (image_at (world self.now) i.0).chan }
+        ensures pixels { (p : Spot) → IsTrue (holds (image_at (world self.now) i.0).r p) → pixel_at result.now p ≡ model.view (world self.now) i.0 p }
+        ensures kept { (p : Spot) → pixel_at result.now p ≡ on_plane self.now i.0 p }
+    {
+        self.images.plane(i.0)
+    }
+
+    /// The tiles in which all windows keep their hidden pixels, and those that are spare.
+    pub fn store(&self) -> &Store
+        ensures { result.now ≡ tiles_of self.now }
+    {
+        self.images.store()
+    }
+
+    /// How many tiles are held: as many as there are pairs of a window and a cell of it, of 32 by 32 points counted from the
+    /// window's min, with a hidden point. It takes no memory.
+    pub fn tiles(&self) -> usize
+        ensures held { result ≡ held (tiles_of self.now) }
+        ensures cells { result ≡ cells_below (numbers self.now).made (world self.now) }
+    {
+        self.images.tiles()
     }
 }

@@ -7,4 +7,5 @@ mod forest;
 mod task;
 
 pub use forest::Forest;
+pub use r9_forest::Kept;
 pub use r9_info::{ImageNo, Info};

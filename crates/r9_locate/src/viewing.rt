@@ -2,7 +2,8 @@
 
 ghost use Rattle.std.specs.Prelude.{◌≡◌, ◌≢◌, ◌+◌, ◌^◌, ◌<◌, ◌≤◌, ℕ, Bool, true, length, slice_index, IsTrue, Option, Some};
 ghost use Rattle.r9_geom.specs.declared.Point.{Point as Spot};
-ghost use Rattle.r9_geom.specs.Geometry.{holds, strip, IsNear};
+ghost use Rattle.r9_geom.specs.Geometry.{area_of, carried, holds, strip, IsNear, IsOrdered, IsRectNear};
+ghost use Rattle.r9_plane.specs.Blocks.{number_in, HasRows};
 ghost use Rattle.r9_plane.specs.Pixels.{along};
 ghost use Rattle.model_forest.specs.World.{image_at, parent_of, IsLive};
 ghost use Rattle.model_forest.specs.View as view;
@@ -13,7 +14,7 @@ ghost use Rattle.r9_locate.specs.Table.{shape};
 use super::lists::Lists;
 use super::runs::along;
 use model_forest::Window;
-use r9_geom::Point;
+use r9_geom::{Point, Rect};
 use r9_steps::Steps;
 use std::sync::ledger::Ledger;
 
@@ -66,6 +67,73 @@ pub trait Pixels {
         ensures forms { forms self.new ≡ forms self.old }
         ensures spare { spare self.new ≡ spare self.old }
         ensures steps { steps.new ≡ steps.old + n };
+
+    /// Reads the pixels of a rectangle that an image keeps among rows of so many: the first one comes to number `first`.
+    fn read_block(&self, i: u32, r: &Rect, raws: &mut [u32], first: usize, width: usize)
+        requires near { IsRectNear r.now }
+        requires ordered { IsOrdered r.now }
+        requires has { (p : Spot) → IsTrue (holds r.now p) → has self.now (own i p) ≡ true }
+        requires rows { HasRows r.now first width (length raws.old) }
+        ensures pixels { (p : Spot) → IsTrue (holds r.now p) → slice_index raws.new (number_in r.now first width p) ≡ kept self.now (own i p) }
+        ensures others { (n : ℕ) → ((p : Spot) → IsTrue (holds r.now p) → n ≢ number_in r.now first width p) → slice_index raws.new n ≡ slice_index raws.old n };
+
+    /// Writes the pixels of a rectangle that an image keeps, which stand among rows of so many, a step for each.
+    fn write_block<L: Ledger>(
+        &mut self,
+        i: u32,
+        r: &Rect,
+        raws: &[u32],
+        first: usize,
+        width: usize,
+        steps: &mut Steps<L>,
+    )
+        requires near { IsRectNear r.now }
+        requires ordered { IsOrdered r.now }
+        requires has { (p : Spot) → IsTrue (holds r.now p) → has self.old (own i p) ≡ true }
+        requires rows { HasRows r.now first width (length raws.now) }
+        requires below { (p : Spot) → IsTrue (holds r.now p) → slice_index raws.now (number_in r.now first width p) < 2 ^ bits_in (forms self.old) i }
+        ensures at { (p : Spot) → IsTrue (holds r.now p) → kept self.new (own i p) ≡ slice_index raws.now (number_in r.now first width p) }
+        ensures others { (place : Place) → ((p : Spot) → IsTrue (holds r.now p) → place ≢ own i p) → kept self.new place ≡ kept self.old place }
+        ensures has { has self.new ≡ has self.old }
+        ensures forms { forms self.new ≡ forms self.old }
+        ensures spare { spare self.new ≡ spare self.old }
+        ensures steps { steps.new ≡ steps.old + area_of r.now };
+
+    /// Writes one raw pixel at all points of a rectangle that an image keeps, a step for each.
+    fn fill_block<L: Ledger>(&mut self, i: u32, r: &Rect, raw: u32, steps: &mut Steps<L>)
+        requires near { IsRectNear r.now }
+        requires ordered { IsOrdered r.now }
+        requires has { (p : Spot) → IsTrue (holds r.now p) → has self.old (own i p) ≡ true }
+        requires below { raw < 2 ^ bits_in (forms self.old) i }
+        ensures at { (p : Spot) → IsTrue (holds r.now p) → kept self.new (own i p) ≡ raw }
+        ensures others { (place : Place) → ((p : Spot) → IsTrue (holds r.now p) → place ≢ own i p) → kept self.new place ≡ kept self.old place }
+        ensures has { has self.new ≡ has self.old }
+        ensures forms { forms self.new ≡ forms self.old }
+        ensures spare { spare self.new ≡ spare self.old }
+        ensures steps { steps.new ≡ steps.old + area_of r.now };
+
+    /// Copies the pixels of a rectangle from where one image keeps them to where another one does from a point on, whose pixels
+    /// have as many bits, a step for each.
+    fn carry_block<L: Ledger>(
+        &mut self,
+        from: u32,
+        r: &Rect,
+        to: u32,
+        p: Point,
+        steps: &mut Steps<L>,
+    )
+        requires apart { from ≢ to }
+        requires near { IsRectNear r.now }
+        requires ordered { IsOrdered r.now }
+        requires had { (q : Spot) → IsTrue (holds r.now q) → has self.old (own from q) ≡ true }
+        requires has { (q : Spot) → IsTrue (holds r.now q) → has self.old (own to (carried q r.now.min p)) ≡ true }
+        requires bits { bits_in (forms self.old) from ≡ bits_in (forms self.old) to }
+        ensures at { (q : Spot) → IsTrue (holds r.now q) → kept self.new (own to (carried q r.now.min p)) ≡ kept self.old (own from q) }
+        ensures others { (place : Place) → ((q : Spot) → IsTrue (holds r.now q) → place ≢ own to (carried q r.now.min p)) → kept self.new place ≡ kept self.old place }
+        ensures has { has self.new ≡ has self.old }
+        ensures forms { forms self.new ≡ forms self.old }
+        ensures spare { spare self.new ≡ spare self.old }
+        ensures steps { steps.new ≡ steps.old + area_of r.now };
 }
 
 /// The point of a window that stands at a point of the image below it.

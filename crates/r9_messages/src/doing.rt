@@ -13,9 +13,17 @@ use crate::screen::{free_screen_id, make_screen, share_screen};
 use crate::window::move_window;
 use r9_device::Device;
 use r9_memory::Memory;
+use r9_steps::Steps;
+use std::sync::ledger::Ledger;
 
 /// Does what a message asks for, behind which these bytes stand. After Memory all is as before.
-pub fn carry_out(device: &mut Device, client: u64, plan: &Plan, rest: &[u8]) -> Result<(), Memory>
+pub fn carry_out<L: Ledger>(
+    device: &mut Device,
+    client: u64,
+    plan: &Plan,
+    rest: &[u8],
+    steps: &mut Steps<L>,
+) -> Result<(), Memory>
     requires live { IsSome (lookup (world_of device.old).clients client) }
     requires ready { IsReady client (world_of device.old) plan.now rest.now }
     ensures done { OnOk result (world_of device.new ≡ after client (world_of device.old) plan.now rest.now) }
@@ -24,24 +32,24 @@ pub fn carry_out(device: &mut Device, client: u64, plan: &Plan, rest: &[u8]) -> 
 {
     match plan {
         Plan::Nothing => Ok(()),
-        Plan::Make(making) => make_image(device, client, making),
+        Plan::Make(making) => make_image(device, client, making, steps),
         Plan::SetClip { image, repl, clipr } => {
             clip(device, *image, *repl, *clipr);
             Ok(())
         }
-        Plan::Draw(task) => draw(device, client, task),
-        Plan::Free { id } => free_id(device, client, *id),
-        Plan::FreeScreen { id } => free_screen_id(device, client, *id),
+        Plan::Draw(task) => draw(device, client, task, steps),
+        Plan::Free { id } => free_id(device, client, *id, steps),
+        Plan::FreeScreen { id } => free_screen_id(device, client, *id, steps),
         Plan::MakeFont { id, n, ascent } => make_font(device, client, *id, *n, *ascent),
-        Plan::LoadCell(loading) => load_cell(device, client, loading),
+        Plan::LoadCell(loading) => load_cell(device, client, loading, steps),
         Plan::MakeScreen(screening) => make_screen(device, client, screening),
         Plan::ShareScreen { id, screen } => share_screen(device, client, *id, *screen),
-        Plan::Move { image, rmin, scr } => move_window(device, *image, *rmin, *scr),
+        Plan::Move { image, rmin, scr } => move_window(device, *image, *rmin, *scr, steps),
         Plan::SetOperator(op) => {
             set_operator(device, client, *op);
             Ok(())
         }
         Plan::Read { image, r } => read_pixels(device, client, *image, *r),
-        Plan::Write { image, r, len } => write_pixels(device, *image, *r, &rest[..*len]),
+        Plan::Write { image, r, len } => write_pixels(device, *image, *r, &rest[..*len], steps),
     }
 }

@@ -15,6 +15,8 @@ use r9_device::{DISPLAY, Device};
 use r9_fonts::{Cell, Font};
 use r9_geom::{Point, Rect};
 use r9_memory::Memory;
+use r9_steps::Steps;
+use std::sync::ledger::Ledger;
 
 /// What `l` asks for.
 #[derive(Clone, Copy)]
@@ -127,7 +129,12 @@ pub(crate) fn make_font(
 // `l`: the character is drawn on the font's image, and its place in it is kept. Room for the drawing is made first, so
 // that nothing is half done.
 #[tactic(auto, unfolding(crate::specs::Fonts::after_load_cell))]
-pub(crate) fn load_cell(device: &mut Device, client: u64, loading: &Loading) -> Result<(), Memory>
+pub(crate) fn load_cell<L: Ledger>(
+    device: &mut Device,
+    client: u64,
+    loading: &Loading,
+    steps: &mut Steps<L>,
+) -> Result<(), Memory>
     requires live { IsSome (lookup (world_of device.old).clients client) }
     requires ready { CanLoad client (world_of device.old) loading.now }
     ensures loaded { OnOk result (world_of device.new ≡ after_load_cell client (world_of device.old) loading.now) }
@@ -147,7 +154,7 @@ pub(crate) fn load_cell(device: &mut Device, client: u64, loading: &Loading) -> 
     set_cell(&mut device.clients, client, loading.id, loading.index, cell)?;
     match device
         .forest
-        .draw_unmasked(cache, r, r, loading.src, sp, Op::S)
+        .draw_unmasked(cache, r, r, loading.src, sp, Op::S, steps)
     {
         Ok(()) => Ok(()),
         Err(_) => unreachable!(),

@@ -30,6 +30,8 @@ use r9_geom::Rect;
 use r9_images::Book;
 use r9_layers::{Forest, ImageNo};
 use r9_memory::Memory;
+use r9_steps::Steps;
+use std::sync::ledger::Ledger;
 
 /// What `b` asks for.
 #[derive(Clone, Copy)]
@@ -79,7 +81,12 @@ fn fill_raw(chan: Chan, color: u32) -> u32
 }
 
 // The image of `b`, topmost on its screen where it has one.
-fn one_pixel(forest: &mut Forest, book: &Book, making: &Making) -> Result<ImageNo, Memory>
+fn one_pixel<L: Ledger>(
+    forest: &mut Forest,
+    book: &Book,
+    making: &Making,
+    steps: &mut Steps<L>,
+) -> Result<ImageNo, Memory>
     requires near { IsRectNearBy (2 ^ 32) making.now.r }
     requires points { HasPoints making.now.r }
     requires raw { making.now.raw < 2 ^ channels.depth making.now.chan }
@@ -97,19 +104,20 @@ fn one_pixel(forest: &mut Forest, book: &Book, making: &Making) -> Result<ImageN
         Some(screen) => {
             let parent = ImageNo(book.image_of(screen));
             let fill = ImageNo(book.fill_of(screen));
-            forest.window(parent, fill, making.r, making.raw)
+            forest.window(parent, fill, making.r, making.raw, steps)
         }
     }
 }
 
 // `b` for a connection: the image, its id, and what it counts. Room for these is made first, so that nothing is half done.
 #[tactic(auto, unfolding(crate::specs::Plans::after_make))]
-fn make(
+fn make<L: Ledger>(
     forest: &mut Forest,
     book: &mut Book,
     owner: &mut Client,
     client: u64,
     making: &Making,
+    steps: &mut Steps<L>,
 ) -> Result<(), Memory>
     requires near { IsRectNearBy (2 ^ 32) making.now.r }
     requires points { HasPoints making.now.r }
@@ -131,7 +139,7 @@ fn make(
 {
     owner.sizes.reserve()?;
     book.reserve()?;
-    let image = one_pixel(forest, book, making)?;
+    let image = one_pixel(forest, book, making, steps)?;
     forest.set(image, making.repl, making.clipr);
     match book.add_id(client, making.id, image.0, making.screen) {
         Ok(()) => {}
@@ -142,12 +150,13 @@ fn make(
 }
 
 // The same for the connection of a number.
-fn make_for(
+fn make_for<L: Ledger>(
     forest: &mut Forest,
     book: &mut Book,
     clients: &mut Clients,
     client: u64,
     making: &Making,
+    steps: &mut Steps<L>,
 ) -> Result<(), Memory>
     requires live { IsSome (lookup clients.old.entries client) }
     requires near { IsRectNearBy (2 ^ 32) making.now.r }
@@ -168,7 +177,7 @@ fn make_for(
     ensures kept_book { OnErr result (book.new.book ≡ book.old.book) }
 {
     match clients.get_mut(&client) {
-        Some(owner) => make(forest, book, owner, client, making),
+        Some(owner) => make(forest, book, owner, client, making, steps),
         None => unreachable!(),
     }
 }
@@ -296,7 +305,12 @@ pub(crate) fn free(device: &Device, client: u64, id: u32) -> Result<(), u8>
 
 // `b`.
 #[tactic(auto, unfolding(crate::specs::Plans::after_make))]
-pub(crate) fn make_image(device: &mut Device, client: u64, making: &Making) -> Result<(), Memory>
+pub(crate) fn make_image<L: Ledger>(
+    device: &mut Device,
+    client: u64,
+    making: &Making,
+    steps: &mut Steps<L>,
+) -> Result<(), Memory>
     requires live { IsSome (lookup (world_of device.old).clients client) }
     requires ready { CanMake client (world_of device.old) making.now }
     ensures made { OnOk result (world_of device.new ≡ after_make client (world_of device.old) making.now) }
@@ -308,6 +322,7 @@ pub(crate) fn make_image(device: &mut Device, client: u64, making: &Making) -> R
         &mut device.clients,
         client,
         making,
+        steps,
     )
 }
 
@@ -321,7 +336,12 @@ pub(crate) fn clip(device: &mut Device, image: ImageNo, repl: bool, clipr: Rect)
 
 // `f`.
 #[tactic(auto, unfolding(crate::specs::Plans::after_free))]
-pub(crate) fn free_id(device: &mut Device, client: u64, id: u32) -> Result<(), Memory>
+pub(crate) fn free_id<L: Ledger>(
+    device: &mut Device,
+    client: u64,
+    id: u32,
+    steps: &mut Steps<L>,
+) -> Result<(), Memory>
     requires live { IsSome (lookup (world_of device.old).clients client) }
     requires ready { is_ok (free_id (world_of device.old).book client id) ≡ true }
     ensures freed { OnOk result (world_of device.new ≡ after_free client (world_of device.old) id) }
@@ -332,7 +352,7 @@ pub(crate) fn free_id(device: &mut Device, client: u64, id: u32) -> Result<(), M
     let Ok(gone) = device.book.free_id(client, id) else {
         return Err(Memory);
     };
-    release(&mut device.forest, gone.as_slice());
+    release(&mut device.forest, gone.as_slice(), steps);
     forget(&mut device.clients, client, id);
     Ok(())
 }

@@ -12,6 +12,8 @@ use crate::window::{restack, restacking};
 use r9_device::Device;
 use r9_dmsg::Listed;
 use r9_memory::Memory;
+use r9_steps::Steps;
+use std::sync::ledger::Ledger;
 
 /// The first refusal of a message that has a list.
 #[tactic(auto, unfolding(model_draw::specs::Act::act))]
@@ -34,7 +36,12 @@ pub fn look_listed(device: &Device, client: u64, asked: &Listed<'_>) -> Result<(
 
 /// Does what a message with a list asks for, which is not refused. After Memory all is as before.
 #[tactic(auto, unfolding(model_draw::specs::Act::act))]
-pub fn do_listed(device: &mut Device, client: u64, asked: &Listed<'_>) -> Result<(), Memory>
+pub fn do_listed<L: Ledger>(
+    device: &mut Device,
+    client: u64,
+    asked: &Listed<'_>,
+    steps: &mut Steps<L>,
+) -> Result<(), Memory>
     requires live { IsSome (lookup (world_of device.old).clients client) }
     requires near { IsNearListed asked.now }
     requires short { HasShortList asked.now }
@@ -43,9 +50,9 @@ pub fn do_listed(device: &mut Device, client: u64, asked: &Listed<'_>) -> Result
     ensures kept { OnErr result (world_of device.new ≡ world_of device.old) }
 {
     match asked {
-        Listed::Restack(asked) => restack(device, client, asked),
+        Listed::Restack(asked) => restack(device, client, asked, steps),
         Listed::Name(asked) => name_image(device, client, asked),
         Listed::UseName(asked) => use_name(device, client, asked),
-        Listed::Write(asked) => write_string(device, client, asked),
+        Listed::Write(asked) => write_string(device, client, asked, steps),
     }
 }

@@ -20,6 +20,8 @@ use r9_device::Device;
 use r9_geom::{Point, Rect};
 use r9_layers::ImageNo;
 use r9_memory::Memory;
+use r9_steps::Steps;
+use std::sync::ledger::Ledger;
 
 // The images of a drawing.
 #[derive(Clone, Copy)]
@@ -112,7 +114,12 @@ pub(crate) fn write_rows(
 
 // `d`.
 #[tactic(auto, unfolding(crate::specs::Plans::after_task))]
-pub(crate) fn draw(device: &mut Device, client: u64, task: &Task) -> Result<(), Memory>
+pub(crate) fn draw<L: Ledger>(
+    device: &mut Device,
+    client: u64,
+    task: &Task,
+    steps: &mut Steps<L>,
+) -> Result<(), Memory>
     requires live { IsSome (lookup (world_of device.old).clients client) }
     requires ready { CanDraw (world_of device.old) task.now }
     ensures drawn { OnOk result (world_of device.new ≡ after_task client (world_of device.old) task.now) }
@@ -121,7 +128,7 @@ pub(crate) fn draw(device: &mut Device, client: u64, task: &Task) -> Result<(), 
 {
     let op = op_of(&device.clients, client);
     device.forest.draw(
-        task.dst, task.r, task.r, task.src, task.sp, task.mask, task.mp, op,
+        task.dst, task.r, task.r, task.src, task.sp, task.mask, task.mp, op, steps,
     )?;
     set_op(&mut device.clients, client, Op::SoverD);
     Ok(())
@@ -154,16 +161,17 @@ pub(crate) fn read_pixels(
 }
 
 // `y`.
-pub(crate) fn write_pixels(
+pub(crate) fn write_pixels<L: Ledger>(
     device: &mut Device,
     image: ImageNo,
     r: Rect,
     rows: &[u8],
+    steps: &mut Steps<L>,
 ) -> Result<(), Memory>
     requires part { IsPart (world_of device.old) image.0 r }
     requires whole { length rows.now ≡ rows_len (at_number (world_of device.old) image.0).chan r }
     ensures written { OnOk result (world_of device.new ≡ with_rows (world_of device.old) image.0 r rows.now) }
     ensures kept { OnErr result (world_of device.new ≡ world_of device.old) }
 {
-    device.forest.load(image, r, rows)
+    device.forest.load(image, r, rows, steps)
 }

@@ -14,6 +14,8 @@ use model_images::free_screen_frees;
 use r9_device::{Device, release};
 use r9_layers::ImageNo;
 use r9_memory::Memory;
+use r9_steps::Steps;
+use std::sync::ledger::Ledger;
 
 // How deep an image may stand that is made a screen.
 const DEEPEST_SCREEN: u32 = 15;
@@ -164,7 +166,12 @@ pub(crate) fn share_screen(
 
 // `F`.
 #[tactic(auto, unfolding(crate::specs::Plans::after_free_screen))]
-pub(crate) fn free_screen_id(device: &mut Device, client: u64, id: u32) -> Result<(), Memory>
+pub(crate) fn free_screen_id<L: Ledger>(
+    device: &mut Device,
+    client: u64,
+    id: u32,
+    steps: &mut Steps<L>,
+) -> Result<(), Memory>
     requires live { IsSome (lookup (world_of device.old).clients client) }
     requires ready { is_ok (free_screen (world_of device.old).book client id) ≡ true }
     ensures freed { OnOk result (world_of device.new ≡ after_free_screen client (world_of device.old) id) }
@@ -175,6 +182,6 @@ pub(crate) fn free_screen_id(device: &mut Device, client: u64, id: u32) -> Resul
     let Ok(gone) = device.book.free_screen(client, id) else {
         return Err(Memory);
     };
-    release(&mut device.forest, gone.as_slice());
+    release(&mut device.forest, gone.as_slice(), steps);
     Ok(())
 }

@@ -22,7 +22,9 @@ use r9_device::Device;
 use r9_dmsg::Writing;
 use r9_fonts::Font;
 use r9_memory::Memory;
+use r9_steps::Steps;
 use r9_strings::{Background, Lettering, draw_string};
+use std::sync::ledger::Ledger;
 
 // Whether the font has all of a string's characters.
 fn has_all(font: &Font, asked: &Writing<'_>) -> bool
@@ -101,10 +103,11 @@ fn indices(device: &Device, asked: &Writing<'_>) -> Result<Vec<u16>, Memory>
 
 // `s` and `x`.
 #[tactic(auto, unfolding(model_draw::specs::Writing::write_string))]
-pub(crate) fn write_string(
+pub(crate) fn write_string<L: Ledger>(
     device: &mut Device,
     client: u64,
     asked: &Writing<'_>,
+    steps: &mut Steps<L>,
 ) -> Result<(), Memory>
     requires live { IsSome (lookup (world_of device.old).clients client) }
     requires near { IsNearWriting asked.now }
@@ -120,7 +123,7 @@ pub(crate) fn write_string(
     let Some(font) = font_of(&device.clients, client, asked.fontid) else {
         unreachable!()
     };
-    draw_string(&mut device.forest, font, &lettering, &indices)?;
+    draw_string(&mut device.forest, font, &lettering, &indices, steps)?;
     set_op(&mut device.clients, client, Op::SoverD);
     Ok(())
 }

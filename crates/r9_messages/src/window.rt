@@ -16,6 +16,8 @@ use r9_dmsg::Restacking;
 use r9_geom::Point;
 use r9_layers::ImageNo;
 use r9_memory::Memory;
+use r9_steps::Steps;
+use std::sync::ledger::Ledger;
 
 // `o`.
 #[tactic(auto, unfolding(model_draw::specs::Moving::move_window))]
@@ -39,18 +41,19 @@ pub(crate) fn moving(
 }
 
 // `o`.
-pub(crate) fn move_window(
+pub(crate) fn move_window<L: Ledger>(
     device: &mut Device,
     image: ImageNo,
     rmin: Point,
     scr: Point,
+    steps: &mut Steps<L>,
 ) -> Result<(), Memory>
     requires { CanMove (world_of device.old) image.0 rmin scr }
     ensures moved { OnOk result (world_of device.new ≡ with_images (world_of device.old) (after_origin (world_of device.old).images image.0 rmin scr)) }
     ensures kept { OnErr result (world_of device.new ≡ world_of device.old) }
 {
     device.forest.keeps();
-    device.forest.origin(image, rmin, scr)
+    device.forest.origin(image, rmin, scr, steps)
 }
 
 // The first refusal of the ids, where one shows no window.
@@ -136,10 +139,11 @@ pub(crate) fn group(
 
 // `t`.
 #[tactic(auto, unfolding(crate::specs::Restacking::after_restacking))]
-pub(crate) fn restack(
+pub(crate) fn restack<L: Ledger>(
     device: &mut Device,
     client: u64,
     asked: &Restacking<'_>,
+    steps: &mut Steps<L>,
 ) -> Result<(), Memory>
     requires { ShowWindows client (world_of device.old) asked.now }
     ensures restacked { OnOk result (world_of device.new ≡ after_restacking client (world_of device.old) asked.now) }
@@ -148,8 +152,8 @@ pub(crate) fn restack(
     device.forest.keeps();
     let group = group(device, client, asked)?;
     if asked.top != 0 {
-        device.forest.raise(&group)
+        device.forest.raise(&group, steps)
     } else {
-        device.forest.lower(&group)
+        device.forest.lower(&group, steps)
     }
 }

@@ -12,6 +12,8 @@ use r9_device::Device;
 use r9_geom::Point;
 use r9_memory::Memory;
 use r9_sides::LONGEST_SIDE;
+use r9_steps::Steps;
+use std::sync::ledger::Ledger;
 
 // Whether a side of the display may be so long.
 fn is_side(length: u32) -> bool
@@ -48,12 +50,17 @@ pub(crate) fn can_resize(device: &Device, width: u32, height: u32) -> bool
 }
 
 // The display has another size, where all that stands on it stays, and what shows newly of it is grey.
-pub(crate) fn resize_display(device: &mut Device, width: u32, height: u32) -> Result<(), Memory>
+pub(crate) fn resize_display<L: Ledger>(
+    device: &mut Device,
+    width: u32,
+    height: u32,
+    steps: &mut Steps<L>,
+) -> Result<(), Memory>
     requires { has_display (world_of device.old) ≡ true }
     ensures { OnOk result (world_of device.new ≡ resize_display (world_of device.old) width height) }
 {
     let image = device.image_shown(0);
     let info = device.forest.info(image);
     let grey = info.chan.pack(Colour::of_word(0x7777_77ff));
-    device.forest.resize(image, width, height, grey)
+    device.forest.resize(image, width, height, grey, steps)
 }

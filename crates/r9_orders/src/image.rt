@@ -21,6 +21,8 @@ use r9_geom::Rect;
 use r9_images::{Book, BookFault};
 use r9_layers::{Forest, ImageNo};
 use r9_memory::Memory;
+use r9_steps::Steps;
+use std::sync::ledger::Ledger;
 
 // The raw pixel of a window that nothing was drawn on.
 pub(crate) fn white(chan: Chan) -> u32
@@ -41,7 +43,13 @@ pub(crate) fn stands_on(book: &Book, image: ImageNo, screen: u32) -> bool
 }
 
 // Parts of an image become one raw pixel, where they are bare.
-fn fill_parts(forest: &mut Forest, image: ImageNo, parts: &[Rect], raw: u32)
+fn fill_parts<L: Ledger>(
+    forest: &mut Forest,
+    image: ImageNo,
+    parts: &[Rect],
+    raw: u32,
+    steps: &mut Steps<L>,
+)
     requires live { is_some (world forest.old image.0) ≡ true }
     requires parts { All (CanFill (image_at (world forest.old) image.0).r) parts.now }
     requires raw { raw < 2 ^ channels.depth (image_at (world forest.old) image.0).chan }
@@ -50,12 +58,12 @@ fn fill_parts(forest: &mut Forest, image: ImageNo, parts: &[Rect], raw: u32)
     ensures room { room forest.old ≤ room forest.new }
 {
     for part in parts {
-        forest.fill(image, *part, raw);
+        forest.fill(image, *part, raw, steps);
     }
 }
 
 // An image gets the border of a window.
-pub(crate) fn add_border(forest: &mut Forest, image: ImageNo)
+pub(crate) fn add_border<L: Ledger>(forest: &mut Forest, image: ImageNo, steps: &mut Steps<L>)
     requires live { is_some (world forest.old image.0) ≡ true }
     requires near { IsRectNearBy (2 ^ 32) (image_at (world forest.old) image.0).r }
     ensures world { world forest.new ≡ bordered (world forest.old) image.0 }
@@ -70,11 +78,18 @@ pub(crate) fn add_border(forest: &mut Forest, image: ImageNo)
         image,
         &border.part[..usize::from(border.count)],
         raw,
+        steps,
     );
 }
 
 // A white image, topmost on a screen.
-fn new_white(forest: &mut Forest, book: &Book, screen: u32, place: Rect) -> Result<ImageNo, Memory>
+fn new_white<L: Ledger>(
+    forest: &mut Forest,
+    book: &Book,
+    screen: u32,
+    place: Rect,
+    steps: &mut Steps<L>,
+) -> Result<ImageNo, Memory>
     requires near { IsRectNearBy (2 ^ 32) place }
     requires points { HasPoints place }
     requires screen { CanHold (world forest.old) book.now.book screen (image_at (world forest.old) (image_of book.now.book screen)).chan }
@@ -89,7 +104,7 @@ fn new_white(forest: &mut Forest, book: &Book, screen: u32, place: Rect) -> Resu
     let parent = ImageNo(book.image_of(screen));
     let fill = ImageNo(book.fill_of(screen));
     let white = white(forest.info(parent).chan);
-    forest.window(parent, fill, place, white)
+    forest.window(parent, fill, place, white, steps)
 }
 
 // An image gets the id of a window, and stands on a screen. There is room for it.
@@ -105,12 +120,13 @@ pub(crate) fn add_window(book: &mut Book, window: u32, image: ImageNo, screen: u
 }
 
 // A white image, topmost on a screen, with the id of a window. Room for the id is made first.
-pub(crate) fn put_white(
+pub(crate) fn put_white<L: Ledger>(
     forest: &mut Forest,
     book: &mut Book,
     window: u32,
     screen: u32,
     place: Rect,
+    steps: &mut Steps<L>,
 ) -> Result<ImageNo, Memory>
     requires fresh { is_image_id_taken book.old.book 0 window ≡ false }
     requires near { IsRectNearBy (2 ^ 32) place }
@@ -127,7 +143,7 @@ pub(crate) fn put_white(
     ensures kept_book { OnErr result (book.new.book ≡ book.old.book) }
 {
     book.reserve()?;
-    let image = new_white(forest, book, screen, place)?;
+    let image = new_white(forest, book, screen, place, steps)?;
     add_window(book, window, image, screen);
     Ok(image)
 }

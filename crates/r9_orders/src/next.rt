@@ -12,6 +12,8 @@ use r9_geom::Rect;
 use r9_images::Book;
 use r9_layers::{Forest, ImageNo};
 use r9_memory::Memory;
+use r9_steps::Steps;
+use std::sync::ledger::Ledger;
 
 // What a window gets in place of its image: an image directly above the old one, or topmost on a parent.
 #[derive(Clone, Copy)]
@@ -26,7 +28,11 @@ pub(crate) struct Next {
 }
 
 // A white image in place of another, or one of the same contents.
-fn next_white(forest: &mut Forest, next: &Next) -> Result<ImageNo, Memory>
+fn next_white<L: Ledger>(
+    forest: &mut Forest,
+    next: &Next,
+    steps: &mut Steps<L>,
+) -> Result<ImageNo, Memory>
     requires next { CanReplace (world forest.old) next.now }
     ensures number { IfOk result (λ i. i.0 ≡ next_number (numbers forest.old)) }
     ensures free { IfOk result (λ i. world forest.old i.0 ≡ None) }
@@ -39,7 +45,7 @@ fn next_white(forest: &mut Forest, next: &Next) -> Result<ImageNo, Memory>
     let corner = corner(&next.r, next.hidden);
     if next.above {
         let raw = white(forest.info(next.old).chan);
-        return forest.replace(next.old, next.r, corner, raw, next.keep);
+        return forest.replace(next.old, next.r, corner, raw, next.keep, steps);
     }
     let raw = white(forest.info(next.parent).chan);
     forest.replace_on(
@@ -50,14 +56,16 @@ fn next_white(forest: &mut Forest, next: &Next) -> Result<ImageNo, Memory>
         corner,
         raw,
         next.keep,
+        steps,
     )
 }
 
 // The same with its border, where it does not keep the contents. There is room in the book for its id first.
-pub(crate) fn next_window(
+pub(crate) fn next_window<L: Ledger>(
     forest: &mut Forest,
     book: &mut Book,
     next: &Next,
+    steps: &mut Steps<L>,
 ) -> Result<ImageNo, Memory>
     requires next { CanReplace (world forest.old) next.now }
     ensures number { IfOk result (λ i. i.0 ≡ next_number (numbers forest.old)) }
@@ -72,9 +80,9 @@ pub(crate) fn next_window(
 {
     forest.keeps();
     book.reserve()?;
-    let image = next_white(forest, next)?;
+    let image = next_white(forest, next, steps)?;
     if !next.keep {
-        add_border(forest, image);
+        add_border(forest, image, steps);
     }
     Ok(image)
 }

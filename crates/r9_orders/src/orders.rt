@@ -15,9 +15,11 @@ use crate::window::{
 use r9_device::Device;
 use r9_event::{Order, Orders};
 use r9_memory::Memory;
+use r9_steps::Steps;
+use std::sync::ledger::Ledger;
 
 // An order that fits.
-fn obey(device: &mut Device, order: &Order) -> Result<(), Memory>
+fn obey<L: Ledger>(device: &mut Device, order: &Order, steps: &mut Steps<L>) -> Result<(), Memory>
     requires { fits (world_of device.old) order.now ≡ true }
     ensures { OnOk result (world_of device.new ≡ after_order (world_of device.old) order.now) }
 {
@@ -29,8 +31,8 @@ fn obey(device: &mut Device, order: &Order) -> Result<(), Memory>
             name,
             hide,
             ..
-        } => make_window(device, *window, *host, *r, name.as_slice(), *hide),
-        Order::Place { window, at } => place_window(device, *window, *at),
+        } => make_window(device, *window, *host, *r, name.as_slice(), *hide, steps),
+        Order::Place { window, at } => place_window(device, *window, *at, steps),
         Order::Replace {
             window,
             host,
@@ -41,34 +43,42 @@ fn obey(device: &mut Device, order: &Order) -> Result<(), Memory>
         } => {
             let screen = rio_screen(device, *host);
             let next = next_of(device, *window, screen, *r, *keep, *hidden);
-            replace_window(device, *window, *host, &next, name.as_slice())
+            replace_window(device, *window, *host, &next, name.as_slice(), steps)
         }
-        Order::Raise { window } => raise_window(device, *window),
-        Order::Lower { window } => lower_window(device, *window),
-        Order::Drop { window } => drop_window(device, *window),
-        Order::Host { window, fill } => host_rio(device, *window, *fill),
-        Order::Leave { client } => device.leave(*client),
-        Order::Size { width, height } => resize_display(device, *width, *height),
+        Order::Raise { window } => raise_window(device, *window, steps),
+        Order::Lower { window } => lower_window(device, *window, steps),
+        Order::Drop { window } => drop_window(device, *window, steps),
+        Order::Host { window, fill } => host_rio(device, *window, *fill, steps),
+        Order::Leave { client } => device.leave(*client, steps),
+        Order::Size { width, height } => resize_display(device, *width, *height, steps),
     }
 }
 
 // One that does not fit changes nothing.
-fn carry_out_order(device: &mut Device, order: &Order) -> Result<(), Memory>
+fn carry_out_order<L: Ledger>(
+    device: &mut Device,
+    order: &Order,
+    steps: &mut Steps<L>,
+) -> Result<(), Memory>
     ensures { OnOk result (world_of device.new ≡ ordered (world_of device.old) order.now) }
 {
     if !fits(device, order) {
         return Ok(());
     }
-    obey(device, order)
+    obey(device, order, steps)
 }
 
 /// Carries out orders of the window manager, one after the other. One that does not fit changes nothing. After Memory some
 /// may have been carried out.
-pub fn carry_out(device: &mut Device, list: &Orders) -> Result<(), Memory>
+pub fn carry_out<L: Ledger>(
+    device: &mut Device,
+    list: &Orders,
+    steps: &mut Steps<L>,
+) -> Result<(), Memory>
     ensures done { OnOk result (world_of device.new ≡ carried_out (world_of device.old) list.now) }
 {
     for order in list.as_slice() {
-        carry_out_order(device, order)?;
+        carry_out_order(device, order, steps)?;
     }
     Ok(())
 }

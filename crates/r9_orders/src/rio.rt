@@ -17,9 +17,15 @@ use r9_chan::Colour;
 use r9_device::{Device, release};
 use r9_images::BookFault;
 use r9_memory::Memory;
+use r9_steps::Steps;
+use std::sync::ledger::Ledger;
 
 // The screen of the rio in a window goes, where there is one.
-pub(crate) fn close_rio(device: &mut Device, window: u32) -> Result<(), Memory>
+pub(crate) fn close_rio<L: Ledger>(
+    device: &mut Device,
+    window: u32,
+    steps: &mut Steps<L>,
+) -> Result<(), Memory>
     ensures closed { OnOk result (world_of device.new ≡ after_freed (world_of device.old) (screen_freed (world_of device.old).book window)) }
     ensures kept { OnErr result (world_of device.new ≡ world_of device.old) }
 {
@@ -27,7 +33,7 @@ pub(crate) fn close_rio(device: &mut Device, window: u32) -> Result<(), Memory>
     device.forest.keeps();
     match device.book.free_screen(0, window) {
         Ok(gone) => {
-            release(&mut device.forest, gone.as_slice());
+            release(&mut device.forest, gone.as_slice(), steps);
             Ok(())
         }
         Err(BookFault::Refused(_)) => Ok(()),
@@ -36,14 +42,16 @@ pub(crate) fn close_rio(device: &mut Device, window: u32) -> Result<(), Memory>
 }
 
 // The inside of a window becomes grey.
-fn fill_window(device: &mut Device, window: u32)
+fn fill_window<L: Ledger>(device: &mut Device, window: u32, steps: &mut Steps<L>)
     requires { is_window_rect (at_number (world_of device.old) (image_shown (world_of device.old) window)).r ≡ true }
     ensures { world_of device.new ≡ with_images (world_of device.old) (after_fill (world_of device.old).images (image_shown (world_of device.old) window) (inside_border (at_number (world_of device.old) (image_shown (world_of device.old) window)).r) (pack (at_number (world_of device.old) (image_shown (world_of device.old) window)).chan (colour_of 0x777777ff))) }
 {
     let image = device.image_shown(window);
     let info = device.forest.info(image);
     let grey = info.chan.pack(Colour::of_word(0x7777_77ff));
-    device.forest.fill(image, inside_border(&info.r), grey);
+    device
+        .forest
+        .fill(image, inside_border(&info.r), grey, steps);
 }
 
 // A screen on the window's image, which the root rio's fill fills.
@@ -62,13 +70,18 @@ fn open_rio(device: &mut Device, window: u32) -> Result<(), Memory>
 
 // A rio comes in a window, whose inside becomes grey first where it says so.
 #[tactic(auto, unfolding(model_draw::specs::Orders::host_rio))]
-pub(crate) fn host_rio(device: &mut Device, window: u32, fill: bool) -> Result<(), Memory>
+pub(crate) fn host_rio<L: Ledger>(
+    device: &mut Device,
+    window: u32,
+    fill: bool,
+    steps: &mut Steps<L>,
+) -> Result<(), Memory>
     requires { fits (world_of device.old) (Host window fill) ≡ true }
     ensures { OnOk result (world_of device.new ≡ host_rio (world_of device.old) window fill) }
 {
     if fill {
-        fill_window(device, window);
+        fill_window(device, window, steps);
     }
-    close_rio(device, window)?;
+    close_rio(device, window, steps)?;
     open_rio(device, window)
 }

@@ -25,9 +25,16 @@ use r9_geom::{Point, Rect};
 use r9_images::BookFault;
 use r9_layers::ImageNo;
 use r9_memory::Memory;
+use r9_steps::Steps;
+use std::sync::ledger::Ledger;
 
 // The window's image gets another corner on the image that it stands on.
-pub(crate) fn place_window(device: &mut Device, window: u32, at: Point) -> Result<(), Memory>
+pub(crate) fn place_window<L: Ledger>(
+    device: &mut Device,
+    window: u32,
+    at: Point,
+    steps: &mut Steps<L>,
+) -> Result<(), Memory>
     requires { is_near_point at ≡ true }
     ensures placed { OnOk result (world_of device.new ≡ place_window (world_of device.old) window at) }
     ensures kept { OnErr result (world_of device.new ≡ world_of device.old) }
@@ -35,11 +42,15 @@ pub(crate) fn place_window(device: &mut Device, window: u32, at: Point) -> Resul
     device.forest.keeps();
     let image = device.image_shown(window);
     let min = device.rect(image).min;
-    device.forest.origin(image, min, at)
+    device.forest.origin(image, min, at, steps)
 }
 
 // The image id of a window goes.
-fn free_window(device: &mut Device, window: u32) -> Result<(), Memory>
+fn free_window<L: Ledger>(
+    device: &mut Device,
+    window: u32,
+    steps: &mut Steps<L>,
+) -> Result<(), Memory>
     requires { (window == 0) ≡ false }
     ensures freed { OnOk result (world_of device.new ≡ after_freed (world_of device.old) (image_freed (world_of device.old).book window)) }
     ensures kept { OnErr result (world_of device.new ≡ world_of device.old) }
@@ -48,7 +59,7 @@ fn free_window(device: &mut Device, window: u32) -> Result<(), Memory>
     device.forest.keeps();
     match device.book.free_id(0, window) {
         Ok(gone) => {
-            release(&mut device.forest, gone.as_slice());
+            release(&mut device.forest, gone.as_slice(), steps);
             Ok(())
         }
         Err(BookFault::Refused(_)) => Ok(()),
@@ -58,37 +69,55 @@ fn free_window(device: &mut Device, window: u32) -> Result<(), Memory>
 
 // A window goes, and the screen of the rio in it.
 #[tactic(auto, unfolding(model_draw::specs::Orders::drop_window))]
-pub(crate) fn drop_window(device: &mut Device, window: u32) -> Result<(), Memory>
+pub(crate) fn drop_window<L: Ledger>(
+    device: &mut Device,
+    window: u32,
+    steps: &mut Steps<L>,
+) -> Result<(), Memory>
     requires { has_window (world_of device.old) window ≡ true }
     ensures { OnOk result (world_of device.new ≡ drop_window (world_of device.old) window) }
 {
-    place_window(device, window, OUTSIDE)?;
-    close_rio(device, window)?;
-    free_window(device, window)
+    place_window(device, window, OUTSIDE, steps)?;
+    close_rio(device, window, steps)?;
+    free_window(device, window, steps)
 }
 
 // The window comes to the top of its rio.
-pub(crate) fn raise_window(device: &mut Device, window: u32) -> Result<(), Memory>
+pub(crate) fn raise_window<L: Ledger>(
+    device: &mut Device,
+    window: u32,
+    steps: &mut Steps<L>,
+) -> Result<(), Memory>
     requires { has_window (world_of device.old) window ≡ true }
     ensures { OnOk result (world_of device.new ≡ with_images (world_of device.old) (after_raise (world_of device.old).images (image_shown (world_of device.old) window ∷ []))) }
 {
     device.forest.keeps();
     let image = device.image_shown(window);
-    device.forest.raise(&[image])
+    device.forest.raise(&[image], steps)
 }
 
 // The window goes to the bottom of its rio.
-pub(crate) fn lower_window(device: &mut Device, window: u32) -> Result<(), Memory>
+pub(crate) fn lower_window<L: Ledger>(
+    device: &mut Device,
+    window: u32,
+    steps: &mut Steps<L>,
+) -> Result<(), Memory>
     requires { has_window (world_of device.old) window ≡ true }
     ensures { OnOk result (world_of device.new ≡ with_images (world_of device.old) (after_lower (world_of device.old).images (image_shown (world_of device.old) window ∷ []))) }
 {
     device.forest.keeps();
     let image = device.image_shown(window);
-    device.forest.lower(&[image])
+    device.forest.lower(&[image], steps)
 }
 
 // A white image comes, topmost on a screen, and has the id of a window.
-fn add_white(device: &mut Device, window: u32, screen: u32, place: Rect) -> Result<ImageNo, Memory>
+fn add_white<L: Ledger>(
+    device: &mut Device,
+    window: u32,
+    screen: u32,
+    place: Rect,
+    steps: &mut Steps<L>,
+) -> Result<ImageNo, Memory>
     requires fresh { is_none (image_id (world_of device.old).book 0 window) ≡ true }
     requires screen { is_used (world_of device.old).book (Screen screen) ≡ true }
     requires near { IsRectNearBy (2 ^ 32) place }
@@ -99,11 +128,23 @@ fn add_white(device: &mut Device, window: u32, screen: u32, place: Rect) -> Resu
     ensures rect { IfOk result (λ i. (at_number (world_of device.new) i.0).r ≡ place) }
     ensures kept { OnErr result (world_of device.new ≡ world_of device.old) }
 {
-    put_white(&mut device.forest, &mut device.book, window, screen, place)
+    put_white(
+        &mut device.forest,
+        &mut device.book,
+        window,
+        screen,
+        place,
+        steps,
+    )
 }
 
 // An image gets a corner of its own coordinates, and stands far outside.
-fn hide_image(device: &mut Device, image: ImageNo, min: Point) -> Result<(), Memory>
+fn hide_image<L: Ledger>(
+    device: &mut Device,
+    image: ImageNo,
+    min: Point,
+    steps: &mut Steps<L>,
+) -> Result<(), Memory>
     requires live { IsLiveIn (world_of device.old) image.0 }
     requires near { IsRectNearBy (2 ^ 32) (at_min (at_number (world_of device.old) image.0).r min) }
     ensures moved { OnOk result (world_of device.new ≡ with_images (world_of device.old) (after_origin (world_of device.old).images image.0 min outside)) }
@@ -111,15 +152,15 @@ fn hide_image(device: &mut Device, image: ImageNo, min: Point) -> Result<(), Mem
     ensures kept { OnErr result (world_of device.new ≡ world_of device.old) }
 {
     device.forest.keeps();
-    device.forest.origin(image, min, OUTSIDE)
+    device.forest.origin(image, min, OUTSIDE, steps)
 }
 
 // An image gets the border of a window.
-fn frame(device: &mut Device, image: ImageNo)
+fn frame<L: Ledger>(device: &mut Device, image: ImageNo, steps: &mut Steps<L>)
     requires { IsLiveIn (world_of device.old) image.0 }
     ensures { world_of device.new ≡ with_images (world_of device.old) (bordered (world_of device.old).images image.0) }
 {
-    add_border(&mut device.forest, image);
+    add_border(&mut device.forest, image, steps);
 }
 
 // A window has a name from now on, unless another has it.
@@ -131,12 +172,13 @@ fn name_window(device: &mut Device, window: u32, name: &[u8]) -> Result<(), Memo
 }
 
 // A white image of a window comes, which stands far outside where it is hidden.
-fn white_window(
+fn white_window<L: Ledger>(
     device: &mut Device,
     window: u32,
     screen: u32,
     r: Rect,
     hide: bool,
+    steps: &mut Steps<L>,
 ) -> Result<ImageNo, Memory>
     requires fresh { is_none (image_id (world_of device.old).book 0 window) ≡ true }
     requires screen { is_used (world_of device.old).book (Screen screen) ≡ true }
@@ -146,22 +188,23 @@ fn white_window(
     ensures live { IfOk result (λ i. IsLiveIn (world_of device.new) i.0) }
 {
     if !hide {
-        return add_white(device, window, screen, r);
+        return add_white(device, window, screen, r, steps);
     }
-    let image = add_white(device, window, screen, r.at_min(OUTSIDE))?;
-    hide_image(device, image, r.min)?;
+    let image = add_white(device, window, screen, r.at_min(OUTSIDE), steps)?;
+    hide_image(device, image, r.min, steps)?;
     Ok(image)
 }
 
 // A window comes with an image, white with its border.
 #[tactic(auto, unfolding(model_draw::specs::Orders::make_window))]
-pub(crate) fn make_window(
+pub(crate) fn make_window<L: Ledger>(
     device: &mut Device,
     window: u32,
     host: u32,
     r: Rect,
     name: &[u8],
     hide: bool,
+    steps: &mut Steps<L>,
 ) -> Result<(), Memory>
     requires rio { has_rio (world_of device.old) host ≡ true }
     requires fresh { is_none (image_id (world_of device.old).book 0 window) ≡ true }
@@ -169,8 +212,8 @@ pub(crate) fn make_window(
     ensures { OnOk result (world_of device.new ≡ make_window (world_of device.old) window host r name.now hide) }
 {
     let screen = rio_screen(device, host);
-    let image = white_window(device, window, screen, r, hide)?;
-    frame(device, image);
+    let image = white_window(device, window, screen, r, hide, steps)?;
+    frame(device, image, steps);
     name_window(device, window, name)
 }
 
@@ -207,7 +250,13 @@ pub(crate) fn next_of(
 
 // A window has another image. The id of the old one goes first, and what nothing refers to any more goes when the new one
 // is there, so that after Memory each image has an id or has gone.
-fn renew_window(device: &mut Device, window: u32, screen: u32, next: &Next) -> Result<(), Memory>
+fn renew_window<L: Ledger>(
+    device: &mut Device,
+    window: u32,
+    screen: u32,
+    next: &Next,
+    steps: &mut Steps<L>,
+) -> Result<(), Memory>
     requires window { has_window (world_of device.old) window ≡ true }
     requires screen { is_used_by_id (world_of device.old).book screen ≡ true }
     requires next { IsNext (world_of device.old) window screen next.now }
@@ -220,9 +269,9 @@ fn renew_window(device: &mut Device, window: u32, screen: u32, next: &Next) -> R
         Ok(gone) => gone,
         Err(_) => return Err(Memory),
     };
-    let made = next_window(&mut device.forest, &mut device.book, next);
+    let made = next_window(&mut device.forest, &mut device.book, next, steps);
     device.forest.keeps();
-    release(&mut device.forest, gone.as_slice());
+    release(&mut device.forest, gone.as_slice(), steps);
     match made {
         Ok(image) => {
             add_window(&mut device.book, window, image, screen);
@@ -234,12 +283,13 @@ fn renew_window(device: &mut Device, window: u32, screen: u32, next: &Next) -> R
 
 // A window has another image, and another name.
 #[tactic(auto, unfolding(model_draw::specs::Orders::replace_window))]
-pub(crate) fn replace_window(
+pub(crate) fn replace_window<L: Ledger>(
     device: &mut Device,
     window: u32,
     host: u32,
     next: &Next,
     name: &[u8],
+    steps: &mut Steps<L>,
 ) -> Result<(), Memory>
     requires window { has_window (world_of device.old) window ≡ true }
     requires rio { has_rio (world_of device.old) host ≡ true }
@@ -248,6 +298,6 @@ pub(crate) fn replace_window(
     ensures { OnOk result (world_of device.new ≡ replace_window (world_of device.old) window host next.now.r name.now next.now.keep next.now.hidden) }
 {
     let screen = rio_screen(device, host);
-    renew_window(device, window, screen, next)?;
+    renew_window(device, window, screen, next, steps)?;
     name_window(device, window, name)
 }

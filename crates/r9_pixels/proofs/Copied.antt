@@ -5,8 +5,8 @@ use Rattle.std.specs.Option.{option_map_or}
 use Rattle.std.proofs.lemmas.Bool.{cases_lt, false≢true}
 use Rattle.r9_geom.specs.declared.Point.{Point}
 use Rattle.r9_geom.specs.declared.Rect.{Rect}
-use Rattle.r9_geom.specs.Geometry.{holds, IsNearBy, IsRectNear}
-use Rattle.r9_geom.proofs.GeometryLemmas.{near_wider}
+use Rattle.r9_geom.specs.Geometry.{holds, IsNear, IsNearBy, IsRectNear}
+use Rattle.r9_geom.proofs.GeometryLemmas.{near_point, near_wider}
 use Rattle.r9_plane.specs.Pixels.{along, rect_of}
 use Rattle.model_kept.specs.Keeping.{own, Place}
 use Rattle.r9_locate.specs.Forms.{bits_in, Form}
@@ -47,6 +47,15 @@ places_near kept i at done first here = of (own_at kept.owns.items i) refl first
         within extent.r (kept.tabled.windows i extent is).near
         (tile_parts (all_rows kept.cells) i extent.r (along at 0) start).0
         (tile_parts (all_rows kept.cells) i extent.r (along at done) end).0
+
+pub place_near : (kept : KeptPixels) (i : ℕ) (p : Point) → has_place kept (own i p) ≡ true → IsNear p
+place_near kept i p has = of (own_at kept.owns.items i) refl has
+  where
+    of : (o : Option Own) → own_at kept.owns.items i ≡ o → option_map_or (has_in kept.cells i p) o false ≡ true → IsNear p
+    of None is has = absurd (false≢true has)
+    of (Some (Whole plane)) is has = near_point (2 ^ 40) (rect_of plane) p plane.near has
+    of (Some (Hidden extent)) is has =
+        near_point (2 ^ 40) extent.r p (kept.tabled.windows i extent is).near (tile_parts (all_rows kept.cells) i extent.r p has).0
 
 -- nothing is copied yet
 pub carried_none : (kept : KeptPixels) (from : ℕ) (at : Point) (to : ℕ) (p : Point) → IsCarried kept kept from at to p 0

@@ -1,7 +1,10 @@
+pub mod Areas
 pub mod Copied
 pub mod Coming
+pub mod Off
 pub mod Owning
 pub mod Points
+pub mod Rowed
 pub mod Shifted
 pub mod Standing
 pub mod Taking

@@ -97,6 +97,7 @@ windowed owns rows world p windows formed tabled all = λ k d lt. each _ (all k 
         record {
           live = live-standing world w.image p on.stands;
           place = on.near;
+          size = on.size;
           cells = subst (IsCelled rows w.image) found.2 (tabled.windows w.image found.0 found.1);
         }
 

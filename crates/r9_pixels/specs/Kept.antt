@@ -8,7 +8,7 @@ use Rattle.model_kept.specs.Keeping.{Place}
 use Rattle.r9_store.specs.Tiles.{Tiles, spare}
 use Rattle.r9_locate.specs.Forms.{Form}
 use Rattle.r9_cells.specs.Cells.{all_rows, tiles_in}
-use Rattle.r9_cells.specs.Fitting.{wanted_all}
+use Rattle.r9_cells.specs.Fitting.{wanted_all, wanted_later}
 use Rattle.r9_pixels.specs.declared.keeping.KeptPixels.{KeptPixels}
 use Rattle.r9_pixels.specs.Owns.{form_in, has_in, kept_in, own_at, tile_in}
 
@@ -46,6 +46,10 @@ spare_in pixels = spare (tiles_in pixels.cells)
 -- how many cells that image p hides with these windows have no tile
 abbrev pub wanted_in : KeptPixels → World → ℕ → List Window → ℕ
 wanted_in pixels world p windows = wanted_all (all_rows pixels.cells) world p windows windows
+
+-- and how many cells more image q hides with a later list
+abbrev pub later_in : KeptPixels → World → ℕ → List Window → ℕ → List Window → ℕ
+later_in pixels world p windows q later = wanted_later (all_rows pixels.cells) world p windows q later
 
 -- both keep the same, at the same places
 pub record IsUnchanged (old new : KeptPixels) : Type 0 where

@@ -10,8 +10,9 @@ ghost use Rattle.r9_cells.specs.Cells.{all_rows};
 ghost use Rattle.r9_pixels.specs.Owns.{own_at, IsTabled, IsWithinBits};
 
 use super::own::{Extent, Own};
+use super::whole::count_points;
 use r9_cells::Cells;
-use r9_geom::Point;
+use r9_geom::{Point, Rect};
 use r9_locate::Pixels;
 use r9_steps::Steps;
 use std::alloc::Global;
@@ -167,5 +168,47 @@ impl Pixels for KeptPixels {
     ) {
         self.copy(from, at, to, p, n);
         steps.add(n as u64);
+    }
+
+    fn read_block(&self, i: u32, r: &Rect, raws: &mut [u32], first: usize, width: usize) {
+        if !r.is_empty() {
+            self.load_block(i, r, raws, first, width);
+        }
+    }
+
+    fn write_block<L: Ledger>(
+        &mut self,
+        i: u32,
+        r: &Rect,
+        raws: &[u32],
+        first: usize,
+        width: usize,
+        steps: &mut Steps<L>,
+    ) {
+        if !r.is_empty() {
+            self.put_block(i, r, raws, first, width);
+        }
+        count_points(r, steps);
+    }
+
+    fn fill_block<L: Ledger>(&mut self, i: u32, r: &Rect, raw: u32, steps: &mut Steps<L>) {
+        if !r.is_empty() {
+            self.paint_block(i, r, raw);
+        }
+        count_points(r, steps);
+    }
+
+    fn carry_block<L: Ledger>(
+        &mut self,
+        from: u32,
+        r: &Rect,
+        to: u32,
+        p: Point,
+        steps: &mut Steps<L>,
+    ) {
+        if !r.is_empty() {
+            self.copy_block(from, r, to, p);
+        }
+        count_points(r, steps);
     }
 }

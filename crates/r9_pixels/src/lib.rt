@@ -8,6 +8,7 @@ ghost use Rattle.model_forest.specs.World.{image_at, IsForest, World};
 ghost use Rattle.model_kept.specs.Keeping.{is_hidden, own, Place};
 ghost use Rattle.r9_pixels.specs.Places.{HasCells};
 
+mod blocks;
 mod carrying;
 mod keeping;
 mod making;

@@ -21,8 +21,8 @@ use r9_steps::Steps;
 use std::mem;
 use std::sync::ledger::Ledger;
 
-// Takes a step for each point of a rectangle.
-fn count_points<L: Ledger>(r: &Rect, steps: &mut Steps<L>)
+/// Takes a step for each point of a rectangle.
+pub(crate) fn count_points<L: Ledger>(r: &Rect, steps: &mut Steps<L>)
     requires near { IsRectNear r.now }
     requires ordered { IsOrdered r.now }
     ensures { steps.new ≡ steps.old + area_of r.now }
@@ -46,41 +46,6 @@ impl KeptPixels {
             Some(Own::Whole(plane)) => plane,
             _ => unreachable!(),
         }
-    }
-
-    // Writes one raw pixel at all points of a rectangle of the plane of an image.
-    fn fill_plane(&mut self, i: u32, r: Rect, raw: u32)
-        requires live { i < vec_len self.old.owns }
-        requires whole { (extent : Size) → own_at self.old.owns.items i ≢ Some (Hidden extent) }
-        requires near { IsRectNear r }
-        requires ordered { IsOrdered r }
-        requires has { (p : Spot) → IsTrue (holds r p) → has_place self.old (own i p) ≡ true }
-        requires below { raw < 2 ^ bits_in (form_at self.old) i }
-        ensures at { (p : Spot) → IsTrue (holds r p) → kept_at self.new (own i p) ≡ raw }
-        ensures others { (place : Place) → ((p : Spot) → IsTrue (holds r p) → place ≢ own i p) → kept_at self.new place ≡ kept_at self.old place }
-        ensures has { has_place self.new ≡ has_place self.old }
-        ensures forms { form_at self.new ≡ form_at self.old }
-    {
-        if let Some(Own::Whole(plane)) = &mut self.owns[i as usize] {
-            plane.fill(r, raw);
-        }
-    }
-
-    /// Writes one raw pixel at all points of a rectangle of an image that stands nowhere, a step for each.
-    pub fn fill_whole<L: Ledger>(&mut self, i: u32, r: Rect, raw: u32, steps: &mut Steps<L>)
-        requires whole { option_map (λ form. form.is_window) (form_at self.old i) ≡ Some false }
-        requires near { IsRectNear r }
-        requires ordered { IsOrdered r }
-        requires has { (p : Spot) → IsTrue (holds r p) → has_place self.old (own i p) ≡ true }
-        requires below { raw < 2 ^ bits_in (form_at self.old) i }
-        ensures at { (p : Spot) → IsTrue (holds r p) → kept_at self.new (own i p) ≡ raw }
-        ensures others { (place : Place) → ((p : Spot) → IsTrue (holds r p) → place ≢ own i p) → kept_at self.new place ≡ kept_at self.old place }
-        ensures has { has_place self.new ≡ has_place self.old }
-        ensures forms { form_at self.new ≡ form_at self.old }
-        ensures steps { steps.new ≡ steps.old + area_of r }
-    {
-        self.fill_plane(i, r, raw);
-        count_points(&r, steps);
     }
 
     // Takes the pixels of a rectangle of the plane of an image from its rows.

@@ -5,3 +5,5 @@ pub mod RunLemmas
 pub mod Shifts
 pub mod Marking
 pub mod Moving
+pub mod Rectangles
+pub mod Among

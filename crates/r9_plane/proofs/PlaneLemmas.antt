@@ -1,5 +1,5 @@
 -- A plane as a map from points to raw pixels.
-use Rattle.std.proofs.Common.{◌≡◌, ℕ, ◌^◌, ◌%◌, ◌/◌, ◌+◌, ◌-◌, ◌*◌, ◌<◌, ◌≤◌, ◌≢◌, Bool, true, false, ◌||◌, refl, ap, ◌∙◌, sym, arith, ⊎_elim, List, pos, ◌+ℤ◌, ◌<ℤ◌, take, drop, get_or, length, length-drop}
+use Rattle.std.proofs.Common.{◌≡◌, ℕ, ◌^◌, ◌%◌, ◌/◌, ◌+◌, ◌-◌, ◌*◌, ◌<◌, ◌≤◌, ◌≢◌, Bool, true, false, ◌||◌, refl, ap, ◌∙◌, sym, arith, ⊎_elim, List, pos, ◌+ℤ◌, take, drop, get_or, length, length-drop}
 use Rattle.std.proofs.Math.Seq.{take-length}
 use Rattle.std.specs.Prelude.{if◌then◌else◌, ◌&&◌, ◌==◌, nat_le, nat_lt}
 use Rattle.std.proofs.lemmas.Bool.{cond-true, cond-false, cases_Bool, both_ways, false_from_ne_true}
@@ -279,16 +279,3 @@ whole_line r bits pixel row k line is whole within fits shown =
     ∙ byte_whole bits (raw_at bits line) k whole
     ∙ ap (λ v. v / 2 ^ (8 * (k % (bits / 8))) % 256) (shown i within ∙ ap (λ n. pixel (along (point_at r 0 row) n)) (sym same) ∙ sym (place.within low high))
     ∙ sym (byte_whole bits (row_place r bits pixel row) k whole)
-
--- the pixels of a row stand before those of a lower one
-pub number_before : (r : Rect) (at from : Point) (n : ℕ) → 0 < n → Lies r at n → Lies r from n → from.y <ℤ at.y → number_of r from + n ≤ number_of r at
-number_before r at from n some lies lies_from order =
-    let here = cell_of r at (start_in r at n some lies) in
-    let start = start_in r from n some lies_from in
-    let there = cell_of r from start in
-    let last = lies_from (along from (n - 1)) (along_holds from n (n - 1) (omega arith)) in
-    let edge = (cell_of r (along from (n - 1)) last).column in
-    let column = column_along r from (n - 1) start in
-    let above : distance r.min.y from.y + 1 ≤ distance r.min.y at.y = omega (arith, ints, here.top, there.top, order) in
-    let rows = mul-le (distance r.min.y from.y + 1) (width r) (distance r.min.y at.y) (width r) above (omega arith) in
-    omega (arith, rows, edge, column, some)

@@ -1,10 +1,11 @@
-ghost use Rattle.std.specs.Prelude.{◌≡◌, ◌+◌, ◌*◌, ◌/◌, ◌^◌, ◌<◌, ◌≤◌, ◌<ℤ◌, ◌||◌, ℕ, false, IsTrue, IfOk, length, slice_index, vec_len, if◌then◌else◌};
+ghost use Rattle.std.specs.Prelude.{◌≡◌, ◌+◌, ◌*◌, ◌/◌, ◌^◌, ◌<◌, ◌≤◌, ◌||◌, ℕ, false, IsTrue, IfOk, length, slice_index, vec_len, if◌then◌else◌};
 ghost use Rattle.r9_geom.specs.Geometry.{IsOrdered, IsRectNear, width, height};
 ghost use Rattle.model_pixel.specs.Channels as channels;
 ghost use Rattle.r9_marks.specs.Cells.{cells_over};
 ghost use Rattle.r9_marks.specs.Marks as table;
 ghost use Rattle.model_pixel.specs.Rows.{byte_at, raw_at, row_bytes, row_pixel, row_place, rows_of};
 
+mod blocks;
 mod moving;
 
 use super::packed;
@@ -193,41 +194,6 @@ impl Plane {
         self.mark(&strip(at, raws.len()));
     }
 
-    // Writes one raw pixel side by side, from a point to the right.
-    fn fill_row(&mut self, at: Point, width: usize, raw: u32)
-        requires inside { (p : Point) → IsTrue (holds (strip at width) p) → IsTrue (holds (rect_of self.old) p) }
-        requires raw { raw < 2 ^ channels.depth (chan_of self.old) }
-        ensures rect { rect_of self.new ≡ rect_of self.old }
-        ensures chan { chan_of self.new ≡ chan_of self.old }
-        ensures pixels { (q : Point) → pixel_at self.new q ≡ (if holds (strip at width) q then raw else pixel_at self.old q) }
-        ensures marks { marks_of self.new ≡ marks_of self.old }
-    {
-        if width == 0 {
-            return;
-        }
-        let first = self.number(at);
-        runs::fill_run(&mut self.bytes, self.depth, first, width, raw);
-    }
-
-    // Writes the pixels of one row of whole pixels to a lower one, from a point to the right.
-    fn repeat_row(&mut self, at: Point, width: usize, from: Point)
-        requires inside { (p : Point) → IsTrue (holds (strip at width) p) → IsTrue (holds (rect_of self.old) p) }
-        requires inside_from { (p : Point) → IsTrue (holds (strip from width) p) → IsTrue (holds (rect_of self.old) p) }
-        requires order { from.y <ℤ at.y }
-        requires whole { 8 ≤ self.old.depth }
-        ensures rect { rect_of self.new ≡ rect_of self.old }
-        ensures chan { chan_of self.new ≡ chan_of self.old }
-        ensures pixels { (q : Point) → pixel_at self.new q ≡ (if holds (strip at width) q then pixel_at self.old (along from (distance at.x q.x)) else pixel_at self.old q) }
-        ensures marks { marks_of self.new ≡ marks_of self.old }
-    {
-        if width == 0 {
-            return;
-        }
-        let first = self.number(at);
-        let from_first = self.number(from);
-        runs::repeat_run(&mut self.bytes, self.depth, first, width, from_first);
-    }
-
     /// Writes one raw pixel at all points of a rectangle.
     pub fn fill(&mut self, r: Rect, raw: u32)
         requires near { IsRectNear r }
@@ -240,15 +206,7 @@ impl Plane {
         ensures marks { (column row : ℕ) → marked_at self.new column row ≡ (touched (rect_of self.old) r column row || marked_at self.old column row) }
         ensures few { mark_count self.new ≤ mark_count self.old + area_of r }
     {
-        let width = r.width() as usize;
-        for row in 0..r.height() {
-            let at = r.point_at(0, row);
-            if row > 0 && self.depth >= 8 {
-                self.repeat_row(at, width, r.min);
-                continue;
-            }
-            self.fill_row(at, width, raw);
-        }
+        self.fill_block(&r, raw);
         self.mark(&r);
     }
 

@@ -20,7 +20,9 @@ const BLOCK_BYTES: usize = 128;
 // How many pixels of 24 bits and of one raw value are written at a time.
 const TRIPLES: usize = 64;
 
-fn read_run_of<const DEPTH: u32>(bytes: &[u8], first: usize, raws: &mut [u32])
+/// Raw pixels of so many bits from number `first` on.
+#[inline(always)]
+pub fn read_run_of<const DEPTH: u32>(bytes: &[u8], first: usize, raws: &mut [u32])
     requires depth { IsTrue (is_depth DEPTH) }
     requires numbers { first + length raws.old < 2 ^ 63 }
     requires within { (first + length raws.old) * DEPTH ≤ 8 * length bytes.now }
@@ -51,7 +53,9 @@ pub fn read_run(bytes: &[u8], depth: u32, first: usize, raws: &mut [u32])
     }
 }
 
-fn write_run_of<const DEPTH: u32>(bytes: &mut [u8], first: usize, raws: &[u32])
+/// Writes raw pixels of so many bits from number `first` on, and no other.
+#[inline(always)]
+pub fn write_run_of<const DEPTH: u32>(bytes: &mut [u8], first: usize, raws: &[u32])
     requires depth { IsTrue (is_depth DEPTH) }
     requires numbers { first + length raws.now < 2 ^ 63 }
     requires within { (first + length raws.now) * DEPTH ≤ 8 * length bytes.old }
@@ -190,6 +194,7 @@ fn copy_whole(
 }
 
 /// Copies `count` pixels of whole bytes from number `from_first` on to number `first` on, which stands behind them all.
+#[inline(always)]
 pub fn repeat_run(bytes: &mut [u8], depth: u32, first: usize, count: usize, from_first: usize)
     requires depth { IsTrue (is_depth depth) }
     requires whole { 8 ≤ depth }
@@ -299,6 +304,7 @@ fn fill_triples(bytes: &mut [u8], first: usize, count: usize, raw: u32)
 }
 
 /// Writes `count` pixels of one raw value from number `first` on, and no other.
+#[inline(always)]
 pub fn fill_run(bytes: &mut [u8], depth: u32, first: usize, count: usize, raw: u32)
     requires depth { IsTrue (is_depth depth) }
     requires numbers { first + count < 2 ^ 63 }

@@ -6,9 +6,9 @@ use Rattle.std.proofs.lemmas.Nat.{mul-le}
 use Rattle.r9_geom.specs.declared.Point.{Point}
 use Rattle.r9_geom.specs.declared.Rect.{Rect}
 use Rattle.r9_geom.specs.Geometry.{distance, height, holds, point_at, strip, width, IsNear, IsOrdered, IsRectNear}
-use Rattle.r9_geom.proofs.GeometryLemmas.{band, band_more, bounds_of, cell_of, distance_below, distance_is, row_distance, row_inside, same_point}
-use Rattle.r9_plane.specs.Pixels.{along, number_of}
-use Rattle.r9_locate.proofs.Parts.{get_or-part, length-part, row_within}
+use Rattle.r9_geom.proofs.GeometryLemmas.{band, band_more, bounds_of, distance_below, distance_is, row_inside, same_point}
+use Rattle.r9_plane.specs.Pixels.{along}
+use Rattle.r9_locate.proofs.Parts.{length-part, row_within}
 
 -- one row of the list, as a part of it
 abbrev pub grid_row : List ℕ → ℕ → ℕ → List ℕ
@@ -40,16 +40,7 @@ row_lies r at q row n whole ordered is h =
 pub row_of : (r : Rect) (at q : Point) (row n : ℕ) → at ≡ point_at r 0 row → row < height r → n ≡ width r → IsOrdered r → holds (strip at n) q ≡ true → holds r q ≡ true
 row_of r at q row n is below whole ordered h = row_lies r at q row n whole ordered (begins_row r at row is below) h
 
--- the pixel of a point of a row
-pub grid_pixel : (r : Rect) (pixels : List ℕ) (at q : Point) (row w : ℕ) → w ≡ width r → IsOrdered r → BeginsRow r at row → holds (strip at (width r)) q ≡ true → get_or (grid_row pixels row w) (distance at.x q.x) 0 ≡ get_or pixels (number_of r q) 0
-grid_pixel r pixels at q row w whole ordered is h =
-    let inside = row_inside r at q row ordered is.left is.top is.below h in
-    let column : distance at.x q.x ≡ distance r.min.x q.x = ap (λ x. distance x q.x) is.left in
-    let line : distance r.min.y q.y ≡ row = row_distance r at q row is.top h in
-    let below : distance at.x q.x < row * w + w - row * w = omega (arith, column, (cell_of r q inside).column, whole) in
-    get_or-part pixels (row * w) (row * w + w - row * w) (distance at.x q.x) below
-    ∙ (λ i. get_or pixels (sym line i * whole i + column i) 0)
-
+-- a point of a row of a rectangle
 pub along-point_at : (r : Rect) (column row : ℕ) → along (point_at r 0 row) column ≡ point_at r column row
 along-point_at r column row = same_point (along (point_at r 0 row) column) (point_at r column row) (omega (arith, ints)) refl
 

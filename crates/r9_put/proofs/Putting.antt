@@ -1,25 +1,28 @@
 -- Pixels that are put on the bare points of an image, part by part.
-use Rattle.std.proofs.Common.{◌≡◌, ◌∙◌, ℕ, zero, suc, ◌+◌, ◌<◌, ◌≤◌, ◌^◌, Bool, true, false, List, Option, None, Some, refl, sym, ap, subst, arith, ⊎_elim, take, drop, get_or, lit≤, pos, ◌+ℤ◌}
+use Rattle.std.proofs.Common.{◌≡◌, ◌≢◌, ◌*◌, ◌∙◌, ℕ, zero, suc, ◌+◌, ◌<◌, ◌≤◌, ◌^◌, Bool, true, false, List, Option, None, Some, refl, sym, ap, subst, arith, take, drop, get_or, lit≤, pos, ◌+ℤ◌}
 use Rattle.std.specs.Prelude.{◌||◌, is_none, is_some}
-use Rattle.std.proofs.lemmas.Bool.{false≢true, or_cases, or_left, or_right, true≢false}
-use Rattle.std.proofs.lemmas.Int.{by_lt_z, ints}
+use Rattle.std.proofs.lemmas.Bool.{false≢true, or_left, or_right, true≢false}
+use Rattle.std.proofs.lemmas.Int.{ints}
 use Rattle.r9_geom.specs.declared.Point.{Point}
 use Rattle.r9_geom.specs.declared.Rect.{Rect}
 use Rattle.r9_geom.specs.Geometry.{distance, holds, strip, width, IsNear}
-use Rattle.r9_geom.proofs.GeometryLemmas.{bounds_of, distance_is, holds_from, near_point, near_wider, same_tests, strip_distance}
+use Rattle.r9_geom.proofs.GeometryLemmas.{bounds_of, cell_of, distance_is, near_point, near_wider, strip_distance}
 use Rattle.model_forest.specs.declared.Window.{Window}
 use Rattle.model_forest.specs.World.{World, image_at, IsForest, IsLive}
 use Rattle.model_forest.specs.View.{is_bare, top_window}
 use Rattle.model_kept.specs.Keeping.{keeping, HasOnePlaces, IsStanding, Place}
 use Rattle.model_kept.specs.Restack.{IsPut}
 use Rattle.model_kept.proofs.Storing.{same_from_keeping}
-use Rattle.r9_plane.specs.Pixels.{along}
+use Rattle.r9_plane.specs.Blocks.{number_in, HasRows}
+use Rattle.r9_plane.specs.Pixels.{along, number_of}
 use Rattle.r9_plane.proofs.PlaneLemmas.{along_holds, start_in}
 use Rattle.r9_locate.specs.Forms.{HasBits}
 use Rattle.r9_locate.specs.Table.{shape}
 use Rattle.r9_locate.proofs.Locating.{strip_at}
 use Rattle.r9_locate.proofs.Parts.{get_or-part}
 use Rattle.r9_pixels.specs.declared.keeping.KeptPixels.{KeptPixels}
+use Rattle.r9_pixels.specs.Kept.{form_at, has_place, kept_at}
+use Rattle.r9_shown.specs.Shown.{block}
 use Rattle.r9_put.specs.Written.{IsStored, IsWritten}
 use Rattle.r9_put.proofs.Forms.{image_near}
 
@@ -71,21 +74,6 @@ stored_more shape i a f old new is stored = record {
   forest = stored.forest;
 }
 
--- a row, and more points to the right of it
-pub strip_split : (at : Point) (d n : ℕ) (p : Point) → holds (strip at (d + n)) p ≡ (holds (strip (along at d) n) p || holds (strip at d) p)
-strip_split at d n p =
-    same_tests (holds (strip at (d + n)) p) (holds (strip (along at d) n) p || holds (strip at d) p)
-    (λ h.
-    let b = bounds_of (strip at (d + n)) p h in
-    by_lt_z p.x (along at d).x
-    (λ left. or_right (holds (strip (along at d) n) p) (holds (strip at d) p) (holds_from (strip at d) p (record { left = b.left; right = omega (arith, ints, left); top = b.top; bottom = b.bottom })))
-    (λ right. or_left (holds (strip (along at d) n) p) (holds (strip at d) p) (holds_from (strip (along at d) n) p (record { left = omega (arith, ints, right); right = omega (arith, ints, b.right); top = b.top; bottom = b.bottom }))))
-    (λ h.
-    ⊎_elim
-    (λ late. let b = bounds_of (strip (along at d) n) p late in holds_from (strip at (d + n)) p (record { left = omega (arith, ints, b.left); right = omega (arith, ints, b.right); top = b.top; bottom = b.bottom }))
-    (λ early. let b = bounds_of (strip at d) p early in holds_from (strip at (d + n)) p (record { left = b.left; right = omega (arith, ints, b.right); top = b.top; bottom = b.bottom }))
-    (or_cases (holds (strip (along at d) n) p) (holds (strip at d) p) h))
-
 -- a row within a rectangle is as wide as that at most
 pub row_narrow : (r : Rect) (at : Point) (n : ℕ) → ((p : Point) → holds (strip at n) p ≡ true → holds r p ≡ true) → n ≤ width r
 row_narrow r at zero inside = omega arith
@@ -94,12 +82,6 @@ row_narrow r at (suc n) inside =
     let last = bounds_of r (along at n) (inside (along at n) (along_holds at (suc n) n (omega arith))) in
     let across = distance_is r.min.x r.max.x (omega (arith, ints, first.left, first.right)) in
     omega (arith, ints, first.left, last.right, across)
-
--- a part of a row is of the row
-pub strip_part : (at : Point) (d m n : ℕ) (p : Point) → d + m ≤ n → holds (strip (along at d) m) p ≡ true → holds (strip at n) p ≡ true
-strip_part at d m n p fits h =
-    let b = bounds_of (strip (along at d) m) p h in
-    holds_from (strip at n) p (record { left = omega (arith, ints, b.left); right = omega (arith, ints, b.right, fits); top = b.top; bottom = b.bottom })
 
 -- the pixels of a part of a row are those of the row
 pub part_pixel : (raws : List ℕ) (at : Point) (d n : ℕ) (p : Point) → holds (strip (along at d) n) p ≡ true → get_or (take n (drop d raws)) (distance (along at d).x p.x) 0 ≡ get_or raws (distance at.x p.x) 0
@@ -143,3 +125,40 @@ written_same shape i a b f g old new area same is =
       has = all.has;
       forms = all.forms;
     }
+
+-- what is written where all of a bare rectangle is kept is put on it
+pub area_written : (shape : World) (i : ℕ) (r : Rect) (f : Point → ℕ) (old new : KeptPixels) → ((p : Point) → holds r p ≡ true → holds (image_at shape i).r p ≡ true) → ((p : Point) → holds r p ≡ true → is_bare (image_at shape i).windows p ≡ true) → ((p : Point) → holds r p ≡ true → kept_at new (keeping shape i p) ≡ f p) → ((place : Place) → ((p : Point) → holds r p ≡ true → place ≢ keeping shape i p) → kept_at new place ≡ kept_at old place) → has_place new ≡ has_place old → form_at new ≡ form_at old → IsWritten shape i (holds r) f old new
+area_written shape i r f old new inside bare at others has forms = record {
+  put = record {
+    put = λ p within in_r none. at p in_r;
+    others = λ place apart. others place (λ p in_r same. apart p (inside p in_r) in_r (bare p in_r) same);
+  };
+  has = has;
+  forms = forms;
+}
+
+-- the pixels of a rectangle are among these rows
+pub among_below : (r : Rect) (p : Point) (first across count : ℕ) → HasRows r first across count → holds r p ≡ true → number_in r first across p < count
+among_below r p first across count among h =
+    let at = cell_of r p h in
+    omega (arith, among.fits (distance r.min.y p.y) at.row, at.column)
+
+-- the number of a point counted from a column of it on
+pub number_along : (at p : Point) (columns done len rows first across : ℕ) → holds (block (along at done) len rows) p ≡ true → number_in (block (along at done) len rows) (first + done) across p ≡ number_in (block at columns rows) first across p
+number_along at p columns done len rows first across h =
+    let b = bounds_of (block (along at done) len rows) p h in
+    let here = distance_is (along at done).x p.x b.left in
+    let there = distance_is at.x p.x (omega (arith, ints, b.left)) in
+    let column : distance at.x p.x ≡ done + distance (along at done).x p.x = omega (arith, ints, here, there) in
+    omega (arith, column)
+
+-- and from a row of it on
+pub number_down : (r : Rect) (at p : Point) (row rows : ℕ) → at.x ≡ r.min.x → at.y ≡ r.min.y +ℤ pos row → holds (block at (width r) rows) p ≡ true → number_in (block at (width r) rows) (row * width r) (width r) p ≡ number_of r p
+number_down r at p row rows left top h =
+    let b = bounds_of (block at (width r) rows) p h in
+    let here = distance_is at.y p.y b.top in
+    let there = distance_is r.min.y p.y (omega (arith, ints, b.top, top)) in
+    let line : distance r.min.y p.y ≡ row + distance at.y p.y = omega (arith, ints, here, there, top) in
+    let column : distance at.x p.x ≡ distance r.min.x p.x = ap (λ x. distance x p.x) left in
+    let size : distance r.min.y p.y * width r ≡ row * width r + distance at.y p.y * width r = ap (λ n. n * width r) line ∙ grind arith in
+    omega (arith, size, column)

@@ -24,7 +24,7 @@ use Rattle.r9_pixels.specs.Places.{in_hidden, in_shown}
 use Rattle.r9_pixels.proofs.Points.{in_own_cell, of_image}
 
 -- the cell of a point is one of the rectangle's
-cell_below : (r : Rect) (x : Point) → holds r x ≡ true → cell_of r x < cell_count r
+pub cell_below : (r : Rect) (x : Point) → holds r x ≡ true → cell_of r x < cell_count r
 cell_below r x h =
     let at = place_of r x h in
     mul-add-lt (distance r.min.y x.y / 32) (cells_across r) (distance r.min.x x.x / 32) ((height r + 31) / 32) (omega (arith, at.row)) (column_below r x h)

@@ -1,5 +1,6 @@
 pub mod Covering
 pub mod Emptied
+pub mod Front
 pub mod Lists
 pub mod Meeting
 pub mod Near
@@ -8,3 +9,4 @@ pub mod Surfaces
 pub mod Without
 pub mod Uncovering
 pub mod Tops
+pub mod Off

@@ -1,5 +1,5 @@
 -- Another list of the windows of an image: what restacking asks for, and what holds then.
-use Rattle.std.proofs.Common.{◌≡◌, ◌≢◌, ◌∙◌, ℕ, ◌^◌, Bool, true, false, All, List, Option, Some, None, refl, sym, ap, subst, ⊎_elim}
+use Rattle.std.proofs.Common.{◌≡◌, ◌≢◌, ◌∙◌, ℕ, ◌^◌, ◌≤◌, Bool, true, false, All, List, Option, Some, None, refl, sym, ap, subst, ⊎_elim}
 use Rattle.std.specs.Prelude.{◌==◌, ◌&&◌, ◌||◌, is_some, not, option_map, unwrap_or, if◌then◌else◌}
 use Rattle.std.specs.Option.{option_map_or}
 use Rattle.std.specs.List.{list_any}
@@ -17,7 +17,7 @@ use Rattle.model_forest.specs.View.{is_bare}
 use Rattle.model_forest.specs.World.{Image, World, image_at, no_image, parent_of, IsForest, IsLive, IsWindowOf}
 use Rattle.model_forest.proofs.Changes.{live-standing, with_image-at, with_image-each, with_image-other}
 use Rattle.model_forest.proofs.Listed.{All-listed, parent-apart, window_of}
-use Rattle.model_forest.proofs.Sound.{IsStill, IsWindowOf-still, SameStand, SameStand-itself}
+use Rattle.model_forest.proofs.Sound.{times, IsStill, IsWindowOf-still, SameStand, SameStand-itself}
 use Rattle.model_kept.specs.Cells.{cell_of, cell_part, hides, hides_on, hides_under}
 use Rattle.model_kept.specs.Keeping.{is_top, keeping, outward, own, place_among, with_kept, Place}
 use Rattle.model_kept.specs.Restack.{fill_of_top, with_list, IsRestacked}
@@ -26,13 +26,14 @@ use Rattle.model_kept.proofs.Once.{places-forest}
 use Rattle.model_kept.proofs.Relisting.{parent_of-same}
 use Rattle.model_kept.proofs.Worlds.{image_at-slot, restacked-world, standing-forest, with_list-same}
 use Rattle.r9_locate.specs.Forms.{bits_in, form_of, forms_of, Form, HasBits}
-use Rattle.r9_cells.specs.Fitting.{hides_cell, hides_of, shows_of}
+use Rattle.r9_cells.specs.Fitting.{hides_cell, hides_of, shows_of, AreOne}
 use Rattle.r9_pixels.specs.Places.{in_hidden, in_shown, HasCells, StandsOn}
 use Rattle.r9_pixels.proofs.Standing.{none_of}
 use Rattle.r9_restack.specs.Changing.{HasPlacesBut}
 use Rattle.r9_restack.specs.Moving.{HasPlaces}
 use Rattle.r9_relist.specs.Relisting.{HasOtherCells, HasPlacesBefore, IsAsBefore}
 use Rattle.r9_relist.proofs.Covering.{hides_unshown, in_hidden_is, in_shown_is}
+use Rattle.r9_relist.proofs.Front.{are_one}
 use Rattle.r9_relist.proofs.Near.{nearby}
 
 and_false : (b : Bool) → (b && false) ≡ false
@@ -119,6 +120,10 @@ module _ (world : World) (p : ℕ) (ws : List Window) (live : IsLive world p) (o
   relist_one =
       subst (λ (im : Image). All (λ v. place_among im.windows v.image ≡ v.place) im.windows) (list_at world p ws) (places-forest new ok p live_then)
 
+  -- each image has one window in it
+  pub relist_ones : AreOne ws
+  relist_ones = are_one ws (λ n. subst (λ (im : Image). times im.windows n ≤ 1) (list_at world p ws) (ok.once p n live_then))
+
   pub relist_near : All (λ v. IsRectNear v.place) ws
   relist_near = subst (λ (im : Image). All (λ v. IsRectNear v.place) im.windows) (list_at world p ws) (nearby new ok p live_then).1
 
@@ -126,7 +131,7 @@ module _ (world : World) (p : ℕ) (ws : List Window) (live : IsLive world p) (o
   relist_corners = λ k d below. (relist_near k d below).min
 
   pub relist_on : All (StandsOn world p) ws
-  relist_on = λ k d below. record { stands = (relist_stand k d below).stands; near = relist_near k d below }
+  relist_on = λ k d below. record { stands = (relist_stand k d below).stands; near = relist_near k d below; size = (relist_stand k d below).size }
 
   stands_then : (n : ℕ) → parent_of world n ≡ Some p → parent_of new n ≡ Some p
   stands_then n stands = list_parent world p n ws live ∙ stands
@@ -197,6 +202,29 @@ module _ (world : World) (p : ℕ) (ws : List Window) (live : IsLive world p) (o
     old_own = λ i x stands inside none. taken (own i x) ∙ or_left (has (own i x)) (in_hidden world p ws (own i x)) (hidden i x stands inside none);
     new_own = λ i x stands inside none. taken (own i x) ∙ or_right (has (own i x)) (in_hidden world p ws (own i x)) (newly_hidden i x (places i) stands inside none);
   }
+
+  -- and where nothing of one of them shows then, and the others keep theirs
+  pub relist_concealed : (w : ℕ) (has mid : Place → Bool) → ((i : ℕ) → i ≢ w → place_among ws i ≡ place_among (image_at world p).windows i) → ((z : Point) → holds (image_at world p).r z ≡ true → is_top ws w z ≡ false) → ((z : Point) → holds (image_at world p).r z ≡ true → has (keeping world p z) ≡ true) → ((i : ℕ) (x : Point) → parent_of world i ≡ Some p → holds (image_at world i).r x ≡ true → is_top (image_at world p).windows i (outward world p i x) ≡ false → has (own i x) ≡ true) → ((place : Place) → mid place ≡ (has place || in_hidden world p ws place)) → HasPlaces world p ws mid
+  relist_concealed w has mid places gone surface hidden taken = record {
+    surface = λ z h. taken (keeping world p z) ∙ or_left (has (keeping world p z)) (in_hidden world p ws (keeping world p z)) (surface z h);
+    old_own = λ i x stands inside none. taken (own i x) ∙ or_left (has (own i x)) (in_hidden world p ws (own i x)) (hidden i x stands inside none);
+    new_own = λ i x stands inside none.
+        taken (own i x) ∙ or_right (has (own i x)) (in_hidden world p ws (own i x))
+        (⊎_elim
+        (λ (same : i ≡ w). of_w i x same stands inside)
+        (λ (other : i ≢ w). newly_hidden i x (places i other) stands inside none)
+        (cases_eq i w));
+  }
+    where
+      unseen : (z : Point) → (b : Bool) → holds (image_at world p).r z ≡ b → (b && is_top ws w z) ≡ false
+      unseen z false e = refl
+      unseen z true e = gone z e
+
+      of_w : (i : ℕ) (x : Point) → i ≡ w → parent_of world i ≡ Some p → holds (image_at world i).r x ≡ true → in_hidden world p ws (own i x) ≡ true
+      of_w i x same stands inside =
+          let z = carried x (image_at world i).r.min (place_among ws i).min in
+          relist_hidden i x stands inside
+          (ap (λ m. holds (image_at world p).r z && is_top ws m z) same ∙ unseen z (holds (image_at world p).r z) refl)
 
   -- those of other images have theirs
   pub relist_others : (has mid : Place → Bool) → HasOtherCells world p has → ((place : Place) → mid place ≡ (has place || in_hidden world p ws place)) → HasOtherCells world p mid

@@ -10,18 +10,16 @@ use Rattle.r9_geom.specs.Geometry.{holds}
 use Rattle.model_forest.specs.declared.Window.{Window}
 use Rattle.model_forest.specs.Stack.{without}
 use Rattle.model_forest.specs.View.{top_window}
-use Rattle.model_forest.specs.World.{image_at, IsLive}
+use Rattle.model_forest.specs.World.{World, image_at}
 use Rattle.model_forest.proofs.Views.{All-top_window, holds-top_window}
 use Rattle.model_kept.specs.Keeping.{is_top, place_among}
-use Rattle.r9_locate.specs.declared.lists.Lists.{Lists}
-use Rattle.r9_locate.specs.Table.{shape}
 use Rattle.r9_restack.specs.Changing.{StaysTop}
 use Rattle.r9_restack.proofs.Orders.{top_is}
 use Rattle.r9_relist.specs.Leaving.{HasPlaceOf}
 use Rattle.r9_relist.proofs.Without.{place-without}
 
 -- where it is not topmost it could as well not be there
-top-but : (w : ℕ) (z : Point) (ws : List Window) → is_top ws w z ≡ false → top_window (without w ws) z ≡ top_window ws z
+pub top-but : (w : ℕ) (z : Point) (ws : List Window) → is_top ws w z ≡ false → top_window (without w ws) z ≡ top_window ws z
 top-but w z [] none = refl
 top-but w z (u ∷ us) none = by_tests (top-but w z us) (u.image == w) refl (holds u.place z) refl none
   where
@@ -32,7 +30,7 @@ top-but w z (u ∷ us) none = by_tests (top-but w z us) (u.image == w) refl (hol
     by_tests rest false e false inside other = ap (λ h. cond h (Some u) (top_window (without w us) z)) inside ∙ rest other
 
 -- where it is topmost it stands
-top_place : (w : ℕ) (z : Point) (ws : List Window) → All (λ v. place_among ws v.image ≡ v.place) ws → is_top ws w z ≡ true → holds (place_among ws w) z ≡ true
+pub top_place : (w : ℕ) (z : Point) (ws : List Window) → All (λ v. place_among ws v.image ≡ v.place) ws → is_top ws w z ≡ true → holds (place_among ws w) z ≡ true
 top_place w z ws one seen = by_top (top_window ws z) refl
   where
     by_top : (o : Option Window) → top_window ws z ≡ o → holds (place_among ws w) z ≡ true
@@ -42,16 +40,15 @@ top_place w z ws one seen = by_top (top_window ws z) refl
         let place : place_among ws w ≡ v.place = ap (place_among ws) (sym is) ∙ All-top_window (λ (t : Window). place_among ws t.image ≡ t.place) ws z v one e in
         ap (λ (r : Rect). holds r z) place ∙ holds-top_window ws z v e
 
-module _ (lists : Lists) (p w : ℕ) (ws : List Window) (live : IsLive (shape lists) p) (others : without w ws ≡ without w (image_at (shape lists) p).windows) where
+module _ (world : World) (p w : ℕ) (ws : List Window) (one : All (λ v. place_among (image_at world p).windows v.image ≡ v.place) (image_at world p).windows) (others : without w ws ≡ without w (image_at world p).windows) where
   -- the others keep their places
-  pub others_places : (i : ℕ) → i ≢ w → place_among ws i ≡ place_among (image_at (shape lists) p).windows i
+  pub others_places : (i : ℕ) → i ≢ w → place_among ws i ≡ place_among (image_at world p).windows i
   others_places i other =
-      let old = (image_at (shape lists) p).windows in
+      let old = (image_at world p).windows in
       sym (place-without w i ws other) ∙ ap (λ (vs : List Window). place_among vs i) others ∙ place-without w i old other
 
   -- and outside of where it stood and stands then the same one is topmost
-  pub others_top : (area : Rect) → HasPlaceOf (shape lists) p w area → (z : Point) → holds (image_at (shape lists) p).r z ≡ true → holds area z ≡ false → is_top ws w z ≡ false → StaysTop (shape lists) p ws w z
-  unfolding shape
+  pub others_top : (area : Rect) → HasPlaceOf world p w area → (z : Point) → holds (image_at world p).r z ≡ true → holds area z ≡ false → is_top ws w z ≡ false → StaysTop world p ws w z
   others_top area covers z inside away none = record {
     tops = λ i. ap (λ o. option_map_or (λ (v : Window). v.image == i) o false) same;
     apart = λ v top is. true≢false (sym (top_is ws w z v top ∙ eq-eqb v.image w is) ∙ none);
@@ -59,12 +56,12 @@ module _ (lists : Lists) (p w : ℕ) (ws : List Window) (live : IsLive (shape li
   }
     where
       old : List Window
-      old = (image_at (shape lists) p).windows
+      old = (image_at world p).windows
 
       before : is_top old w z ≡ false
       before =
           false_from_ne_true (is_top old w z)
-          (λ seen. true≢false (sym (covers z inside (top_place w z old (lists.places p live) seen)) ∙ away))
+          (λ seen. true≢false (sym (covers z inside (top_place w z old one seen)) ∙ away))
 
       same : top_window ws z ≡ top_window old z
       same = sym (top-but w z ws none) ∙ ap (λ (vs : List Window). top_window vs z) others ∙ top-but w z old before

@@ -1,5 +1,5 @@
 -- A window that goes: what is known of the lists without it, and where pixels lie then.
-use Rattle.std.proofs.Common.{◌≡◌, ◌≢◌, ◌∙◌, ℕ, suc, ◌<◌, ◌≤◌, ◌^◌, All, Bool, true, false, List, Option, Some, None, refl, sym, ap, ⊎_elim, arith, eq-eqb}
+use Rattle.std.proofs.Common.{◌≡◌, ◌≢◌, ◌∙◌, ℕ, suc, ◌<◌, ◌≤◌, ◌^◌, All, Bool, true, false, List, Option, Some, None, get_or, refl, sym, ap, subst, ⊎_elim, arith, eq-eqb}
 use Rattle.std.specs.Prelude.{◌==◌, ◌&&◌, ◌||◌, is_none, is_some, not, option_map, unwrap_or, if◌then◌else◌}
 use Rattle.std.specs.Option.{option_map_or}
 use Rattle.std.specs.List.{list_any}
@@ -14,7 +14,7 @@ use Rattle.model_forest.specs.declared.Standing.{Standing}
 use Rattle.model_forest.specs.declared.Window.{Window}
 use Rattle.model_forest.specs.Stack.{with_windows}
 use Rattle.model_forest.specs.View.{top_window}
-use Rattle.model_forest.specs.World.{Image, World, image_at, no_image, parent_of, with_image, CanGo, IsForest, IsImage, IsLive, IsWindowOf}
+use Rattle.model_forest.specs.World.{Image, World, image_at, no_image, parent_of, with_image, CanGo, IsForest, IsImage, IsLive, IsWindowOf, SameSize}
 use Rattle.model_forest.proofs.Changes.{live-standing, with_image-at, with_image-each, with_image-other}
 use Rattle.model_forest.proofs.Gone.{IsForest-gone}
 use Rattle.model_forest.proofs.Listed.{length-without, listed-without, listed-without_other, parent-apart, times-without, unlisted}
@@ -27,7 +27,7 @@ use Rattle.model_kept.proofs.Once.{places-forest}
 use Rattle.model_kept.proofs.Worlds.{standing-forest, with_list-same}
 use Rattle.r9_locate.specs.Forms.{form_of, forms_of, Form}
 use Rattle.r9_locate.specs.Lists.{IsNearby}
-use Rattle.r9_cells.specs.Fitting.{shows_of}
+use Rattle.r9_cells.specs.Fitting.{shows_of, AreOne}
 use Rattle.r9_pixels.specs.declared.keeping.KeptPixels.{KeptPixels}
 use Rattle.r9_pixels.specs.Kept.{form_at, has_place, kept_at, room_of}
 use Rattle.r9_pixels.specs.Owns.{form_in, own_at}
@@ -36,6 +36,7 @@ use Rattle.r9_pixels.proofs.Standing.{none_of, window_own}
 use Rattle.r9_restack.specs.Changing.{HasPlacesBut, IsChange, StaysTop}
 use Rattle.r9_relist.specs.Leaving.{gone, others, HasFill, HasPlaceOf, IsGoing}
 use Rattle.r9_relist.proofs.Covering.{in_shown_is}
+use Rattle.r9_relist.proofs.Front.{are_one}
 use Rattle.r9_relist.proofs.Near.{nearby, nearby_but}
 use Rattle.r9_relist.proofs.Relisted.{list_at, list_live, list_other, list_parent, list_rect, listed_image, refilled}
 use Rattle.r9_relist.proofs.Surfaces.{placed_alike, surface_has, unshown_has}
@@ -155,6 +156,9 @@ module _ (world : World) (p w : ℕ) (going : IsGoing world p w) where
       place-without w _ old (without-apart w old k d lt)
       ∙ All-filter (λ v. not (v.image == w)) (λ v. place_among old v.image ≡ v.place) old one_each k d lt
 
+  pub ones_then : AreOne ws
+  ones_then = are_one ws (λ n. let less = times-without w old n in let most = going.before.once p n live_below in omega (arith, less, most))
+
   pub places_then : HasOnePlaces new
   places_then =
       with_image-each world p (Some (listed_image world p ws)) (λ n slot. is_some slot ≡ true → All (λ v. place_among (unwrap_or slot no_image).windows v.image ≡ v.place) (unwrap_or slot no_image).windows)
@@ -175,10 +179,14 @@ module _ (world : World) (p w : ℕ) (going : IsGoing world p w) where
   near_corners = λ k d lt. (near_each k d lt).min
 
   pub on_then : All (StandsOn new p) ws
-  on_then = λ k d lt. record { stands = list_parent world p _ ws live_below ∙ (stand k d lt).stands; near = near_each k d lt }
+  on_then = λ k d lt. record {
+    stands = list_parent world p _ ws live_below ∙ (stand k d lt).stands;
+    near = near_each k d lt;
+    size = subst (SameSize (get_or ws k d).place) (sym (list_rect world p (get_or ws k d).image ws live_below)) (stand k d lt).size;
+  }
 
   pub leaving_change : IsChange world p ws w
-  leaving_change = record { live = live_below; places = λ i other. place-without w i old other; stand = stand; one = one_then }
+  leaving_change = record { live = live_below; places = λ i z other h top. place-without w i old other; stand = stand; one = one_then }
 
   pub leaving_gone : (z : Point) (v : Window) → top_window ws z ≡ Some v → v.image ≢ w
   leaving_gone z v top is =

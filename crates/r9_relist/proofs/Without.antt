@@ -1,10 +1,10 @@
 -- A list of windows without one of them.
-use Rattle.std.proofs.Common.{◌≡◌, ◌≢◌, ◌∙◌, ℕ, suc, ◌+◌, ◌<◌, ◌≤◌, Bool, true, false, All, List, [], ◌∷◌, ◌++◌, Some, None, cond, drop, find, take, refl, sym, ap, ⊎_elim, arith, eq-eqb}
-use Rattle.std.specs.Prelude.{◌==◌, ◌||◌, nat_lt, not, if◌then◌else◌}
+use Rattle.std.proofs.Common.{◌≡◌, ◌≢◌, ◌∙◌, ℕ, suc, ◌+◌, ◌≤◌, Bool, true, false, All, List, [], ◌∷◌, ◌++◌, Some, cond, drop, find, take, refl, sym, ap, arith, eq-eqb}
+use Rattle.std.specs.Prelude.{◌==◌, ◌||◌, not, if◌then◌else◌}
 use Rattle.std.specs.Option.{option_map_or}
 use Rattle.std.specs.List.{after_first, before_first, list_any, position_or_len, AllByRecursion}
-use Rattle.std.proofs.lemmas.Bool.{cases_lt, ne_eqb, or_right, true≢false}
-use Rattle.std.proofs.lemmas.Bool.Decides.{Decides-eqb, Decides-ltb}
+use Rattle.std.proofs.lemmas.Bool.{ne_eqb, or_right, true≢false}
+use Rattle.std.proofs.lemmas.Bool.Decides.{Decides-eqb}
 use Rattle.std.proofs.lemmas.List.Elements.{All-from_recursion, recursion_from_All}
 use Rattle.std.proofs.lemmas.List.Sums.{sum_by-cons}
 use Rattle.r9_geom.specs.declared.Point.{Point}
@@ -133,18 +133,3 @@ parts-without w (v ∷ vs) most = by_test (parts-without w vs) (v.image == w) re
         sym (no_times w vs (omega (arith, count, one, most)))
     by_test rest false e =
         more ∙ ap (λ us. v ∷ us) (rest (omega (arith, count, most)))
-
--- where it stands in the list, or that it does not
-pub position_some : (n len at : ℕ) → cond (nat_lt n len) (Some n) None ≡ Some at → n ≡ at
-position_some n len at e = by_test (nat_lt n len) e
-  where
-    by_test : (b : Bool) → cond b (Some n) None ≡ Some at → n ≡ at
-    by_test true k = cc
-    by_test false k = cc
-
-pub position_none : (n len : ℕ) → cond (nat_lt n len) (Some n) None ≡ None → len ≤ n
-position_none n len e =
-    ⊎_elim
-    (λ (below : n < len). let some : Some n ≡ None = sym (ap (λ b. cond b (Some n) None) ((Decides-ltb n len).1 below)) ∙ e in absurd (cc))
-    (λ (past : len ≤ n). past)
-    (cases_lt n len)

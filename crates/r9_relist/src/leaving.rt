@@ -1,6 +1,6 @@
 //! A window that leaves the list of the image on which it stands, and goes.
 
-ghost use Rattle.std.specs.Prelude.{◌≡◌, ◌^◌, ◌+◌, ◌++◌, ◌*◌, ◌<◌, ◌≤◌, ◌==◌, ℕ, None, length, IfSome, IsTrue};
+ghost use Rattle.std.specs.Prelude.{◌≡◌, ◌^◌, ◌+◌, ◌++◌, ◌*◌, ◌<◌, ◌≤◌, ◌==◌, None, length, IfSome, IsTrue};
 ghost use Rattle.std.specs.List.{count_by, position};
 ghost use Rattle.r9_geom.specs.declared.Point.{Point as Spot};
 ghost use Rattle.r9_geom.specs.Geometry.{area_of, holds, IsOrdered, IsRectNear};
@@ -13,6 +13,7 @@ ghost use Rattle.r9_locate.specs.Forms.{bits_in, forms_of};
 ghost use Rattle.r9_locate.specs.Table.{made, shape};
 ghost use Rattle.r9_pixels.specs.Kept.{form_at, has_place, kept_at};
 ghost use Rattle.r9_pixels.specs.Places.{HasCells};
+ghost use Rattle.r9_restack.specs.Stacks.{IsFront};
 ghost use Rattle.r9_relist.specs.Leaving.{gone, others, HasFill, HasPlaceOf, IsGoing};
 
 use model_forest::Window;
@@ -36,7 +37,8 @@ fn place_in(windows: &[Window], w: u32) -> Option<usize>
 // The windows of a list above one of them, and those below it.
 fn around(windows: &[Window], w: u32) -> (&[Window], &[Window])
     requires { count_by (λ v. v.image == w) windows.now ≤ 1 }
-    ensures { result.0.now ++ result.1.now ≡ stack.without w windows.now }
+    ensures parts { result.0.now ++ result.1.now ≡ stack.without w windows.now }
+    ensures front { IsFront windows.now result.0.now w (length result.0.now) }
 {
     match place_in(windows, w) {
         Some(at) => (&windows[..at], &windows[at + 1..]),
@@ -114,7 +116,7 @@ pub fn take_away<S: Source, L: Ledger>(
 {
     uncover(lists, pixels, source, p, w, area, steps);
     unlist(alloc, lists, p, w);
-    pixels.give_shown(lists, p, &lists.get(p).windows);
+    pixels.give_shown(lists, p, &lists.get(p).windows, 0, &[*area]);
     lists.remove(w);
     pixels.remove(w);
 }

@@ -22,9 +22,6 @@ use Rattle.r9_resize.proofs.Alike.{alike, root_now}
 pub rects_at : (world : World) (i : ℕ) (r clipr : Rect) → image_at (with_rects world i r clipr) i ≡ record (image_at world i) { r = r; clipr = clipr }
 rects_at world i r clipr = ap (λ o. unwrap_or o no_image) (with_image-at world i (Some (record (image_at world i) { r = r; clipr = clipr })))
 
-pub rects_other : (world : World) (i n : ℕ) (r clipr : Rect) → n ≢ i → image_at (with_rects world i r clipr) n ≡ image_at world n
-rects_other world i n r clipr other = ap (λ o. unwrap_or o no_image) (with_image-other world i n (Some (record (image_at world i) { r = r; clipr = clipr })) other)
-
 pub rects_live : (world : World) (i : ℕ) (r clipr : Rect) → IsLive (with_rects world i r clipr) i
 rects_live world i r clipr = ap is_some (with_image-at world i (Some (record (image_at world i) { r = r; clipr = clipr })))
 

@@ -153,7 +153,7 @@ own_there kept i a place other = ap (λ t. if t then a place.at else kept place)
 -- ---- its windows
 
 pub own_on : (world : World) (i : ℕ) → IsForest world → IsLive world i → All (StandsOn world i) (image_at world i).windows
-own_on world i ok live = λ k d below. record { stands = (ok.windows i live k d below).stands; near = (nearby world ok i live).1 k d below }
+own_on world i ok live = λ k d below. record { stands = (ok.windows i live k d below).stands; size = (ok.windows i live k d below).size; near = (nearby world ok i live).1 k d below }
 
 -- ---- its size
 

@@ -72,7 +72,7 @@ fn enter(
     let to = plane.rect();
     set_rects(alloc, lists, i, to, to);
     let had = pixels.replace_whole(i, plane);
-    match pixels.reserve_hidden(lists, i, &lists.get(i).windows) {
+    match pixels.reserve_hidden(lists, i, &lists.get(i).windows, 0, &[]) {
         Ok(()) => Ok(had),
         Err(memory) => {
             set_rects(alloc, lists, i, from, clipr);
@@ -112,8 +112,8 @@ pub fn resize<L: Ledger>(
     let chan = lists.get(i).chan;
     let plane = Plane::new(alloc, sized(width, height), chan, raw)?;
     let had = enter(alloc, lists, pixels, i, plane)?;
-    pixels.take_hidden(lists, i, &lists.get(i).windows);
+    pixels.take_hidden(lists, i, &lists.get(i).windows, 0, &[]);
     move_pixels(lists, pixels, &had, i, steps);
-    pixels.give_shown(lists, i, &lists.get(i).windows);
+    pixels.give_shown(lists, i, &lists.get(i).windows, 0, &[]);
     Ok(())
 }

@@ -1,16 +1,16 @@
--- One more of some areas, and areas that are one.
-use Rattle.std.proofs.Common.{◌≡◌, ◌∙◌, ℕ, ℤ, ◌≤ℤ◌, int_le, ◌+◌, ◌*◌, ◌<◌, ◌≤◌, Bool, true, false, List, [], ◌∷◌, take, length, get_or, refl, subst, sym, ap, arith}
+-- One more of some areas, and areas that lie apart in a rectangle.
+use Rattle.std.proofs.Common.{◌≡◌, ◌∙◌, ℕ, ℤ, ◌≤ℤ◌, int_le, ◌+◌, ◌*◌, ◌<◌, ◌≤◌, Bool, true, false, List, take, length, get_or, sym, ap, arith}
 use Rattle.std.specs.Prelude.{◌||◌, nat_lt, sum_by, All}
 use Rattle.std.proofs.lemmas.Bool.{and_parts, or_parts}
 use Rattle.std.proofs.lemmas.Bool.Decides.{nat_tests}
 use Rattle.std.proofs.lemmas.Int.{ints}
-use Rattle.std.proofs.lemmas.List.Sums.{sum_by-cons, sum_by-take-le, sum_by_more}
+use Rattle.std.proofs.lemmas.List.Sums.{sum_by-take-le, sum_by_more}
 use Rattle.r9_geom.specs.declared.Point.{Point}
 use Rattle.r9_geom.specs.declared.Rect.{Rect}
 use Rattle.r9_geom.specs.Geometry.{area_of, holds, is_empty, IsOrdered, IsRectNear}
 use Rattle.r9_geom.proofs.GeometryLemmas.{int_le_false, points_span}
 use Rattle.r9_region.specs.Region.{covers, how_many_hold}
-use Rattle.r9_region.proofs.Points.{covers_is, how_many-cons, how_many_more, one_if}
+use Rattle.r9_region.proofs.Points.{covers_is, how_many_more, one_if}
 use Rattle.r9_restack.specs.Areas.{AreApartIn}
 
 one_more : (a : Bool) (n m : ℕ) → m ≡ n + one_if a → nat_lt 0 m ≡ (a || nat_lt 0 n)
@@ -47,35 +47,6 @@ covers_at areas k d z below held =
 -- one more area was written
 pub areas_grown : (start was now : ℕ) (areas : List Rect) (k : ℕ) (d : Rect) → k < length areas → now ≤ was + 2 * area_of (get_or areas k d) → was ≤ start + 2 * sum_by area_of (take k areas) → now ≤ start + 2 * sum_by area_of (take (k + 1) areas)
 areas_grown start was now areas k d below more so_far = omega (arith, more, so_far, sum_by_more area_of areas k d below)
-
--- ---- a single area
-
-pub covers_one : (area : Rect) (z : Point) → covers (area ∷ []) z ≡ holds area z
-covers_one area z = or_none (holds area z)
-  where
-    or_none : (b : Bool) → (b || false) ≡ b
-    or_none true = refl
-    or_none false = refl
-
-pub sum_one : (area : Rect) → sum_by area_of (area ∷ []) ≡ area_of area
-sum_one area = omega (arith, sum_by-cons area_of area [])
-
-pub one_area : (r area : Rect) → IsRectNear area → IsOrdered area → ((z : Point) → holds area z ≡ true → holds r z ≡ true) → AreApartIn r (area ∷ [])
-one_area r area near ordered inside = record {
-  near = all_one IsRectNear near;
-  ordered = all_one IsOrdered ordered;
-  inside = λ z h. inside z (sym (covers_one area z) ∙ h);
-  apart = λ z. omega (arith, how_many-cons area [] z, at_most (holds area z));
-}
-  where
-    all_one : (P : Rect → Type 0) → P area → All P (area ∷ [])
-    all_one P p k d h =
-        let first : 0 ≡ k = omega (arith, h) in
-        subst (λ (n : ℕ). P (get_or (area ∷ []) n d)) first p
-
-    at_most : (b : Bool) → one_if b ≤ 1
-    at_most true = omega arith
-    at_most false = omega arith
 
 -- ---- several areas
 

@@ -13,7 +13,7 @@ use Rattle.model_forest.specs.declared.Window.{Window}
 use Rattle.model_forest.specs.World.{World, image_at}
 use Rattle.model_kept.specs.Keeping.{Place}
 use Rattle.r9_shown.specs.Shown.{block, down}
-use Rattle.r9_shown.proofs.Blocks.{bands_more, band_part, block_part, block_split}
+use Rattle.r9_shown.proofs.Pieces.{bands_more, band_part, block_part, block_split}
 use Rattle.r9_restack.specs.Moving.{more, more_in, IsFresh, IsFreshIn}
 use Rattle.r9_restack.specs.Changing.{IsChanged, StaysTop}
 use Rattle.r9_restack.proofs.Changes.{changed-same, changed-skip, IsChanging}

@@ -2,7 +2,7 @@
 use Rattle.std.proofs.Common.{◌≡◌, ◌≢◌, ◌∙◌, ℕ, ◌<◌, ◌^◌, Bool, true, false, List, Option, Some, None, refl, sym, ap, subst, eq-eqb, arith}
 use Rattle.std.specs.Prelude.{◌==◌, ◌&&◌, All, is_none, unwrap_or, if◌then◌else◌}
 use Rattle.std.specs.Option.{option_map_or}
-use Rattle.std.proofs.lemmas.Bool.{ne_eqb, true≢false, false≢true, or_left, or_right}
+use Rattle.std.proofs.lemmas.Bool.{and_parts, false_from_ne_true, ne_eqb, true≢false, false≢true, or_left, or_right}
 use Rattle.std.proofs.lemmas.Bool.Decides.{Decides-eqb}
 use Rattle.r9_geom.specs.declared.Point.{Point}
 use Rattle.r9_geom.specs.declared.Rect.{Rect}
@@ -22,11 +22,10 @@ use Rattle.r9_geom.specs.Geometry.{IsNear, IsRectNearBy}
 use Rattle.model_kept.proofs.Storing.{inward-inside}
 use Rattle.r9_locate.specs.declared.lists.Lists.{Lists}
 use Rattle.r9_locate.specs.Table.{shape}
-use Rattle.r9_restack.specs.Moving.{more, IsFresh}
+use Rattle.r9_restack.specs.Moving.{more, more_in, IsFresh, IsFreshIn}
 use Rattle.r9_restack.specs.Changing.{IsChange, IsChanged, IsGiven, IsShownAnew, StaysTop, HasPlacesBut, IsOther, StaysAs}
-use Rattle.r9_locate.proofs.Locating.{along-carried, keeping-up, strip_at}
+use Rattle.r9_locate.proofs.Locating.{keeping-up, strip_at}
 use Rattle.r9_locate.proofs.Apart.{keeping-depth, keeping-injective, own-apart}
-use Rattle.r9_plane.proofs.PlaneLemmas.{along_holds}
 use Rattle.r9_restack.proofs.Orders.{or_cases, top_is, unshown-own}
 
 -- what is known of the lists in a change
@@ -35,16 +34,20 @@ pub record IsChanging (world : World) (p : ℕ) (ws : List Window) (w : ℕ) : T
   pub places : HasOnePlaces world
   pub change : IsChange world p ws w
 
--- what is read of the run at one of its points
-abbrev pub IsTopOver : List Window → Point → ℕ → Option Window → Type 0
-IsTopOver ws q n o = (k : ℕ) → k < n → top_window ws (along q k) ≡ o
+-- the same window is topmost at all points of a rectangle, or none
+abbrev pub IsTopOver : List Window → Rect → Option Window → Type 0
+IsTopOver ws r o = (z : Point) → holds r z ≡ true → top_window ws z ≡ o
 
 -- ---- the lists
 
-pub out_new : (world : World) (p : ℕ) (ws : List Window) (w : ℕ) → IsChanging world p ws w → (z : Point) (v : Window) → top_window ws z ≡ Some v → v.image ≢ w → outward world p v.image (inward world v z) ≡ z
-out_new world p ws w s z v top apart =
+-- the image of a window that shows then stands where it stood
+pub place_then : (world : World) (p : ℕ) (ws : List Window) (w : ℕ) → IsChanging world p ws w → (z : Point) (v : Window) → holds (image_at world p).r z ≡ true → top_window ws z ≡ Some v → v.image ≢ w → place_among ws v.image ≡ place_among (image_at world p).windows v.image
+place_then world p ws w s z v inside top apart = s.change.places v.image z apart inside (top_is ws v.image z v top ∙ eq-eqb v.image v.image refl)
+
+pub out_new : (world : World) (p : ℕ) (ws : List Window) (w : ℕ) → IsChanging world p ws w → (z : Point) (v : Window) → holds (image_at world p).r z ≡ true → top_window ws z ≡ Some v → v.image ≢ w → outward world p v.image (inward world v z) ≡ z
+out_new world p ws w s z v inside top apart =
     let one : place_among ws v.image ≡ v.place = All-top_window (λ u. place_among ws u.image ≡ u.place) ws z v s.change.one top in
-    let place : place_among (image_at world p).windows v.image ≡ v.place = sym (s.change.places v.image apart) ∙ one in
+    let place : place_among (image_at world p).windows v.image ≡ v.place = sym (place_then world p ws w s z v inside top apart) ∙ one in
     ap (λ (r : Rect). carried (inward world v z) (image_at world v.image).r.min r.min) place ∙ carried-back z v.place.min (image_at world v.image).r.min
 
 pub out_old : (world : World) (p : ℕ) (ws : List Window) (w : ℕ) → IsChanging world p ws w → (z : Point) (v : Window) → top_window (image_at world p).windows z ≡ Some v → outward world p v.image (inward world v z) ≡ z
@@ -105,7 +108,7 @@ stays-kept world p ws w s z v inside same top = by_old (top_window (image_at wor
         let image : u.image ≡ v.image = (Decides-eqb u.image v.image).0 (sym (top_is (image_at world p).windows v.image z u e) ∙ seen) in
         let new_place : place_among ws v.image ≡ v.place = All-top_window (λ t. place_among ws t.image ≡ t.place) ws z v s.change.one top in
         let old_place : place_among (image_at world p).windows u.image ≡ u.place = All-top_window (λ t. place_among (image_at world p).windows t.image ≡ t.place) (image_at world p).windows z u (s.places p s.change.live) e in
-        let place : u.place ≡ v.place = sym old_place ∙ ap (λ n. place_among (image_at world p).windows n) image ∙ sym (s.change.places v.image (same.apart v top)) ∙ new_place in
+        let place : u.place ≡ v.place = sym old_place ∙ ap (λ n. place_among (image_at world p).windows n) image ∙ sym (place_then world p ws w s z v inside top (same.apart v top)) ∙ new_place in
         sym (keeping-inward world s.standing s.places p z u s.change.live inside e)
         ∙ ap (λ n. keeping world n (carried z u.place.min (image_at world n).r.min)) image
         ∙ ap (λ (r : Rect). keeping world v.image (carried z r.min (image_at world v.image).r.min)) place
@@ -145,136 +148,123 @@ changed-skip world p ws w given fill before now done q n s inside same fresh m =
       (λ i x other stands d. own_apart i x other stands (or_right (holds (strip q n) (outward world p i x)) (done (outward world p i x)) d));
 }
 
--- ---- a run over which another window shows, or w, or the fill
+-- ---- a rectangle over which another window shows, or w, or the fill
 
-some_same : (u v : Window) → Some u ≡ Some v → u ≡ v
+pub some_same : (u v : Window) → Some u ≡ Some v → u ≡ v
 some_same u v e = cc
 
-pub changed-run : (world : World) (p : ℕ) (ws : List Window) (w : ℕ) (given fill : Point → ℕ) (before old new : Place → ℕ) (done : Point → Bool) (a b : Option Window) (q : Point) (n : ℕ) → IsChanging world p ws w → ((k : ℕ) → k < n → holds (image_at world p).r (along q k) ≡ true) → IsTopOver (image_at world p).windows q n a → IsTopOver ws q n b → ((u v : Window) → a ≡ Some u → b ≡ Some v → v.image ≢ w → u.image ≢ v.image) → (b ≡ None → is_none a ≡ false) → IsFresh q n done → IsChanged world p ws w given fill before old done → IsShownAnew world p w a b given fill q n old new → IsChanged world p ws w given fill before new (more q n done)
-changed-run world p ws w given fill before old new done a b q n s inside olds news differ uncovers fresh m is = record {
+pub changed-in : (world : World) (p : ℕ) (ws : List Window) (w : ℕ) (given fill : Point → ℕ) (before old new : Place → ℕ) (done : Point → Bool) (a b : Option Window) (r : Rect) → IsChanging world p ws w → ((z : Point) → holds r z ≡ true → holds (image_at world p).r z ≡ true) → IsTopOver (image_at world p).windows r a → IsTopOver ws r b → ((u v : Window) → a ≡ Some u → b ≡ Some v → v.image ≢ w → u.image ≢ v.image) → (b ≡ None → is_none a ≡ false) → IsFreshIn r done → IsChanged world p ws w given fill before old done → IsShownAnew world p w a b given fill r old new → IsChanged world p ws w given fill before new (more_in r done)
+changed-in world p ws w given fill before old new done a b r s inside olds news differ uncovers fresh m is = record {
   covered = λ z v d top apart.
-      or_cases (holds (strip q n) z) (done z) d
-      (λ h. let at = strip_at q z n h in now_covered z v at.0 at.1 at.2 top apart)
+      or_cases (holds r z) (done z) d
+      (λ h. now_covered z v h top apart)
       (λ d. surface_stays z d ∙ m.covered z v d top apart);
   of_w = λ z v d top is_w.
-      or_cases (holds (strip q n) z) (done z) d
-      (λ h.
-      let at = strip_at q z n h in
-      let b_is : b ≡ Some v = sym (news at.0 at.1) ∙ ap (top_window ws) (sym at.2) ∙ top in
-      ap (λ y. new (keeping world p y)) at.2
-      ∙ is.of_w v b_is is_w at.0 at.1
-      ∙ ap given (sym (x_of v at.0) ∙ ap (inward world v) (sym at.2)))
+      or_cases (holds r z) (done z) d
+      (λ h. is.of_w v (sym (news z h) ∙ top) is_w z h)
       (λ d. surface_stays z d ∙ m.of_w z v d top is_w);
   bare = λ z d top.
-      or_cases (holds (strip q n) z) (done z) d
+      or_cases (holds r z) (done z) d
       (λ h.
-      let at = strip_at q z n h in
-      let b_is : b ≡ None = sym (news at.0 at.1) ∙ ap (top_window ws) (sym at.2) ∙ top in
-      let was : is_bare (image_at world p).windows z ≡ false = ap (λ y. is_none (top_window (image_at world p).windows y)) at.2 ∙ ap is_none (olds at.0 at.1) ∙ uncovers b_is in
-      ap (λ y. new (keeping world p y)) at.2
-      ∙ is.none b_is at.0 at.1
-      ∙ ap fill (sym at.2)
-      ∙ sym (ap (λ c. if c then before (keeping world p z) else fill z) was))
+      let b_is : b ≡ None = sym (news z h) ∙ top in
+      let was : is_bare (image_at world p).windows z ≡ false = ap is_none (olds z h) ∙ uncovers b_is in
+      is.none b_is z h ∙ sym (ap (λ c. if c then before (keeping world p z) else fill z) was))
       (λ d. surface_stays z d ∙ m.bare z d top);
   hidden = λ i x apart stands d none.
-      let z : Point = outward world p i x in
-      or_cases (holds (strip q n) z) (done z) d
-      (λ h. let at = strip_at q z n h in now_hidden i x at.0 apart stands at.1 at.2 none a refl)
+      or_cases (holds r (outward world p i x)) (done (outward world p i x)) d
+      (λ h. now_hidden i x apart stands h none a refl)
       (λ d. own_stays i x apart stands d ∙ m.hidden i x apart stands d none);
   others = λ place apart own_apart.
       is.others place
-      (λ k below. apart (along q k) (or_left (holds (strip q n) (along q k)) (done (along q k)) (along_holds q n k below)))
-      (λ v a_is other k below.
-      let out = out_of v a_is k below in
-      own_apart v.image (along (inward world v q) k) other (stood_old world p ws w s (along q k) v (olds k below ∙ a_is))
-      (or_left (holds (strip q n) (outward world p v.image (along (inward world v q) k))) (done (outward world p v.image (along (inward world v q) k)))
-      (ap (holds (strip q n)) out ∙ along_holds q n k below)))
-      ∙ m.others place (λ y d. apart y (or_right (holds (strip q n) y) (done y) d))
-      (λ i x other stands d. own_apart i x other stands (or_right (holds (strip q n) (outward world p i x)) (done (outward world p i x)) d));
+      (λ z h. apart z (or_left (holds r z) (done z) h))
+      (λ v a_is other z h.
+      let out = out_old world p ws w s z v (olds z h ∙ a_is) in
+      own_apart v.image (inward world v z) other (stood_old world p ws w s z v (olds z h ∙ a_is))
+      (or_left (holds r (outward world p v.image (inward world v z))) (done (outward world p v.image (inward world v z))) (ap (holds r) out ∙ h)))
+      ∙ m.others place (λ y d. apart y (or_right (holds r y) (done y) d))
+      (λ i x other stands d. own_apart i x other stands (or_right (holds r (outward world p i x)) (done (outward world p i x)) d));
 }
   where
-    x_of : (v : Window) (k : ℕ) → inward world v (along q k) ≡ along (inward world v q) k
-    x_of v k = along-carried q v.place.min (image_at world v.image).r.min k
+    apart_from_done : (y : Point) → done y ≡ true → (z : Point) → holds r z ≡ true → y ≢ z
+    apart_from_done y d z h e = true≢false (sym d ∙ ap done e ∙ fresh z h)
 
-    out_of : (v : Window) → a ≡ Some v → (k : ℕ) → k < n → outward world p v.image (along (inward world v q) k) ≡ along q k
-    out_of v a_is k below = ap (outward world p v.image) (sym (x_of v k)) ∙ out_old world p ws w s (along q k) v (olds k below ∙ a_is)
-
-    apart_from_done : (z : Point) → done z ≡ true → (k : ℕ) → k < n → z ≢ along q k
-    apart_from_done z d k below e = true≢false (sym d ∙ ap done e ∙ fresh k below)
-
-    surface_stays : (z : Point) → done z ≡ true → new (keeping world p z) ≡ old (keeping world p z)
-    surface_stays z d =
-        is.others (keeping world p z)
-        (λ k below e. apart_from_done z d k below (keeping-injective world s.standing (image_at world p).depth p z (along q k) s.change.live e))
-        (λ v a_is other k below e. own-apart world s.standing p v.image (along (inward world v q) k) z s.change.live (stood_old world p ws w s (along q k) v (olds k below ∙ a_is)) (sym e))
+    surface_stays : (y : Point) → done y ≡ true → new (keeping world p y) ≡ old (keeping world p y)
+    surface_stays y d =
+        is.others (keeping world p y)
+        (λ z h e. apart_from_done y d z h (keeping-injective world s.standing (image_at world p).depth p y z s.change.live e))
+        (λ v a_is other z h e. own-apart world s.standing p v.image (inward world v z) y s.change.live (stood_old world p ws w s z v (olds z h ∙ a_is)) (sym e))
 
     own_stays : (i : ℕ) (x : Point) → i ≢ w → parent_of world i ≡ Some p → done (outward world p i x) ≡ true → new (own i x) ≡ old (own i x)
     own_stays i x apart stands d =
         is.others (own i x)
-        (λ k below e. own-apart world s.standing p i x (along q k) s.change.live stands e)
-        (λ v a_is other k below e.
-        let out : outward world p i x ≡ along q k = ap (λ (l : Place). outward world p l.image l.at) e ∙ out_of v a_is k below in
-        apart_from_done (outward world p i x) d k below out)
+        (λ z h e. own-apart world s.standing p i x z s.change.live stands e)
+        (λ v a_is other z h e.
+        let out : outward world p i x ≡ z = ap (λ (l : Place). outward world p l.image l.at) e ∙ out_old world p ws w s z v (olds z h ∙ a_is) in
+        apart_from_done (outward world p i x) d z h out)
 
-    now_covered : (z : Point) (v : Window) (k : ℕ) → k < n → z ≡ along q k → top_window ws z ≡ Some v → v.image ≢ w → new (keeping world p z) ≡ before (keeping world v.image (inward world v z))
-    now_covered z v k below z_is top apart =
-        let b_is : b ≡ Some v = sym (news k below) ∙ ap (top_window ws) (sym z_is) ∙ top in
-        let stands : parent_of world v.image ≡ Some p = stood_new world p ws w s (along q k) v (news k below ∙ b_is) in
-        let out : outward world p v.image (along (inward world v q) k) ≡ along q k = ap (outward world p v.image) (sym (x_of v k)) ∙ out_new world p ws w s (along q k) v (news k below ∙ b_is) apart in
-        let hid : is_top (image_at world p).windows v.image (outward world p v.image (along (inward world v q) k)) ≡ false =
-        ap (is_top (image_at world p).windows v.image) out ∙ not_top v b_is apart k below a refl in
-        ap (λ y. new (keeping world p y)) z_is
-        ∙ is.owned v b_is apart k below
-        ∙ own-was world p ws w given fill before old done s m v.image (along (inward world v q) k) stands (ap done out ∙ fresh k below)
-        ∙ ap before (sym (hidden-kept world p ws w s v.image (along (inward world v q) k) stands hid))
-        ∙ ap (λ y. before (keeping world v.image y)) (sym (x_of v k))
-        ∙ ap (λ y. before (keeping world v.image (inward world v y))) (sym z_is)
-      where
-        not_top : (v : Window) → b ≡ Some v → v.image ≢ w → (k : ℕ) → k < n → (o : Option Window) → a ≡ o → is_top (image_at world p).windows v.image (along q k) ≡ false
-        not_top v b_is apart k below None a_is = ap (λ o. option_map_or (λ (u : Window). u.image == v.image) o false) (olds k below ∙ a_is)
-        not_top v b_is apart k below (Some u) a_is = top_is (image_at world p).windows v.image (along q k) u (olds k below ∙ a_is) ∙ ne_eqb u.image v.image (differ u v a_is b_is apart)
+    not_top : (z : Point) (v : Window) → holds r z ≡ true → b ≡ Some v → v.image ≢ w → (o : Option Window) → a ≡ o → is_top (image_at world p).windows v.image z ≡ false
+    not_top z v h b_is apart None a_is = ap (λ o. option_map_or (λ (u : Window). u.image == v.image) o false) (olds z h ∙ a_is)
+    not_top z v h b_is apart (Some u) a_is = top_is (image_at world p).windows v.image z u (olds z h ∙ a_is) ∙ ne_eqb u.image v.image (differ u v a_is b_is apart)
 
-    own_unsaved : (i : ℕ) (x : Point) (k : ℕ) → parent_of world i ≡ Some p → k < n → outward world p i x ≡ along q k → ((v : Window) → a ≡ Some v → v.image ≢ i) → is_top (image_at world p).windows i (along q k) ≡ false → new (own i x) ≡ before (keeping world i x)
-    own_unsaved i x k stands below z_is other was =
+    now_covered : (z : Point) (v : Window) → holds r z ≡ true → top_window ws z ≡ Some v → v.image ≢ w → new (keeping world p z) ≡ before (keeping world v.image (inward world v z))
+    now_covered z v h top apart =
+        let b_is : b ≡ Some v = sym (news z h) ∙ top in
+        let x = inward world v z in
+        let stands : parent_of world v.image ≡ Some p = stood_new world p ws w s z v top in
+        let out : outward world p v.image x ≡ z = out_new world p ws w s z v (inside z h) top apart in
+        let hid : is_top (image_at world p).windows v.image (outward world p v.image x) ≡ false =
+        ap (is_top (image_at world p).windows v.image) out ∙ not_top z v h b_is apart a refl in
+        is.owned v b_is apart z h
+        ∙ own-was world p ws w given fill before old done s m v.image x stands (ap done out ∙ fresh z h)
+        ∙ ap before (sym (hidden-kept world p ws w s v.image x stands hid))
+
+    own_unsaved : (i : ℕ) (x : Point) → parent_of world i ≡ Some p → holds r (outward world p i x) ≡ true → ((v : Window) → a ≡ Some v → v.image ≢ i) → is_top (image_at world p).windows i (outward world p i x) ≡ false → new (own i x) ≡ before (keeping world i x)
+    own_unsaved i x stands h other was =
         is.others (own i x)
-        (λ l lower same. own-apart world s.standing p i x (along q l) s.change.live stands same)
-        (λ v a_is apart l lower same. other v a_is (sym (ap (λ (m : Place). m.image) same)))
-        ∙ own-was world p ws w given fill before old done s m i x stands (ap done z_is ∙ fresh k below)
-        ∙ ap before (sym (hidden-kept world p ws w s i x stands (ap (is_top (image_at world p).windows i) z_is ∙ was)))
+        (λ y lower same. own-apart world s.standing p i x y s.change.live stands same)
+        (λ v a_is apart y lower same. other v a_is (sym (ap (λ (m : Place). m.image) same)))
+        ∙ own-was world p ws w given fill before old done s m i x stands (fresh (outward world p i x) h)
+        ∙ ap before (sym (hidden-kept world p ws w s i x stands was))
 
-    now_hidden : (i : ℕ) (x : Point) (k : ℕ) → i ≢ w → parent_of world i ≡ Some p → k < n → outward world p i x ≡ along q k → is_top ws i (outward world p i x) ≡ false → (o : Option Window) → a ≡ o → new (own i x) ≡ before (keeping world i x)
-    now_hidden i x k apart stands below z_is none None a_is =
-        own_unsaved i x k stands below z_is (λ v v_is. let both : None ≡ Some v = sym a_is ∙ v_is in cc)
-        (ap (λ o. option_map_or (λ (u : Window). u.image == i) o false) (olds k below ∙ a_is))
-    now_hidden i x k apart stands below z_is none (Some u) a_is = by_image (u.image == i) refl
+    now_hidden : (i : ℕ) (x : Point) → i ≢ w → parent_of world i ≡ Some p → holds r (outward world p i x) ≡ true → is_top ws i (outward world p i x) ≡ false → (o : Option Window) → a ≡ o → new (own i x) ≡ before (keeping world i x)
+    now_hidden i x apart stands h none None a_is =
+        own_unsaved i x stands h (λ v v_is. let both : None ≡ Some v = sym a_is ∙ v_is in cc)
+        (ap (λ o. option_map_or (λ (u : Window). u.image == i) o false) (olds (outward world p i x) h ∙ a_is))
+    now_hidden i x apart stands h none (Some u) a_is = by_image (u.image == i) refl
       where
+        z : Point
+        z = outward world p i x
+
         by_image : (t : Bool) → (u.image == i) ≡ t → new (own i x) ≡ before (keeping world i x)
         by_image true e =
             let image : u.image ≡ i = (Decides-eqb u.image i).0 e in
-            let top = olds k below ∙ a_is in
-            let x_is : x ≡ inward world u (along q k) = in_old world p ws w s (along q k) x u top (ap (λ j. outward world p j x) image ∙ z_is) in
-            let place : own i x ≡ own u.image (along (inward world u q) k) = (λ j. own (sym image j) ((x_is ∙ x_of u k) j)) in
+            let top = olds z h ∙ a_is in
+            let x_is : x ≡ inward world u z = in_old world p ws w s z x u top (ap (λ j. outward world p j x) image) in
+            let place : own i x ≡ own u.image (inward world u z) = (λ j. own (sym image j) (x_is j)) in
             ap new place
-            ∙ is.saved u a_is (λ is_w. apart (sym image ∙ is_w)) k below
-            ∙ surface-was world p ws w given fill before old done s m (along q k) (fresh k below)
-            ∙ ap before (sym (keeping-inward world s.standing s.places p (along q k) u s.change.live (inside k below) top))
+            ∙ is.saved u a_is (λ is_w. apart (sym image ∙ is_w)) z h
+            ∙ surface-was world p ws w given fill before old done s m z (fresh z h)
+            ∙ ap before (sym (keeping-inward world s.standing s.places p z u s.change.live (inside z h) top))
             ∙ ap (λ y. before (keeping world u.image y)) (sym x_is)
             ∙ ap (λ j. before (keeping world j x)) image
         by_image false e =
-            own_unsaved i x k stands below z_is
+            own_unsaved i x stands h
             (λ v v_is same.
             let u_is : u ≡ v = some_same u v (sym a_is ∙ v_is) in
             true≢false (sym (eq-eqb u.image i (ap (λ (t : Window). t.image) u_is ∙ same)) ∙ e))
-            (top_is (image_at world p).windows i (along q k) u (olds k below ∙ a_is) ∙ e)
+            (top_is (image_at world p).windows i z u (olds z h ∙ a_is) ∙ e)
 
 -- ---- the whole
 
--- where w shows then is a point of it
+-- where a window shows then is a point of it
+pub inside_new : (world : World) (p : ℕ) (ws : List Window) (w : ℕ) → IsChange world p ws w → (q : Point) (v : Window) → top_window ws q ≡ Some v → holds (image_at world v.image).r (inward world v q) ≡ true
+inside_new world p ws w change q v top =
+    let is : IsWindowOf world p v = All-top_window (IsWindowOf world p) ws q v change.stand top in
+    sym (holds-carried v.place (image_at world v.image).r q is.size) ∙ holds-top_window ws q v top
+
 pub inside_w : (world : World) (p : ℕ) (ws : List Window) (w : ℕ) → IsChange world p ws w → (q : Point) (v : Window) → top_window ws q ≡ Some v → v.image ≡ w → holds (image_at world w).r (inward world v q) ≡ true
 inside_w world p ws w change q v top is_w =
-    let is : IsWindowOf world p v = All-top_window (IsWindowOf world p) ws q v change.stand top in
-    let in_v : holds (image_at world v.image).r (inward world v q) ≡ true = sym (holds-carried v.place (image_at world v.image).r q is.size) ∙ holds-top_window ws q v top in
-    ap (λ n. holds (image_at world n).r (inward world v q)) (sym is_w) ∙ in_v
+    ap (λ n. holds (image_at world n).r (inward world v q)) (sym is_w) ∙ inside_new world p ws w change q v top
 
 -- p keeps nothing with a window that stands on it
 pub not_with : (world : World) → IsStanding world → (p w : ℕ) (q : Point) → IsLive world p → parent_of world w ≡ Some p → (keeping world p q).image ≢ w
@@ -369,17 +359,25 @@ changed-all world p ws w given fill before now as_before as_after done s w_stand
         apart : i ≢ w
         apart is = true≢false (sym (eq-eqb i w is) ∙ e)
 
-        out_is : outward new p i x ≡ outward world p i x
-        out_is =
+        out_is : place_among ws i ≡ place_among (image_at world p).windows i → outward new p i x ≡ outward world p i x
+        out_is place =
             ap (λ (r : Rect). carried x r.min (place_among (image_at new p).windows i).min) (still.r i)
             ∙ ap (λ l. carried x (image_at world i).r.min (place_among l i).min) list_is
-            ∙ ap (λ (r : Rect). carried x (image_at world i).r.min r.min) (s.change.places i apart)
+            ∙ ap (λ (r : Rect). carried x (image_at world i).r.min r.min) place
 
-        unshown_new : (holds (image_at world p).r (outward world p i x) && is_top ws i (outward world p i x)) ≡ false
-        unshown_new =
-            sym (ap (is_shown new p i) out_is
+        unshown_at : place_among ws i ≡ place_among (image_at world p).windows i → (holds (image_at world p).r (outward world p i x) && is_top ws i (outward world p i x)) ≡ false
+        unshown_at place =
+            sym (ap (is_shown new p i) (out_is place)
             ∙ ap (λ (r : Rect). holds r (outward world p i x) && is_top (image_at new p).windows i (outward world p i x)) (still.r p)
             ∙ ap (λ l. holds (image_at world p).r (outward world p i x) && is_top l i (outward world p i x)) list_is) ∙ none
+
+        -- an image that showed there then would stand where it stood
+        unshown_new : (holds (image_at world p).r (outward world p i x) && is_top ws i (outward world p i x)) ≡ false
+        unshown_new =
+            false_from_ne_true (holds (image_at world p).r (outward world p i x) && is_top ws i (outward world p i x))
+            (λ e.
+            let parts = and_parts (holds (image_at world p).r (outward world p i x)) (is_top ws i (outward world p i x)) e in
+            false≢true (sym (unshown_at (s.change.places i (outward world p i x) apart parts.0 parts.1)) ∙ e))
 
         by_done : (d : Bool) → done (outward world p i x) ≡ d → now (own i x) ≡ before (keeping world i x)
         by_done true d = m.hidden i x apart stands d (sym (ap (λ b. b && is_top ws i (outward world p i x)) (inside (outward world p i x) d)) ∙ unshown_new)
@@ -425,34 +423,28 @@ pub changing : (lists : Lists) (p : ℕ) (ws : List Window) (w : ℕ) → IsChan
 unfolding shape
 changing lists p ws w change = record { standing = lists.standing; places = lists.places; change = change }
 
-pub has_old : (world : World) (p : ℕ) (ws : List Window) (w : ℕ) (has : Place → Bool) → IsChanging world p ws w → HasPlacesBut world p ws w has → (a b : Option Window) (q : Point) (n : ℕ) → IsTopOver (image_at world p).windows q n a → IsTopOver ws q n b → IsOther a b w → (v : Window) → a ≡ Some v → v.image ≢ w → (k : ℕ) → k < n → has (own v.image (along (inward world v q) k)) ≡ true
-has_old world p ws w has s h a b q n olds news other v a_is apart k below =
-    let top = olds k below ∙ a_is in
-    let x_is : inward world v (along q k) ≡ along (inward world v q) k = along-carried q v.place.min (image_at world v.image).r.min k in
-    let out = out_old world p ws w s (along q k) v top in
-    let inside = inward-inside world s.standing p (along q k) v s.change.live top in
-    ap (λ x. has (own v.image x)) (sym x_is)
-    ∙ h.new_own v.image (inward world v (along q k)) apart (stood_old world p ws w s (along q k) v top) inside
-    (ap (is_top ws v.image) out ∙ not_then b refl)
+pub has_old : (world : World) (p : ℕ) (ws : List Window) (w : ℕ) (has : Place → Bool) → IsChanging world p ws w → HasPlacesBut world p ws w has → (a b : Option Window) (r : Rect) → IsTopOver (image_at world p).windows r a → IsTopOver ws r b → IsOther a b w → (v : Window) → a ≡ Some v → v.image ≢ w → (z : Point) → holds r z ≡ true → has (own v.image (inward world v z)) ≡ true
+has_old world p ws w has s h a b r olds news other v a_is apart z here =
+    let top = olds z here ∙ a_is in
+    let out = out_old world p ws w s z v top in
+    let inside = inward-inside world s.standing p z v s.change.live top in
+    h.new_own v.image (inward world v z) apart (stood_old world p ws w s z v top) inside (ap (is_top ws v.image) out ∙ not_then b refl)
   where
-    not_then : (o : Option Window) → b ≡ o → is_top ws v.image (along q k) ≡ false
-    not_then None b_is = ap (λ o. option_map_or (λ (u : Window). u.image == v.image) o false) (news k below ∙ b_is)
-    not_then (Some u) b_is = top_is ws v.image (along q k) u (news k below ∙ b_is) ∙ ne_eqb u.image v.image (λ same. other.differs v u a_is b_is (λ is. apart (sym same ∙ is)) (sym same))
+    not_then : (o : Option Window) → b ≡ o → is_top ws v.image z ≡ false
+    not_then None b_is = ap (λ o. option_map_or (λ (u : Window). u.image == v.image) o false) (news z here ∙ b_is)
+    not_then (Some u) b_is = top_is ws v.image z u (news z here ∙ b_is) ∙ ne_eqb u.image v.image (λ same. other.differs v u a_is b_is (λ is. apart (sym same ∙ is)) (sym same))
 
-pub has_new : (world : World) (p : ℕ) (ws : List Window) (w : ℕ) (has : Place → Bool) → IsChanging world p ws w → HasPlacesBut world p ws w has → (a b : Option Window) (q : Point) (n : ℕ) → IsTopOver (image_at world p).windows q n a → IsTopOver ws q n b → IsOther a b w → (v : Window) → b ≡ Some v → v.image ≢ w → (k : ℕ) → k < n → has (own v.image (along (inward world v q) k)) ≡ true
-has_new world p ws w has s h a b q n olds news other v b_is apart k below =
-    let top = news k below ∙ b_is in
-    let x_is : inward world v (along q k) ≡ along (inward world v q) k = along-carried q v.place.min (image_at world v.image).r.min k in
-    let out = out_new world p ws w s (along q k) v top apart in
-    let is : IsWindowOf world p v = All-top_window (IsWindowOf world p) ws (along q k) v s.change.stand top in
-    let inside : holds (image_at world v.image).r (inward world v (along q k)) ≡ true = sym (holds-carried v.place (image_at world v.image).r (along q k) is.size) ∙ holds-top_window ws (along q k) v top in
-    ap (λ x. has (own v.image x)) (sym x_is)
-    ∙ h.old_own v.image (inward world v (along q k)) apart is.stands inside
-    (ap (is_top (image_at world p).windows v.image) out ∙ not_before a refl)
+pub has_new : (world : World) (p : ℕ) (ws : List Window) (w : ℕ) (has : Place → Bool) → IsChanging world p ws w → HasPlacesBut world p ws w has → (a b : Option Window) (r : Rect) → ((z : Point) → holds r z ≡ true → holds (image_at world p).r z ≡ true) → IsTopOver (image_at world p).windows r a → IsTopOver ws r b → IsOther a b w → (v : Window) → b ≡ Some v → v.image ≢ w → (z : Point) → holds r z ≡ true → has (own v.image (inward world v z)) ≡ true
+has_new world p ws w has s h a b r within olds news other v b_is apart z here =
+    let top = news z here ∙ b_is in
+    let out = out_new world p ws w s z v (within z here) top apart in
+    let is : IsWindowOf world p v = All-top_window (IsWindowOf world p) ws z v s.change.stand top in
+    let inside : holds (image_at world v.image).r (inward world v z) ≡ true = sym (holds-carried v.place (image_at world v.image).r z is.size) ∙ holds-top_window ws z v top in
+    h.old_own v.image (inward world v z) apart is.stands inside (ap (is_top (image_at world p).windows v.image) out ∙ not_before a refl)
   where
-    not_before : (o : Option Window) → a ≡ o → is_top (image_at world p).windows v.image (along q k) ≡ false
-    not_before None a_is = ap (λ o. option_map_or (λ (u : Window). u.image == v.image) o false) (olds k below ∙ a_is)
-    not_before (Some u) a_is = top_is (image_at world p).windows v.image (along q k) u (olds k below ∙ a_is) ∙ ne_eqb u.image v.image (other.differs u v a_is b_is apart)
+    not_before : (o : Option Window) → a ≡ o → is_top (image_at world p).windows v.image z ≡ false
+    not_before None a_is = ap (λ o. option_map_or (λ (u : Window). u.image == v.image) o false) (olds z here ∙ a_is)
+    not_before (Some u) a_is = top_is (image_at world p).windows v.image z u (olds z here ∙ a_is) ∙ ne_eqb u.image v.image (other.differs u v a_is b_is apart)
 
 pub stays_top : (world : World) (p : ℕ) (ws : List Window) (w : ℕ) (a b : Option Window) (z : Point) → top_window (image_at world p).windows z ≡ a → top_window ws z ≡ b → StaysAs a b w → StaysTop world p ws w z
 stays_top world p ws w a b z old new st = by_b b refl

@@ -1,7 +1,8 @@
 pub mod Areas
 pub mod Blocked
+pub mod Carrying
 pub mod Changes
-pub mod Cuts
+pub mod Concealing
 pub mod Orders
 pub mod Parting
 pub mod Placed

@@ -91,20 +91,21 @@ unshown-own world ok p i x stands none =
     keeping-up world ok i p x (live-standing world i p stands) stands
     ∙ ap (λ b. if b then keeping world p (outward world p i x) else own i x) none
 
+-- no image is a window on itself
+pub not_itself : (world : World) → IsStanding world → (p i : ℕ) → parent_of world i ≡ Some p → i ≢ p
+not_itself world ok p i stands same =
+    let above = depth-parent world ok i p stands in
+    let level : (image_at world i).depth ≡ (image_at world p).depth = ap (λ n. (image_at world n).depth) same in
+    absurd (omega (arith, above, level))
+
 -- a change in which no window comes or goes is told of image p, which is no window of itself
 pub moved-changed : (world : World) (p : ℕ) (ws : List Window) {given fill : Point → ℕ} (before now : Place → ℕ) (done : Point → Bool) → IsSetting world p ws → IsChanged world p ws p given fill before now done → IsMoved world p ws before now done
 moved-changed world p ws {given} {fill} before now done s m = record {
-  covered = λ q w d top. m.covered q w d top (not_itself w.image (stands-new world p ws s q w top));
+  covered = λ q w d top. m.covered q w d top (not_itself world s.standing p w.image (stands-new world p ws s q w top));
   bare = λ q d top. m.bare q d top ∙ ap (λ b. if b then before (keeping world p q) else fill q) (sym (s.order.bare q) ∙ ap is_none top);
-  hidden = λ i x stands d none. m.hidden i x (not_itself i stands) stands d none;
+  hidden = λ i x stands d none. m.hidden i x (not_itself world s.standing p i stands) stands d none;
   others = λ place apart own_apart. m.others place apart (λ i x other stands d. own_apart i x stands d);
 }
-  where
-    not_itself : (i : ℕ) → parent_of world i ≡ Some p → i ≢ p
-    not_itself i stands same =
-        let above = depth-parent world s.standing i p stands in
-        let level : (image_at world i).depth ≡ (image_at world p).depth = ap (λ n. (image_at world n).depth) same in
-        absurd (omega (arith, above, level))
 
 -- all is moved where each point is done at which the topmost window changes
 pub moved-all : (world : World) (p : ℕ) (ws : List Window) (before now : Place → ℕ) (done : Point → Bool) (fill : Point → ℕ) → IsSetting world p ws → ((q : Point) → done q ≡ true → holds (image_at world p).r q ≡ true) → ((q : Point) → holds (image_at world p).r q ≡ true → done q ≡ false → IsSameTop world p ws q) → IsMoved world p ws before now done → IsRestacked world (with_list world p ws) p before now fill

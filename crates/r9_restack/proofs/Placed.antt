@@ -15,7 +15,7 @@ use Rattle.model_forest.proofs.Views.{All-top_window}
 use Rattle.model_kept.specs.Keeping.{is_top, keeping, outward, own, place_among, Place}
 use Rattle.model_kept.specs.Restack.{with_own}
 use Rattle.r9_shown.specs.Shown.{block}
-use Rattle.r9_shown.proofs.Blocks.{block_part, block_split}
+use Rattle.r9_shown.proofs.Pieces.{block_part, block_split}
 use Rattle.r9_restack.specs.Moving.{more_in}
 use Rattle.r9_restack.specs.Changing.{IsChange, IsChanged}
 use Rattle.r9_restack.specs.Placing.{comes, shows, with_coming, IsComing, IsPlaced}

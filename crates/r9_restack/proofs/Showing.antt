@@ -66,3 +66,11 @@ shows_is below s w z tops apart is =
 
 pub out_of : (below : Rect) (s : Stacks) (w : ℕ) (z : Point) → holds below z ≡ false → shows below (after_of s) w z ≡ false
 out_of below s w z out = ap (λ b. b && option_map_or (λ v. v.image == w) (top_window (after_of s) z) false) out
+
+-- lists with the same windows topmost at a point show the same there
+pub shown_same : (below area : Rect) (s t : Stacks) (w : ℕ) (z : Point) → All (λ v. v.image ≢ w) s.front.now → All (λ v. v.image ≢ w) t.front.now → tops_at s z ≡ tops_at t z → shown_at below area s w z ≡ shown_at below area t w z
+unfolding shown_at
+shown_same below area s t w z apart_s apart_t same =
+    let visible : shows below (after_of s) w z ≡ shows below (after_of t) w z =
+    shows_is below s w z (tops_at t z) apart_s same ∙ sym (shows_is below t w z (tops_at t z) apart_t refl) in
+    λ j. if visible j then Some (record { done = holds area z; tops = same j }) else None

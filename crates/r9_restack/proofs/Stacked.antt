@@ -1,16 +1,18 @@
 -- The topmost window of a list, one window after the other, and of the lists of before and after.
-use Rattle.std.proofs.Common.{◌≡◌, ◌≢◌, ◌∙◌, ℕ, suc, zero, ◌<◌, ◌++◌, Bool, true, false, List, [], ◌∷◌, Option, Some, None, cond, get_or, length, refl, sym, ap, arith}
+use Rattle.std.proofs.Common.{◌≡◌, ◌≢◌, ◌∙◌, ℕ, suc, zero, ◌+◌, ◌<◌, ◌≤◌, ◌++◌, Bool, true, false, List, [], ◌∷◌, Option, Some, None, cond, drop, get_or, length, take, refl, sym, ap, subst, arith}
 use Rattle.std.specs.Prelude.{◌==◌, ◌&&◌, not, All, is_none, is_some, if◌then◌else◌}
 use Rattle.std.specs.Option.{option_map_or, option_or}
 use Rattle.std.specs.List.{AllByRecursion}
 use Rattle.std.proofs.lemmas.Bool.{and_parts, false≢true, ne_eqb, true≢false}
 use Rattle.std.proofs.lemmas.Bool.Decides.{Decides-eqb}
+use Rattle.std.proofs.lemmas.List.{get_or-drop, get_or-take, length-drop, length-take, take-append-drop}
 use Rattle.std.proofs.lemmas.List.Elements.{recursion_from_All}
 use Rattle.std.proofs.lemmas.List.Folds.{find-append}
 use Rattle.r9_geom.specs.declared.Point.{Point}
 use Rattle.r9_geom.specs.Geometry.{holds, is_point}
 use Rattle.r9_geom.proofs.GeometryLemmas.{is_point_true}
 use Rattle.model_forest.specs.declared.Window.{Window}
+use Rattle.model_forest.specs.Stack.{without}
 use Rattle.model_forest.specs.World.{World, image_at}
 use Rattle.model_forest.specs.View.{is_bare, top_window}
 use Rattle.model_forest.proofs.Views.{All-top_window}
@@ -85,6 +87,50 @@ top_in_first upper lower z not_bare = top_two upper lower z ∙ by_top (top_wind
     by_top None e = absurd (true≢false e)
     by_top (Some w) e = refl
 
+-- the windows after some that do not stand at a point
+pub top_drop : (ws : List Window) (n : ℕ) (z : Point) → is_bare (take n ws) z ≡ true → top_window (drop n ws) z ≡ top_window ws z
+top_drop ws n z bare = sym (top_later (take n ws) (drop n ws) z bare) ∙ ap (λ l. top_window l z) (take-append-drop n ws)
+
+-- and those before some that do not
+pub top_take : (ws : List Window) (n : ℕ) (z : Point) → is_bare (drop n ws) z ≡ true → top_window (take n ws) z ≡ top_window ws z
+top_take ws n z bare =
+    sym (or_nothing (top_window (take n ws) z))
+    ∙ ap (option_or (top_window (take n ws) z)) (sym (bare_none (top_window (drop n ws) z) bare))
+    ∙ sym (top_two (take n ws) (drop n ws) z)
+    ∙ ap (λ l. top_window l z) (take-append-drop n ws)
+  where
+    or_nothing : (o : Option Window) → option_or o None ≡ o
+    or_nothing None = refl
+    or_nothing (Some w) = refl
+
+-- where none of the first windows stands
+pub bare_until : (ws : List Window) (n : ℕ) (z : Point) → ((j : ℕ) (d : Window) → j < n → holds (get_or ws j d).place z ≡ false) → is_bare (take n ws) z ≡ true
+bare_until ws n z none =
+    ap is_none
+    (top_none (take n ws) z
+    (λ j d below.
+    let long = length-take n ws in
+    let early : j < n = grind arith in
+    ap (λ (w : Window). holds w.place z) (get_or-take n ws j d early) ∙ none j d early))
+
+-- where none of the windows from one on stands
+pub bare_from : (ws : List Window) (n : ℕ) (z : Point) → ((j : ℕ) (d : Window) → n ≤ j → j < length ws → holds (get_or ws j d).place z ≡ false) → is_bare (drop n ws) z ≡ true
+bare_from ws n z none =
+    ap is_none
+    (top_none (drop n ws) z
+    (λ j d below.
+    let long = length-drop n ws in
+    ap (λ (w : Window). holds w.place z) (get_or-drop n ws j d) ∙ none (n + j) d (omega arith) (omega (arith, below, long))))
+
+-- a part of a list
+pub all_part : (P : Window → Type 0) (ws : List Window) (n off : ℕ) → All P ws → All P (drop off (take n ws))
+all_part P ws n off all k d below =
+    let long = length-drop off (take n ws) in
+    let short = length-take n ws in
+    let early : off + k < n = grind arith in
+    let there : off + k < length ws = grind arith in
+    subst P (sym (get_or-drop off (take n ws) k d ∙ get_or-take n ws (off + k) d early)) (all (off + k) d there)
+
 -- the first of two lists that has one
 pub some_first : (o p : Option Window) → is_some o ≡ true → option_or o p ≡ o
 some_first None p e = absurd (false≢true e)
@@ -118,6 +164,14 @@ pub tops_covered : (s : Stacks) (z : Point) → is_bare s.front.now z ≡ false 
 unfolding tops_at
 tops_covered s z covered =
     ap (λ b. if b then Some (tops_there s z) else None) covered
+
+-- with the same windows topmost in each list the same is told
+pub tops_same : (s t : Stacks) (z : Point) → top_window s.front.now z ≡ top_window t.front.now z → top_window s.old.now z ≡ top_window t.old.now z → top_window s.upper.now z ≡ top_window t.upper.now z → top_window s.lower.now z ≡ top_window t.lower.now z → tops_at s z ≡ tops_at t z
+unfolding tops_at
+tops_same s t z front old upper lower =
+    let after : top_window (s.upper.now ++ s.lower.now) z ≡ top_window (t.upper.now ++ t.lower.now) z =
+    top_two s.upper.now s.lower.now z ∙ (λ j. option_or (upper j) (lower j)) ∙ sym (top_two t.upper.now t.lower.now z) in
+    λ j. if is_none (front j) then Some (record { before = old j; after = after j }) else None
 
 pub before_bare : (s : Stacks) (z : Point) → is_bare s.front.now z ≡ true → top_window (before_of s) z ≡ top_window s.old.now z
 unfolding before_of
@@ -194,3 +248,25 @@ untold_stays world p w s z is none =
       apart = λ v top. All-top_window (λ u. u.image ≢ w) s.front.now z v is.apart (sym (covered_front s z covered) ∙ top);
       bare = ap is_none same;
     }
+
+-- ---- lists that are the same but for one image
+
+kept : (w : ℕ) (v : Window) (vs : List Window) → v.image ≢ w → without w (v ∷ vs) ≡ v ∷ without w vs
+kept w v vs apart = ap (λ b. cond (not b) (v ∷ without w vs) (without w vs)) (ne_eqb v.image w apart)
+
+-- they begin alike, before that
+pub front_same : (n : ℕ) (old new : List Window) (w : ℕ) → n ≤ length old → n ≤ length new → without w new ≡ without w old → All (λ v. v.image ≢ w) (take n old) → All (λ v. v.image ≢ w) (take n new) → take n old ≡ take n new
+front_same zero old new w in_old in_new same apart_old apart_new = refl
+front_same (suc n) [] new w in_old in_new same apart_old apart_new = absurd (omega (arith, in_old))
+front_same (suc n) (a ∷ more) [] w in_old in_new same apart_old apart_new = absurd (omega (arith, in_new))
+front_same (suc n) (a ∷ more) (b ∷ others) w in_old in_new same apart_old apart_new =
+    let both : (a ∷ without w more) ≡ (b ∷ without w others) =
+    sym (kept w a more (apart_old 0 a (omega arith))) ∙ sym same ∙ kept w b others (apart_new 0 b (omega arith)) in
+    let first : a ≡ b = ap (λ l. get_or l 0 a) both in
+    let left : without w others ≡ without w more = sym (ap tail both) in
+    let rest = front_same n more others w (omega (arith, in_old)) (omega (arith, in_new)) left (λ k d below. apart_old (suc k) d (omega (arith, below))) (λ k d below. apart_new (suc k) d (omega (arith, below))) in
+    λ j. first j ∷ rest j
+  where
+    tail : List Window → List Window
+    tail [] = []
+    tail (v ∷ vs) = vs

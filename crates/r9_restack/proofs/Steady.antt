@@ -1,15 +1,14 @@
 -- What stays the same over blocks: side by side it makes rows of columns that stay the same downwards.
 use Rattle.std.proofs.Common.{◌≡◌, ◌∙◌, ℕ, ◌+◌, ◌<◌, ◌≤◌, true, sym, ap, arith}
-use Rattle.std.proofs.lemmas.Bool.{false≢true}
 use Rattle.std.proofs.lemmas.Int.{ints}
 use Rattle.r9_geom.specs.declared.Point.{Point}
 use Rattle.r9_geom.specs.Geometry.{holds, strip}
-use Rattle.r9_geom.proofs.GeometryLemmas.{bounds_of, holds_from, strip_none}
+use Rattle.r9_geom.proofs.GeometryLemmas.{bounds_of, holds_from}
 use Rattle.r9_plane.specs.Pixels.{along}
 use Rattle.r9_plane.proofs.PlaneLemmas.{along_holds}
 use Rattle.r9_locate.proofs.Locating.{along-along}
 use Rattle.r9_shown.specs.Shown.{block, down}
-use Rattle.r9_shown.proofs.Blocks.{first_row, stands_in}
+use Rattle.r9_shown.proofs.Pieces.{first_row, stands_in}
 use Rattle.r9_restack.proofs.Orders.{or_cases}
 use Rattle.r9_restack.proofs.Parting.{strip_two}
 
@@ -20,7 +19,7 @@ block_fewer q z n rows more more_rows few few_rows h =
     holds_from (block q more more_rows) z (record { left = b.left; right = omega (arith, ints, b.right, few); top = b.top; bottom = omega (arith, ints, b.bottom, few_rows) })
 
 -- down from its first row
-down_in : (q z : Point) (n rows k : ℕ) → k < rows → holds (strip q n) z ≡ true → holds (block q n rows) (down z k) ≡ true
+pub down_in : (q z : Point) (n rows k : ℕ) → k < rows → holds (strip q n) z ≡ true → holds (block q n rows) (down z k) ≡ true
 down_in q z n rows k below h =
     let b = bounds_of (strip q n) z h in
     holds_from (block q n rows) (down z k) (record { left = b.left; right = b.right; top = omega (arith, ints, b.top); bottom = omega (arith, ints, b.top, b.bottom, below) })
@@ -29,11 +28,7 @@ down_in q z n rows k below h =
 row_part : (at : Point) (d n columns j : ℕ) → d + n ≤ columns → j < n → holds (strip at columns) (along (along at d) j) ≡ true
 row_part at d n columns j fits below = ap (holds (strip at columns)) (along-along at d j) ∙ along_holds at columns (d + j) (omega (arith, fits, below))
 
--- no columns
-pub steady_none : {A : Type 0} (f : Point → A) (at z : Point) (k : ℕ) → holds (strip at 0) z ≡ true → f (down z k) ≡ f z
-steady_none f at z k h = absurd (false≢true (sym (strip_none at z) ∙ h))
-
--- and those of a block besides
+-- rows of columns that stay the same downwards, and those of a block besides
 pub steady_more : {A : Type 0} (f : Point → A) (at q : Point) (d n rows less : ℕ) (v : A) → q ≡ along at d → less ≤ rows → ((z : Point) (k : ℕ) → holds (strip at d) z ≡ true → k < rows → f (down z k) ≡ f z) → ((z : Point) → holds (block q n less) z ≡ true → f z ≡ v) → (z : Point) (k : ℕ) → holds (strip at (d + n)) z ≡ true → k < less → f (down z k) ≡ f z
 steady_more f at q d n rows less v is fewer before here z k h below =
     or_cases (holds (strip (along at d) n) z) (holds (strip at d) z) (sym (strip_two at z d n) ∙ h)
@@ -53,3 +48,8 @@ steady_block f at q d n columns rows v is fits downwards across z h =
 -- the first row of a block
 pub across_first : {A : Type 0} (f : Point → A) (q : Point) (n rows : ℕ) (v : A) → 0 < rows → ((z : Point) → holds (block q n rows) z ≡ true → f z ≡ v) → (k : ℕ) → k < n → f (along q k) ≡ v
 across_first f q n rows v some here k below = here (along q k) (first_row q n rows (along q k) some (along_holds q n k below))
+
+-- a block over which it is the same is one of such rows
+pub steady_first : {A : Type 0} (f : Point → A) (at : Point) (n rows : ℕ) (v : A) → ((z : Point) → holds (block at n rows) z ≡ true → f z ≡ v) → (z : Point) (k : ℕ) → holds (strip at n) z ≡ true → k < rows → f (down z k) ≡ f z
+steady_first f at n rows v here z k h below =
+    here (down z k) (down_in at z n rows k below h) ∙ sym (here z (first_row at n rows z (omega (arith, below)) h))

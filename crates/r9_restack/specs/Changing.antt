@@ -1,19 +1,19 @@
 -- Another list of the windows of an image, in which one of them comes, goes or moves and the others keep their places: what
 -- was moved so far, and what is known of its pixels.
-use Rattle.std.specs.Prelude.{◌≡◌, ◌≢◌, ◌<◌, ℕ, Bool, true, false, List, Option, Some, None, is_none, All, if◌then◌else◌}
+use Rattle.std.specs.Prelude.{◌≡◌, ◌≢◌, ℕ, Bool, true, false, List, Option, Some, None, is_none, All, if◌then◌else◌}
 use Rattle.r9_geom.specs.declared.Point.{Point}
+use Rattle.r9_geom.specs.declared.Rect.{Rect}
 use Rattle.r9_geom.specs.Geometry.{holds}
-use Rattle.r9_plane.specs.Pixels.{along}
 use Rattle.model_forest.specs.declared.Window.{Window}
 use Rattle.model_forest.specs.World.{World, image_at, parent_of, IsLive, IsWindowOf}
 use Rattle.model_forest.specs.View.{top_window, inward, is_bare}
 use Rattle.model_kept.specs.Keeping.{Place, own, outward, is_top, is_shown, keeping, place_among}
 use Rattle.model_kept.specs.Restack.{with_list}
 
--- another list of the windows of an image, in which all but image w keep their places
+-- another list of the windows of an image, in which all but image w keep their places that show somewhere
 pub record IsChange (world : World) (p : ℕ) (ws : List Window) (w : ℕ) : Type 0 where
   pub live : IsLive world p
-  pub places : (i : ℕ) → i ≢ w → place_among ws i ≡ place_among (image_at world p).windows i
+  pub places : (i : ℕ) (z : Point) → i ≢ w → holds (image_at world p).r z ≡ true → is_top ws i z ≡ true → place_among ws i ≡ place_among (image_at world p).windows i
   pub stand : All (IsWindowOf world p) ws
   pub one : All (λ v. place_among ws v.image ≡ v.place) ws
 
@@ -26,14 +26,13 @@ pub record IsChanged (world : World) (p : ℕ) (ws : List Window) (w : ℕ) (giv
   pub hidden : (i : ℕ) (x : Point) → i ≢ w → parent_of world i ≡ Some p → done (outward world p i x) ≡ true → is_top ws i (outward world p i x) ≡ false → now (own i x) ≡ before (keeping world i x)
   pub others : (place : Place) → ((q : Point) → done q ≡ true → place ≢ keeping world p q) → ((i : ℕ) (x : Point) → i ≢ w → parent_of world i ≡ Some p → done (outward world p i x) ≡ true → place ≢ own i x) → now place ≡ before place
 
--- points side by side at which a was topmost, or nothing, show b then, or the fill: what was shown is kept with a, unless that
--- is w
-pub record IsShownAnew (world : World) (p : ℕ) (w : ℕ) (a b : Option Window) (given fill : Point → ℕ) (q : Point) (n : ℕ) (old new : Place → ℕ) : Type 0 where
-  pub none : b ≡ None → (k : ℕ) → k < n → new (keeping world p (along q k)) ≡ fill (along q k)
-  pub of_w : (v : Window) → b ≡ Some v → v.image ≡ w → (k : ℕ) → k < n → new (keeping world p (along q k)) ≡ given (along (inward world v q) k)
-  pub owned : (v : Window) → b ≡ Some v → v.image ≢ w → (k : ℕ) → k < n → new (keeping world p (along q k)) ≡ old (own v.image (along (inward world v q) k))
-  pub saved : (v : Window) → a ≡ Some v → v.image ≢ w → (k : ℕ) → k < n → new (own v.image (along (inward world v q) k)) ≡ old (keeping world p (along q k))
-  pub others : (place : Place) → ((k : ℕ) → k < n → place ≢ keeping world p (along q k)) → ((v : Window) → a ≡ Some v → v.image ≢ w → (k : ℕ) → k < n → place ≢ own v.image (along (inward world v q) k)) → new place ≡ old place
+-- a rectangle over which a was topmost, or nothing, shows b then, or the fill: what was shown is kept with a, unless that is w
+pub record IsShownAnew (world : World) (p : ℕ) (w : ℕ) (a b : Option Window) (given fill : Point → ℕ) (r : Rect) (old new : Place → ℕ) : Type 0 where
+  pub none : b ≡ None → (z : Point) → holds r z ≡ true → new (keeping world p z) ≡ fill z
+  pub of_w : (v : Window) → b ≡ Some v → v.image ≡ w → (z : Point) → holds r z ≡ true → new (keeping world p z) ≡ given (inward world v z)
+  pub owned : (v : Window) → b ≡ Some v → v.image ≢ w → (z : Point) → holds r z ≡ true → new (keeping world p z) ≡ old (own v.image (inward world v z))
+  pub saved : (v : Window) → a ≡ Some v → v.image ≢ w → (z : Point) → holds r z ≡ true → new (own v.image (inward world v z)) ≡ old (keeping world p z)
+  pub others : (place : Place) → ((z : Point) → holds r z ≡ true → place ≢ keeping world p z) → ((v : Window) → a ≡ Some v → v.image ≢ w → (z : Point) → holds r z ≡ true → place ≢ own v.image (inward world v z)) → new place ≡ old place
 
 -- the same image, other than w, or none, is topmost at a point before and then
 pub record StaysTop (world : World) (p : ℕ) (ws : List Window) (w : ℕ) (z : Point) : Type 0 where
@@ -64,3 +63,11 @@ pub record StaysAs (a b : Option Window) (w : ℕ) : Type 0 where
 pub record IsOther (a b : Option Window) (w : ℕ) : Type 0 where
   pub uncovers : b ≡ None → is_none a ≡ false
   pub differs : (u v : Window) → a ≡ Some u → b ≡ Some v → v.image ≢ w → u.image ≢ v.image
+
+-- another list of the windows of an image, in which one of them moves to where nothing of it shows and the others keep their places
+pub record IsConcealing (world : World) (p : ℕ) (ws : List Window) : Type 0 where
+  pub window : ℕ
+  pub others : (i : ℕ) → i ≢ window → place_among ws i ≡ place_among (image_at world p).windows i
+  pub change : IsChange world p ws p
+  pub above : parent_of world window ≡ Some p
+  pub gone : (z : Point) → holds (image_at world p).r z ≡ true → is_top ws window z ≡ false

@@ -4,3 +4,4 @@ pub mod Changing
 pub mod Placing
 pub mod Stacks
 pub mod Showing
+pub mod Giving

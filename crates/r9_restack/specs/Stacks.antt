@@ -1,5 +1,5 @@
 -- The windows of an image in two lists, before and after, and which are topmost at a point.
-use Rattle.std.specs.Prelude.{◌≡◌, ◌≢◌, ◌++◌, ◌==◌, ◌&&◌, ℕ, Bool, List, Option, Some, None, All, if◌then◌else◌}
+use Rattle.std.specs.Prelude.{◌≡◌, ◌≢◌, ◌≤◌, ◌++◌, ◌==◌, ◌&&◌, length, take, ℕ, Bool, List, Option, Some, None, All, if◌then◌else◌}
 use Rattle.r9_geom.specs.declared.Point.{Point}
 use Rattle.r9_geom.specs.Geometry.{is_point}
 use Rattle.model_forest.specs.declared.Window.{Window}
@@ -29,3 +29,10 @@ tops_at s z =
 pub record IsStacked (world : World) (p w : ℕ) (s : Stacks) : Type 0 where
   pub before : (image_at world p).windows ≡ before_of s
   pub apart : All (λ v. v.image ≢ w) s.front.now
+
+-- two lists begin with the same windows, so many of them, among which image w is not
+pub record IsFront (before after : List Window) (w n : ℕ) : Type 0 where
+  pub old : n ≤ length before
+  pub new : n ≤ length after
+  pub same : take n before ≡ take n after
+  pub apart : All (λ v. v.image ≢ w) (take n after)

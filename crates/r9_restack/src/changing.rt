@@ -16,104 +16,105 @@ ghost use Rattle.r9_restack.specs.Areas.{AreApartIn};
 ghost use Rattle.model_kept.specs.Restack.{with_list, IsRestacked};
 ghost use Rattle.r9_restack.specs.Moving.{more, more_in, IsFresh, IsFreshIn};
 ghost use Rattle.r9_shown.specs.Shown as spec;
-ghost use Rattle.r9_restack.specs.Stacks.{after_of, tops_at, IsStacked};
+ghost use Rattle.r9_restack.specs.Stacks.{after_of, tops_at, IsFront, IsStacked};
 ghost use Rattle.r9_restack.specs.Changing.{HasPlacesBut, IsChange, IsChanged, IsGiven, IsOther, IsShownAnew, StaysAs, StaysTop};
 
-use super::stacks::{Extent, Stacks, Tops, run_of, stacks_of, steady_rows_of};
+use super::giving::{Kind, Source, show_in};
+use super::stacks::{Stacks, Tops, run_of, stacks_around, stacks_within, steady_rows_of};
 use model_forest::Window;
 use r9_geom::{Point, Rect};
-use r9_locate::{Lists, Pixels, along, inward, read_view, write_view};
-use r9_shown::down;
+use r9_locate::{Lists, Pixels, along, inward};
+use r9_shown::{Extent, block, save_area, show_area};
 use r9_steps::Steps;
 use std::sync::ledger::Ledger;
 
-// How many pixels of a row are moved at a time.
-const BLOCK: usize = 256;
+// How many pixels of a row are moved at a time at most: no image has as many.
+pub(crate) const LONGEST: usize = 0x100_0000_0000;
 
-/// The pixels of a window that comes or moves, and those that fill what becomes bare, gathered before.
-pub trait Source {
-    ghost given: { Self → Spot → ℕ };
-
-    ghost fill: { Self → Spot → ℕ };
-
-    /// Pixels of the window side by side, from a point of it to the right.
-    fn give(&self, x: Point, raws: &mut [u32])
-        ensures { (k : ℕ) → k < length raws.old → slice_index raws.new k ≡ given self.now (along x k) };
-
-    /// Pixels that fill side by side, from a point of the image below to the right.
-    fn fills(&self, q: Point, raws: &mut [u32])
-        ensures { (k : ℕ) → k < length raws.old → slice_index raws.new k ≡ fill self.now (along q k) };
-}
-
-// Keeps what points side by side showed with the window that showed it, unless that is w or none: else nothing is read.
+// Keeps what a rectangle showed with the window that showed it, unless that is w or none.
 fn save<P: Pixels, L: Ledger>(
     lists: &Lists,
     pixels: &mut P,
     p: u32,
     a: Option<Window>,
     w: u32,
-    q: Point,
-    raws: &mut [u32],
+    r: &Rect,
     steps: &mut Steps<L>,
 )
     requires below { IsLive (shape lists.now) p }
-    requires near { IsNear q }
-    requires width { length raws.old ≤ 2 ^ 40 }
-    requires inside { (z : Spot) → IsTrue (holds (strip q (length raws.old)) z) → IsTrue (holds (image_at (shape lists.now) p).r z) }
-    requires surface { (k : ℕ) → k < length raws.old → P.has pixels.old (keeping (shape lists.now) p (along q k)) ≡ true }
+    requires near { IsRectNear r.now }
+    requires ordered { IsOrdered r.now }
+    requires inside { (z : Spot) → IsTrue (holds r.now z) → IsTrue (holds (image_at (shape lists.now) p).r z) }
+    requires surface { (z : Spot) → IsTrue (holds r.now z) → P.has pixels.old (keeping (shape lists.now) p z) ≡ true }
     requires live { (v : Stood) → a ≡ Some v → IsLive (shape lists.now) v.image }
     requires stands { (v : Stood) → a ≡ Some v → parent_of (shape lists.now) v.image ≡ Some p }
     requires place { (v : Stood) → a ≡ Some v → IsNear v.place.min }
-    requires has { (v : Stood) → a ≡ Some v → v.image ≢ w → (k : ℕ) → k < length raws.old → P.has pixels.old (own v.image (along (view.inward (shape lists.now) v q) k)) ≡ true }
+    requires there { (v : Stood) → a ≡ Some v → IsNear (view.inward (shape lists.now) v r.now.min) }
+    requires has { (v : Stood) → a ≡ Some v → v.image ≢ w → (z : Spot) → IsTrue (holds r.now z) → P.has pixels.old (own v.image (view.inward (shape lists.now) v z)) ≡ true }
     requires bits { HasBits (shape lists.now) (P.forms pixels.old) }
-    ensures saved { (v : Stood) → a ≡ Some v → v.image ≢ w → (k : ℕ) → k < length raws.old → P.kept pixels.new (own v.image (along (view.inward (shape lists.now) v q) k)) ≡ P.kept pixels.old (keeping (shape lists.now) p (along q k)) }
-    ensures others { (place : Place) → ((v : Stood) → a ≡ Some v → v.image ≢ w → (k : ℕ) → k < length raws.old → place ≢ own v.image (along (view.inward (shape lists.now) v q) k)) → P.kept pixels.new place ≡ P.kept pixels.old place }
+    ensures saved { (v : Stood) → a ≡ Some v → v.image ≢ w → (z : Spot) → IsTrue (holds r.now z) → P.kept pixels.new (own v.image (view.inward (shape lists.now) v z)) ≡ P.kept pixels.old (keeping (shape lists.now) p z) }
+    ensures others { (place : Place) → ((v : Stood) → a ≡ Some v → v.image ≢ w → (z : Spot) → IsTrue (holds r.now z) → place ≢ own v.image (view.inward (shape lists.now) v z)) → P.kept pixels.new place ≡ P.kept pixels.old place }
     ensures has { P.has pixels.new ≡ P.has pixels.old }
     ensures forms { P.forms pixels.new ≡ P.forms pixels.old }
     ensures spare { P.spare pixels.new ≡ P.spare pixels.old }
-    ensures steps { steps.new ≤ steps.old + length raws.old }
+    ensures steps { steps.new ≤ steps.old + area_of r.now }
 {
     if let Some(v) = a {
         if v.image != w {
-            read_view(lists, pixels, p, q, raws);
-            pixels.write(v.image, inward(lists, &v, q), raws, steps);
+            let x = inward(lists, &v, r.min);
+            save_area(lists, pixels, p, r, v.image, x, steps);
         }
     }
 }
 
-// Gets what is shown then: the pixels of window b, which are given for w, or the fill.
-fn fetch<P: Pixels, S: Source>(
+// A rectangle shows window b, or the fill.
+fn reveal<P: Pixels, S: Source, L: Ledger>(
     lists: &Lists,
-    pixels: &P,
+    pixels: &mut P,
     source: &S,
-    b: Option<Window>,
+    p: u32,
     w: u32,
-    q: Point,
-    raws: &mut [u32],
+    b: Option<Window>,
+    r: &Rect,
+    steps: &mut Steps<L>,
 )
-    requires near { IsNear q }
+    requires below { IsLive (shape lists.now) p }
+    requires near { IsRectNear r.now }
+    requires ordered { IsOrdered r.now }
+    requires inside { (z : Spot) → IsTrue (holds r.now z) → IsTrue (holds (image_at (shape lists.now) p).r z) }
+    requires surface { (z : Spot) → IsTrue (holds r.now z) → P.has pixels.old (keeping (shape lists.now) p z) ≡ true }
     requires live { (v : Stood) → b ≡ Some v → IsLive (shape lists.now) v.image }
+    requires stands { (v : Stood) → b ≡ Some v → parent_of (shape lists.now) v.image ≡ Some p }
     requires place { (v : Stood) → b ≡ Some v → IsNear v.place.min }
-    requires has { (v : Stood) → b ≡ Some v → v.image ≢ w → (k : ℕ) → k < length raws.old → P.has pixels.now (own v.image (along (view.inward (shape lists.now) v q) k)) ≡ true }
-    ensures none { b ≡ None → (k : ℕ) → k < length raws.old → slice_index raws.new k ≡ S.fill source.now (along q k) }
-    ensures of_w { (v : Stood) → b ≡ Some v → v.image ≡ w → (k : ℕ) → k < length raws.old → slice_index raws.new k ≡ S.given source.now (along (view.inward (shape lists.now) v q) k) }
-    ensures owned { (v : Stood) → b ≡ Some v → v.image ≢ w → (k : ℕ) → k < length raws.old → slice_index raws.new k ≡ P.kept pixels.now (own v.image (along (view.inward (shape lists.now) v q) k)) }
-    ensures below { (v : Stood) → b ≡ Some v → v.image ≢ w → (k : ℕ) → k < length raws.old → slice_index raws.new k < 2 ^ bits_in (P.forms pixels.now) v.image }
+    requires there { (v : Stood) → b ≡ Some v → IsNear (view.inward (shape lists.now) v r.now.min) }
+    requires within { (v : Stood) → b ≡ Some v → (z : Spot) → IsTrue (holds r.now z) → IsTrue (holds (image_at (shape lists.now) v.image).r (view.inward (shape lists.now) v z)) }
+    requires has { (v : Stood) → b ≡ Some v → v.image ≢ w → (z : Spot) → IsTrue (holds r.now z) → P.has pixels.old (own v.image (view.inward (shape lists.now) v z)) ≡ true }
+    requires bits { HasBits (shape lists.now) (P.forms pixels.old) }
+    requires given { parent_of (shape lists.now) w ≡ Some p → (x : Spot) → S.given source.now x < 2 ^ bits_in (P.forms pixels.old) p }
+    requires fill { (z : Spot) → S.fill source.now z < 2 ^ bits_in (P.forms pixels.old) p }
+    ensures none { b ≡ None → (z : Spot) → IsTrue (holds r.now z) → P.kept pixels.new (keeping (shape lists.now) p z) ≡ S.fill source.now z }
+    ensures of_w { (v : Stood) → b ≡ Some v → v.image ≡ w → (z : Spot) → IsTrue (holds r.now z) → P.kept pixels.new (keeping (shape lists.now) p z) ≡ S.given source.now (view.inward (shape lists.now) v z) }
+    ensures owned { (v : Stood) → b ≡ Some v → v.image ≢ w → (z : Spot) → IsTrue (holds r.now z) → P.kept pixels.new (keeping (shape lists.now) p z) ≡ P.kept pixels.old (own v.image (view.inward (shape lists.now) v z)) }
+    ensures others { (place : Place) → ((z : Spot) → IsTrue (holds r.now z) → place ≢ keeping (shape lists.now) p z) → P.kept pixels.new place ≡ P.kept pixels.old place }
+    ensures has { P.has pixels.new ≡ P.has pixels.old }
+    ensures forms { P.forms pixels.new ≡ P.forms pixels.old }
+    ensures spare { P.spare pixels.new ≡ P.spare pixels.old }
+    ensures steps { steps.new ≡ steps.old + area_of r.now }
 {
     match b {
-        None => source.fills(q, raws),
+        None => show_in(lists, pixels, source, Kind::Fill, r.min, p, r, steps),
         Some(v) => {
-            let x = inward(lists, &v, q);
+            let x = inward(lists, &v, r.min);
             if v.image == w {
-                source.give(x, raws);
+                show_in(lists, pixels, source, Kind::Given, x, p, r, steps);
             } else {
-                pixels.read(v.image, x, raws);
+                show_area(lists, pixels, v.image, x, p, r, steps);
             }
         }
     }
 }
 
-// Points side by side at which window a was topmost, or nothing, show window b then, or the fill.
+// A rectangle over which window a was topmost, or nothing, shows window b then, or the fill.
 fn show<P: Pixels, S: Source, L: Ledger>(
     lists: &Lists,
     pixels: &mut P,
@@ -122,36 +123,37 @@ fn show<P: Pixels, S: Source, L: Ledger>(
     w: u32,
     a: Option<Window>,
     b: Option<Window>,
-    q: Point,
-    raws: &mut [u32],
+    r: &Rect,
     steps: &mut Steps<L>,
 )
     requires live { IsLive (shape lists.now) p }
-    requires near { IsNear q }
-    requires width { length raws.old ≤ 2 ^ 40 }
-    requires inside { (z : Spot) → IsTrue (holds (strip q (length raws.old)) z) → IsTrue (holds (image_at (shape lists.now) p).r z) }
-    requires surface { (k : ℕ) → k < length raws.old → P.has pixels.old (keeping (shape lists.now) p (along q k)) ≡ true }
+    requires near { IsRectNear r.now }
+    requires ordered { IsOrdered r.now }
+    requires inside { (z : Spot) → IsTrue (holds r.now z) → IsTrue (holds (image_at (shape lists.now) p).r z) }
+    requires surface { (z : Spot) → IsTrue (holds r.now z) → P.has pixels.old (keeping (shape lists.now) p z) ≡ true }
     requires a_live { (v : Stood) → a ≡ Some v → IsLive (shape lists.now) v.image }
     requires a_stands { (v : Stood) → a ≡ Some v → parent_of (shape lists.now) v.image ≡ Some p }
     requires a_place { (v : Stood) → a ≡ Some v → IsNear v.place.min }
-    requires a_has { (v : Stood) → a ≡ Some v → v.image ≢ w → (k : ℕ) → k < length raws.old → P.has pixels.old (own v.image (along (view.inward (shape lists.now) v q) k)) ≡ true }
+    requires a_there { (v : Stood) → a ≡ Some v → IsNear (view.inward (shape lists.now) v r.now.min) }
+    requires a_has { (v : Stood) → a ≡ Some v → v.image ≢ w → (z : Spot) → IsTrue (holds r.now z) → P.has pixels.old (own v.image (view.inward (shape lists.now) v z)) ≡ true }
     requires b_live { (v : Stood) → b ≡ Some v → IsLive (shape lists.now) v.image }
     requires b_stands { (v : Stood) → b ≡ Some v → parent_of (shape lists.now) v.image ≡ Some p }
     requires b_place { (v : Stood) → b ≡ Some v → IsNear v.place.min }
-    requires b_has { (v : Stood) → b ≡ Some v → v.image ≢ w → (k : ℕ) → k < length raws.old → P.has pixels.old (own v.image (along (view.inward (shape lists.now) v q) k)) ≡ true }
+    requires b_there { (v : Stood) → b ≡ Some v → IsNear (view.inward (shape lists.now) v r.now.min) }
+    requires b_within { (v : Stood) → b ≡ Some v → (z : Spot) → IsTrue (holds r.now z) → IsTrue (holds (image_at (shape lists.now) v.image).r (view.inward (shape lists.now) v z)) }
+    requires b_has { (v : Stood) → b ≡ Some v → v.image ≢ w → (z : Spot) → IsTrue (holds r.now z) → P.has pixels.old (own v.image (view.inward (shape lists.now) v z)) ≡ true }
     requires apart { (u v : Stood) → a ≡ Some u → b ≡ Some v → v.image ≢ w → u.image ≢ v.image }
     requires bits { HasBits (shape lists.now) (P.forms pixels.old) }
-    requires given { (x : Spot) → S.given source.now x < 2 ^ bits_in (P.forms pixels.old) p }
+    requires given { parent_of (shape lists.now) w ≡ Some p → (x : Spot) → S.given source.now x < 2 ^ bits_in (P.forms pixels.old) p }
     requires fill { (z : Spot) → S.fill source.now z < 2 ^ bits_in (P.forms pixels.old) p }
-    ensures shown { IsShownAnew (shape lists.now) p w a b (S.given source.now) (S.fill source.now) q (length raws.old) (P.kept pixels.old) (P.kept pixels.new) }
+    ensures shown { IsShownAnew (shape lists.now) p w a b (S.given source.now) (S.fill source.now) r.now (P.kept pixels.old) (P.kept pixels.new) }
     ensures has { P.has pixels.new ≡ P.has pixels.old }
     ensures forms { P.forms pixels.new ≡ P.forms pixels.old }
     ensures spare { P.spare pixels.new ≡ P.spare pixels.old }
-    ensures steps { steps.new ≤ steps.old + 2 * length raws.old }
+    ensures steps { steps.new ≤ steps.old + 2 * area_of r.now }
 {
-    save(lists, pixels, p, a, w, q, raws, steps);
-    fetch(lists, pixels, source, b, w, q, raws);
-    write_view(lists, pixels, p, q, raws, steps);
+    save(lists, pixels, p, a, w, r, steps);
+    reveal(lists, pixels, source, p, w, b, r, steps);
 }
 
 // Whether the same image, other than w, or nothing is topmost.
@@ -165,96 +167,6 @@ fn stays(a: Option<Window>, b: Option<Window>, w: u32) -> bool
             None => false,
             Some(u) => u.image == v.image && v.image != w,
         },
-    }
-}
-
-// Moves the pixels of points side by side over which window a, or none, is topmost before, and b then, where these are not the
-// same. The list of then is in two parts, the upper windows first.
-fn change_run<P: Pixels, S: Source, L: Ledger>(
-    lists: &Lists,
-    pixels: &mut P,
-    source: &S,
-    p: u32,
-    w: u32,
-    stacks: &Stacks,
-    a: Option<Window>,
-    b: Option<Window>,
-    q: Point,
-    raws: &mut [u32],
-    steps: &mut Steps<L>,
-)
-    requires change { IsChange (shape lists.now) p (after_of stacks.now) w }
-    requires near { IsNear q }
-    requires some { 0 < length raws.old }
-    requires width { length raws.old ≤ 2 ^ 40 }
-    requires inside { (z : Spot) → IsTrue (holds (strip q (length raws.old)) z) → IsTrue (holds (image_at (shape lists.now) p).r z) }
-    requires olds { (k : ℕ) → k < length raws.old → top_window (image_at (shape lists.now) p).windows (along q k) ≡ a }
-    requires news { (k : ℕ) → k < length raws.old → top_window (after_of stacks.now) (along q k) ≡ b }
-    requires other { IsOther a b w }
-    requires near_new { All (λ v. IsNear v.place.min) (after_of stacks.now) }
-    requires places { HasPlacesBut (shape lists.now) p (after_of stacks.now) w (P.has pixels.old) }
-    requires bits { HasBits (shape lists.now) (P.forms pixels.old) }
-    requires given { (x : Spot) → S.given source.now x < 2 ^ bits_in (P.forms pixels.old) p }
-    requires fill { (z : Spot) → S.fill source.now z < 2 ^ bits_in (P.forms pixels.old) p }
-    ensures moved { (before : Place → ℕ) (done : Spot → Bool) → IsFresh q (length raws.old) done → IsChanged (shape lists.now) p (after_of stacks.now) w (S.given source.now) (S.fill source.now) before (P.kept pixels.old) done → IsChanged (shape lists.now) p (after_of stacks.now) w (S.given source.now) (S.fill source.now) before (P.kept pixels.new) (more q (length raws.old) done) }
-    ensures has { P.has pixels.new ≡ P.has pixels.old }
-    ensures forms { P.forms pixels.new ≡ P.forms pixels.old }
-    ensures spare { P.spare pixels.new ≡ P.spare pixels.old }
-    ensures steps { steps.new ≤ steps.old + 2 * length raws.old }
-{
-    show(lists, pixels, source, p, w, a, b, q, raws, steps);
-}
-
-// The same of any number of points side by side, a block at a time.
-fn change_strip<P: Pixels, S: Source, L: Ledger>(
-    lists: &Lists,
-    pixels: &mut P,
-    source: &S,
-    p: u32,
-    w: u32,
-    stacks: &Stacks,
-    a: Option<Window>,
-    b: Option<Window>,
-    at: Point,
-    n: usize,
-    steps: &mut Steps<L>,
-)
-    requires change { IsChange (shape lists.now) p (after_of stacks.now) w }
-    requires near { IsNear at }
-    requires width { n ≤ 2 ^ 41 }
-    requires inside { (z : Spot) → IsTrue (holds (strip at n) z) → IsTrue (holds (image_at (shape lists.now) p).r z) }
-    requires olds { (k : ℕ) → k < n → top_window (image_at (shape lists.now) p).windows (along at k) ≡ a }
-    requires news { (k : ℕ) → k < n → top_window (after_of stacks.now) (along at k) ≡ b }
-    requires other { IsOther a b w }
-    requires near_new { All (λ v. IsNear v.place.min) (after_of stacks.now) }
-    requires places { HasPlacesBut (shape lists.now) p (after_of stacks.now) w (P.has pixels.old) }
-    requires bits { HasBits (shape lists.now) (P.forms pixels.old) }
-    requires given { (x : Spot) → S.given source.now x < 2 ^ bits_in (P.forms pixels.old) p }
-    requires fill { (z : Spot) → S.fill source.now z < 2 ^ bits_in (P.forms pixels.old) p }
-    ensures moved { (before : Place → ℕ) (done : Spot → Bool) → IsFresh at n done → IsChanged (shape lists.now) p (after_of stacks.now) w (S.given source.now) (S.fill source.now) before (P.kept pixels.old) done → IsChanged (shape lists.now) p (after_of stacks.now) w (S.given source.now) (S.fill source.now) before (P.kept pixels.new) (more at n done) }
-    ensures has { P.has pixels.new ≡ P.has pixels.old }
-    ensures forms { P.forms pixels.new ≡ P.forms pixels.old }
-    ensures spare { P.spare pixels.new ≡ P.spare pixels.old }
-    ensures steps { steps.new ≤ steps.old + 2 * n }
-{
-    let mut block = [0; BLOCK];
-    let mut done = 0;
-    while done < n {
-        let len = (n - done).min(BLOCK);
-        change_run(
-            lists,
-            pixels,
-            source,
-            p,
-            w,
-            stacks,
-            a,
-            b,
-            along(at, done),
-            &mut block[..len],
-            steps,
-        );
-        done += len;
     }
 }
 
@@ -276,14 +188,15 @@ pub(crate) fn change_block<P: Pixels, S: Source, L: Ledger>(
     requires stacks { IsStacked (shape lists.now) p w stacks.now }
     requires near { IsNear q }
     requires some { 0 < columns }
-    requires columns { columns ≤ 2 ^ 41 }
+    requires some_rows { 0 < rows }
+    requires columns { columns ≤ 2 ^ 40 }
     requires rows { rows ≤ 2 ^ 41 }
     requires inside { (z : Spot) → IsTrue (holds (spec.block q columns rows) z) → IsTrue (holds (image_at (shape lists.now) p).r z) }
     requires tops { (z : Spot) → IsTrue (holds (spec.block q columns rows) z) → tops_at stacks.now z ≡ tops }
     requires near_new { All (λ v. IsNear v.place.min) (after_of stacks.now) }
     requires places { HasPlacesBut (shape lists.now) p (after_of stacks.now) w (P.has pixels.old) }
     requires bits { HasBits (shape lists.now) (P.forms pixels.old) }
-    requires given { (x : Spot) → S.given source.now x < 2 ^ bits_in (P.forms pixels.old) p }
+    requires given { parent_of (shape lists.now) w ≡ Some p → (x : Spot) → S.given source.now x < 2 ^ bits_in (P.forms pixels.old) p }
     requires fill { (z : Spot) → S.fill source.now z < 2 ^ bits_in (P.forms pixels.old) p }
     ensures moved { (before : Place → ℕ) (done : Spot → Bool) → IsFreshIn (spec.block q columns rows) done → IsChanged (shape lists.now) p (after_of stacks.now) w (S.given source.now) (S.fill source.now) before (P.kept pixels.old) done → IsChanged (shape lists.now) p (after_of stacks.now) w (S.given source.now) (S.fill source.now) before (P.kept pixels.new) (more_in (spec.block q columns rows) done) }
     ensures has { P.has pixels.new ≡ P.has pixels.old }
@@ -297,22 +210,18 @@ pub(crate) fn change_block<P: Pixels, S: Source, L: Ledger>(
     if stays(tops.before, tops.after, w) {
         return;
     }
-    for row in 0..rows {
-        let at = down(q, row);
-        change_strip(
-            lists,
-            pixels,
-            source,
-            p,
-            w,
-            stacks,
-            tops.before,
-            tops.after,
-            at,
-            columns,
-            steps,
-        );
-    }
+    let r = block(q, columns, rows);
+    show(
+        lists,
+        pixels,
+        source,
+        p,
+        w,
+        tops.before,
+        tops.after,
+        &r,
+        steps,
+    );
 }
 
 // The same of rows in each column of which the same windows are topmost.
@@ -323,6 +232,7 @@ fn change_band<P: Pixels, S: Source, L: Ledger>(
     p: u32,
     w: u32,
     stacks: &Stacks,
+    near: &Stacks,
     at: Point,
     columns: usize,
     rows: u64,
@@ -330,16 +240,17 @@ fn change_band<P: Pixels, S: Source, L: Ledger>(
 )
     requires change { IsChange (shape lists.now) p (after_of stacks.now) w }
     requires stacks { IsStacked (shape lists.now) p w stacks.now }
-    requires near { IsNear at }
+    requires start { IsNear at }
     requires columns { columns ≤ 2 ^ 41 }
     requires rows { rows ≤ 2 ^ 41 }
     requires some { 0 < rows }
     requires inside { (z : Spot) → IsTrue (holds (spec.block at columns rows) z) → IsTrue (holds (image_at (shape lists.now) p).r z) }
+    requires same { (z : Spot) → IsTrue (holds (spec.block at columns rows) z) → tops_at near.now z ≡ tops_at stacks.now z }
     requires tops { (z : Spot) (k : ℕ) → IsTrue (holds (strip at columns) z) → k < rows → tops_at stacks.now (spec.down z k) ≡ tops_at stacks.now z }
     requires near_new { All (λ v. IsNear v.place.min) (after_of stacks.now) }
     requires places { HasPlacesBut (shape lists.now) p (after_of stacks.now) w (P.has pixels.old) }
     requires bits { HasBits (shape lists.now) (P.forms pixels.old) }
-    requires given { (x : Spot) → S.given source.now x < 2 ^ bits_in (P.forms pixels.old) p }
+    requires given { parent_of (shape lists.now) w ≡ Some p → (x : Spot) → S.given source.now x < 2 ^ bits_in (P.forms pixels.old) p }
     requires fill { (z : Spot) → S.fill source.now z < 2 ^ bits_in (P.forms pixels.old) p }
     ensures moved { (before : Place → ℕ) (done : Spot → Bool) → IsFreshIn (spec.block at columns rows) done → IsChanged (shape lists.now) p (after_of stacks.now) w (S.given source.now) (S.fill source.now) before (P.kept pixels.old) done → IsChanged (shape lists.now) p (after_of stacks.now) w (S.given source.now) (S.fill source.now) before (P.kept pixels.new) (more_in (spec.block at columns rows) done) }
     ensures has { P.has pixels.new ≡ P.has pixels.old }
@@ -351,16 +262,79 @@ fn change_band<P: Pixels, S: Source, L: Ledger>(
     while done < columns {
         let q = along(at, done);
         let most = Extent {
-            columns: columns - done,
+            columns: (columns - done).min(LONGEST),
             rows,
         };
-        let run = run_of(stacks, q, most);
+        let run = run_of(near, q, most);
         let len = run.extent.columns;
         change_block(
             lists, pixels, source, p, w, stacks, run.tops, q, len, rows, steps,
         );
         done += len;
     }
+}
+
+// The same of the first of some rows: as many as in each column of which the same windows are topmost. How many that were.
+fn change_rows<P: Pixels, S: Source, L: Ledger>(
+    lists: &Lists,
+    pixels: &mut P,
+    source: &S,
+    p: u32,
+    w: u32,
+    stacks: &Stacks,
+    near: &Stacks,
+    at: Point,
+    columns: usize,
+    n: u64,
+    steps: &mut Steps<L>,
+) -> u64
+    requires change { IsChange (shape lists.now) p (after_of stacks.now) w }
+    requires stacks { IsStacked (shape lists.now) p w stacks.now }
+    requires start { IsNear at }
+    requires some_columns { 0 < columns }
+    requires columns { columns ≤ 2 ^ 41 }
+    requires rows { n ≤ 2 ^ 41 }
+    requires some { 0 < n }
+    requires inside { (z : Spot) → IsTrue (holds (spec.block at columns n) z) → IsTrue (holds (image_at (shape lists.now) p).r z) }
+    requires same { (z : Spot) → IsTrue (holds (spec.block at columns n) z) → tops_at near.now z ≡ tops_at stacks.now z }
+    requires near_new { All (λ v. IsNear v.place.min) (after_of stacks.now) }
+    requires places { HasPlacesBut (shape lists.now) p (after_of stacks.now) w (P.has pixels.old) }
+    requires bits { HasBits (shape lists.now) (P.forms pixels.old) }
+    requires given { parent_of (shape lists.now) w ≡ Some p → (x : Spot) → S.given source.now x < 2 ^ bits_in (P.forms pixels.old) p }
+    requires fill { (z : Spot) → S.fill source.now z < 2 ^ bits_in (P.forms pixels.old) p }
+    ensures some { 0 < result }
+    ensures most { result ≤ n }
+    ensures moved { (before : Place → ℕ) (done : Spot → Bool) → IsFreshIn (spec.block at columns n) done → IsChanged (shape lists.now) p (after_of stacks.now) w (S.given source.now) (S.fill source.now) before (P.kept pixels.old) done → IsChanged (shape lists.now) p (after_of stacks.now) w (S.given source.now) (S.fill source.now) before (P.kept pixels.new) (more_in (spec.block at columns result) done) }
+    ensures has { P.has pixels.new ≡ P.has pixels.old }
+    ensures forms { P.forms pixels.new ≡ P.forms pixels.old }
+    ensures spare { P.spare pixels.new ≡ P.spare pixels.old }
+    ensures steps { steps.new ≤ steps.old + 2 * (columns * result) }
+{
+    let most = Extent {
+        columns: columns.min(LONGEST),
+        rows: n,
+    };
+    let first = run_of(near, at, most);
+    let done = first.extent.columns;
+    let rows = steady_rows_of(near, at, columns, first.extent);
+    change_block(
+        lists, pixels, source, p, w, stacks, first.tops, at, done, rows, steps,
+    );
+    let rest = along(at, done);
+    change_band(
+        lists,
+        pixels,
+        source,
+        p,
+        w,
+        stacks,
+        near,
+        rest,
+        columns - done,
+        rows,
+        steps,
+    );
+    rows
 }
 
 // The same of the rows of an area, of which nothing is done yet.
@@ -382,7 +356,7 @@ fn change_within<P: Pixels, S: Source, L: Ledger>(
     requires near_new { All (λ v. IsNear v.place.min) (after_of stacks.now) }
     requires places { HasPlacesBut (shape lists.now) p (after_of stacks.now) w (P.has pixels.old) }
     requires bits { HasBits (shape lists.now) (P.forms pixels.old) }
-    requires given { (x : Spot) → S.given source.now x < 2 ^ bits_in (P.forms pixels.old) p }
+    requires given { parent_of (shape lists.now) w ≡ Some p → (x : Spot) → S.given source.now x < 2 ^ bits_in (P.forms pixels.old) p }
     requires fill { (z : Spot) → S.fill source.now z < 2 ^ bits_in (P.forms pixels.old) p }
     ensures moved { (before : Place → ℕ) (done : Spot → Bool) → ((z : Spot) → IsTrue (holds area.now z) → done z ≡ false) → IsChanged (shape lists.now) p (after_of stacks.now) w (S.given source.now) (S.fill source.now) before (P.kept pixels.old) done → IsChanged (shape lists.now) p (after_of stacks.now) w (S.given source.now) (S.fill source.now) before (P.kept pixels.new) (λ z. holds area.now z || done z) }
     ensures has { P.has pixels.new ≡ P.has pixels.old }
@@ -391,15 +365,27 @@ fn change_within<P: Pixels, S: Source, L: Ledger>(
     ensures steps { steps.new ≤ steps.old + 2 * area_of area.now }
 {
     let columns = area.width() as usize;
+    if columns == 0 {
+        return;
+    }
+    let near = stacks_within(stacks, area);
     let height = area.height();
     let mut row = 0;
     while row < height {
         let at = area.point_at(0, row);
-        let rows = steady_rows_of(stacks, at, columns, height - row);
-        change_band(
-            lists, pixels, source, p, w, stacks, at, columns, rows, steps,
+        row += change_rows(
+            lists,
+            pixels,
+            source,
+            p,
+            w,
+            stacks,
+            &near,
+            at,
+            columns,
+            height - row,
+            steps,
         );
-        row += rows;
     }
 }
 
@@ -422,7 +408,7 @@ pub(crate) fn change_area<P: Pixels, S: Source, L: Ledger>(
     requires near_new { All (λ v. IsNear v.place.min) (after_of stacks.now) }
     requires places { HasPlacesBut (shape lists.now) p (after_of stacks.now) w (P.has pixels.old) }
     requires bits { HasBits (shape lists.now) (P.forms pixels.old) }
-    requires given { (x : Spot) → S.given source.now x < 2 ^ bits_in (P.forms pixels.old) p }
+    requires given { parent_of (shape lists.now) w ≡ Some p → (x : Spot) → S.given source.now x < 2 ^ bits_in (P.forms pixels.old) p }
     requires fill { (z : Spot) → S.fill source.now z < 2 ^ bits_in (P.forms pixels.old) p }
     ensures moved { IsChanged (shape lists.now) p (after_of stacks.now) w (S.given source.now) (S.fill source.now) (P.kept pixels.old) (P.kept pixels.new) (holds area.now) }
     ensures has { P.has pixels.new ≡ P.has pixels.old }
@@ -450,7 +436,7 @@ pub(crate) fn change_areas<P: Pixels, S: Source, L: Ledger>(
     requires near_new { All (λ v. IsNear v.place.min) (after_of stacks.now) }
     requires places { HasPlacesBut (shape lists.now) p (after_of stacks.now) w (P.has pixels.old) }
     requires bits { HasBits (shape lists.now) (P.forms pixels.old) }
-    requires given { (x : Spot) → S.given source.now x < 2 ^ bits_in (P.forms pixels.old) p }
+    requires given { parent_of (shape lists.now) w ≡ Some p → (x : Spot) → S.given source.now x < 2 ^ bits_in (P.forms pixels.old) p }
     requires fill { (z : Spot) → S.fill source.now z < 2 ^ bits_in (P.forms pixels.old) p }
     ensures moved { IsChanged (shape lists.now) p (after_of stacks.now) w (S.given source.now) (S.fill source.now) (P.kept pixels.old) (P.kept pixels.new) (covers areas.now) }
     ensures has { P.has pixels.new ≡ P.has pixels.old }
@@ -477,6 +463,7 @@ pub fn change<P: Pixels, S: Source, L: Ledger>(
     area: &Rect,
     steps: &mut Steps<L>,
 )
+    requires front { IsFront (image_at (shape lists.now) p).windows upper.now w (length upper.now) }
     requires change { IsChange (shape lists.now) p (upper.now ++ lower.now) w }
     requires above { parent_of (shape lists.now) w ≡ Some p }
     requires near { IsRectNear area.now }
@@ -494,6 +481,6 @@ pub fn change<P: Pixels, S: Source, L: Ledger>(
     ensures spare { P.spare pixels.new ≡ P.spare pixels.old }
     ensures steps { steps.new ≤ steps.old + 2 * area_of area.now }
 {
-    let stacks = stacks_of(&lists.get(p).windows, upper, lower, w);
+    let stacks = stacks_around(&lists.get(p).windows, upper, lower, w);
     change_area(lists, pixels, source, p, w, &stacks, area, steps);
 }

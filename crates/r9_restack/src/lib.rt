@@ -2,11 +2,14 @@
 #![tactic(auto)]
 
 mod changing;
+mod giving;
 mod ordering;
 mod placing;
 mod restacking;
 mod stacks;
 
-pub use changing::{Source, change};
+pub use changing::change;
+pub use giving::{Source, Supply};
 pub use ordering::{groups_are_orders, reorder};
-pub use restacking::{leave, restack};
+pub use restacking::{conceal, leave, restack};
+pub use stacks::count_front;

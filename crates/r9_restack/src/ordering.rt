@@ -12,8 +12,9 @@ ghost use Rattle.r9_region.specs.Region.{covers};
 ghost use Rattle.r9_restack.specs.Areas.{AreApartIn};
 ghost use Rattle.r9_restack.specs.Moving.{HasPlaces, IsReordering, IsSameTop};
 
-use super::changing::{Source, change_areas};
-use super::stacks::stacks_of;
+use super::changing::change_areas;
+use super::giving::{Source, Supply};
+use super::stacks::{count_same, stacks_of};
 use model_forest::Window;
 use r9_geom::{Point, Rect};
 use r9_locate::{Lists, Pixels};
@@ -35,6 +36,14 @@ impl Source for Nothing {
 
     fn fills(&self, _q: Point, raws: &mut [u32]) {
         raws.fill(0);
+    }
+
+    fn given_in(&self, _r: &Rect) -> Supply<'_> {
+        Supply::Plain(0)
+    }
+
+    fn fill_in(&self, _r: &Rect) -> Supply<'_> {
+        Supply::Plain(0)
     }
 }
 
@@ -59,7 +68,8 @@ pub fn reorder<P: Pixels, L: Ledger>(
     ensures spare { P.spare pixels.new ≡ P.spare pixels.old }
     ensures steps { steps.new ≤ steps.old + 2 * sum_by area_of areas.now }
 {
-    let stacks = stacks_of(&lists.get(p).windows, new, &[], p);
+    let windows = &lists.get(p).windows;
+    let stacks = stacks_of(windows, new, count_same(windows, new, p), p);
     change_areas(lists, pixels, &Nothing, p, p, &stacks, areas, steps);
 }
 

@@ -12,14 +12,15 @@ ghost use Rattle.r9_locate.specs.Table.{shape};
 ghost use Rattle.r9_shown.specs.Shown as spec;
 ghost use Rattle.r9_restack.specs.Changing.{HasPlacesBut, IsChange};
 ghost use Rattle.r9_restack.specs.Placing.{comes, shows, with_coming, IsComing, IsPlaced};
-ghost use Rattle.r9_restack.specs.Stacks.{after_of, IsStacked};
+ghost use Rattle.r9_restack.specs.Stacks.{after_of, tops_at, IsStacked};
 ghost use Rattle.r9_restack.specs.Showing.{shown_at, shows_in};
 
-use super::changing::{Source, change_block};
-use super::stacks::{Extent, Stacks, Tops, cut, run_of};
+use super::changing::{LONGEST, change_block};
+use super::giving::{Source, Supply};
+use super::stacks::{Stacks, Tops, run_of, stacks_within};
 use r9_geom::{Point, Rect};
 use r9_locate::{Lists, Pixels, along};
-use r9_shown::down;
+use r9_shown::{Extent, block, cut, down};
 use r9_steps::Steps;
 use std::sync::ledger::Ledger;
 
@@ -88,7 +89,7 @@ fn is_after(tops: Option<Tops>, w: u32) -> bool
     }
 }
 
-// For how many of n rows down that is so as in so many columns of the first one.
+// For how many rows down that is so as in so many columns of the first one, of which this is known of the first block.
 fn steady_band(
     below: &Rect,
     area: &Rect,
@@ -96,18 +97,19 @@ fn steady_band(
     w: u32,
     at: Point,
     columns: usize,
-    n: u64,
+    first: Extent,
 ) -> u64
     requires near { IsNear at }
     requires columns { columns ≤ 2 ^ 41 }
-    requires rows { 0 < n }
+    requires rows { 0 < first.rows }
+    requires steady { (z : Spot) (k : ℕ) → IsTrue (holds (strip at first.columns) z) → k < first.rows → shown_at below.now area.now stacks.now w (spec.down z k) ≡ shown_at below.now area.now stacks.now w z }
     requires apart { All (λ (v : Stood). v.image ≢ w) stacks.now.front.now }
     ensures some { 0 < result }
-    ensures most { result ≤ n }
+    ensures most { result ≤ first.rows }
     ensures same { (z : Spot) (k : ℕ) → IsTrue (holds (strip at columns) z) → k < result → shown_at below.now area.now stacks.now w (spec.down z k) ≡ shown_at below.now area.now stacks.now w z }
 {
-    let mut rows = n;
-    let mut done = 0;
+    let mut rows = first.rows;
+    let mut done = first.columns;
     while done < columns {
         let most = Extent {
             columns: columns - done,
@@ -181,7 +183,9 @@ fn keep_block<P: Pixels, S: Source, L: Ledger>(
     rows: u64,
     steps: &mut Steps<L>,
 )
-    requires near { IsNear x }
+    requires near { IsRectNear (spec.block x columns rows) }
+    requires some { 0 < columns }
+    requires some_rows { 0 < rows }
     requires columns { columns ≤ 2 ^ 41 }
     requires rows { rows ≤ 2 ^ 41 }
     requires has { (z : Spot) → IsTrue (holds (spec.block x columns rows) z) → P.has pixels.old (own w z) ≡ true }
@@ -193,8 +197,17 @@ fn keep_block<P: Pixels, S: Source, L: Ledger>(
     ensures spare { P.spare pixels.new ≡ P.spare pixels.old }
     ensures steps { steps.new ≡ steps.old + columns * rows }
 {
-    for row in 0..rows {
-        keep_strip(pixels, source, w, down(x, row), columns, steps);
+    let r = block(x, columns, rows);
+    match source.given_in(&r) {
+        Supply::Plain(raw) => pixels.fill_block(w, &r, raw, steps),
+        Supply::Rows { raws, first, width } => {
+            pixels.write_block(w, &r, raws, first, width, steps);
+        }
+        Supply::Untold => {
+            for row in 0..rows {
+                keep_strip(pixels, source, w, down(x, row), columns, steps);
+            }
+        }
     }
 }
 
@@ -218,10 +231,10 @@ fn place_block<P: Pixels, S: Source, L: Ledger>(
     requires change { IsChange (shape lists.now) p (after_of stacks.now) w }
     requires stacks { IsStacked (shape lists.now) p w stacks.now }
     requires above { parent_of (shape lists.now) w ≡ Some p }
-    requires near { IsNear x }
+    requires near { IsRectNear (spec.block x columns rows) }
     requires some { 0 < columns }
     requires some_rows { 0 < rows }
-    requires columns { columns ≤ 2 ^ 41 }
+    requires columns { columns ≤ 2 ^ 40 }
     requires rows { rows ≤ 2 ^ 41 }
     requires shown { (z : Spot) → IsTrue (holds (spec.block q columns rows) z) → shown_at (image_at (shape lists.now) p).r area.now stacks.now w z ≡ shown }
     requires near_new { All (λ v. IsNear v.place.min) (after_of stacks.now) }
@@ -257,6 +270,7 @@ fn place_band<P: Pixels, S: Source, L: Ledger>(
     p: u32,
     w: u32,
     stacks: &Stacks,
+    near: &Stacks,
     area: &Rect,
     x: Point,
     q: Point,
@@ -267,11 +281,13 @@ fn place_band<P: Pixels, S: Source, L: Ledger>(
     requires change { IsChange (shape lists.now) p (after_of stacks.now) w }
     requires stacks { IsStacked (shape lists.now) p w stacks.now }
     requires above { parent_of (shape lists.now) w ≡ Some p }
-    requires near { (z : Spot) → IsTrue (holds (spec.block x columns rows) z) → IsNear z }
-    requires q_near { IsNear q }
+    requires near { IsRectNear (spec.block x columns rows) }
+    requires q_near { 0 < columns → IsNear q }
     requires columns { columns ≤ 2 ^ 41 }
     requires rows { rows ≤ 2 ^ 41 }
     requires some { 0 < rows }
+    requires apart { All (λ (v : Stood). v.image ≢ w) near.now.front.now }
+    requires same { (z : Spot) → IsTrue (holds (spec.block q columns rows) z) → tops_at near.now z ≡ tops_at stacks.now z }
     requires shown { (z : Spot) (k : ℕ) → IsTrue (holds (strip q columns) z) → k < rows → shown_at (image_at (shape lists.now) p).r area.now stacks.now w (spec.down z k) ≡ shown_at (image_at (shape lists.now) p).r area.now stacks.now w z }
     requires near_new { All (λ v. IsNear v.place.min) (after_of stacks.now) }
     requires places { HasPlacesBut (shape lists.now) p (after_of stacks.now) w (P.has pixels.old) }
@@ -292,10 +308,10 @@ fn place_band<P: Pixels, S: Source, L: Ledger>(
     while done < columns {
         let from = along(q, done);
         let most = Extent {
-            columns: columns - done,
+            columns: (columns - done).min(LONGEST),
             rows,
         };
-        let part = part_of(&below, area, stacks, w, from, most);
+        let part = part_of(&below, area, near, w, from, most);
         let len = part.extent.columns;
         place_block(
             lists,
@@ -314,6 +330,90 @@ fn place_band<P: Pixels, S: Source, L: Ledger>(
         );
         done += len;
     }
+}
+
+// The same of the first of some rows: as many as in each column of which that is known. How many that were.
+fn place_rows<P: Pixels, S: Source, L: Ledger>(
+    lists: &Lists,
+    pixels: &mut P,
+    source: &S,
+    p: u32,
+    w: u32,
+    stacks: &Stacks,
+    near: &Stacks,
+    area: &Rect,
+    x: Point,
+    q: Point,
+    columns: usize,
+    n: u64,
+    steps: &mut Steps<L>,
+) -> u64
+    requires change { IsChange (shape lists.now) p (after_of stacks.now) w }
+    requires stacks { IsStacked (shape lists.now) p w stacks.now }
+    requires above { parent_of (shape lists.now) w ≡ Some p }
+    requires near { IsRectNear (spec.block x columns n) }
+    requires stands { (z : Spot) → IsTrue (holds (spec.block q columns n) z) → IsNear z }
+    requires columns { columns ≤ 2 ^ 41 }
+    requires rows { n ≤ 2 ^ 41 }
+    requires some_columns { 0 < columns }
+    requires some { 0 < n }
+    requires apart { All (λ (v : Stood). v.image ≢ w) near.now.front.now }
+    requires same { (z : Spot) → IsTrue (holds (spec.block q columns n) z) → tops_at near.now z ≡ tops_at stacks.now z }
+    requires near_new { All (λ v. IsNear v.place.min) (after_of stacks.now) }
+    requires places { HasPlacesBut (shape lists.now) p (after_of stacks.now) w (P.has pixels.old) }
+    requires bits { HasBits (shape lists.now) (P.forms pixels.old) }
+    requires given { (z : Spot) → S.given source.now z < 2 ^ bits_in (P.forms pixels.old) p }
+    requires fill { (z : Spot) → S.fill source.now z < 2 ^ bits_in (P.forms pixels.old) p }
+    requires own { (z : Spot) → IsTrue (holds (spec.block x columns n) z) → shows (image_at (shape lists.now) p).r (after_of stacks.now) w (carried z x q) ≡ false → P.has pixels.old (own w z) ≡ true }
+    ensures some { 0 < result }
+    ensures most { result ≤ n }
+    ensures moved { (before : Place → ℕ) (done : Spot → Bool) → IsComing (spec.block q columns n) (comes (image_at (shape lists.now) p).r area.now (after_of stacks.now) w) done → IsPlaced (shape lists.now) p (after_of stacks.now) w (S.given source.now) (S.fill source.now) before (P.kept pixels.old) done → IsPlaced (shape lists.now) p (after_of stacks.now) w (S.given source.now) (S.fill source.now) before (P.kept pixels.new) (with_coming (spec.block q columns result) (comes (image_at (shape lists.now) p).r area.now (after_of stacks.now) w) done) }
+    ensures kept { (z : Spot) → IsTrue (holds (spec.block x columns result) z) → shows (image_at (shape lists.now) p).r (after_of stacks.now) w (carried z x q) ≡ false → P.kept pixels.new (own w z) ≡ S.given source.now z }
+    ensures others { (z : Spot) → holds (spec.block x columns result) z ≡ false → P.kept pixels.new (own w z) ≡ P.kept pixels.old (own w z) }
+    ensures has { P.has pixels.new ≡ P.has pixels.old }
+    ensures forms { P.forms pixels.new ≡ P.forms pixels.old }
+    ensures spare { P.spare pixels.new ≡ P.spare pixels.old }
+    ensures steps { steps.new ≤ steps.old + 2 * (columns * result) }
+{
+    let below = lists.get(p).r;
+    let most = Extent {
+        columns: columns.min(LONGEST),
+        rows: n,
+    };
+    let first = part_of(&below, area, near, w, q, most);
+    let done = first.extent.columns;
+    let rows = steady_band(&below, area, near, w, q, columns, first.extent);
+    place_block(
+        lists,
+        pixels,
+        source,
+        p,
+        w,
+        stacks,
+        area,
+        first.shown,
+        x,
+        q,
+        done,
+        rows,
+        steps,
+    );
+    place_band(
+        lists,
+        pixels,
+        source,
+        p,
+        w,
+        stacks,
+        near,
+        area,
+        along(x, done),
+        along(q, done),
+        columns - done,
+        rows,
+        steps,
+    );
+    rows
 }
 
 // Puts a window with rectangle r whose min stands at a point of the image below. The area is done.
@@ -353,16 +453,26 @@ pub(crate) fn place<P: Pixels, S: Source, L: Ledger>(
     if columns == 0 {
         return;
     }
+    let near = stacks_within(stacks, &r.at_min(corner));
     let height = r.height();
-    let below = lists.get(p).r;
     let mut row = 0;
     while row < height {
         let x = r.point_at(0, row);
         let q = x.carried(r.min, corner);
-        let rows = steady_band(&below, area, stacks, w, q, columns, height - row);
-        place_band(
-            lists, pixels, source, p, w, stacks, area, x, q, columns, rows, steps,
+        row += place_rows(
+            lists,
+            pixels,
+            source,
+            p,
+            w,
+            stacks,
+            &near,
+            area,
+            x,
+            q,
+            columns,
+            height - row,
+            steps,
         );
-        row += rows;
     }
 }

@@ -1,6 +1,6 @@
 //! All the pixels moved when one of the windows of an image comes or moves.
 
-ghost use Rattle.std.specs.Prelude.{◌≡◌, ◌^◌, ◌≢◌, ◌+◌, ◌++◌, ◌*◌, ◌<◌, ◌≤◌, ◌&&◌, ℕ, Bool, false, true, All, IsTrue, Some};
+ghost use Rattle.std.specs.Prelude.{◌≡◌, ◌^◌, ◌≢◌, ◌+◌, ◌++◌, ◌*◌, ◌<◌, ◌≤◌, ◌&&◌, ℕ, Bool, false, true, length, All, IsTrue, Some};
 ghost use Rattle.r9_geom.specs.declared.Point.{Point as Spot};
 ghost use Rattle.r9_geom.specs.Geometry.{area_of, carried, holds, IsNear, IsOrdered, IsRectNear};
 ghost use Rattle.model_forest.specs.declared.Window.{Window as Stood};
@@ -11,10 +11,13 @@ ghost use Rattle.model_kept.specs.Keeping.{is_top, keeping, own, Place};
 ghost use Rattle.model_kept.specs.Restack.{with_list, with_own, IsRestacked};
 ghost use Rattle.r9_locate.specs.Forms.{bits_in, HasBits};
 ghost use Rattle.r9_locate.specs.Table.{shape};
-ghost use Rattle.r9_restack.specs.Changing.{HasPlacesBut, IsChange, StaysTop};
+ghost use Rattle.r9_restack.specs.Changing.{HasPlacesBut, IsChange, IsConcealing, StaysTop};
+ghost use Rattle.r9_restack.specs.Moving.{HasPlaces};
 ghost use Rattle.r9_restack.specs.Placing.{shows};
+ghost use Rattle.r9_restack.specs.Stacks.{IsFront};
 
-use super::changing::{Source, change, change_area};
+use super::changing::{change, change_area};
+use super::giving::Source;
 use super::placing::place;
 use super::stacks::stacks_of;
 use model_forest::Window;
@@ -23,8 +26,8 @@ use r9_locate::{Lists, Pixels, place_among};
 use r9_steps::Steps;
 use std::sync::ledger::Ledger;
 
-/// Moves all pixels to where they are kept when window w comes or moves: its own are given. The area has all points where it
-/// stood.
+/// Moves all pixels to where they are kept when window w comes or moves: its own are given. Both lists begin with the same windows
+/// up to `from`. The area has all points where it stood.
 pub fn restack<P: Pixels, S: Source, L: Ledger>(
     lists: &Lists,
     pixels: &mut P,
@@ -32,9 +35,11 @@ pub fn restack<P: Pixels, S: Source, L: Ledger>(
     p: u32,
     w: u32,
     new: &[Window],
+    from: usize,
     area: &Rect,
     steps: &mut Steps<L>,
 )
+    requires front { IsFront (image_at (shape lists.now) p).windows new.now w from }
     requires change { IsChange (shape lists.now) p new.now w }
     requires above { parent_of (shape lists.now) w ≡ Some p }
     requires near { IsRectNear area.now }
@@ -57,7 +62,7 @@ pub fn restack<P: Pixels, S: Source, L: Ledger>(
     ensures spare { P.spare pixels.new ≡ P.spare pixels.old }
     ensures steps { steps.new ≤ steps.old + 2 * area_of area.now + 2 * area_of (image_at (shape lists.now) w).r }
 {
-    let stacks = stacks_of(&lists.get(p).windows, new, &[], w);
+    let stacks = stacks_of(&lists.get(p).windows, new, from, w);
     change_area(lists, pixels, source, p, w, &stacks, area, steps);
     let r = lists.get(w).r;
     let corner = place_among(new, w).min;
@@ -66,8 +71,8 @@ pub fn restack<P: Pixels, S: Source, L: Ledger>(
     );
 }
 
-/// Moves all pixels to where they are kept when window w leaves the list, which leaves two parts of it: its own are asked for
-/// by nothing then.
+/// Moves all pixels to where they are kept when window w leaves the list, which leaves two parts of it, the windows above it and those below: its own
+/// are asked for by nothing then.
 pub fn leave<P: Pixels, S: Source, L: Ledger>(
     lists: &Lists,
     pixels: &mut P,
@@ -79,6 +84,7 @@ pub fn leave<P: Pixels, S: Source, L: Ledger>(
     area: &Rect,
     steps: &mut Steps<L>,
 )
+    requires front { IsFront (image_at (shape lists.now) p).windows upper.now w (length upper.now) }
     requires change { IsChange (shape lists.now) p (upper.now ++ lower.now) w }
     requires above { parent_of (shape lists.now) w ≡ Some p }
     requires gone { (z : Spot) (v : Stood) → top_window (upper.now ++ lower.now) z ≡ Some v → v.image ≢ w }
@@ -98,4 +104,37 @@ pub fn leave<P: Pixels, S: Source, L: Ledger>(
     ensures steps { steps.new ≤ steps.old + 2 * area_of area.now }
 {
     change(lists, pixels, source, p, w, upper, lower, area, steps);
+}
+
+/// Moves all pixels to where they are kept when a window of an image moves to where nothing of it shows: what showed of it is kept
+/// with it, as that of any window that becomes hidden. Both lists begin with the same windows up to `from`.
+pub fn conceal<P: Pixels, S: Source, L: Ledger>(
+    lists: &Lists,
+    pixels: &mut P,
+    source: &S,
+    p: u32,
+    new: &[Window],
+    from: usize,
+    area: &Rect,
+    steps: &mut Steps<L>,
+)
+    requires front { IsFront (image_at (shape lists.now) p).windows new.now p from }
+    requires change { IsConcealing (shape lists.now) p new.now }
+    requires near { IsRectNear area.now }
+    requires ordered { IsOrdered area.now }
+    requires inside { (z : Spot) → IsTrue (holds area.now z) → IsTrue (holds (image_at (shape lists.now) p).r z) }
+    requires outside { (z : Spot) → IsTrue (holds (image_at (shape lists.now) p).r z) → holds area.now z ≡ false → StaysTop (shape lists.now) p new.now p z }
+    requires near_new { All (λ v. IsNear v.place.min) new.now }
+    requires places { HasPlaces (shape lists.now) p new.now (P.has pixels.old) }
+    requires bits { HasBits (shape lists.now) (P.forms pixels.old) }
+    requires fill { (z : Spot) → S.fill source.now z < 2 ^ bits_in (P.forms pixels.old) p }
+    ensures moved { IsRestacked (shape lists.now) (with_list (shape lists.now) p new.now) p (P.kept pixels.old) (P.kept pixels.new) (S.fill source.now) }
+    ensures has { P.has pixels.new ≡ P.has pixels.old }
+    ensures forms { P.forms pixels.new ≡ P.forms pixels.old }
+    ensures spare { P.spare pixels.new ≡ P.spare pixels.old }
+    ensures steps { steps.new ≤ steps.old + 2 * area_of area.now }
+{
+    // No image is a window on itself: none of them is taken out.
+    let stacks = stacks_of(&lists.get(p).windows, new, from, p);
+    change_area(lists, pixels, source, p, p, &stacks, area, steps);
 }

@@ -1,23 +1,18 @@
 //! Blocks of points over which the same windows are topmost, before and after.
 
-ghost use Rattle.std.specs.Prelude.{◌≡◌, ◌≢◌, ◌^◌, ◌++◌, ◌<◌, ◌≤◌, ◌<ℤ◌, ℕ, true, length, take, All, IsTrue};
+ghost use Rattle.std.specs.Prelude.{◌≡◌, ◌≢◌, ◌^◌, ◌++◌, ◌<◌, ◌≤◌, ◌<ℤ◌, ◌≤ℤ◌, ℕ, ℤ, true, false, length, drop, take, All, IsTrue};
 ghost use Rattle.r9_geom.specs.declared.Point.{Point as Spot};
 ghost use Rattle.r9_geom.specs.Geometry.{holds, is_point, strip, IsNear};
 ghost use Rattle.model_forest.specs.declared.Window.{Window as Stood};
+ghost use Rattle.model_forest.specs.Stack.{without};
 ghost use Rattle.model_forest.specs.View.{is_bare, top_window};
 ghost use Rattle.r9_shown.specs.Shown as spec;
-ghost use Rattle.r9_restack.specs.Stacks.{after_of, before_of, is_window, tops_at};
+ghost use Rattle.r9_restack.specs.Stacks.{after_of, before_of, is_window, tops_at, IsFront};
 
 use model_forest::Window;
-use r9_geom::{Point, Rect, distance};
+use r9_geom::{Point, Rect};
 use r9_locate::along;
-
-/// So many columns and rows, from a point on.
-#[derive(Clone, Copy)]
-pub(crate) struct Extent {
-    pub(crate) columns: usize,
-    pub(crate) rows: u64,
-}
+use r9_shown::{Extent, cover_over, cut};
 
 /// The windows of an image, before and after: those with which both lists begin, and the others. The others of the list of
 /// after are in two parts, the upper windows first.
@@ -48,70 +43,6 @@ pub(crate) struct Run {
 struct Top {
     window: Option<Window>,
     extent: Extent,
-}
-
-// Whether no window stands over a block, or one does over all of it.
-#[derive(Clone, Copy)]
-struct Cover {
-    bare: bool,
-    extent: Extent,
-}
-
-/// For how many columns and rows from a point on a rectangle holds all points or none.
-pub(crate) fn cut(r: &Rect, q: Point, most: Extent) -> Extent
-    requires columns { 0 < most.columns }
-    requires rows { 0 < most.rows }
-    ensures some { 0 < result.columns }
-    ensures some_rows { 0 < result.rows }
-    ensures most { result.columns ≤ most.columns }
-    ensures most_rows { result.rows ≤ most.rows }
-    ensures same { (z : Spot) → IsTrue (holds (spec.block q result.columns result.rows) z) → holds r.now z ≡ holds r.now q }
-{
-    let Extent { columns, rows } = most;
-    if r.max.x <= q.x {
-        return most;
-    }
-    if r.max.y <= q.y {
-        return most;
-    }
-    if q.x < r.min.x {
-        return cut_left(r, q, most);
-    }
-    if q.y < r.min.y {
-        return Extent {
-            columns,
-            rows: rows.min(distance(q.y, r.min.y)),
-        };
-    }
-    Extent {
-        columns: columns.min(distance(q.x, r.max.x) as usize),
-        rows: rows.min(distance(q.y, r.max.y)),
-    }
-}
-
-// The same left of the rectangle: where it begins below, as many columns as there are.
-fn cut_left(r: &Rect, q: Point, most: Extent) -> Extent
-    requires columns { 0 < most.columns }
-    requires rows { 0 < most.rows }
-    requires left { q.x <ℤ r.now.min.x }
-    ensures some { 0 < result.columns }
-    ensures some_rows { 0 < result.rows }
-    ensures most { result.columns ≤ most.columns }
-    ensures most_rows { result.rows ≤ most.rows }
-    ensures same { (z : Spot) → IsTrue (holds (spec.block q result.columns result.rows) z) → holds r.now z ≡ holds r.now q }
-{
-    let Extent { columns, rows } = most;
-    let before = distance(q.x, r.min.x) as usize;
-    if q.y < r.min.y && before < columns {
-        return Extent {
-            columns,
-            rows: rows.min(distance(q.y, r.min.y)),
-        };
-    }
-    Extent {
-        columns: columns.min(before),
-        rows,
-    }
 }
 
 // The topmost window of a list at a point, and over how large a block from there on.
@@ -157,31 +88,74 @@ fn top_of(upper: &[Window], lower: &[Window], q: Point, most: Extent) -> Top
     top_over(lower, q, first.extent)
 }
 
-// Whether a window of a list stands at a point, and over how large a block from there on. The lowest ones are tried first: in a
-// pile they are the ones that hide the most.
-fn cover_over(windows: &[Window], q: Point, most: Extent) -> Cover
-    requires columns { 0 < most.columns }
-    requires rows { 0 < most.rows }
-    ensures some { 0 < result.extent.columns }
-    ensures some_rows { 0 < result.extent.rows }
-    ensures most { result.extent.columns ≤ most.columns }
-    ensures most_rows { result.extent.rows ≤ most.rows }
-    ensures same { (z : Spot) → IsTrue (holds (spec.block q result.extent.columns result.extent.rows) z) → is_bare windows.now z ≡ result.bare }
+// Whether the numbers from one up to another may have some of those from low up to high.
+fn may_meet(from: i64, to: i64, low: i64, high: i64) -> bool
+    ensures { result ≡ false → (at : ℤ) → low ≤ℤ at → at <ℤ high → from ≤ℤ at → to ≤ℤ at }
 {
-    let mut extent = most;
-    let mut left = windows.len();
-    while left > 0 {
-        left -= 1;
-        let place = &windows[left].place;
-        if place.holds(q) {
-            return Cover {
-                bare: false,
-                extent: cut(place, q, most),
-            };
-        }
-        extent = cut(place, q, extent);
+    if high <= from {
+        return false;
     }
-    Cover { bare: true, extent }
+    low < to
+}
+
+// Whether a rectangle may have points of another.
+fn is_near(r: &Rect, area: &Rect) -> bool
+    ensures { result ≡ false → (z : Spot) → IsTrue (holds area.now z) → holds r.now z ≡ false }
+{
+    if !may_meet(r.min.x, r.max.x, area.min.x, area.max.x) {
+        return false;
+    }
+    may_meet(r.min.y, r.max.y, area.min.y, area.max.y)
+}
+
+// How many windows of a list there are before the first one that may have points of an area.
+fn count_off(windows: &[Window], area: &Rect) -> usize
+    ensures most { result ≤ length windows.now }
+    ensures off { (z : Spot) → IsTrue (holds area.now z) → is_bare (take result windows.now) z ≡ true }
+{
+    for count in 0..windows.len() {
+        if is_near(&windows[count].place, area) {
+            return count;
+        }
+    }
+    windows.len()
+}
+
+// How many windows of a list there are up to the last one that may have points of an area.
+fn count_near(windows: &[Window], area: &Rect) -> usize
+    ensures most { result ≤ length windows.now }
+    ensures off { (z : Spot) → IsTrue (holds area.now z) → is_bare (drop result windows.now) z ≡ true }
+{
+    let mut count = windows.len();
+    while count > 0 {
+        if is_near(&windows[count - 1].place, area) {
+            return count;
+        }
+        count -= 1;
+    }
+    0
+}
+
+// The windows of a list from the first to the last one that may have points of an area.
+fn within<'a>(windows: &'a [Window], area: &Rect) -> &'a [Window]
+    ensures same { (z : Spot) → IsTrue (holds area.now z) → top_window result.now z ≡ top_window windows.now z }
+    ensures apart { (w : ℕ) → All (λ (v : Stood). v.image ≢ w) windows.now → All (λ (v : Stood). v.image ≢ w) result.now }
+{
+    let upper = &windows[..count_near(windows, area)];
+    &upper[count_off(upper, area)..]
+}
+
+/// The windows, before and after, that may have points of an area.
+pub(crate) fn stacks_within<'a>(stacks: &Stacks<'a>, area: &Rect) -> Stacks<'a>
+    ensures same { (z : Spot) → IsTrue (holds area.now z) → tops_at result z ≡ tops_at stacks.now z }
+    ensures apart { (w : ℕ) → All (λ (v : Stood). v.image ≢ w) stacks.now.front.now → All (λ (v : Stood). v.image ≢ w) result.front.now }
+{
+    Stacks {
+        front: within(stacks.front, area),
+        old: within(stacks.old, area),
+        upper: within(stacks.upper, area),
+        lower: within(stacks.lower, area),
+    }
 }
 
 /// What is topmost at a point, and over how large a block from there on.
@@ -212,17 +186,19 @@ pub(crate) fn run_of(stacks: &Stacks, q: Point, most: Extent) -> Run
     }
 }
 
-/// For how many of n rows down the same windows are topmost as in so many columns of the first one.
-pub(crate) fn steady_rows_of(stacks: &Stacks, at: Point, columns: usize, n: u64) -> u64
+/// For how many rows down the same windows are topmost as in so many columns of the first one, of which this is known of the
+/// first block.
+pub(crate) fn steady_rows_of(stacks: &Stacks, at: Point, columns: usize, first: Extent) -> u64
     requires near { IsNear at }
     requires columns { columns ≤ 2 ^ 41 }
-    requires rows { 0 < n }
+    requires rows { 0 < first.rows }
+    requires steady { (z : Spot) (k : ℕ) → IsTrue (holds (strip at first.columns) z) → k < first.rows → tops_at stacks.now (spec.down z k) ≡ tops_at stacks.now z }
     ensures some { 0 < result }
-    ensures most { result ≤ n }
+    ensures most { result ≤ first.rows }
     ensures same { (z : Spot) (k : ℕ) → IsTrue (holds (strip at columns) z) → k < result → tops_at stacks.now (spec.down z k) ≡ tops_at stacks.now z }
 {
-    let mut rows = n;
-    let mut done = 0;
+    let mut rows = first.rows;
+    let mut done = first.columns;
     while done < columns {
         let most = Extent {
             columns: columns - done,
@@ -260,12 +236,23 @@ fn goes_on(old: &Window, new: &Window, w: u32) -> bool
     is_same(old, new)
 }
 
-// With how many windows two lists begin before one that differs, or that of image w.
-fn count_front(old: &[Window], new: &[Window], w: u32) -> usize
-    ensures old { result ≤ length old.now }
-    ensures new { result ≤ length new.now }
-    ensures same { take result old.now ≡ take result new.now }
-    ensures apart { All (λ (v : Stood). v.image ≢ w) (take result new.now) }
+/// With how many windows two lists begin before that of image w, where they are the same but for that.
+pub fn count_front(old: &[Window], new: &[Window], w: u32) -> usize
+    requires { without w new.now ≡ without w old.now }
+    ensures { IsFront old.now new.now w result }
+{
+    let most = old.len().min(new.len());
+    for count in 0..most {
+        if old[count].image == w || new[count].image == w {
+            return count;
+        }
+    }
+    most
+}
+
+/// With how many windows two lists begin before one that differs, or that of image w.
+pub(crate) fn count_same(old: &[Window], new: &[Window], w: u32) -> usize
+    ensures { IsFront old.now new.now w result }
 {
     let most = old.len().min(new.len());
     for count in 0..most {
@@ -276,23 +263,37 @@ fn count_front(old: &[Window], new: &[Window], w: u32) -> usize
     most
 }
 
-/// The windows of an image before and after, where the list of after is in two parts, the upper windows first. Image w is not
-/// among those with which both are taken to begin.
-pub(crate) fn stacks_of<'a>(
+/// The windows of an image before and after, where both lists begin with so many, among which image w is not.
+pub(crate) fn stacks_of<'a>(old: &'a [Window], new: &'a [Window], from: usize, w: u32) -> Stacks<'a>
+    requires { IsFront old.now new.now w from }
+    ensures before { before_of result ≡ old.now }
+    ensures after { after_of result ≡ new.now }
+    ensures apart { All (λ (v : Stood). v.image ≢ w) result.front.now }
+{
+    Stacks {
+        front: &new[..from],
+        old: &old[from..],
+        upper: &new[from..],
+        lower: &[],
+    }
+}
+
+/// The windows of an image before and after, where image w leaves the list in two parts, the upper windows first.
+pub(crate) fn stacks_around<'a>(
     old: &'a [Window],
     upper: &'a [Window],
     lower: &'a [Window],
     w: u32,
 ) -> Stacks<'a>
+    requires { IsFront old.now upper.now w (length upper.now) }
     ensures before { before_of result ≡ old.now }
     ensures after { after_of result ≡ upper.now ++ lower.now }
     ensures apart { All (λ (v : Stood). v.image ≢ w) result.front.now }
 {
-    let count = count_front(old, upper, w);
     Stacks {
-        front: &upper[..count],
-        old: &old[count..],
-        upper: &upper[count..],
+        front: upper,
+        old: &old[upper.len()..],
+        upper: &[],
         lower,
     }
 }

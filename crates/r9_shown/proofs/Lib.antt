@@ -1,3 +1,9 @@
-pub mod Blocks
+pub mod Above
 pub mod Carried
-pub mod Tops
+pub mod Columns
+pub mod Cuts
+pub mod Keepers
+pub mod Nearby
+pub mod Parts
+pub mod Pieces
+pub mod Writing

@@ -3,6 +3,7 @@
 ghost use Rattle.std.specs.Prelude.{◌≡◌, ◌^◌, ◌<◌, ◌≤◌, ℕ};
 ghost use Rattle.r9_geom.specs.declared.Point.{Point as Spot};
 ghost use Rattle.r9_geom.specs.Geometry.{holds, IsNear};
+ghost use Rattle.r9_plane.specs.Pixels.{along};
 ghost use Rattle.model_forest.specs.View.{top_window};
 ghost use Rattle.r9_shown.specs.Shown as spec;
 ghost use Rattle.r9_shown.specs.Shown.{down};
@@ -48,6 +49,19 @@ pub fn down(at: Point, rows: u64) -> Point
 {
     Point {
         x: at.x,
+        y: at.y + rows as i64,
+    }
+}
+
+// The point so many columns and rows further on.
+pub(crate) fn beyond(at: Point, columns: usize, rows: u64) -> Point
+    requires near { IsNear at }
+    requires columns { columns ≤ 2 ^ 41 }
+    requires rows { rows ≤ 2 ^ 41 }
+    ensures { result ≡ spec.down (along at columns) rows }
+{
+    Point {
+        x: at.x + columns as i64,
         y: at.y + rows as i64,
     }
 }

@@ -1,17 +1,17 @@
 //! Tiles of 32 by 32 raw pixels, kept in one growing table.
 #![tactic(auto)]
 
-ghost use Rattle.std.specs.Prelude.{◌≡◌, ◌≢◌, ◌+◌, ◌<◌, ◌≤◌, ◌==◌, ◌&&◌, ◌||◌, ◌^◌, ℕ, false, if◌then◌else◌, length, max, not, slice_index, slice_set, IsTrue, OnErr, OnOk};
+ghost use Rattle.std.specs.Prelude.{◌≡◌, ◌≢◌, ◌+◌, ◌<◌, ◌≤◌, ◌==◌, ◌&&◌, ◌||◌, ◌^◌, ℕ, false, if◌then◌else◌, length, max, not, replicate, slice_index, slice_set, vec_capacity, vec_len, ◌++◌, ◌∷◌, [], IsTrue, OnErr, OnOk};
 ghost use Rattle.r9_geom.specs.declared.Point.{Point as Spot};
-ghost use Rattle.r9_geom.specs.Geometry.{carried, distance, holds, is_point, strip};
+ghost use Rattle.r9_geom.specs.Geometry.{carried, distance, holds, is_point, strip, HasPoints, IsOrdered, IsRectNear};
 ghost use Rattle.model_pixel.specs.Channels.{depth};
+ghost use Rattle.r9_plane.specs.Blocks.{number_in, HasRows};
 ghost use Rattle.r9_plane.specs.Pixels.{along, chan_of, pixel_at, rect_of};
 ghost use Rattle.r9_store.specs.Tiles.{cell, held, is_held, pixel, place_of, spare};
 
-use r9_geom::{Point, distance};
+use r9_geom::{Point, Rect, distance};
 use r9_memory::Memory;
-use r9_plane::Plane;
-use slab::Slab;
+use r9_plane::{Plane, copy_rows, fill_rows};
 use std::alloc::Global;
 use std::marker::Model;
 
@@ -36,22 +36,28 @@ pub const MOST_TILES: usize = 4_294_967_295;
 /// Tiles, some of them held and the others spare. A tile that is taken is 0 everywhere.
 #[derive(Drop)]
 pub struct Store {
-    tiles: Slab<[u32; PIXELS]>,
+    // The pixels of all tiles that were ever held. What those of another one are is never seen.
+    tiles: Vec<[u32; PIXELS]>,
+    // Which of them are held.
+    flags: Vec<bool>,
+    // The numbers of the others, of which the last is taken first.
+    given: Vec<usize>,
     // How many tiles may be held.
     room: usize,
 }
 
 impl Model for Store {
+    ghost use Rattle.std.specs.Prelude.{vec_capacity};
     ghost use Rattle.r9_store.specs.Tiles.{Tiles, tiles_code};
-    ghost use Rattle.r9_store.specs.Sound.{IsSound};
+    ghost use Rattle.r9_store.specs.Sound.{slots_of, HasRoom, IsSound};
 
     ghost Value = { Tiles };
 
     ghost coded = { tiles_code };
 
-    ghost view = { λ store. record { slots = store.tiles.slots; room = store.room } };
+    ghost view = { λ store. record { slots = slots_of store.flags.items store.tiles.items; room = store.room } };
 
-    ghost invariant = { λ store. IsSound store.tiles store.room };
+    ghost invariant = { λ store. IsSound store.flags.items store.tiles.items store.given.items store.room × HasRoom store.room (vec_capacity store.tiles) (vec_capacity store.flags) (vec_capacity store.given) };
 }
 
 impl Store {
@@ -62,7 +68,9 @@ impl Store {
         ensures spare { spare result ≡ 0 }
     {
         Store {
-            tiles: Slab::new(alloc),
+            tiles: Vec::new(alloc),
+            flags: Vec::new(alloc),
+            given: Vec::new(alloc),
             room: 0,
         }
     }
@@ -74,12 +82,15 @@ impl Store {
         ensures kept { self.new.slots ≡ self.old.slots }
         ensures err { OnErr result (self.new ≡ self.old) }
     {
-        let held = self.tiles.len();
+        let held = self.held();
         if tiles > MOST_TILES - held {
             return Err(Memory);
         }
-        self.tiles.reserve(tiles)?;
-        self.room = self.room.max(held + tiles);
+        let room = self.room.max(held + tiles);
+        self.tiles.reserve(room - self.tiles.len())?;
+        self.flags.reserve(room - self.flags.len())?;
+        self.given.reserve(room - self.given.len())?;
+        self.room = room;
         Ok(())
     }
 
@@ -93,7 +104,19 @@ impl Store {
         ensures held { held self.new ≡ held self.old + 1 }
         ensures spare { spare self.new + 1 ≡ spare self.old }
     {
-        TileNo(self.tiles.insert_reserved([0; PIXELS]))
+        match self.given.pop() {
+            Some(t) => {
+                make_blank(&mut self.tiles[t]);
+                self.flags[t] = true;
+                TileNo(t)
+            }
+            None => {
+                let t = self.tiles.len();
+                push_blank(&mut self.tiles);
+                self.flags.push_reserved(true);
+                TileNo(t)
+            }
+        }
     }
 
     /// Gives a tile back, which is spare then. It takes no memory.
@@ -104,7 +127,8 @@ impl Store {
         ensures held { held self.new + 1 ≡ held self.old }
         ensures spare { spare self.new ≡ spare self.old + 1 }
     {
-        let _ = self.tiles.remove(t.0);
+        self.flags[t.0] = false;
+        self.given.push_reserved(t.0);
     }
 
     /// The raw pixel of a tile at a point, counted from its upper left corner.
@@ -186,21 +210,94 @@ impl Store {
         copy_run(&mut self.tiles[t.0], first, len, plane, from);
     }
 
+    /// All raw pixels of a tile, row by row.
+    pub fn tile(&self, t: TileNo) -> &[u32]
+        requires held { IsTrue (is_held self.now t) }
+        ensures len { length result.now ≡ 1024 }
+        ensures pixels { (p : Spot) → IsTrue (holds cell p) → slice_index result.now (place_of p) ≡ pixel self.now t p }
+    {
+        &self.tiles[t.0]
+    }
+
+    /// Puts raw pixels into a rectangle of a tile, which stand among rows of so many, and changes nothing else.
+    pub fn put_block(&mut self, t: TileNo, r: &Rect, raws: &[u32], first: usize, width: usize)
+        requires held { IsTrue (is_held self.old t) }
+        requires some { HasPoints r.now }
+        requires inside { (p : Spot) → IsTrue (holds r.now p) → IsTrue (holds cell p) }
+        requires rows { HasRows r.now first width (length raws.now) }
+        ensures pixels { (u : ℕ) (q : Spot) → pixel self.new u q ≡ (if (u == t) && holds r.now q then slice_index raws.now (number_in r.now first width q) else pixel self.old u q) }
+        ensures same { (u : ℕ) → is_held self.new u ≡ is_held self.old u }
+        ensures held { held self.new ≡ held self.old }
+        ensures spare { spare self.new ≡ spare self.old }
+    {
+        let place = place_of(r.min);
+        put_part(&mut self.tiles[t.0], place, r, raws, first, width);
+    }
+
+    /// Puts one raw pixel at all points of a rectangle of a tile, and changes nothing else.
+    pub fn fill_block(&mut self, t: TileNo, r: &Rect, raw: u32)
+        requires held { IsTrue (is_held self.old t) }
+        requires some { HasPoints r.now }
+        requires inside { (p : Spot) → IsTrue (holds r.now p) → IsTrue (holds cell p) }
+        ensures pixels { (u : ℕ) (q : Spot) → pixel self.new u q ≡ (if (u == t) && holds r.now q then raw else pixel self.old u q) }
+        ensures same { (u : ℕ) → is_held self.new u ≡ is_held self.old u }
+        ensures held { held self.new ≡ held self.old }
+        ensures spare { spare self.new ≡ spare self.old }
+    {
+        let place = place_of(r.min);
+        fill_part(&mut self.tiles[t.0], place, r, raw);
+    }
+
+    /// Puts the raw pixels of a rectangle of a plane into a tile, from a point of that on, and changes nothing else. They have no
+    /// more bits than the plane's channels tell.
+    pub fn copy_block(&mut self, t: TileNo, at: Point, plane: &Plane, from: &Rect)
+        requires held { IsTrue (is_held self.old t) }
+        requires near { IsRectNear from.now }
+        requires some { HasPoints from.now }
+        requires inside { (p : Spot) → IsTrue (holds from.now p) → IsTrue (holds cell (carried p from.now.min at)) }
+        requires inside_plane { (p : Spot) → IsTrue (holds from.now p) → IsTrue (holds (rect_of plane.now) p) }
+        ensures pixels { (u : ℕ) (q : Spot) → pixel self.new u q ≡ (if (u == t) && holds from.now (carried q at from.now.min) then pixel_at plane.now (carried q at from.now.min) else pixel self.old u q) }
+        ensures below { (p : Spot) → IsTrue (holds from.now p) → pixel_at plane.now p < 2 ^ depth (chan_of plane.now) }
+        ensures same { (u : ℕ) → is_held self.new u ≡ is_held self.old u }
+        ensures held { held self.new ≡ held self.old }
+        ensures spare { spare self.new ≡ spare self.old }
+    {
+        let place = place_of(at);
+        copy_part(&mut self.tiles[t.0], place, plane, from);
+    }
+
     /// How many tiles are held.
     pub fn held(&self) -> usize
         ensures value { result ≡ held self.now }
         ensures most { result + spare self.now ≤ MOST_TILES }
     {
-        let _ = &self.room;
-        self.tiles.len()
+        self.tiles.len() - self.given.len()
     }
 
     /// How many tiles are spare.
     pub fn spare(&self) -> usize
         ensures { result ≡ spare self.now }
     {
-        self.room - self.tiles.len()
+        self.room - self.held()
     }
+}
+
+// Makes a tile 0 everywhere.
+fn make_blank(tile: &mut [u32; PIXELS])
+    ensures { tile.new ≡ replicate PIXELS 0 }
+{
+    tile.fill(0);
+}
+
+// Puts a blank tile behind the others.
+fn push_blank(tiles: &mut Vec<[u32; PIXELS]>)
+    requires { vec_len tiles.old < vec_capacity tiles.old }
+    ensures items { tiles.new.items ≡ tiles.old.items ++ replicate PIXELS 0 ∷ [] }
+    ensures len { vec_len tiles.new ≡ vec_len tiles.old + 1 }
+    ensures capacity { vec_capacity tiles.new ≡ vec_capacity tiles.old }
+{
+    let blank = [0; PIXELS];
+    tiles.push_reserved(blank);
 }
 
 // Puts a pixel into a tile at a place.
@@ -239,6 +336,47 @@ fn copy_run(tile: &mut [u32; PIXELS], first: usize, len: usize, plane: &Plane, f
     ensures others { (n : ℕ) → ((i : ℕ) → i < len → n ≢ first + i) → slice_index tile.new n ≡ slice_index tile.old n }
 {
     plane.get_row(from, &mut tile[first..first + len]);
+}
+
+// Puts pixels from among rows of so many into a rectangle of a tile, whose first pixel has this place.
+fn put_part(
+    tile: &mut [u32; PIXELS],
+    place: usize,
+    r: &Rect,
+    raws: &[u32],
+    first: usize,
+    width: usize,
+)
+    requires ordered { IsOrdered r.now }
+    requires rows { HasRows r.now place 32 PIXELS }
+    requires from_rows { HasRows r.now first width (length raws.now) }
+    ensures pixels { (p : Spot) → IsTrue (holds r.now p) → slice_index tile.new (number_in r.now place 32 p) ≡ slice_index raws.now (number_in r.now first width p) }
+    ensures others { (n : ℕ) → ((p : Spot) → IsTrue (holds r.now p) → n ≢ number_in r.now place 32 p) → slice_index tile.new n ≡ slice_index tile.old n }
+{
+    copy_rows(tile, place, 32, r, raws, first, width);
+}
+
+// Puts one pixel at all points of a rectangle of a tile, whose first pixel has this place.
+fn fill_part(tile: &mut [u32; PIXELS], place: usize, r: &Rect, raw: u32)
+    requires ordered { IsOrdered r.now }
+    requires rows { HasRows r.now place 32 PIXELS }
+    ensures pixels { (p : Spot) → IsTrue (holds r.now p) → slice_index tile.new (number_in r.now place 32 p) ≡ raw }
+    ensures others { (n : ℕ) → ((p : Spot) → IsTrue (holds r.now p) → n ≢ number_in r.now place 32 p) → slice_index tile.new n ≡ slice_index tile.old n }
+{
+    fill_rows(tile, place, 32, r, raw);
+}
+
+// Puts the pixels of a rectangle of a plane into a tile, where the first one comes to this place.
+fn copy_part(tile: &mut [u32; PIXELS], place: usize, plane: &Plane, from: &Rect)
+    requires near { IsRectNear from.now }
+    requires ordered { IsOrdered from.now }
+    requires inside { (p : Spot) → IsTrue (holds from.now p) → IsTrue (holds (rect_of plane.now) p) }
+    requires rows { HasRows from.now place 32 PIXELS }
+    ensures pixels { (p : Spot) → IsTrue (holds from.now p) → slice_index tile.new (number_in from.now place 32 p) ≡ pixel_at plane.now p }
+    ensures below { (p : Spot) → IsTrue (holds from.now p) → pixel_at plane.now p < 2 ^ depth (chan_of plane.now) }
+    ensures others { (n : ℕ) → ((p : Spot) → IsTrue (holds from.now p) → n ≢ number_in from.now place 32 p) → slice_index tile.new n ≡ slice_index tile.old n }
+{
+    plane.get_block(from, tile, place, 32);
 }
 
 // Where the pixel of a point stands among those of its tile, row by row.

@@ -19,6 +19,8 @@ use r9_geom::{Point, Rect};
 use r9_info::ImageNo;
 use r9_layers::Forest;
 use r9_memory::Memory;
+use r9_steps::Steps;
+use std::sync::ledger::Ledger;
 
 // Makes room for what is drawn into r on an image.
 fn room_for(forest: &mut Forest, dst: ImageNo, r: &Rect) -> Result<(), Memory>
@@ -64,7 +66,12 @@ fn room_for_characters(forest: &mut Forest, dst: ImageNo, pieces: &[Piece]) -> R
 }
 
 // Draws the background, where there is one, into r, for which there is room.
-fn draw_background(forest: &mut Forest, lettering: &Lettering, r: &Rect)
+fn draw_background<L: Ledger>(
+    forest: &mut Forest,
+    lettering: &Lettering,
+    r: &Rect,
+    steps: &mut Steps<L>,
+)
     requires images { CanLetter (world forest.old) lettering.now }
     requires near { IsRectNearBy (2 ^ 34) r.now }
     requires room { IfSome lettering.now.background (λ _. Fits (world forest.old) lettering.now.dst.0 (room forest.old) r.now) }
@@ -82,13 +89,19 @@ fn draw_background(forest: &mut Forest, lettering: &Lettering, r: &Rect)
         background.image,
         background.p,
         lettering.op,
+        steps,
     ) else {
         unreachable!()
     };
 }
 
 // Draws the characters, for each of which there is room.
-fn draw_characters(forest: &mut Forest, lettering: &Lettering, pieces: &[Piece])
+fn draw_characters<L: Ledger>(
+    forest: &mut Forest,
+    lettering: &Lettering,
+    pieces: &[Piece],
+    steps: &mut Steps<L>,
+)
     requires images { CanLetter (world forest.old) lettering.now }
     requires near { All (IsPieceNearBy (2 ^ 34)) pieces.now }
     requires room { All (λ piece. Fits (world forest.old) lettering.now.dst.0 (room forest.old) piece.r) pieces.now }
@@ -97,12 +110,17 @@ fn draw_characters(forest: &mut Forest, lettering: &Lettering, pieces: &[Piece])
     ensures room { room forest.old ≤ room forest.new }
 {
     for piece in pieces {
-        draw_character(forest, lettering, piece);
+        draw_character(forest, lettering, piece, steps);
     }
 }
 
 // Draws one of them.
-fn draw_character(forest: &mut Forest, lettering: &Lettering, piece: &Piece)
+fn draw_character<L: Ledger>(
+    forest: &mut Forest,
+    lettering: &Lettering,
+    piece: &Piece,
+    steps: &mut Steps<L>,
+)
     requires images { CanLetter (world forest.old) lettering.now }
     requires near { IsPieceNearBy (2 ^ 34) piece.now }
     requires room { Fits (world forest.old) lettering.now.dst.0 (room forest.old) piece.now.r }
@@ -119,6 +137,7 @@ fn draw_character(forest: &mut Forest, lettering: &Lettering, piece: &Piece)
         lettering.font_image,
         piece.mp,
         lettering.op,
+        steps,
     ) else {
         unreachable!()
     };
@@ -163,11 +182,12 @@ fn laid_out(font: &Font, lettering: &Lettering, indices: &[u16]) -> Result<Layou
 
 /// Draws a string whole, or, where memory runs out, nothing: room for the largest of its pieces is made before the first is
 /// drawn. Its characters are those of the font at the indices, one after the other (draw(3)), and within 2^32 of 0.
-pub fn draw_string(
+pub fn draw_string<L: Ledger>(
     forest: &mut Forest,
     font: &Font,
     lettering: &Lettering,
     indices: &[u16],
+    steps: &mut Steps<L>,
 ) -> Result<(), Memory>
     requires ready { CanLetter (world forest.old) lettering.now }
     requires near { AreWithin (2 ^ 32) font.now.cells }
@@ -184,7 +204,7 @@ pub fn draw_string(
     let pieces = laid.pieces.as_slice();
     room_for_background(forest, lettering, &under)?;
     room_for_characters(forest, lettering.dst, pieces)?;
-    draw_background(forest, lettering, &under);
-    draw_characters(forest, lettering, pieces);
+    draw_background(forest, lettering, &under, steps);
+    draw_characters(forest, lettering, pieces, steps);
     Ok(())
 }

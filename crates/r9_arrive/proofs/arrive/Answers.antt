@@ -1,32 +1,31 @@
-use Rattle.std.proofs.Common.{◌≡◌, ◌∙◌, ℕ, ◌+◌, ◌<◌, ◌≤◌, ◌^◌, Bool, true, false, All, List, [], Option, Some, lit≤, refl, sym, subst, ap, arith}
-use Rattle.std.specs.Prelude.{◌&&◌, is_some, option_map, unwrap_or}
-use Rattle.std.proofs.lemmas.Bool.{false≢true}
-use Rattle.std.proofs.lemmas.Int.{ints}
+use Rattle.std.proofs.Common.{◌≡◌, ◌∙◌, ℕ, ◌+◌, ◌<◌, ◌≤◌, ◌^◌, Bool, false, All, List, [], Option, Some, lit≤, sym, subst, ap, arith}
+use Rattle.std.specs.Prelude.{is_some, option_map, unwrap_or}
 use Rattle.r9_geom.specs.declared.Rect.{Rect}
-use Rattle.r9_geom.specs.Geometry.{area_of, height, holds, width, IsOrdered, IsRectNear}
+use Rattle.r9_geom.specs.Geometry.{area_of, height, width, IsOrdered, IsRectNear}
 use Rattle.r9_geom.proofs.GeometryLemmas.{rect_near_wider}
 use Rattle.model_pixel.specs.Channels.{depth}
 use Rattle.model_forest.specs.declared.Window.{Window}
+use Rattle.model_forest.specs.Stack.{without}
 use Rattle.model_forest.specs.World.{Image, World, image_at, no_image, with_image, IsForest, IsLive}
-use Rattle.model_forest.proofs.Changes.{with_image-at, with_image-free, with_image-other}
-use Rattle.model_kept.specs.Keeping.{HasOnePlaces, IsStanding}
+use Rattle.model_forest.proofs.Changes.{with_image-at, with_image-other}
+use Rattle.model_kept.specs.Keeping.{own, place_among, HasOnePlaces, IsStanding, Place}
 use Rattle.model_kept.specs.Restack.{with_list}
 use Rattle.r9_locate.specs.Forms.{bits_in, form_of, forms_of, Form}
 use Rattle.r9_locate.specs.Lists.{frame_image, IsNearby}
 use Rattle.r9_locate.specs.Table.{shape}
-use Rattle.r9_pixels.specs.Kept.{form_at, has_place, kept_at, wanted_in}
+use Rattle.r9_pixels.specs.Kept.{form_at, has_place, kept_at, later_in, wanted_in}
 use Rattle.r9_pixels.specs.Places.{HasCells, StandsOn}
-use Rattle.r9_relist.specs.Leaving.{HasPlaceOf}
+use Rattle.r9_restack.specs.Stacks.{IsFront}
 use Rattle.r9_relist.specs.Relisting.{HasPlacesBefore, IsRelisting}
-use Rattle.r9_relist.proofs.Relisted.{bits_at, list_other, relist_on}
-use Rattle.r9_arrive.specs.Arriving.{bare_window, listed, with_coming}
+use Rattle.r9_relist.proofs.Relisted.{bits_at, list_other}
+use Rattle.r9_arrive.specs.Arriving.{bare_window, listed, with_coming, IsLeft, IsLeftOf}
 use Rattle.r9_arrive.proofs.Bare.{bared_lists}
 use Rattle.r9_arrive.proofs.Entering.{on_err}
-use Rattle.r9_arrive.proofs.Wanting.{coming_wants}
-use Rattle.r9_arrive.proofs.Windows.{apart, at_parent, coming_live, coming_near, coming_places, coming_standing, empty_area, empty_holds, window_before, window_forest, window_nowhere, window_places, window_relisting, window_sized, window_world, IsFree}
+use Rattle.r9_arrive.proofs.Wanting.{coming_wants, place_none}
+use Rattle.r9_arrive.proofs.Windows.{apart, at_parent, coming_live, coming_near, coming_places, coming_standing, nothing_on, window_came, window_forest, window_places, window_relisting, window_sized, window_world, IsFree}
 use Rattle.r9_arrive.proofs.arrive.Given.{Over}
 use Rattle.r9_arrive.proofs.arrive.Goals as goal
-use Rattle.r9_arrive.proofs.arrive.Goals.{After-relist, After-window_frame-frame, In_ok-enter, Start}
+use Rattle.r9_arrive.proofs.arrive.Goals.{After-add, After-count_front-from, After-deref, After-window_frame-frame, In_ok-enter, Start}
 
 -- the number is free, and the lists with the window are a world of images
 free : (g : Over) (c : Start g) → IsFree (shape c.args.lists.now) (kept_at c.args.pixels.now) c.args.w.image c.args.standing.parent
@@ -69,6 +68,13 @@ coming g c = ap (λ (im : Image). with_image (shape c.args.lists.now) c.args.w.i
 
 rect : (g : Over) (c : After-window_frame-frame g) → c.window_frame-frame.result.r ≡ c.args.r
 rect g c = ap (λ (im : Image). im.r) (image g c)
+
+-- the list before
+before : (g : Over) (c : After-deref g) → c.deref.result.now ≡ (image_at (shape c.args.lists.now) c.args.standing.parent).windows
+before g c = c.deref.ensures.value ∙ ap (λ (im : Image). im.windows) (sym c.get-below.ensures)
+
+abbrev IsFreeFrom : (g : Over) (c : After-count_front-from g) → Type 0
+IsFreeFrom g c = IsFree (shape c.args.lists.now) (kept_at c.args.pixels.now) c.args.w.image c.args.standing.parent
 
 -- ---- into the tables
 
@@ -124,29 +130,59 @@ enter-requires-clause-rows g c =
     let at = goal.at.enter-requires-clause-rows g c in
     subst (λ (r : Rect). height r ≤ 2 ^ 35) (sym (rect g at.After-window_frame-frame)) (sized g at.Start).1
 
-pub enter-requires-clause-live : goal.enter-requires-clause-live
-enter-requires-clause-live g c =
-    let at = goal.at.enter-requires-clause-live g c in
-    subst (λ (w : World). IsLive w c.args.standing.parent) (sym (coming g at.After-window_frame-frame)) (alive g at.Start)
-
-pub enter-requires-clause-windows : goal.enter-requires-clause-windows
-enter-requires-clause-windows g c =
-    let at = goal.at.enter-requires-clause-windows g c in
-    let p = c.args.standing.parent in
-    subst (λ (w : World). All (StandsOn w p) c.deref.result.now) (sym (coming g at.After-window_frame-frame))
-    (subst (All (StandsOn (mid g at.Start) p)) (sym c.deref.ensures.value)
-    (relist_on (mid g at.Start) p c.args.list.items (alive g at.Start) (after g at.Start)))
-
-pub enter-requires-clause-also : goal.enter-requires-clause-also
-enter-requires-clause-also g c =
-    let at = goal.at.enter-requires-clause-also g c in
-    subst (λ (w : World). IsLive w c.args.q) (sym (coming g at.After-window_frame-frame))
-    (ap is_some (with_image-free (shape c.args.lists.now) c.args.w.image c.args.q (Some (bare_window (shape c.args.lists.now) c.args.standing.parent c.args.standing.fill c.args.r)) c.requires.free c.requires.also) ∙ c.requires.also)
-
 pub enter-requires-clause-later : goal.enter-requires-clause-later
 enter-requires-clause-later g c =
     let at = goal.at.enter-requires-clause-later g c in
     subst (λ (w : World). All (StandsOn w c.args.q) c.args.later.now) (sym (coming g at.After-window_frame-frame)) c.requires.later
+
+pub count_front-from-requires : goal.count_front-from-requires
+count_front-from-requires g c =
+    ap (without c.args.w.image) c.deref-2.ensures.value ∙ c.requires.coming.others
+    ∙ ap (without c.args.w.image) (sym (before g (goal.at.count_front-from-requires g c).After-deref))
+
+pub enter-requires-clause-place_is : goal.enter-requires-clause-place_is
+enter-requires-clause-place_is g c = ap (λ (ws : List Window). place_among ws c.args.w.image) c.deref-3.ensures.value ∙ c.requires.stands
+
+pub enter-requires-clause-change : goal.enter-requires-clause-change
+enter-requires-clause-change g c =
+    let at = goal.at.enter-requires-clause-change g c in
+    subst (λ (v : World). IsRelisting v c.args.standing.parent c.args.w.image c.deref-3.result.now) (sym (coming g at.After-window_frame-frame))
+    (subst (IsRelisting (mid g at.Start) c.args.standing.parent c.args.w.image) (sym c.deref-3.ensures.value)
+    (window_relisting (shape c.args.lists.now) (kept_at c.args.pixels.now) c.args.w c.args.standing.parent c.args.standing.fill c.args.r (free g at.Start) c.args.list.items c.requires.coming (after g at.Start)))
+
+pub enter-requires-clause-before : goal.enter-requires-clause-before
+enter-requires-clause-before g c =
+    let at = goal.at.enter-requires-clause-before g c in
+    subst (λ (v : World). HasPlacesBefore v c.args.standing.parent c.args.w.image (has_place c.args.pixels.now)) (sym (coming g at.After-window_frame-frame))
+    (window_places (shape c.args.lists.now) (kept_at c.args.pixels.now) c.args.w.image c.args.standing.parent c.args.standing.fill c.args.r (free g at.Start) c.args.pixels.now c.requires.forms c.requires.cells)
+
+-- both lists begin with the same windows
+front : (g : Over) (c : After-count_front-from g) → c.deref.result.now ≡ (image_at (shape c.args.lists.now) c.args.standing.parent).windows → IsFreeFrom g c → IsFront (image_at (with_coming (shape c.args.lists.now) c.args.w.image c.args.standing.parent c.args.standing.fill c.args.r) c.args.standing.parent).windows c.args.list.items c.args.w.image c.count_front-from.result
+front g c is free =
+    subst (λ (ws : List Window). IsFront ws c.args.list.items c.args.w.image c.count_front-from.result)
+    (is ∙ sym (ap (λ (im : Image). im.windows) (at_parent (shape c.args.lists.now) (kept_at c.args.pixels.now) c.args.w.image c.args.standing.parent c.args.standing.fill c.args.r free)))
+    (subst (λ (ws : List Window). IsFront c.deref.result.now ws c.args.w.image c.count_front-from.result) c.deref-2.ensures.value c.count_front-from.ensures)
+
+pub enter-requires-clause-front : goal.enter-requires-clause-front
+enter-requires-clause-front g c =
+    let at = goal.at.enter-requires-clause-front g c in
+    subst (λ (v : World). IsFront (image_at v c.args.standing.parent).windows c.deref-3.result.now c.args.w.image c.count_front-from.result) (sym (coming g at.After-window_frame-frame))
+    (subst (λ (ws : List Window). IsFront (image_at (mid g at.Start) c.args.standing.parent).windows ws c.args.w.image c.count_front-from.result) (sym c.deref-3.ensures.value)
+    (front g at.After-count_front-from (before g at.After-deref) (free g at.Start)))
+
+pub enter-requires-clause-alone : goal.enter-requires-clause-alone
+enter-requires-clause-alone g c =
+    nothing_on (shape c.args.lists.now) (kept_at c.args.pixels.now) c.args.w.image c.args.standing.parent c.args.standing.fill c.args.r (free g (goal.at.enter-requires-clause-alone g c).Start)
+
+pub enter-requires-clause-left : goal.enter-requires-clause-left
+enter-requires-clause-left g c =
+    subst (λ (ws : List Window). IsLeft (shape c.args.lists.now) c.args.standing.parent ws c.args.q c.args.later.now c.args.areas.now) (sym c.deref-3.ensures.value) c.requires.left
+
+pub enter-requires-clause-left_own : goal.enter-requires-clause-left_own
+enter-requires-clause-left_own g c =
+    let at = goal.at.enter-requires-clause-left_own g c in
+    subst (λ (ws : List Window). IsLeftOf (shape c.args.lists.now) c.args.standing.parent ws c.args.q c.args.later.now c.args.areas.now c.args.w.image c.window_frame-frame.result.r) (sym c.deref-3.ensures.value)
+    (subst (λ (r : Rect). IsLeftOf (shape c.args.lists.now) c.args.standing.parent c.args.list.items c.args.q c.args.later.now c.args.areas.now c.args.w.image r) (sym (rect g at.After-window_frame-frame)) c.requires.left_own)
 
 pub returns-in_err-enter-clause-err : goal.returns-in_err-enter-clause-err
 returns-in_err-enter-clause-err g c =
@@ -168,43 +204,42 @@ IsFreeThere g c = IsFree (shape c.args.lists.now) (kept_at c.args.pixels.now) c.
 entered : (g : Over) (c : In_ok-enter g) → IsFrame g c → shape c.enter.new.lists ≡ with_coming (shape c.args.lists.now) c.args.w.image c.args.standing.parent c.args.standing.fill c.args.r
 entered g c frame = c.in_ok-enter.ensures.lists ∙ ap (λ (im : Image). with_image (shape c.args.lists.now) c.args.w.image (Some im)) frame
 
-pub relist-requires-clause-change : goal.relist-requires-clause-change
-relist-requires-clause-change g c =
-    let at = goal.at.relist-requires-clause-change g c in
+pub add-requires-clause-change : goal.add-requires-clause-change
+add-requires-clause-change g c =
+    let at = goal.at.add-requires-clause-change g c in
     subst (λ (v : World). IsRelisting v c.args.standing.parent c.args.w.image c.args.list.items) (sym (entered g at.In_ok-enter (image g at.After-window_frame-frame)))
     (window_relisting (shape c.args.lists.now) (kept_at c.args.pixels.now) c.args.w c.args.standing.parent c.args.standing.fill c.args.r (free g at.Start) c.args.list.items c.requires.coming (after g at.Start))
 
-pub relist-requires-clause-places : goal.relist-requires-clause-places
-relist-requires-clause-places g c =
-    let at = goal.at.relist-requires-clause-places g c in
+pub add-requires-clause-places : goal.add-requires-clause-places
+add-requires-clause-places g c =
+    let at = goal.at.add-requires-clause-places g c in
     let p = c.args.standing.parent in
     let i = c.args.w.image in
     subst (λ (v : World). HasPlacesBefore v p i (has_place c.enter.new.pixels)) (sym (entered g at.In_ok-enter (image g at.After-window_frame-frame)))
     (subst (HasPlacesBefore (mid g at.Start) p i) (sym c.enter.ensures.has)
     (window_places (shape c.args.lists.now) (kept_at c.args.pixels.now) i p c.args.standing.fill c.args.r (free g at.Start) c.args.pixels.now c.requires.forms c.requires.cells))
 
-pub relist-requires-clause-spare : goal.relist-requires-clause-spare
-relist-requires-clause-spare g c =
-    let same = ap (λ (ws : List Window). wanted_in c.enter.new.pixels (shape c.enter.new.lists) c.args.standing.parent ws) c.deref.ensures.value in
+pub add-requires-clause-spare : goal.add-requires-clause-spare
+add-requires-clause-spare g c =
+    let same = ap (λ (ws : List Window). wanted_in c.enter.new.pixels (shape c.enter.new.lists) c.args.standing.parent ws) c.deref-3.ensures.value in
     omega (arith, same, c.in_ok-enter.ensures.spare)
 
-pub relist-requires-clause-near : goal.relist-requires-clause-near
-relist-requires-clause-near g c =
-    let near = rect_near_wider (2 ^ 34) (2 ^ 40) c.args.r (lit≤ tt) c.requires.near in
-    subst IsRectNear (sym c.no_points-area.ensures) (record { min = near.min; max = near.min })
+pub add-requires-clause-front : goal.add-requires-clause-front
+add-requires-clause-front g c =
+    let at = goal.at.add-requires-clause-front g c in
+    subst (λ (v : World). IsFront (image_at v c.args.standing.parent).windows c.args.list.items c.args.w.image c.count_front-from.result) (sym (entered g at.In_ok-enter (image g at.After-window_frame-frame)))
+    (front g at.After-count_front-from (before g at.After-deref) (free g at.Start))
 
-pub relist-requires-clause-ordered : goal.relist-requires-clause-ordered
-relist-requires-clause-ordered g c = subst IsOrdered (sym c.no_points-area.ensures) (record { across = omega (arith, ints); down = omega (arith, ints) })
+pub add-requires-clause-came : goal.add-requires-clause-came
+add-requires-clause-came g c =
+    let at = goal.at.add-requires-clause-came g c in
+    ap (λ (v : World). place_among (image_at v c.args.standing.parent).windows c.args.w.image) (entered g at.In_ok-enter (image g at.After-window_frame-frame))
+    ∙ window_came (shape c.args.lists.now) (kept_at c.args.pixels.now) c.args.w.image c.args.standing.parent c.args.standing.fill c.args.r (free g at.Start)
 
-pub relist-requires-clause-inside : goal.relist-requires-clause-inside
-relist-requires-clause-inside g c z within =
-    absurd (false≢true (sym (empty_holds c.args.r.min z) ∙ ap (λ (s : Rect). holds s z) (sym c.no_points-area.ensures) ∙ within))
-
-pub relist-requires-clause-place : goal.relist-requires-clause-place
-relist-requires-clause-place g c =
-    let at = goal.at.relist-requires-clause-place g c in
-    subst (λ (v : World). HasPlaceOf v c.args.standing.parent c.args.w.image c.no_points-area.result) (sym (entered g at.In_ok-enter (image g at.After-window_frame-frame)))
-    (window_nowhere (shape c.args.lists.now) (kept_at c.args.pixels.now) c.args.w.image c.args.standing.parent c.args.standing.fill c.args.r (free g at.Start) c.no_points-area.result)
+pub add-requires-clause-bare : goal.add-requires-clause-bare
+add-requires-clause-bare g c = λ x.
+    ap (λ (has : Place → Bool). has (own c.args.w.image x)) c.enter.ensures.has
+    ∙ place_none c.args.pixels.now c.args.w.image x (ap (λ (forms : ℕ → Option Form). forms c.args.w.image) c.requires.forms ∙ ap (option_map form_of) c.requires.free)
 
 -- the bits of the pixels of the image on which it stands
 bits : (g : Over) (c : In_ok-enter g) → IsFrame g c → IsFreeThere g c → bits_in (form_at c.enter.new.pixels) c.args.standing.parent ≡ depth (image_at (shape c.args.lists.now) c.args.standing.parent).chan
@@ -214,34 +249,34 @@ bits g c frame is =
     ∙ bits_at (with_coming (shape c.args.lists.now) c.args.w.image p c.args.standing.fill c.args.r) p (coming_live (shape c.args.lists.now) (kept_at c.args.pixels.now) c.args.w.image p c.args.standing.fill c.args.r is)
     ∙ ap (λ (im : Image). depth im.chan) (at_parent (shape c.args.lists.now) (kept_at c.args.pixels.now) c.args.w.image p c.args.standing.fill c.args.r is)
 
-pub relist-requires-clause-given : goal.relist-requires-clause-given
-relist-requires-clause-given g c x =
-    let at = goal.at.relist-requires-clause-given g c in
+pub add-requires-clause-given : goal.add-requires-clause-given
+add-requires-clause-given g c x =
+    let at = goal.at.add-requires-clause-given g c in
     subst (λ (n : ℕ). g.S.Source.given c.args.source.now x < 2 ^ n) (sym (bits g at.In_ok-enter (image g at.After-window_frame-frame) (free g at.Start))) (c.requires.given x)
 
-pub relist-requires-clause-fill : goal.relist-requires-clause-fill
-relist-requires-clause-fill g c z =
-    let at = goal.at.relist-requires-clause-fill g c in
+pub add-requires-clause-fill : goal.add-requires-clause-fill
+add-requires-clause-fill g c z =
+    let at = goal.at.add-requires-clause-fill g c in
     subst (λ (n : ℕ). g.S.Source.fill c.args.source.now z < 2 ^ n) (sym (bits g at.In_ok-enter (image g at.After-window_frame-frame) (free g at.Start))) (c.requires.fill z)
 
 -- ---- what is there then
 
-then : (g : Over) (c : After-relist g) → shape c.enter.new.lists ≡ with_coming (shape c.args.lists.now) c.args.w.image c.args.standing.parent c.args.standing.fill c.args.r → shape c.relist.new.lists ≡ listed (shape c.args.lists.now) c.args.w.image c.args.standing.parent c.args.standing.fill c.args.r c.args.list.items
-then g c there = c.relist.ensures.lists ∙ ap (λ (v : World). with_list v c.args.standing.parent c.args.list.items) there
+then : (g : Over) (c : After-add g) → shape c.enter.new.lists ≡ with_coming (shape c.args.lists.now) c.args.w.image c.args.standing.parent c.args.standing.fill c.args.r → shape c.add.new.lists ≡ listed (shape c.args.lists.now) c.args.w.image c.args.standing.parent c.args.standing.fill c.args.r c.args.list.items
+then g c there = c.add.ensures.lists ∙ ap (λ (v : World). with_list v c.args.standing.parent c.args.list.items) there
 
 pub returns-clause-lists : goal.returns-clause-lists
 returns-clause-lists g c =
     let at = goal.at.returns-clause-lists g c in
-    then g at.After-relist (entered g at.In_ok-enter (image g at.After-window_frame-frame))
+    then g at.After-add (entered g at.In_ok-enter (image g at.After-window_frame-frame))
 
 pub returns-clause-made : goal.returns-clause-made
-returns-clause-made g c = c.relist.ensures.made ∙ c.in_ok-enter.ensures.made
+returns-clause-made g c = c.add.ensures.made ∙ c.in_ok-enter.ensures.made
 
 pub returns-clause-world : goal.returns-clause-world
 returns-clause-world g c =
     let at = goal.at.returns-clause-world g c in
-    window_world (shape c.args.lists.now) (kept_at c.args.pixels.now) c.args.w c.args.standing.parent c.args.standing.fill c.args.r (free g at.Start) c.args.list.items c.requires.coming (g.S.Source.given c.args.source.now) (g.S.Source.fill c.args.source.now) (kept_at c.enter.new.pixels) (kept_at c.relist.new.pixels) (shape c.enter.new.lists) (shape c.relist.new.lists)
-    (entered g at.In_ok-enter (image g at.After-window_frame-frame)) c.enter.ensures.kept c.relist.ensures.world
+    window_world (shape c.args.lists.now) (kept_at c.args.pixels.now) c.args.w c.args.standing.parent c.args.standing.fill c.args.r (free g at.Start) c.args.list.items c.requires.coming (g.S.Source.given c.args.source.now) (g.S.Source.fill c.args.source.now) (kept_at c.enter.new.pixels) (kept_at c.add.new.pixels) (shape c.enter.new.lists) (shape c.add.new.lists)
+    (entered g at.In_ok-enter (image g at.After-window_frame-frame)) c.enter.ensures.kept c.add.ensures.world
 
 pub returns-clause-later : goal.returns-clause-later
 returns-clause-later g c =
@@ -250,15 +285,16 @@ returns-clause-later g c =
     let q = c.args.q in
     let vs = c.args.later.now in
     let ws = c.args.list.items in
-    let fewer = coming_wants (shape c.args.lists.now) (kept_at c.args.pixels.now) c.args.w p c.args.standing.fill c.args.r (free g at.Start) ws c.requires.coming c.args.pixels.now c.enter.new.pixels c.relist.new.pixels q vs
+    let fewer = coming_wants (shape c.args.lists.now) (kept_at c.args.pixels.now) c.args.w p c.args.standing.fill c.args.r (free g at.Start) ws c.requires.coming c.args.pixels.now c.enter.new.pixels c.add.new.pixels q vs
     (ap (λ (forms : ℕ → Option Form). forms c.args.w.image) c.requires.forms ∙ ap (option_map form_of) c.requires.free) c.requires.cells
     (c.enter.ensures.forms ∙ ap forms_of (entered g at.In_ok-enter (image g at.After-window_frame-frame))) c.enter.ensures.has
-    (c.relist.ensures.forms ∙ ap forms_of (then g at.After-relist (entered g at.In_ok-enter (image g at.After-window_frame-frame))))
-    (subst (λ (v : World). HasCells v (has_place c.relist.new.pixels)) (then g at.After-relist (entered g at.In_ok-enter (image g at.After-window_frame-frame))) c.relist.ensures.cells) c.requires.later in
-    let now = ap (λ (v : World). wanted_in c.relist.new.pixels v q vs) (then g at.After-relist (entered g at.In_ok-enter (image g at.After-window_frame-frame))) in
-    let before = ap (λ (v : World). wanted_in c.enter.new.pixels v q vs) (entered g at.In_ok-enter (image g at.After-window_frame-frame)) in
-    let same = ap (λ (us : List Window). wanted_in c.enter.new.pixels (shape c.enter.new.lists) p us) c.deref.ensures.value in
-    omega (arith, fewer, now, before, same, c.in_ok-enter.ensures.spare, c.relist.ensures.spare)
+    (c.add.ensures.forms ∙ ap forms_of (then g at.After-add (entered g at.In_ok-enter (image g at.After-window_frame-frame))))
+    (subst (λ (v : World). HasCells v (has_place c.add.new.pixels)) (then g at.After-add (entered g at.In_ok-enter (image g at.After-window_frame-frame))) c.add.ensures.cells) (after g at.Start) c.requires.later in
+    let now = ap (λ (v : World). wanted_in c.add.new.pixels v q vs) (then g at.After-add (entered g at.In_ok-enter (image g at.After-window_frame-frame))) in
+    let before = ap (λ (v : World). later_in c.enter.new.pixels v p ws q vs) (entered g at.In_ok-enter (image g at.After-window_frame-frame)) in
+    let same = ap (λ (us : List Window). wanted_in c.enter.new.pixels (shape c.enter.new.lists) p us) c.deref-3.ensures.value in
+    let other = ap (λ (us : List Window). later_in c.enter.new.pixels (shape c.enter.new.lists) p us q vs) c.deref-3.ensures.value in
+    omega (arith, fewer, now, before, same, other, c.in_ok-enter.ensures.spare, c.add.ensures.spare)
 
 pub returns-clause-steps : goal.returns-clause-steps
 returns-clause-steps g c =
@@ -267,5 +303,4 @@ returns-clause-steps g c =
     ap (λ (v : World). (image_at v c.args.w.image).r) (entered g at.In_ok-enter (image g at.After-window_frame-frame))
     ∙ ap (λ (o : Option Image). (unwrap_or o no_image).r) (with_image-at (shape c.args.lists.now) c.args.w.image (Some (bare_window (shape c.args.lists.now) c.args.standing.parent c.args.standing.fill c.args.r))) in
     let size = ap area_of own in
-    let none = ap area_of c.no_points-area.ensures ∙ empty_area c.args.r.min in
-    omega (arith, size, none, c.relist.ensures.steps)
+    omega (arith, size, c.add.ensures.steps)

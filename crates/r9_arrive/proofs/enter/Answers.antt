@@ -1,18 +1,22 @@
-use Rattle.std.proofs.Common.{◌≡◌, ◌∙◌, ℕ, false, Option, None, sym, subst, ap, arith}
-use Rattle.std.specs.Prelude.{option_map}
-use Rattle.model_forest.specs.World.{World, with_image}
-use Rattle.model_kept.specs.Keeping.{HasOnePlaces, IsStanding}
+use Rattle.std.proofs.Common.{◌≡◌, ◌∙◌, ℕ, false, All, Bool, [], ◌∷◌, Option, Some, None, sym, subst, ap, arith}
+use Rattle.std.specs.Prelude.{is_some, option_map}
+use Rattle.r9_geom.specs.declared.Rect.{Rect}
+use Rattle.model_forest.specs.World.{World, with_image, IsLive}
+use Rattle.model_forest.proofs.Changes.{with_image-free}
+use Rattle.model_kept.specs.Keeping.{HasOnePlaces, IsStanding, Place}
 use Rattle.model_kept.specs.Restack.{with_own}
 use Rattle.r9_locate.specs.Forms.{form_of, forms_of, Form}
 use Rattle.r9_locate.specs.Lists.{frame_image, IsNearby}
 use Rattle.r9_locate.specs.Table.{shape}
-use Rattle.r9_pixels.specs.Kept.{form_at}
+use Rattle.r9_pixels.specs.Kept.{form_at, has_place}
 use Rattle.r9_pixels.specs.Owns.{window_form}
-use Rattle.r9_pixels.specs.Places.{with_form, with_places}
+use Rattle.r9_pixels.specs.Places.{with_form, with_places, HasLaterTaken, HasTakenOff, StandsOn}
 use Rattle.r9_relist.proofs.Lists.{lists_near, lists_places, lists_standing}
-use Rattle.r9_arrive.proofs.Entering.{form_out, has_out, kept_out, put_forms, put_out}
+use Rattle.r9_relist.proofs.Off.{relisted_taken}
+use Rattle.r9_relist.proofs.Relisted.{relist_on, relist_ones}
+use Rattle.r9_arrive.proofs.Entering.{form_out, has_out, kept_out, later_taken, put_forms, put_out}
 use Rattle.r9_arrive.proofs.enter.Goals as goal
-use Rattle.r9_arrive.proofs.enter.Goals.{After-insert}
+use Rattle.r9_arrive.proofs.enter.Goals.{After-insert, Start}
 
 -- the number has no pixels
 free : (c : After-insert) → form_at c.args.pixels.now c.args.i ≡ None
@@ -33,6 +37,55 @@ returns-in_err-insert_hidden-clause-forms c = c.in_err-insert_hidden.ensures.err
 
 pub reserve_both-requires-clause-forms : goal.reserve_both-requires-clause-forms
 reserve_both-requires-clause-forms c = forms (goal.at.reserve_both-requires-clause-forms c).After-insert
+
+-- the lists with the frame
+abbrev with_frame : (c : Start) → World
+with_frame c = with_image (shape c.args.lists.now) c.args.i (Some (frame_image c.args.frame))
+
+pub reserve_both-requires-clause-live : goal.reserve_both-requires-clause-live
+reserve_both-requires-clause-live c = subst (λ (w : World). IsLive w c.args.parent) (sym c.insert.ensures.world) c.requires.change.live
+
+pub reserve_both-requires-clause-windows : goal.reserve_both-requires-clause-windows
+reserve_both-requires-clause-windows c =
+    let at = goal.at.reserve_both-requires-clause-windows c in
+    subst (λ (w : World). All (StandsOn w c.args.parent) c.args.list.now) (sym c.insert.ensures.world)
+    (relist_on (with_frame at.Start) c.args.parent c.args.list.now c.requires.change.live c.requires.change.forest)
+
+pub reserve_both-requires-clause-also : goal.reserve_both-requires-clause-also
+reserve_both-requires-clause-also c =
+    subst (λ (w : World). IsLive w c.args.q) (sym c.insert.ensures.world)
+    (ap is_some (with_image-free (shape c.args.lists.now) c.args.i c.args.q (Some (frame_image c.args.frame)) c.requires.free c.requires.also) ∙ c.requires.also)
+
+pub reserve_both-requires-clause-others : goal.reserve_both-requires-clause-others
+reserve_both-requires-clause-others c = subst (λ (w : World). All (StandsOn w c.args.q) c.args.later.now) (sym c.insert.ensures.world) c.requires.later
+
+pub reserve_both-requires-clause-one : goal.reserve_both-requires-clause-one
+reserve_both-requires-clause-one c =
+    let at = goal.at.reserve_both-requires-clause-one c in
+    relist_ones (with_frame at.Start) c.args.parent c.args.list.now c.requires.change.live c.requires.change.forest
+
+pub reserve_both-requires-clause-still : goal.reserve_both-requires-clause-still
+reserve_both-requires-clause-still c =
+    let at = goal.at.reserve_both-requires-clause-still c in
+    let p = c.args.parent in
+    let list = c.args.list.now in
+    let mid = with_frame at.Start in
+    subst (λ (w : World). HasTakenOff w p list c.args.from (c.args.place.now ∷ []) (has_place c.insert_hidden.new.self)) (sym c.insert.ensures.world)
+    (subst (λ (has : Place → Bool). HasTakenOff mid p list c.args.from (c.args.place.now ∷ []) has) (sym c.insert_hidden.ensures.has)
+    (subst (λ (r : Rect). HasTakenOff mid p list c.args.from (r ∷ []) (has_place c.args.pixels.now)) c.requires.place_is
+    (relisted_taken mid p c.args.i list c.requires.change (c.requires.places p c.requires.change.live) c.args.from c.requires.front (has_place c.args.pixels.now) c.requires.before.cells)))
+
+pub reserve_both-requires-clause-others_still : goal.reserve_both-requires-clause-others_still
+reserve_both-requires-clause-others_still c =
+    let at = goal.at.reserve_both-requires-clause-others_still c in
+    let p = c.args.parent in
+    let list = c.args.list.now in
+    let later = c.args.later.now in
+    let mid = with_frame at.Start in
+    subst (λ (w : World). HasLaterTaken w p list c.args.q later 0 c.args.areas.now (has_place c.insert_hidden.new.self)) (sym c.insert.ensures.world)
+    (subst (λ (has : Place → Bool). HasLaterTaken mid p list c.args.q later 0 c.args.areas.now has) (sym c.insert_hidden.ensures.has)
+    (later_taken (shape c.args.lists.now) c.args.i (frame_image c.args.frame) p c.args.q list later c.args.areas.now (has_place c.args.pixels.now)
+    c.requires.free c.requires.also c.requires.alone c.requires.change c.requires.later c.requires.cells c.requires.left c.requires.left_own))
 
 -- without it the lists are as they were
 out : (c : After-insert) → with_image (shape c.insert.new.self) c.args.i None ≡ shape c.args.lists.now

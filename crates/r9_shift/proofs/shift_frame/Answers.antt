@@ -17,7 +17,7 @@ use Rattle.r9_relist.proofs.Near.{nearby}
 use Rattle.r9_relist.proofs.Relisted.{list_at, list_live, listed_image}
 use Rattle.r9_shift.proofs.Shapes.{put_again}
 use Rattle.r9_shift.proofs.shift_frame.Goals as goal
-use Rattle.r9_shift.proofs.shift_frame.Goals.{After-carried, After-get-had, After-set_windows-windows, After-shifted_frame-frame, Start}
+use Rattle.r9_shift.proofs.shift_frame.Goals.{After-get-had, After-set_windows-windows, After-shifted_frame-frame, Start}
 
 -- the lists where the image has no window for a moment
 emptied : (c : After-set_windows-windows) → shape c.set_windows-windows.new.self ≡ with_list (shape c.args.lists.now) c.args.i []

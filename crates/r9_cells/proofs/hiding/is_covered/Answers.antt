@@ -15,7 +15,7 @@ loop-left-preserved c =
     let k = c.loop-left.left - 1 in
     let is : c.loop-left.left ≡ suc k = omega (arith, c.loop-left-test.true) in
     let below : k < length ws = omega (arith, c.loop-left-test.true, c.loop-left.invariant.within) in
-    let clear : covers (get_or ws k no_window) ≡ false = ap not (sym (ap is_empty c.meet.ensures.exact) ∙ sym c.is_empty.ensures.exact ∙ c.if-not-is_empty.false) in
+    let clear : covers (get_or ws k no_window) ≡ false = sym c.touches.ensures ∙ c.if-touches.false in
     record {
       within = omega (arith, c.loop-left.invariant.within);
       rest =

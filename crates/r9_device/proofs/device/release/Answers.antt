@@ -8,7 +8,7 @@ use Rattle.r9_device.proofs.device.release.Goals as goal
 use Rattle.r9_device.proofs.device.release.Goals.{in-Image, in_default}
 
 pub loop-thing-init : goal.loop-thing-init
-loop-thing-init c = record {
+loop-thing-init g c = record {
   images = refl;
   returned = refl;
   space = omega arith;
@@ -18,14 +18,14 @@ loop-thing-init c = record {
 }
 
 pub release-requires : goal.release-requires
-release-requires c =
+release-requires g c =
     let gone = c.args.gone.now in
     let n = c.loop-thing.thing-index in
     let r = at-next c.args.forest.now c.loop-thing.forest gone n (Image c.in-Image.i) c.loop-thing-test.true c.in-Image.is c.loop-thing.invariant in
     next-goes c.args.forest.now c.loop-thing.forest gone (drop (n + 1) gone) c.in-Image.i r c.keeps-in-Image.ensures
 
 pub loop-thing-preserved : goal.loop-thing-preserved
-loop-thing-preserved c =
+loop-thing-preserved g c =
     let gone = c.args.gone.now in
     let n = c.loop-thing.thing-index in
     let P : Forest → Type 0 = λ f. IsReleasing c.args.forest.now f gone (drop (n + 1) gone) in

@@ -9,13 +9,13 @@ use Rattle.r9_draw.proofs.Messages.{act-listed, behind-listed, done-by, list-of,
 use Rattle.r9_draw.proofs.listed.listed_message.Goals as goal
 
 pub returns-in-Err : goal.returns-in-Err
-returns-in-Err c =
+returns-in-Err g c =
     let l = c.args.asked.now in
     let m = listed_message l in
     refused-act c.args.client (world_of c.args.device.now) c.args.bytes.now _ m c.in-Err.refusal c.requires.found (act-listed c.args.client (world_of c.args.device.now) m _ (list-of l) ∙ c.in-Err.ensures.refused)
 
 pub returns-then-marked : goal.returns-then-marked
-returns-then-marked c =
+returns-then-marked g c =
     let w = world_of c.args.device.now in
     let l = c.args.asked.now in
     let m = listed_message l in
@@ -25,7 +25,7 @@ returns-then-marked c =
     (act-listed c.args.client w m _ (list-of l) ∙ ok-is (act c.args.client w m []) w c.in_default.ensures.accepted))
 
 pub returns-in-Ok : goal.returns-in-Ok
-returns-in-Ok c =
+returns-in-Ok g c =
     let w = world_of c.args.device.now in
     let l = c.args.asked.now in
     let m = listed_message l in
@@ -41,7 +41,7 @@ returns-in-Ok c =
     (listed-some l) c.requires.within (omega arith) (listed-live c.args.client w next m (list-of l) c.in-Ok.ensures.done c.requires.live)))
 
 pub returns-in-Err-do_listed : goal.returns-in-Err-do_listed
-returns-in-Err-do_listed c =
+returns-in-Err-do_listed g c =
     let w = world_of c.args.device.now in
     let l = c.args.asked.now in
     let m = listed_message l in

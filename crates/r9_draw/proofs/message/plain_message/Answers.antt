@@ -11,22 +11,22 @@ use Rattle.r9_draw.proofs.Messages.{done-by, refused-act, refused-short, refused
 use Rattle.r9_draw.proofs.message.plain_message.Goals as goal
 
 pub returns-in-Err-Short-clause-step : goal.returns-in-Err-Short-clause-step
-returns-in-Err-Short-clause-step c =
+returns-in-Err-Short-clause-step g c =
     let told = rw c.in-Err-Short.field-0-is at c.in-Err-Short.ensures.short in
     refused-short c.args.client (world_of c.args.device.now) c.args.bytes.now (told.0 refl)
 
 pub returns-in-Err-Unknown-clause-step : goal.returns-in-Err-Unknown-clause-step
-returns-in-Err-Unknown-clause-step c =
+returns-in-Err-Unknown-clause-step g c =
     let told = rw c.in-Err-Unknown.field-0-is at c.in-Err-Unknown.ensures.unknown in
     refused-unknown c.args.client (world_of c.args.device.now) c.args.bytes.now (told.0 refl)
 
 pub returns-in-Err-Unsupported-clause-step : goal.returns-in-Err-Unsupported-clause-step
-returns-in-Err-Unsupported-clause-step c =
+returns-in-Err-Unsupported-clause-step g c =
     let told = rw c.in-Err-Unsupported.field-0-is at c.in-Err-Unsupported.ensures.unsupported in
     refused-unsupported c.args.client (world_of c.args.device.now) c.args.bytes.now (told.0 refl)
 
 pub returns-in-Err-clause-step : goal.returns-in-Err-clause-step
-returns-in-Err-clause-step c =
+returns-in-Err-clause-step g c =
     let world = world_of c.args.device.now in
     let m = message_of c.in-Ok.message in
     let first : first_message c.args.bytes.now ≡ IsMessage m c.behind-rest.result.now =
@@ -34,7 +34,7 @@ returns-in-Err-clause-step c =
     refused-act c.args.client world c.args.bytes.now c.behind-rest.result.now m c.in-Err.refusal first c.in-Err.ensures.refused
 
 pub returns-then-marked-clause-step : goal.returns-then-marked-clause-step
-returns-then-marked-clause-step c =
+returns-then-marked-clause-step g c =
     let world = world_of c.args.device.now in
     let m = message_of c.in-Ok.message in
     let first : first_message c.args.bytes.now ≡ IsMessage m c.behind-rest.result.now =
@@ -43,7 +43,7 @@ returns-then-marked-clause-step c =
     subst P (sym c.if-marked.true) (short-marked c.args.client world _ c.args.bytes.now c.behind-rest.result.now m first c.in-Ok-plan_message.ensures.acts)
 
 pub returns-in-Ok-do_plan-clause-step : goal.returns-in-Ok-do_plan-clause-step
-returns-in-Ok-do_plan-clause-step c =
+returns-in-Ok-do_plan-clause-step g c =
     let world = world_of c.args.device.now in
     let m = message_of c.in-Ok.message in
     let first : first_message c.args.bytes.now ≡ IsMessage m c.behind-rest.result.now =
@@ -60,7 +60,7 @@ returns-in-Ok-do_plan-clause-step c =
     (let Q : World → Type 0 = λ w. IsSome (lookup w.clients c.args.client) in subst Q (sym c.in-Ok-do_plan.ensures.done) (after-live c.args.client world c.in-Ok-plan_message.plan c.behind-rest.result.now c.requires.live)))
 
 pub returns-in-Ok-do_plan-clause-rows : goal.returns-in-Ok-do_plan-clause-rows
-returns-in-Ok-do_plan-clause-rows c =
+returns-in-Ok-do_plan-clause-rows g c =
     let world = world_of c.args.device.now in
     let m = message_of c.in-Ok.message in
     let first : first_message c.args.bytes.now ≡ IsMessage m c.behind-rest.result.now =
@@ -69,10 +69,13 @@ returns-in-Ok-do_plan-clause-rows c =
     ∙ ap (λ (l : List ℕ). c.args.rows.now ++ l) (sym (rows-first-are c.args.client world c.args.bytes.now c.behind-rest.result.now m _ first c.in-Ok-plan_message.ensures.behind c.in-Ok-plan_message.ensures.within))
 
 pub returns-clause-step : goal.returns-clause-step
-returns-clause-step c =
+returns-clause-step g c =
     let world = world_of c.args.device.now in
     let m = message_of c.in-Ok.message in
     let first : first_message c.args.bytes.now ≡ IsMessage m c.behind-rest.result.now =
     c.in-Ok.ensures.message ∙ ap (λ (r : List ℕ). IsMessage m r) (ap (λ (n : ℕ). drop n c.args.bytes.now) (sym c.spelled_len-len.ensures) ∙ sym c.behind-rest.ensures) in
     short-memory c.args.client world _ (world_of c.do_plan.new.device) c.args.bytes.now c.behind-rest.result.now m c.args.marked first c.in-Ok-plan_message.ensures.acts
     c.in-Err-do_plan.ensures.memory c.in-Err-do_plan.ensures.kept
+
+pub plan_message-requires-clause-plain : goal.plan_message-requires-clause-plain
+plan_message-requires-clause-plain g c = c.requires.plain (message_of c.in-Ok.message) _ c.in-Ok.ensures.message

@@ -5,7 +5,7 @@ use Rattle.r9_chan.specs.Op.{number}
 use Rattle.r9_plane.specs.Pixels.{along}
 use Rattle.model_forest.specs.View.{at}
 use Rattle.model_forest.specs.World.{image_at}
-use Rattle.r9_stack.specs.Table.{world}
+use Rattle.r9_forest.specs.Images.{world}
 use Rattle.r9_layers.specs.Area.{drawing_of, mask_chan}
 use Rattle.r9_layers.specs.Way.{AreMasksOf, IsSingleOf}
 use Rattle.r9_layers.proofs.Areas.{area_point}

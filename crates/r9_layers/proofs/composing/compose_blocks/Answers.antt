@@ -5,11 +5,12 @@ use Rattle.r9_geom.specs.Geometry.{holds, strip, IsNear}
 use Rattle.r9_geom.proofs.GeometryLemmas.{near_point, near_wider}
 use Rattle.r9_plane.specs.Pixels.{along}
 use Rattle.r9_plane.proofs.PlaneLemmas.{along_holds}
-use Rattle.r9_stack.specs.Table.{world}
-use Rattle.r9_stack.proofs.Carrying.{along-along, strip-along}
+use Rattle.r9_forest.specs.Images.{world}
+use Rattle.r9_layers.proofs.Carrying.{strip-along}
+use Rattle.r9_locate.proofs.Locating.{along-along}
 use Rattle.r9_layers.specs.Area.{drawing_of, drawn_on}
 use Rattle.r9_layers.proofs.Areas.{area_point}
-use Rattle.r9_stack.proofs.Parts.{get_or-part, length-part, length-put_mid, put_mid_before, put_mid_behind, put_mid_inside}
+use Rattle.r9_locate.proofs.Parts.{get_or-part, length-part, length-put_mid, put_mid_before, put_mid_behind, put_mid_inside}
 use borrow.Rule.Slice.PartMut.{put_mid}
 use Rattle.r9_layers.proofs.composing.compose_blocks.Goals as goal
 

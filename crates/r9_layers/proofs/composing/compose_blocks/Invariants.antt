@@ -1,7 +1,7 @@
 use Rattle.std.proofs.Common.{◌≡◌, ◌<◌, ◌≤◌, ◌-◌, ℕ, get_or, length}
 use Rattle.r9_plane.specs.Pixels.{along}
 use Rattle.r9_layers.specs.Area.{drawn_on}
-use Rattle.r9_stack.specs.Table.{world}
+use Rattle.r9_forest.specs.Images.{world}
 use Rattle.r9_layers.proofs.composing.compose_blocks.Given as goal
 
 abbrev pub invariant-loop-done : goal.invariant-loop-done

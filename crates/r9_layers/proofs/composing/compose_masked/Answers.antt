@@ -3,7 +3,7 @@ use Rattle.r9_geom.specs.Geometry.{holds, strip}
 use Rattle.model_pixel.specs.Composition.{composed_raw}
 use Rattle.r9_chan.specs.Op.{number}
 use Rattle.r9_plane.specs.Pixels.{along}
-use Rattle.r9_stack.specs.Table.{world}
+use Rattle.r9_forest.specs.Images.{world}
 use Rattle.r9_layers.specs.Area.{mask_at}
 use Rattle.r9_layers.proofs.Blocks.{block, short, written}
 use borrow.Rule.Slice.PartMut.{put_mid}

@@ -1,8 +1,8 @@
-use Rattle.std.proofs.Common.{◌≡◌, subst}
+use Rattle.std.proofs.Common.{◌≡◌, ℕ, ap, subst}
 use Rattle.r9_chan.specs.Op.{number}
 use Rattle.r9_mem.specs.Through.{IsThrough}
 use Rattle.model_forest.specs.World.{image_at}
-use Rattle.r9_stack.specs.Table.{world}
+use Rattle.r9_forest.specs.Images.{world}
 use Rattle.r9_layers.specs.Area.{mask_chan}
 use Rattle.r9_layers.proofs.composing.masks_of.Goals as goal
 

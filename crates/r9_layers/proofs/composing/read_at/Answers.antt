@@ -7,8 +7,9 @@ use Rattle.r9_plane.specs.Pixels.{along}
 use Rattle.model_forest.specs.Draw.{reaches}
 use Rattle.model_forest.specs.View.{at}
 use Rattle.model_forest.specs.World.{image_at}
-use Rattle.r9_stack.specs.Table.{world}
-use Rattle.r9_stack.proofs.Carrying.{along-carried, carried_back, near_carried, strip-carried}
+use Rattle.r9_forest.specs.Images.{world}
+use Rattle.r9_layers.proofs.Carrying.{carried_back, near_carried, strip-carried}
+use Rattle.r9_locate.proofs.Locating.{along-carried}
 use Rattle.r9_layers.proofs.composing.read_at.Goals as goal
 
 pub carried-requires-clause-point : goal.carried-requires-clause-point
@@ -36,4 +37,4 @@ returns c k below =
     let W = world c.args.images.now in
     c.read_from.ensures k below
     ∙ ap (λ (from : Spot). at W c.args.i (along from k)) c.carried.ensures
-    ∙ ap (at W c.args.i) (along-carried c.args.at c.args.corner c.args.start k)
+    ∙ ap (at W c.args.i) (sym (along-carried c.args.at c.args.corner c.args.start k))

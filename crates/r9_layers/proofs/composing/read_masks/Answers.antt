@@ -3,7 +3,7 @@ use Rattle.std.specs.Option.{option_map_or}
 use Rattle.r9_geom.specs.Geometry.{carried}
 use Rattle.model_forest.specs.World.{image_at}
 use Rattle.model_forest.specs.Draw.{reaches}
-use Rattle.r9_stack.specs.Table.{world}
+use Rattle.r9_forest.specs.Images.{world}
 use Rattle.r9_layers.specs.Area.{drawing_of}
 use Rattle.r9_layers.proofs.Areas.{area_point}
 use Rattle.r9_layers.proofs.composing.read_masks.Goals as goal

@@ -1,4 +1,4 @@
-use Rattle.r9_stack.specs.Table.{world}
+use Rattle.r9_forest.specs.Images.{world}
 use Rattle.r9_layers.proofs.Drawings.{single_is}
 use Rattle.r9_layers.proofs.composing.single_mask.Goals as goal
 

@@ -1,6 +1,6 @@
 use Rattle.std.proofs.Common.{◌∙◌, int_le, w64, sym, arith}
 use Rattle.std.proofs.lemmas.Int.{ints, to_z-of_z}
-use Rattle.r9_stack.specs.Table.{world}
+use Rattle.r9_forest.specs.Images.{world}
 use Rattle.r9_layers.proofs.Areas.{int_le_true}
 use Rattle.r9_layers.proofs.Rows.{ahead_since}
 use Rattle.r9_layers.proofs.drawing.is_ahead.Goals as goal

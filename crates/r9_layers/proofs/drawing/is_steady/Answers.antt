@@ -1,4 +1,4 @@
-use Rattle.r9_stack.specs.Table.{world}
+use Rattle.r9_forest.specs.Images.{world}
 use Rattle.r9_layers.proofs.Rows.{steady-ahead, steady-apart}
 use Rattle.r9_layers.proofs.drawing.is_steady.Goals as goal
 

@@ -1,4 +1,4 @@
-use Rattle.r9_stack.specs.Table.{world}
+use Rattle.r9_forest.specs.Images.{world}
 use Rattle.r9_layers.proofs.Drawings.{solid_below, solid_is}
 use Rattle.r9_layers.proofs.drawing.solid_pixel.Goals as goal
 

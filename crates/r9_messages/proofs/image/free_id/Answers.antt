@@ -17,7 +17,7 @@ use Rattle.r9_device.proofs.Ties.{ties-freed}
 use Rattle.r9_messages.proofs.image.free_id.Goals as goal
 
 pub release-requires : goal.release-requires
-release-requires c =
+release-requires g c =
     let before = c.args.device.now in
     let freed : Freed = record { book = c.free_id.new.self.book; gone = c.in-Ok.gone } in (
       before.book.book,
@@ -28,7 +28,7 @@ release-requires c =
     )
 
 pub invariant_of-device-2-clause-kept : goal.invariant_of-device-2-clause-kept
-invariant_of-device-2-clause-kept c =
+invariant_of-device-2-clause-kept g c =
     let before = c.args.device.now in
     let freed : Freed = record { book = c.free_id.new.self.book; gone = c.in-Ok.gone } in
     kept-after (world before.forest) (world c.release.new.forest) before.book.book freed before.kept c.keeps.ensures
@@ -42,11 +42,11 @@ invariant_of-device-2-clause-kept c =
     (c.release.ensures.world ∙ ap (λ (gone : List Thing). fold images_without (world before.forest) gone) c.as_slice.ensures)
 
 pub invariant_of-device-2-clause-manager : goal.invariant_of-device-2-clause-manager
-invariant_of-device-2-clause-manager c =
+invariant_of-device-2-clause-manager g c =
     ap (λ (es : List (ℕ × Client)). lookup es 0) c.forget.ensures ∙ manager-with c.args.device.now.clients.entries c.args.client _ c.requires.live c.args.device.now.manager
 
 pub returns-clause-freed : goal.returns-clause-freed
-returns-clause-freed c =
+returns-clause-freed g c =
     let before = c.args.device.now in
     let freed : Freed = record { book = c.free_id.new.self.book; gone = c.in-Ok.gone } in
     let images : world c.release.new.forest ≡ fold images_without (world before.forest) freed.gone =
@@ -57,7 +57,7 @@ returns-clause-freed c =
     ∙ sym (freed-world (world_of before) c.args.client c.args.id freed c.in-Ok.ensures.freed)
 
 pub invariant_of-device-2-clause-spare : goal.invariant_of-device-2-clause-spare
-invariant_of-device-2-clause-spare c =
+invariant_of-device-2-clause-spare g c =
     let before = c.args.device.now in
     let freed : Freed = record { book = c.free_id.new.self.book; gone = c.in-Ok.gone } in
     spare-freed before.book.book freed before.spare before.kept.screens
@@ -66,7 +66,7 @@ invariant_of-device-2-clause-spare c =
     (free_id-gives before.book.book c.args.client c.args.id freed c.in-Ok.ensures.freed)
 
 pub invariant_of-device-2-clause-ties : goal.invariant_of-device-2-clause-ties
-invariant_of-device-2-clause-ties c =
+invariant_of-device-2-clause-ties g c =
     let before = c.args.device.now in
     let freed : Freed = record { book = c.free_id.new.self.book; gone = c.in-Ok.gone } in
     ties-freed before.book.book c.args.client c.args.id freed (not_manager before.clients.entries c.args.client c.requires.live before.manager) before.ties c.in-Ok.ensures.freed

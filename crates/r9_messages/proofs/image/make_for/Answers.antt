@@ -11,14 +11,14 @@ use Rattle.r9_messages.proofs.Made.{owner_ok, owner_err}
 use Rattle.r9_messages.proofs.image.make_for.Goals as goal
 
 pub make-requires-clause-fits : goal.make-requires-clause-fits
-make-requires-clause-fits c =
+make-requires-clause-fits g c =
     let found : lookup c.args.clients.now.entries c.args.client ≡ Some c.in-Some.owner.now = search rules in
     let is : entry_of c.args.clients.now.entries c.args.client ≡ c.in-Some.owner.now = ap (λ (o : Option Client). option_map_or (λ x. x) o new_client) found in
     let P : Client → Type 0 = λ o. sum_by (λ e. e.1) o.sizes + c.args.making.now.len + overhead ≤ 2 ^ 25 in
     subst P is c.requires.fits
 
 pub returns-clause-clients : goal.returns-clause-clients
-returns-clause-clients c =
+returns-clause-clients g c =
     let found : lookup c.args.clients.now.entries c.args.client ≡ Some c.in-Some.owner.now = search rules in
     let is : c.in-Some.owner.now ≡ entry_of c.args.clients.now.entries c.args.client = sym (ap (λ (o : Option Client). option_map_or (λ x. x) o new_client) found) in
     let written : (c.get_mut.follows.lender c.make.new.owner).entries ≡ with c.args.clients.now.entries c.args.client c.make.new.owner = with-written c.args.clients.now.entries _ c.args.client c.make.new.owner (c.get_mut.follows.holds c.make.new.owner).0 in

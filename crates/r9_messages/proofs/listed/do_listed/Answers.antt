@@ -8,13 +8,13 @@ use Rattle.r9_messages.proofs.Restacking.{accepted-shows, restacked-done}
 use Rattle.r9_messages.proofs.listed.do_listed.Goals as goal
 
 pub restack-requires : goal.restack-requires
-restack-requires c =
+restack-requires g c =
     let w = world_of c.args.device.now in
     let P : Listed → Type 0 = λ l. is_ok (act c.args.client w (listed_message l) []) ≡ true in
     accepted-shows c.args.client w c.in-Restack.asked (subst P c.in-Restack.is c.requires.accepted)
 
 pub returns-in-Restack-clause-done : goal.returns-in-Restack-clause-done
-returns-in-Restack-clause-done c =
+returns-in-Restack-clause-done g c =
     let w = world_of c.args.device.now in
     let next = world_of c.restack.new.device in
     let P : Listed → Type 0 = λ l. is_ok (act c.args.client w (listed_message l) []) ≡ true in

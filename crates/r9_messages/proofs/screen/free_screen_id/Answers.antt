@@ -16,7 +16,7 @@ use Rattle.model_images.proofs.Ties.{HasTies-free_screen}
 use Rattle.r9_messages.proofs.screen.free_screen_id.Goals as goal
 
 pub release-requires : goal.release-requires
-release-requires c =
+release-requires g c =
     let before = c.args.device.now in
     let freed : Freed = record { book = c.free_screen.new.self.book; gone = c.in-Ok.gone } in (
       before.book.book,
@@ -27,7 +27,7 @@ release-requires c =
     )
 
 pub invariant_of-device-2-clause-kept : goal.invariant_of-device-2-clause-kept
-invariant_of-device-2-clause-kept c =
+invariant_of-device-2-clause-kept g c =
     let before = c.args.device.now in
     let freed : Freed = record { book = c.free_screen.new.self.book; gone = c.in-Ok.gone } in
     kept-after (world before.forest) (world c.release.new.forest) before.book.book freed before.kept c.keeps.ensures
@@ -41,7 +41,7 @@ invariant_of-device-2-clause-kept c =
     (c.release.ensures.world ∙ ap (λ (gone : List Thing). fold images_without (world before.forest) gone) c.as_slice.ensures)
 
 pub returns-clause-freed : goal.returns-clause-freed
-returns-clause-freed c =
+returns-clause-freed g c =
     let before = c.args.device.now in
     let freed : Freed = record { book = c.free_screen.new.self.book; gone = c.in-Ok.gone } in
     let images : world c.release.new.forest ≡ fold images_without (world before.forest) freed.gone =
@@ -52,7 +52,7 @@ returns-clause-freed c =
     ∙ sym (screen-freed-world (world_of before) c.args.client c.args.id freed c.in-Ok.ensures.freed)
 
 pub invariant_of-device-2-clause-spare : goal.invariant_of-device-2-clause-spare
-invariant_of-device-2-clause-spare c =
+invariant_of-device-2-clause-spare g c =
     let before = c.args.device.now in
     let freed : Freed = record { book = c.free_screen.new.self.book; gone = c.in-Ok.gone } in
     spare-freed before.book.book freed before.spare before.kept.screens
@@ -61,7 +61,7 @@ invariant_of-device-2-clause-spare c =
     (free_screen-gives before.book.book c.args.client c.args.id freed c.in-Ok.ensures.freed)
 
 pub invariant_of-device-2-clause-ties : goal.invariant_of-device-2-clause-ties
-invariant_of-device-2-clause-ties c =
+invariant_of-device-2-clause-ties g c =
     let before = c.args.device.now in
     let freed : Freed = record { book = c.free_screen.new.self.book; gone = c.in-Ok.gone } in
     HasTies-free_screen before.book.book c.args.client c.args.id freed before.ties c.in-Ok.ensures.freed

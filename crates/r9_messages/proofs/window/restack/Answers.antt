@@ -8,18 +8,18 @@ use Rattle.r9_device.proofs.Raising.{kept-lowered, kept-raised}
 use Rattle.r9_messages.proofs.window.restack.Goals as goal
 
 pub raise-requires : goal.raise-requires
-raise-requires c =
+raise-requires g c =
     let before = c.args.device.now in
     record { windows = group-stands c.args.client (world_of before) (ids_of c.args.asked.now) c.deref.result.now before.kept c.requires (ap (λ (xs : List ImageNo). map (λ i. i.0) xs) c.deref.ensures.value ∙ c.in_ok-group.ensures) }
 
 pub invariant_of-device-clause-kept : goal.invariant_of-device-clause-kept
-invariant_of-device-clause-kept c =
+invariant_of-device-clause-kept g c =
     let before = c.args.device.now in
     let windows = group-stands c.args.client (world_of before) (ids_of c.args.asked.now) c.deref.result.now before.kept c.requires (ap (λ (xs : List ImageNo). map (λ i. i.0) xs) c.deref.ensures.value ∙ c.in_ok-group.ensures) in
     kept-raised c.raise.result (world before.forest) (world c.raise.new.self) before.book.book c.deref.result.now before.kept c.keeps.ensures windows c.raise.ensures.raised c.raise.ensures.err
 
 pub lower-requires : goal.lower-requires
-lower-requires c =
+lower-requires g c =
     let before = c.args.device.now in
     record {
       windows = group-stands c.args.client (world_of before) (ids_of c.args.asked.now) c.deref-else-asked-ne0.result.now before.kept c.requires
@@ -27,7 +27,7 @@ lower-requires c =
     }
 
 pub invariant_of-device-else-asked-ne0-clause-kept : goal.invariant_of-device-else-asked-ne0-clause-kept
-invariant_of-device-else-asked-ne0-clause-kept c =
+invariant_of-device-else-asked-ne0-clause-kept g c =
     let before = c.args.device.now in
     let windows = group-stands c.args.client (world_of before) (ids_of c.args.asked.now) c.deref-else-asked-ne0.result.now before.kept c.requires
     (ap (λ (xs : List ImageNo). map (λ i. i.0) xs) c.deref-else-asked-ne0.ensures.value ∙ c.in_ok-group.ensures) in

@@ -12,17 +12,17 @@ use Rattle.r9_orders.proofs.Sizing.{can-resize, display-shown, kept-resized}
 use Rattle.r9_orders.proofs.display.resize_display.Goals as goal
 
 pub resize-requires-clause-can : goal.resize-requires-clause-can
-resize-requires-clause-can c =
+resize-requires-clause-can g c =
     let before = c.args.device.now in
     can-resize (world_of before) c.image_shown-image.result.0 before.kept c.image_shown-image.ensures.shown c.image_shown-image.ensures.live c.requires
 
 pub resize-requires-clause-raw : goal.resize-requires-clause-raw
-resize-requires-clause-raw c =
+resize-requires-clause-raw g c =
     let P : ℕ → Type 0 = λ chan. c.pack-grey.result < 2 ^ depth chan in
     subst P (ap (λ (info : Info). info.chan) c.info-info.ensures) c.pack-grey.ensures.range
 
 pub invariant_of-device-clause-kept : goal.invariant_of-device-clause-kept
-invariant_of-device-clause-kept c =
+invariant_of-device-clause-kept g c =
     let before = c.args.device.now in
     kept-resized c.resize.result (world before.forest) (world c.resize.new.self) before.book.book c.image_shown-image.result.0 c.args.width c.args.height c.pack-grey.result before.kept c.image_shown-image.ensures.live
     (c.image_shown-image.ensures.shown ∙ display-shown (world_of before) before.kept) (omega (arith, c.ranges.width.fits)) (omega (arith, c.ranges.height.fits)) c.resize.ensures.resized
@@ -30,7 +30,7 @@ invariant_of-device-clause-kept c =
 
 pub returns : goal.returns
 unfolding resize_display
-returns c =
+returns g c =
     let w = world_of c.args.device.now in
     let i = c.image_shown-image.result.0 in
     let grey : c.pack-grey.result ≡ pack (at_number w i).chan (colour_of 0x777777ff) =

@@ -10,7 +10,7 @@ use Rattle.r9_orders.proofs.Bordering.{border-made, parts-border, parts-fill}
 use Rattle.r9_orders.proofs.image.add_border.Goals as goal
 
 pub fill_parts-requires-clause-parts : goal.fill_parts-requires-clause-parts
-fill_parts-requires-clause-parts c =
+fill_parts-requires-clause-parts g c =
     let r = (image_at (world c.args.forest.now) c.args.image.0).r in
     let parts = c.minus-border.result in
     subst (λ (n : ℕ). All (CanFill r) (take n parts.part)) (sym c.from.ensures)
@@ -18,7 +18,7 @@ fill_parts-requires-clause-parts c =
     (parts-border r c.info-info.result.r c.inside_border.result parts (ap (λ (x : Info). x.r) c.info-info.ensures) c.inside_border.ensures c.minus-border.ensures.points))
 
 pub returns-clause-world : goal.returns-clause-world
-returns-clause-world c =
+returns-clause-world g c =
     let images = world c.args.forest.now in
     let r = (image_at images c.args.image.0).r in
     let parts = c.minus-border.result in

@@ -11,34 +11,34 @@ use Rattle.r9_orders.proofs.Bordering.{filling-begins, filling-more, filling-sta
 use Rattle.r9_orders.proofs.image.fill_parts.Goals as goal
 
 pub loop-part-init : goal.loop-part-init
-loop-part-init c = filling-begins c.args.forest.now c.args.image.0 c.args.raw c.args.parts.now c.requires.live
+loop-part-init g c = filling-begins c.args.forest.now c.args.image.0 c.args.raw c.args.parts.now c.requires.live
 
 pub loop-part-preserved : goal.loop-part-preserved
-loop-part-preserved c =
+loop-part-preserved g c =
     filling-more c.args.forest.now c.loop-part.forest c.fill.new.self c.args.image.0 c.args.raw c.args.parts.now c.loop-part.part-index _ c.loop-part-test.true c.loop-part.invariant c.fill.ensures.world c.fill.ensures.numbers c.fill.ensures.room
 
 pub fill-requires-clause-live : goal.fill-requires-clause-live
-fill-requires-clause-live c =
+fill-requires-clause-live g c =
     let stays = filling-stays c.args.forest.now c.loop-part.forest c.args.image.0 c.args.raw c.args.parts.now c.loop-part.part-index c.requires.live c.loop-part.invariant in
     stays.live ∙ c.requires.live
 
 pub fill-requires-clause-near : goal.fill-requires-clause-near
-fill-requires-clause-near c = (c.requires.parts c.loop-part.part-index _ c.loop-part-test.true).near
+fill-requires-clause-near g c = (c.requires.parts c.loop-part.part-index _ c.loop-part-test.true).near
 
 pub fill-requires-clause-ordered : goal.fill-requires-clause-ordered
-fill-requires-clause-ordered c = (c.requires.parts c.loop-part.part-index _ c.loop-part-test.true).ordered
+fill-requires-clause-ordered g c = (c.requires.parts c.loop-part.part-index _ c.loop-part-test.true).ordered
 
 pub fill-requires-clause-inside : goal.fill-requires-clause-inside
-fill-requires-clause-inside c = λ p h.
+fill-requires-clause-inside g c = λ p h.
     let stays = filling-stays c.args.forest.now c.loop-part.forest c.args.image.0 c.args.raw c.args.parts.now c.loop-part.part-index c.requires.live c.loop-part.invariant in
     subst (λ (r : Rect). IsTrue (holds r p)) (sym stays.frame.r) ((c.requires.parts c.loop-part.part-index _ c.loop-part-test.true).inside p h)
 
 pub fill-requires-clause-raw : goal.fill-requires-clause-raw
-fill-requires-clause-raw c =
+fill-requires-clause-raw g c =
     let stays = filling-stays c.args.forest.now c.loop-part.forest c.args.image.0 c.args.raw c.args.parts.now c.loop-part.part-index c.requires.live c.loop-part.invariant in
     subst (λ (chan : ℕ). c.args.raw < 2 ^ depth chan) (sym stays.frame.chan) c.requires.raw
 
 pub returns-clause-world : goal.returns-clause-world
-returns-clause-world c =
+returns-clause-world g c =
     c.loop-part.invariant.images
     ∙ ap (λ (ps : List Rect). with_canvas (world c.args.forest.now) c.args.image.0 (λ p. list_any (λ r. holds r p) ps) (λ _. c.args.raw)) (take_all c.loop-part.part-index c.args.parts.now c.loop-part-test.false)

@@ -5,11 +5,11 @@ use Rattle.r9_orders.proofs.Ordered.{next-comes}
 use Rattle.r9_orders.proofs.next.next_window.Goals as goal
 
 pub add_border-requires-clause-live : goal.add_border-requires-clause-live
-add_border-requires-clause-live c =
+add_border-requires-clause-live g c =
     let new = next-comes (world c.args.forest.now) (world c.next_white.new.forest) c.in_ok-image.image.0 c.args.next.now c.in_ok-image.ensures.free c.requires.next c.keeps.ensures c.in_ok-image.ensures.made in
     new.live
 
 pub add_border-requires-clause-near : goal.add_border-requires-clause-near
-add_border-requires-clause-near c =
+add_border-requires-clause-near g c =
     let new = next-comes (world c.args.forest.now) (world c.next_white.new.forest) c.in_ok-image.image.0 c.args.next.now c.in_ok-image.ensures.free c.requires.next c.keeps.ensures c.in_ok-image.ensures.made in
     subst (IsRectNearBy (2 ^ 32)) (sym new.rect) c.requires.next.near

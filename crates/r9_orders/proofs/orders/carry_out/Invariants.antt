@@ -4,4 +4,4 @@ use Rattle.r9_device.specs.World.{world_of}
 use Rattle.r9_orders.proofs.orders.carry_out.Given as goal
 
 abbrev pub invariant-loop-order : goal.invariant-loop-order
-invariant-loop-order l = carried_out (world_of l.device) (drop l.order-index l.fn.list) ≡ carried_out (world_of l.fn.device) l.fn.list
+invariant-loop-order g l = carried_out (world_of l.device) (drop l.order-index l.fn.list) ≡ carried_out (world_of l.fn.device) l.fn.list

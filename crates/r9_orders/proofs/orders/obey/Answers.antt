@@ -13,21 +13,21 @@ use Rattle.r9_orders.proofs.Sizing.{display-fits}
 use Rattle.r9_orders.proofs.orders.obey.Goals as goal
 
 pub next_of-next-requires-clause-screen : goal.next_of-next-requires-clause-screen
-next_of-next-requires-clause-screen c =
+next_of-next-requires-clause-screen g c =
     let w = world_of c.args.device.now in
     let fitting : fits w (Replace c.in-Replace.window c.in-Replace.host c.in-Replace.r c.in-Replace.name c.in-Replace.keep c.in-Replace.hidden) ≡ true = subst (λ (o : Order). fits w o ≡ true) c.in-Replace.is c.requires in
     let passed = all-passed (has_window w c.in-Replace.window) (has_rio w c.in-Replace.host) (is_window_rect c.in-Replace.r) (not c.in-Replace.keep || can_keep w c.in-Replace.window (rio_screen w c.in-Replace.host) c.in-Replace.r) fitting in
     ap (λ (s : ℕ). is_used w.book (Screen s)) c.rio_screen-screen.ensures ∙ rio-used w c.in-Replace.host passed.1
 
 pub next_of-next-requires-clause-rect : goal.next_of-next-requires-clause-rect
-next_of-next-requires-clause-rect c =
+next_of-next-requires-clause-rect g c =
     let w = world_of c.args.device.now in
     let fitting : fits w (Replace c.in-Replace.window c.in-Replace.host c.in-Replace.r c.in-Replace.name c.in-Replace.keep c.in-Replace.hidden) ≡ true = subst (λ (o : Order). fits w o ≡ true) c.in-Replace.is c.requires in
     let passed = all-passed (has_window w c.in-Replace.window) (has_rio w c.in-Replace.host) (is_window_rect c.in-Replace.r) (not c.in-Replace.keep || can_keep w c.in-Replace.window (rio_screen w c.in-Replace.host) c.in-Replace.r) fitting in
     passed.2
 
 pub next_of-next-requires-clause-keep : goal.next_of-next-requires-clause-keep
-next_of-next-requires-clause-keep c = λ keep.
+next_of-next-requires-clause-keep g c = λ keep.
     let w = world_of c.args.device.now in
     let fitting : fits w (Replace c.in-Replace.window c.in-Replace.host c.in-Replace.r c.in-Replace.name c.in-Replace.keep c.in-Replace.hidden) ≡ true = subst (λ (o : Order). fits w o ≡ true) c.in-Replace.is c.requires in
     let passed = all-passed (has_window w c.in-Replace.window) (has_rio w c.in-Replace.host) (is_window_rect c.in-Replace.r) (not c.in-Replace.keep || can_keep w c.in-Replace.window (rio_screen w c.in-Replace.host) c.in-Replace.r) fitting in
@@ -35,17 +35,17 @@ next_of-next-requires-clause-keep c = λ keep.
     ∙ where-kept c.in-Replace.keep (can_keep w c.in-Replace.window (rio_screen w c.in-Replace.host) c.in-Replace.r) keep passed.3
 
 pub replace_window-requires-clause-window : goal.replace_window-requires-clause-window
-replace_window-requires-clause-window c =
+replace_window-requires-clause-window g c =
     let w = world_of c.args.device.now in
     let fitting : fits w (Replace c.in-Replace.window c.in-Replace.host c.in-Replace.r c.in-Replace.name c.in-Replace.keep c.in-Replace.hidden) ≡ true = subst (λ (o : Order). fits w o ≡ true) c.in-Replace.is c.requires in
     let passed = all-passed (has_window w c.in-Replace.window) (has_rio w c.in-Replace.host) (is_window_rect c.in-Replace.r) (not c.in-Replace.keep || can_keep w c.in-Replace.window (rio_screen w c.in-Replace.host) c.in-Replace.r) fitting in
     passed.0
 
 pub replace_window-requires-clause-next : goal.replace_window-requires-clause-next
-replace_window-requires-clause-next c =
+replace_window-requires-clause-next g c =
     subst (λ (s : ℕ). IsNext (world_of c.args.device.now) c.in-Replace.window s c.next_of-next.result) c.rio_screen-screen.ensures c.next_of-next.ensures.next
 
 pub resize_display-requires : goal.resize_display-requires
-resize_display-requires c =
+resize_display-requires g c =
     let w = world_of c.args.device.now in
     display-fits w c.in-Size.width c.in-Size.height (subst (λ (o : Order). fits w o ≡ true) c.in-Size.is c.requires)

@@ -20,7 +20,7 @@ use Rattle.r9_orders.proofs.Managed.{free_screen-image_ids}
 use Rattle.r9_orders.proofs.rio.close_rio.Goals as goal
 
 pub release-requires : goal.release-requires
-release-requires c =
+release-requires g c =
     let before = c.args.device.now in
     let freed : Freed = record { book = c.free_screen.new.self.book; gone = c.in-Ok.gone } in (
       before.book.book,
@@ -31,7 +31,7 @@ release-requires c =
     )
 
 pub invariant_of-device-clause-kept : goal.invariant_of-device-clause-kept
-invariant_of-device-clause-kept c =
+invariant_of-device-clause-kept g c =
     let before = c.args.device.now in
     let freed : Freed = record { book = c.free_screen.new.self.book; gone = c.in-Ok.gone } in
     kept-after (world before.forest) (world c.release.new.forest) before.book.book freed before.kept c.keeps.ensures
@@ -45,7 +45,7 @@ invariant_of-device-clause-kept c =
     (c.release.ensures.world ∙ ap (λ (gone : List Thing). fold images_without (world before.forest) gone) c.as_slice.ensures)
 
 pub invariant_of-device-clause-spare : goal.invariant_of-device-clause-spare
-invariant_of-device-clause-spare c =
+invariant_of-device-clause-spare g c =
     let before = c.args.device.now in
     let freed : Freed = record { book = c.free_screen.new.self.book; gone = c.in-Ok.gone } in
     spare-freed before.book.book freed before.spare before.kept.screens
@@ -54,13 +54,13 @@ invariant_of-device-clause-spare c =
     (free_screen-gives before.book.book 0 c.args.window freed c.in-Ok.ensures.freed)
 
 pub invariant_of-device-clause-ties : goal.invariant_of-device-clause-ties
-invariant_of-device-clause-ties c =
+invariant_of-device-clause-ties g c =
     let before = c.args.device.now in
     let freed : Freed = record { book = c.free_screen.new.self.book; gone = c.in-Ok.gone } in
     HasTies-free_screen before.book.book 0 c.args.window freed before.ties c.in-Ok.ensures.freed
 
 pub returns-in-Ok-clause-closed : goal.returns-in-Ok-clause-closed
-returns-in-Ok-clause-closed c =
+returns-in-Ok-clause-closed g c =
     let before = c.args.device.now in
     let freed : Freed = record { book = c.free_screen.new.self.book; gone = c.in-Ok.gone } in
     let images : world c.release.new.forest ≡ fold images_without (world before.forest) freed.gone =
@@ -71,7 +71,7 @@ returns-in-Ok-clause-closed c =
     ∙ sym (screen-closed-world (world_of before) c.args.window freed c.in-Ok.ensures.freed)
 
 pub returns-in-Err-Refused-clause-closed : goal.returns-in-Err-Refused-clause-closed
-returns-in-Err-Refused-clause-closed c =
+returns-in-Err-Refused-clause-closed g c =
     let w = world_of c.args.device.now in
     let P : BookFault → Type 0 = λ f. IfRefused f (λ n. free_screen w.book 0 c.args.window ≡ Err n) in
     (λ i. let next : World = record w { book = c.in-Err-Refused.ensures.kept i } in next)

@@ -16,13 +16,13 @@ use Rattle.r9_device.proofs.Rects.{ordered-of, wider}
 use Rattle.r9_orders.proofs.rio.fill_window.Goals as goal
 
 pub inside_border-requires : goal.inside_border-requires
-inside_border-requires c =
+inside_border-requires g c =
     let near = (c.args.device.now.kept.placed c.image_shown-image.result.0).near in
     let r = ap (λ (info : Info). info.r) c.info-info.ensures in
     subst (IsRectNearBy (2 ^ 33)) (sym r) (wider (2 ^ 32) (2 ^ 33) _ (omega arith) near)
 
 pub fill-requires-clause-near : goal.fill-requires-clause-near
-fill-requires-clause-near c =
+fill-requires-clause-near g c =
     let w = world_of c.args.device.now in
     let i = c.image_shown-image.result.0 in
     let near = (c.args.device.now.kept.placed i).near in
@@ -30,7 +30,7 @@ fill-requires-clause-near c =
     subst (IsRectNearBy (2 ^ 34)) (sym area) (inside-near (at_number w i).r (wider (2 ^ 32) (2 ^ 33) _ (omega arith) near))
 
 pub fill-requires-clause-ordered : goal.fill-requires-clause-ordered
-fill-requires-clause-ordered c =
+fill-requires-clause-ordered g c =
     let w = world_of c.args.device.now in
     let i = c.image_shown-image.result.0 in
     let rect : is_window_rect (at_number w i).r ≡ true = ap (λ (n : ℕ). is_window_rect (at_number w n).r) c.image_shown-image.ensures.shown ∙ c.requires in
@@ -38,25 +38,25 @@ fill-requires-clause-ordered c =
     subst IsOrdered (sym area) (ordered-of (inside_border (at_number w i).r) (inside-points (at_number w i).r rect))
 
 pub fill-requires-clause-inside : goal.fill-requires-clause-inside
-fill-requires-clause-inside c = λ p h.
+fill-requires-clause-inside g c = λ p h.
     let w = world_of c.args.device.now in
     let i = c.image_shown-image.result.0 in
     let area : c.inside_border.result ≡ inside_border (at_number w i).r = c.inside_border.ensures ∙ ap (λ (info : Info). inside_border info.r) c.info-info.ensures in
     inside-held (at_number w i).r p (ap (λ (r : Rect). holds r p) (sym area) ∙ h)
 
 pub fill-requires-clause-raw : goal.fill-requires-clause-raw
-fill-requires-clause-raw c =
+fill-requires-clause-raw g c =
     let P : ℕ → Type 0 = λ chan. c.pack-grey.result < 2 ^ depth chan in
     subst P (ap (λ (info : Info). info.chan) c.info-info.ensures) c.pack-grey.ensures.range
 
 pub invariant_of-device-clause-kept : goal.invariant_of-device-clause-kept
-invariant_of-device-clause-kept c =
+invariant_of-device-clause-kept g c =
     let before = c.args.device.now in
     kept-same _ (world c.fill.new.self) before.book.book
     (kept-fill (world before.forest) before.book.book c.image_shown-image.result.0 c.inside_border.result c.pack-grey.result before.kept c.image_shown-image.ensures.live) c.fill.ensures.world
 
 pub returns : goal.returns
-returns c =
+returns g c =
     let w = world_of c.args.device.now in
     let i = c.image_shown-image.result.0 in
     let area : c.inside_border.result ≡ inside_border (at_number w i).r = c.inside_border.ensures ∙ ap (λ (info : Info). inside_border info.r) c.info-info.ensures in

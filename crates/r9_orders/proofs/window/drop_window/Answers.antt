@@ -4,9 +4,9 @@ use Rattle.r9_orders.proofs.Hosting.{dropped}
 use Rattle.r9_orders.proofs.window.drop_window.Goals as goal
 
 pub free_window-requires : goal.free_window-requires
-free_window-requires c = window-some (world_of c.args.device.now) c.args.window c.requires
+free_window-requires g c = window-some (world_of c.args.device.now) c.args.window c.requires
 
 pub returns : goal.returns
-returns c =
+returns g c =
     dropped c.free_window.result (world_of c.args.device.now) (world_of c.place_window.new.device) (world_of c.close_rio.new.device) (world_of c.free_window.new.device) c.args.window c.in_ok-place_window.ensures.placed c.in_ok-close_rio.ensures.closed
     c.free_window.ensures.freed

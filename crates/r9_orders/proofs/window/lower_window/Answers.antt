@@ -7,19 +7,19 @@ use Rattle.r9_device.proofs.Raising.{kept-lowered}
 use Rattle.r9_orders.proofs.window.lower_window.Goals as goal
 
 pub lower-requires : goal.lower-requires
-lower-requires c =
+lower-requires g c =
     let before = c.args.device.now in
     record { windows = window-group (world_of before) c.args.window c.image_shown-image.result before.kept c.requires c.image_shown-image.ensures.shown }
 
 pub invariant_of-device-clause-kept : goal.invariant_of-device-clause-kept
-invariant_of-device-clause-kept c =
+invariant_of-device-clause-kept g c =
     let before = c.args.device.now in
     let i = c.image_shown-image.result in
     kept-lowered c.lower.result (world before.forest) (world c.lower.new.self) before.book.book (i ∷ []) before.kept c.keeps.ensures
     (window-group (world_of before) c.args.window i before.kept c.requires c.image_shown-image.ensures.shown) c.lower.ensures.lowered c.lower.ensures.err
 
 pub returns : goal.returns
-returns c =
+returns g c =
     let w = world_of c.args.device.now in
     changed c.lower.result w (world c.lower.new.self) _ _ (numbers c.lower.new.self) c.lower.ensures.lowered (ap (λ (n : ℕ). after_lower w.images (n ∷ [])) c.image_shown-image.ensures.shown)
     c.lower.ensures.numbers

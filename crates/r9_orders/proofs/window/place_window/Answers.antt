@@ -11,13 +11,13 @@ use Rattle.r9_device.proofs.Rects.{point-wider}
 use Rattle.r9_orders.proofs.window.place_window.Goals as goal
 
 pub origin-requires-clause-min : goal.origin-requires-clause-min
-origin-requires-clause-min c = point-wider (2 ^ 32) (2 ^ 34) c.rect.result.min (omega arith) c.rect.ensures.near.min
+origin-requires-clause-min g c = point-wider (2 ^ 32) (2 ^ 34) c.rect.result.min (omega arith) c.rect.ensures.near.min
 
 pub origin-requires-clause-corner : goal.origin-requires-clause-corner
-origin-requires-clause-corner c = corner-near c.args.at c.requires
+origin-requires-clause-corner g c = corner-near c.args.at c.requires
 
 pub invariant_of-device-clause-kept : goal.invariant_of-device-clause-kept
-invariant_of-device-clause-kept c =
+invariant_of-device-clause-kept g c =
     let before = c.args.device.now in
     let i = c.image_shown-image.result.0 in
     kept-placed c.origin.result (world before.forest) (world c.origin.new.self) before.book.book i c.rect.result.min c.args.at before.kept c.image_shown-image.ensures.live
@@ -25,7 +25,7 @@ invariant_of-device-clause-kept c =
 
 pub returns-clause-placed : goal.returns-clause-placed
 unfolding place_window
-returns-clause-placed c =
+returns-clause-placed g c =
     let w = world_of c.args.device.now in
     let i = c.image_shown-image.result.0 in
     let at = c.args.at in

@@ -7,19 +7,19 @@ use Rattle.r9_device.proofs.Raising.{kept-raised}
 use Rattle.r9_orders.proofs.window.raise_window.Goals as goal
 
 pub raise-requires : goal.raise-requires
-raise-requires c =
+raise-requires g c =
     let before = c.args.device.now in
     record { windows = window-group (world_of before) c.args.window c.image_shown-image.result before.kept c.requires c.image_shown-image.ensures.shown }
 
 pub invariant_of-device-clause-kept : goal.invariant_of-device-clause-kept
-invariant_of-device-clause-kept c =
+invariant_of-device-clause-kept g c =
     let before = c.args.device.now in
     let i = c.image_shown-image.result in
     kept-raised c.raise.result (world before.forest) (world c.raise.new.self) before.book.book (i ∷ []) before.kept c.keeps.ensures
     (window-group (world_of before) c.args.window i before.kept c.requires c.image_shown-image.ensures.shown) c.raise.ensures.raised c.raise.ensures.err
 
 pub returns : goal.returns
-returns c =
+returns g c =
     let w = world_of c.args.device.now in
     changed c.raise.result w (world c.raise.new.self) _ _ (numbers c.raise.new.self) c.raise.ensures.raised (ap (λ (n : ℕ). after_raise w.images (n ∷ [])) c.image_shown-image.ensures.shown)
     c.raise.ensures.numbers

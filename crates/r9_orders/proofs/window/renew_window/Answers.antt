@@ -22,7 +22,7 @@ use Rattle.r9_device.proofs.Spare.{spare-freed}
 use Rattle.r9_orders.proofs.window.renew_window.Goals as goal
 
 pub release-requires : goal.release-requires
-release-requires c =
+release-requires g c =
     let before = c.args.device.now in
     let window = c.args.window in
     let n = next_number (numbers before.forest) in
@@ -38,7 +38,7 @@ release-requires c =
     (can.0, subst (λ (gone : List Thing). CanRelease (world c.next_window-made.new.forest) can.0 gone) (sym c.as_slice.ensures) can.1)
 
 pub add_window-requires-clause-fresh : goal.add_window-requires-clause-fresh
-add_window-requires-clause-fresh c =
+add_window-requires-clause-fresh g c =
     let before = c.args.device.now in
     let window = c.args.window in
     let n = next_number (numbers before.forest) in
@@ -52,7 +52,7 @@ add_window-requires-clause-fresh c =
     ap (λ (b : Book). is_image_id_taken b 0 window) c.next_window-made.ensures.book ∙ id-left before.book.book window freed other e
 
 pub invariant_of-device-in-Ok-made-clause-kept : goal.invariant_of-device-in-Ok-made-clause-kept
-invariant_of-device-in-Ok-made-clause-kept c =
+invariant_of-device-in-Ok-made-clause-kept g c =
     let before = c.args.device.now in
     let window = c.args.window in
     let n = next_number (numbers before.forest) in
@@ -73,7 +73,7 @@ invariant_of-device-in-Ok-made-clause-kept c =
     (c.release.ensures.world ∙ ap (λ (gone : List Thing). fold images_without (world c.next_window-made.new.forest) gone) c.as_slice.ensures) given other
 
 pub invariant_of-device-in-Ok-made-clause-spare : goal.invariant_of-device-in-Ok-made-clause-spare
-invariant_of-device-in-Ok-made-clause-spare c =
+invariant_of-device-in-Ok-made-clause-spare g c =
     let before = c.args.device.now in
     let window = c.args.window in
     let n = next_number (numbers before.forest) in
@@ -90,7 +90,7 @@ invariant_of-device-in-Ok-made-clause-spare c =
     spare-given freed.book c.add_window.new.book.book window n c.args.screen spare given
 
 pub invariant_of-device-in-Ok-made-clause-ties : goal.invariant_of-device-in-Ok-made-clause-ties
-invariant_of-device-in-Ok-made-clause-ties c =
+invariant_of-device-in-Ok-made-clause-ties g c =
     let before = c.args.device.now in
     let window = c.args.window in
     let n = next_number (numbers before.forest) in
@@ -106,7 +106,7 @@ invariant_of-device-in-Ok-made-clause-ties c =
     HasTies-add_id freed.book c.add_window.new.book.book 0 window n (Some c.args.screen) (HasTies-free_id before.book.book 0 window freed other before.ties e) given
 
 pub returns-in-Ok-made : goal.returns-in-Ok-made
-returns-in-Ok-made c =
+returns-in-Ok-made g c =
     let before = c.args.device.now in
     let window = c.args.window in
     let n = next_number (numbers before.forest) in
@@ -125,7 +125,7 @@ returns-in-Ok-made c =
     added
 
 pub invariant_of-device-in-Err-made : goal.invariant_of-device-in-Err-made
-invariant_of-device-in-Err-made c =
+invariant_of-device-in-Err-made g c =
     let before = c.args.device.now in
     let window = c.args.window in
     let n = next_number (numbers before.forest) in

@@ -5,10 +5,10 @@ use Rattle.r9_orders.proofs.Windows.{replaced-ok, rio-by-id}
 use Rattle.r9_orders.proofs.window.replace_window.Goals as goal
 
 pub renew_window-requires-clause-screen : goal.renew_window-requires-clause-screen
-renew_window-requires-clause-screen c =
+renew_window-requires-clause-screen g c =
     subst (λ (s : ℕ). is_used_by_id c.args.device.now.book.book s ≡ true) (sym c.rio_screen-screen.ensures) (rio-by-id (world_of c.args.device.now) c.args.host c.requires.rio)
 
 pub returns : goal.returns
-returns c =
+returns g c =
     replaced-ok c.name_window.result (world_of c.args.device.now) (world_of c.renew_window.new.device) (world_of c.name_window.new.device) c.args.window c.args.host c.rio_screen-screen.result c.args.next.now c.args.name.now c.rio_screen-screen.ensures c.requires.next
     c.in_ok-renew_window.ensures c.name_window.ensures.named

@@ -10,7 +10,7 @@ use Rattle.r9_locate.specs.Forms.{bits_in}
 use Rattle.r9_locate.specs.Table.{shape}
 use Rattle.r9_pixels.specs.Kept.{form_at}
 use Rattle.r9_shown.specs.Shown.{block, down}
-use Rattle.r9_shown.proofs.Blocks.{band_part, bands_more}
+use Rattle.r9_shown.proofs.Pieces.{band_part, bands_more}
 use Rattle.r9_put.proofs.Grids.{begins_row, near_row}
 use Rattle.r9_put.proofs.Putting.{stored_more, written_all, written_more, written_none}
 use Rattle.r9_put.proofs.filling.fill_area.Goals as goal
@@ -57,9 +57,6 @@ pub fill_band-requires-clause-stored : goal.fill_band-requires-clause-stored
 fill_band-requires-clause-stored g c =
     stored_more (shape c.args.lists.now) c.args.i (holds (band c.args.r.now c.loop-row.row)) (λ _. c.args.raw) c.args.pixels.now c.loop-row.pixels
     c.loop-row.invariant.written c.requires.stored
-
-pub fill_band-requires-clause-forms : goal.fill_band-requires-clause-forms
-fill_band-requires-clause-forms g c = c.loop-row.invariant.written.forms ∙ c.requires.forms
 
 pub fill_band-requires-clause-below : goal.fill_band-requires-clause-below
 fill_band-requires-clause-below g c =

@@ -10,7 +10,7 @@ use Rattle.r9_locate.specs.Forms.{bits_in}
 use Rattle.r9_locate.specs.Table.{shape}
 use Rattle.r9_pixels.specs.Kept.{form_at}
 use Rattle.r9_shown.specs.Shown.{block}
-use Rattle.r9_shown.proofs.Blocks.{block_none, block_part, block_split, first_row, stands_in}
+use Rattle.r9_shown.proofs.Pieces.{block_none, block_part, block_split, first_row, stands_in}
 use Rattle.r9_put.proofs.Putting.{row_near, stored_more, written_all, written_more, written_none}
 use Rattle.r9_put.proofs.filling.fill_band.Goals as goal
 
@@ -51,9 +51,6 @@ pub fill_block-requires-clause-stored : goal.fill_block-requires-clause-stored
 fill_block-requires-clause-stored g c =
     stored_more (shape c.args.lists.now) c.args.i (holds (block c.args.at c.loop-done.done c.args.rows)) (λ _. c.args.raw) c.args.pixels.now c.loop-done.pixels
     c.loop-done.invariant.written c.requires.stored
-
-pub fill_block-requires-clause-forms : goal.fill_block-requires-clause-forms
-fill_block-requires-clause-forms g c = c.loop-done.invariant.written.forms ∙ c.requires.forms
 
 pub fill_block-requires-clause-below : goal.fill_block-requires-clause-below
 fill_block-requires-clause-below g c =

@@ -8,7 +8,7 @@ use Rattle.model_forest.specs.World.{Image, image_at}
 use Rattle.r9_locate.specs.Table.{shape}
 use Rattle.r9_shown.specs.Shown.{block}
 use Rattle.r9_shown.proofs.Carried.{near_part}
-use Rattle.r9_shown.proofs.Blocks.{block_area, block_ordered, corner_in}
+use Rattle.r9_shown.proofs.Pieces.{block_area, block_ordered, corner_in}
 use Rattle.r9_put.proofs.Forms.{image_near}
 use Rattle.r9_put.proofs.Putting.{none_bare, some_covered, written_all}
 use Rattle.r9_put.proofs.filling.fill_block.Goals as goal

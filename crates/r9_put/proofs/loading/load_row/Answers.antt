@@ -13,7 +13,8 @@ use Rattle.r9_plane.proofs.PlaneLemmas.{start_in}
 use Rattle.r9_locate.specs.Forms.{bits_in}
 use Rattle.r9_locate.specs.Table.{shape}
 use Rattle.r9_put.proofs.Grids.{begins_row, near_row, row_lies}
-use Rattle.r9_put.proofs.Putting.{stored_more, strip_part, strip_split, written_all, written_more, written_none}
+use Rattle.r9_shown.proofs.Pieces.{strip_part, strip_split}
+use Rattle.r9_put.proofs.Putting.{stored_more, written_all, written_more, written_none}
 use Rattle.r9_put.proofs.loading.load_row.Goals as goal
 
 pub point_at-at-requires-clause-row : goal.point_at-at-requires-clause-row

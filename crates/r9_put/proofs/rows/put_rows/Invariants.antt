@@ -1,5 +1,5 @@
-use Rattle.std.proofs.Common.{◌≤◌, ◌+◌, ◌*◌, get_or}
-use Rattle.r9_geom.specs.Geometry.{holds, width}
+use Rattle.std.proofs.Common.{◌≤◌, ◌+◌, ◌*◌, ◌-◌, get_or}
+use Rattle.r9_geom.specs.Geometry.{height, holds, width}
 use Rattle.r9_geom.proofs.GeometryLemmas.{band}
 use Rattle.r9_plane.specs.Pixels.{number_of}
 use Rattle.r9_locate.specs.Table.{shape}
@@ -8,6 +8,10 @@ use Rattle.r9_put.proofs.rows.put_rows.Given as goal
 
 abbrev pub invariant-loop-row : goal.invariant-loop-row
 invariant-loop-row g l = record {
+  within : l.row ≤ height l.r;
   written : IsWritten (shape l.lists) l.i (holds (band l.r l.row)) (λ p. get_or l.raws (number_of l.r p) 0) l.fn.pixels l.pixels;
   steps : l.steps ≤ l.fn.steps + width l.r * l.row;
 }
+
+abbrev pub decreases-loop-row : goal.decreases-loop-row
+decreases-loop-row g l = l.height - l.row

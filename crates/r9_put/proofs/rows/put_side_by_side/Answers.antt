@@ -10,7 +10,8 @@ use Rattle.r9_locate.specs.Forms.{bits_in}
 use Rattle.r9_locate.specs.Table.{shape}
 use Rattle.r9_locate.proofs.Parts.{get_or-part, length-part}
 use Rattle.r9_pixels.specs.Kept.{form_at}
-use Rattle.r9_put.proofs.Putting.{part_pixel, row_narrow, row_near, stored_more, strip_part, strip_split, written_all, written_more}
+use Rattle.r9_shown.proofs.Pieces.{strip_part, strip_split}
+use Rattle.r9_put.proofs.Putting.{part_pixel, row_narrow, row_near, stored_more, written_all, written_more}
 use Rattle.r9_put.proofs.rows.put_side_by_side.Goals as goal
 
 pub along-q-requires-clause-columns : goal.along-q-requires-clause-columns

@@ -1,19 +1,21 @@
-use Rattle.std.proofs.Common.{◌≡◌, ◌∙◌, All, List, None, Option, ℕ, sym, subst, ap}
+use Rattle.std.proofs.Common.{◌≡◌, ◌∙◌, All, Bool, List, [], ◌∷◌, None, Option, ℕ, sym, subst, ap}
 use Rattle.std.specs.Prelude.{◌&&◌, not}
 use Rattle.model_forest.specs.declared.Window.{Window}
 use Rattle.model_forest.specs.World.{Image, World, image_at, with_image, IsLive}
-use Rattle.model_kept.specs.Keeping.{with_kept, HasOnePlaces, IsStanding}
+use Rattle.model_kept.specs.Keeping.{with_kept, HasOnePlaces, IsStanding, Place}
 use Rattle.model_kept.specs.Restack.{with_list}
 use Rattle.model_kept.proofs.Once.{places-forest}
 use Rattle.model_kept.proofs.Worlds.{standing-forest}
 use Rattle.r9_locate.specs.Forms.{forms_of, Form}
 use Rattle.r9_locate.specs.Lists.{IsNearby}
 use Rattle.r9_locate.specs.Table.{shape}
+use Rattle.r9_cells.specs.Fitting.{AreOne}
 use Rattle.r9_pixels.specs.Kept.{form_at, has_place, kept_at}
-use Rattle.r9_pixels.specs.Places.{in_shown, with_form, HasCells, StandsOn}
+use Rattle.r9_pixels.specs.Places.{in_shown, with_form, HasCells, HasGivenOff, StandsOn}
 use Rattle.r9_relist.specs.Leaving.{gone, others}
-use Rattle.r9_relist.proofs.Uncovering.{final_forest, gone_cells, gone_forms, gone_kept, gone_room, gone_world, live_below, on_then}
+use Rattle.r9_relist.proofs.Uncovering.{final_forest, gone_cells, gone_forms, gone_kept, gone_room, gone_world, live_below, on_then, ones_then}
 use Rattle.r9_relist.proofs.Near.{nearby}
+use Rattle.r9_relist.proofs.Off.{left_given}
 use Rattle.r9_relist.proofs.Relisted.{list_at, list_live, relist_forms}
 use Rattle.r9_relist.proofs.leaving.take_away.Goals as goal
 use Rattle.r9_relist.proofs.leaving.take_away.Goals.{After-deref, After-remove-2, After-unlist}
@@ -53,6 +55,19 @@ give_shown-requires-clause-windows g c =
     let at = (goal.at.give_shown-requires-clause-windows g c).After-deref in
     subst (λ (ws : List Window). All (StandsOn (shape c.unlist.new.lists) c.args.p) ws) (sym (left g at))
     (subst (λ (w : World). All (StandsOn w c.args.p) (others world c.args.p c.args.w)) (sym c.unlist.ensures.world) (on_then world c.args.p c.args.w c.requires.going))
+
+pub give_shown-requires-clause-one : goal.give_shown-requires-clause-one
+give_shown-requires-clause-one g c =
+    subst AreOne (sym (left g (goal.at.give_shown-requires-clause-one g c).After-deref)) (ones_then (shape c.args.lists.now) c.args.p c.args.w c.requires.going)
+
+pub give_shown-requires-clause-still : goal.give_shown-requires-clause-still
+give_shown-requires-clause-still g c =
+    let world = shape c.args.lists.now in
+    let at = (goal.at.give_shown-requires-clause-still g c).After-deref in
+    subst (λ (has : Place → Bool). HasGivenOff (shape c.unlist.new.lists) c.args.p c.deref.result.now 0 (c.args.area.now ∷ []) has) (sym c.uncover.ensures.has)
+    (subst (λ (ws : List Window). HasGivenOff (shape c.unlist.new.lists) c.args.p ws 0 (c.args.area.now ∷ []) (has_place c.args.pixels.now)) (sym (left g at))
+    (subst (λ (w : World). HasGivenOff w c.args.p (others world c.args.p c.args.w) 0 (c.args.area.now ∷ []) (has_place c.args.pixels.now)) (sym c.unlist.ensures.world)
+    (left_given world c.args.p c.args.w c.requires.going c.args.area.now c.requires.place (has_place c.args.pixels.now) c.requires.cells)))
 
 -- the lists without the image
 without_it : (g : _) (c : After-unlist g) → with_image (shape c.unlist.new.lists) c.args.w None ≡ gone (shape c.args.lists.now) c.args.p c.args.w

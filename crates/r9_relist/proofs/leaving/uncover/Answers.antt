@@ -1,4 +1,4 @@
-use Rattle.std.proofs.Common.{◌≡◌, ◌∙◌, ◌++◌, ◌≤◌, All, List, Some, sym, subst, ap}
+use Rattle.std.proofs.Common.{◌≡◌, ◌∙◌, ◌++◌, ◌≤◌, All, List, Some, length, sym, subst, ap}
 use Rattle.std.specs.Prelude.{◌==◌}
 use Rattle.std.specs.List.{count_by}
 use Rattle.r9_geom.specs.Geometry.{IsNear}
@@ -12,6 +12,7 @@ use Rattle.r9_locate.specs.Forms.{HasBits}
 use Rattle.r9_locate.specs.Table.{shape}
 use Rattle.r9_pixels.specs.Kept.{has_place, kept_at}
 use Rattle.r9_restack.specs.Changing.{HasPlacesBut, IsChange, StaysTop}
+use Rattle.r9_restack.specs.Stacks.{IsFront}
 use Rattle.r9_relist.specs.Leaving.{others}
 use Rattle.r9_relist.proofs.Uncovering.{leaving_change, leaving_gone, leaving_outside, leaving_places, live_below, near_corners}
 use Rattle.r9_relist.proofs.Relisted.{forest_bits}
@@ -21,7 +22,7 @@ use Rattle.r9_relist.proofs.leaving.uncover.Goals.{After-around}
 -- the parts of the list are the others
 parts : (g : _) (c : After-around g) → c.around.result.0.now ++ c.around.result.1.now ≡ others (shape c.args.lists.now) c.args.p c.args.w
 parts g c =
-    c.around.ensures ∙ ap (without c.args.w) c.deref.ensures.value ∙ ap (λ (image : Image). without c.args.w image.windows) (sym c.get.ensures)
+    c.around.ensures.parts ∙ ap (without c.args.w) c.deref.ensures.value ∙ ap (λ (image : Image). without c.args.w image.windows) (sym c.get.ensures)
 
 pub get-requires : goal.get-requires
 get-requires g c = live_below (shape c.args.lists.now) c.args.p c.args.w c.requires.going
@@ -31,6 +32,11 @@ around-requires g c =
     let world = shape c.args.lists.now in
     let once = c.requires.going.before.once c.args.p c.args.w (live_below world c.args.p c.args.w c.requires.going) in
     subst (λ (ws : List Window). count_by (λ v. v.image == c.args.w) ws ≤ 1) (sym (c.deref.ensures.value ∙ ap (λ (image : Image). image.windows) (sym c.get.ensures))) once
+
+pub leave-requires-clause-front : goal.leave-requires-clause-front
+leave-requires-clause-front g c =
+    let upper = c.around.result.0.now in
+    subst (λ (ws : List Window). IsFront ws upper c.args.w (length upper)) (c.deref.ensures.value ∙ ap (λ (image : Image). image.windows) (sym c.get.ensures)) c.around.ensures.front
 
 pub leave-requires-clause-change : goal.leave-requires-clause-change
 leave-requires-clause-change g c =

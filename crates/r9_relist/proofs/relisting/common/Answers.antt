@@ -1,8 +1,9 @@
-use Rattle.std.proofs.Common.{◌∙◌, ◌≤◌, sym, subst, ap, arith}
+use Rattle.std.proofs.Common.{◌∙◌, Bool, ◌≤◌, sym, subst, ap, arith}
+use Rattle.std.specs.Prelude.{if◌then◌else◌}
 use Rattle.r9_geom.specs.declared.Rect.{Rect}
-use Rattle.r9_geom.specs.Geometry.{area_of, is_empty, IsRectNear}
+use Rattle.r9_geom.specs.Geometry.{area_of, is_empty, meet, IsRectNear}
 use Rattle.r9_geom.proofs.GeometryLemmas.{empty_holds}
-use Rattle.r9_relist.proofs.Meeting.{corner_area, corner_none, meet_fewer, meet_near}
+use Rattle.r9_relist.proofs.Meeting.{corner_area, corner_none, corner_of, meet_fewer, meet_near}
 use Rattle.r9_relist.proofs.relisting.common.Goals as goal
 
 pub returns-then-is_empty-clause-points : goal.returns-then-is_empty-clause-points
@@ -13,6 +14,15 @@ returns-then-is_empty-clause-points c p =
 
 pub returns-then-is_empty-clause-fewer : goal.returns-then-is_empty-clause-fewer
 returns-then-is_empty-clause-fewer c ordered = let none = corner_area c.args.a.now in omega (arith, none)
+
+pub returns-then-is_empty-clause-value : goal.returns-then-is_empty-clause-value
+returns-then-is_empty-clause-value c =
+    sym (ap (λ (b : Bool). if b then corner_of c.args.a.now else meet c.args.a.now c.args.b.now) (ap is_empty (sym c.meet-both.ensures.exact) ∙ sym c.is_empty.ensures.exact ∙ c.if-is_empty.true))
+
+pub returns-clause-value : goal.returns-clause-value
+returns-clause-value c =
+    c.meet-both.ensures.exact
+    ∙ sym (ap (λ (b : Bool). if b then corner_of c.args.a.now else meet c.args.a.now c.args.b.now) (ap is_empty (sym c.meet-both.ensures.exact) ∙ sym c.is_empty.ensures.exact ∙ c.if-is_empty.false))
 
 pub returns-clause-near : goal.returns-clause-near
 returns-clause-near c = subst IsRectNear (sym c.meet-both.ensures.exact) (meet_near c.args.a.now c.args.b.now c.requires.near c.requires.also)

@@ -6,7 +6,8 @@ use Rattle.r9_locate.specs.Forms.{bits_in, Form, HasBits}
 use Rattle.r9_locate.specs.Table.{shape}
 use Rattle.r9_pixels.specs.Kept.{has_place, kept_at}
 use Rattle.r9_pixels.specs.Places.{in_hidden}
-use Rattle.r9_relist.proofs.Relisted.{relist_bits, relist_corners, relist_hidden, relist_on, relist_one, relist_ordered, relist_others, relist_places, relist_rect, relist_stand, relist_stands, relisted_world}
+use Rattle.r9_relist.proofs.Lists.{lists_places}
+use Rattle.r9_relist.proofs.Relisted.{relist_bits, relist_corners, relist_hidden, relist_on, relist_one, relist_ones, relist_ordered, relist_others, relist_places, relist_rect, relist_stand, relist_stands, relisted_world}
 use Rattle.r9_relist.proofs.Tops.{others_places, others_top}
 use Rattle.r9_relist.proofs.relisting.move_pixels.Goals as goal
 
@@ -16,12 +17,15 @@ take_hidden-requires-clause-live g c = c.requires.change.live
 pub take_hidden-requires-clause-windows : goal.take_hidden-requires-clause-windows
 take_hidden-requires-clause-windows g c = relist_on (shape c.args.lists.now) c.args.p c.args.new.now c.requires.change.live c.requires.change.forest
 
+pub take_hidden-requires-clause-one : goal.take_hidden-requires-clause-one
+take_hidden-requires-clause-one g c = relist_ones (shape c.args.lists.now) c.args.p c.args.new.now c.requires.change.live c.requires.change.forest
+
 pub restack-requires-clause-change : goal.restack-requires-clause-change
 restack-requires-clause-change g c =
     let is = c.requires.change in
     record {
       live = is.live;
-      places = others_places c.args.lists.now c.args.p c.args.w c.args.new.now is.live is.others;
+      places = λ i z other inside top. others_places (shape c.args.lists.now) c.args.p c.args.w c.args.new.now (lists_places c.args.lists.now c.args.p is.live) is.others i other;
       stand = relist_stand (shape c.args.lists.now) c.args.p c.args.new.now is.live is.forest;
       one = relist_one (shape c.args.lists.now) c.args.p c.args.new.now is.live is.forest;
     }
@@ -30,14 +34,14 @@ pub restack-requires-clause-above : goal.restack-requires-clause-above
 restack-requires-clause-above g c = c.requires.change.stands
 
 pub restack-requires-clause-outside : goal.restack-requires-clause-outside
-restack-requires-clause-outside g c = λ z inside away none. others_top c.args.lists.now c.args.p c.args.w c.args.new.now c.requires.change.live c.requires.change.others c.args.area.now c.requires.place z inside away none
+restack-requires-clause-outside g c = λ z inside away none. others_top (shape c.args.lists.now) c.args.p c.args.w c.args.new.now (lists_places c.args.lists.now c.args.p c.requires.change.live) c.requires.change.others c.args.area.now c.requires.place z inside away none
 
 pub restack-requires-clause-near_new : goal.restack-requires-clause-near_new
 restack-requires-clause-near_new g c = relist_corners (shape c.args.lists.now) c.args.p c.args.new.now c.requires.change.live c.requires.change.forest
 
 pub restack-requires-clause-places : goal.restack-requires-clause-places
 restack-requires-clause-places g c =
-    relist_places (shape c.args.lists.now) c.args.p c.args.new.now c.requires.change.live c.requires.change.forest c.args.w (has_place c.args.pixels.now) (has_place c.take_hidden.new.self) (others_places c.args.lists.now c.args.p c.args.w c.args.new.now c.requires.change.live c.requires.change.others) c.requires.places c.take_hidden.ensures.has
+    relist_places (shape c.args.lists.now) c.args.p c.args.new.now c.requires.change.live c.requires.change.forest c.args.w (has_place c.args.pixels.now) (has_place c.take_hidden.new.self) (others_places (shape c.args.lists.now) c.args.p c.args.w c.args.new.now (lists_places c.args.lists.now c.args.p c.requires.change.live) c.requires.change.others) c.requires.places c.take_hidden.ensures.has
 
 pub restack-requires-clause-bits : goal.restack-requires-clause-bits
 restack-requires-clause-bits g c =
@@ -73,10 +77,8 @@ returns-clause-others g c =
     relist_others (shape c.args.lists.now) c.args.p c.args.new.now c.requires.change.live c.requires.change.forest (has_place c.args.pixels.now) (has_place c.restack.new.pixels) c.requires.places.others
     (λ place. ap (λ (has : Place → Bool). has place) c.restack.ensures.has ∙ c.take_hidden.ensures.has place)
 
-pub returns-clause-hidden : goal.returns-clause-hidden
-returns-clause-hidden g c = λ place hidden.
-    ap (λ (has : Place → Bool). has place) c.restack.ensures.has ∙ c.take_hidden.ensures.has place
-    ∙ or_right (has_place c.args.pixels.now place) (in_hidden (shape c.args.lists.now) c.args.p c.args.new.now place) hidden
+pub returns-clause-has : goal.returns-clause-has
+returns-clause-has g c = λ place. ap (λ (has : Place → Bool). has place) c.restack.ensures.has ∙ c.take_hidden.ensures.has place
 
 pub returns-clause-moved : goal.returns-clause-moved
 returns-clause-moved g c before was =

@@ -1,8 +1,6 @@
-use Rattle.std.proofs.Common.{◌∙◌, Bool, ℕ, refl, sym, subst, ap, arith}
-use Rattle.std.proofs.lemmas.Bool.{or_right, true≢false}
-use Rattle.r9_geom.specs.Geometry.{area_of, holds, IsOrdered, IsRectNear}
+use Rattle.std.proofs.Common.{◌∙◌, Bool, ℕ, refl, sym, subst, ap}
 use Rattle.model_forest.specs.Stack.{with_windows}
-use Rattle.model_forest.specs.World.{Image, image_at}
+use Rattle.model_forest.specs.World.{image_at}
 use Rattle.model_kept.specs.Keeping.{with_kept, Place}
 use Rattle.model_kept.specs.Restack.{fill_of_top, with_list}
 use Rattle.model_kept.proofs.Once.{places-forest}
@@ -10,9 +8,7 @@ use Rattle.model_kept.proofs.Worlds.{restacked-world, standing-forest}
 use Rattle.r9_locate.specs.Forms.{HasBits}
 use Rattle.r9_locate.specs.Table.{shape}
 use Rattle.r9_pixels.specs.Kept.{has_place, kept_at}
-use Rattle.r9_pixels.specs.Places.{in_hidden}
-use Rattle.r9_relist.proofs.Lists.{lists_near}
-use Rattle.r9_relist.proofs.Relisted.{relist_bits, relist_on, relist_orders, relist_others}
+use Rattle.r9_relist.proofs.Relisted.{relist_bits, relist_on, relist_ones, relist_orders, relist_others}
 use Rattle.r9_relist.proofs.Surfaces.{surface_has, unshown_has}
 use Rattle.r9_relist.proofs.relisting.order_pixels.Goals as goal
 
@@ -21,6 +17,9 @@ take_hidden-requires-clause-live g c = c.requires.order.live
 
 pub take_hidden-requires-clause-windows : goal.take_hidden-requires-clause-windows
 take_hidden-requires-clause-windows g c = relist_on (shape c.args.lists.now) c.args.p c.args.new.now c.requires.order.live c.requires.forest
+
+pub take_hidden-requires-clause-one : goal.take_hidden-requires-clause-one
+take_hidden-requires-clause-one g c = relist_ones (shape c.args.lists.now) c.args.p c.args.new.now c.requires.order.live c.requires.forest
 
 pub reorder-requires-clause-places : goal.reorder-requires-clause-places
 reorder-requires-clause-places g c =
@@ -42,10 +41,8 @@ returns-clause-others g c =
     (λ i q x other stands inside. c.requires.cells i q x stands inside)
     (λ place. ap (λ (has : Place → Bool). has place) c.reorder.ensures.has ∙ c.take_hidden.ensures.has place)
 
-pub returns-clause-hidden : goal.returns-clause-hidden
-returns-clause-hidden g c = λ place hidden.
-    ap (λ (has : Place → Bool). has place) c.reorder.ensures.has ∙ c.take_hidden.ensures.has place
-    ∙ or_right (has_place c.args.pixels.now place) (in_hidden (shape c.args.lists.now) c.args.p c.args.new.now place) hidden
+pub returns-clause-has : goal.returns-clause-has
+returns-clause-has g c = λ place. ap (λ (has : Place → Bool). has place) c.reorder.ensures.has ∙ c.take_hidden.ensures.has place
 
 pub returns-clause-moved : goal.returns-clause-moved
 returns-clause-moved g c =

@@ -7,10 +7,11 @@ use Rattle.model_kept.proofs.Once.{places-forest}
 use Rattle.model_kept.proofs.Worlds.{standing-forest}
 use Rattle.r9_locate.specs.Forms.{forms_of}
 use Rattle.r9_locate.specs.Table.{shape}
+use Rattle.r9_cells.specs.Fitting.{AreOne}
 use Rattle.r9_pixels.specs.Kept.{form_at, has_place, kept_at}
-use Rattle.r9_pixels.specs.Places.{in_shown, HasCells, StandsOn}
+use Rattle.r9_pixels.specs.Places.{in_shown, HasCells, HasGivenOff, StandsOn}
 use Rattle.r9_relist.proofs.Near.{nearby}
-use Rattle.r9_relist.proofs.Relisted.{relist_cells, relist_forms, relist_on}
+use Rattle.r9_relist.proofs.Relisted.{relist_cells, relist_forms, relist_on, relist_ones}
 use Rattle.r9_relist.proofs.Surfaces.{placed_alike}
 use Rattle.r9_relist.proofs.relisting.settle.Goals as goal
 use Rattle.r9_relist.proofs.relisting.settle.Goals.{After-set_windows}
@@ -19,6 +20,14 @@ pub give_shown-requires-clause-windows : goal.give_shown-requires-clause-windows
 give_shown-requires-clause-windows c =
     subst (All (StandsOn (shape c.args.lists.now) c.args.p)) (sym c.deref.ensures.value)
     (relist_on (shape c.args.lists.now) c.args.p c.args.list.items c.requires.live c.requires.forest)
+
+pub give_shown-requires-clause-one : goal.give_shown-requires-clause-one
+give_shown-requires-clause-one c =
+    subst AreOne (sym c.deref.ensures.value) (relist_ones (shape c.args.lists.now) c.args.p c.args.list.items c.requires.live c.requires.forest)
+
+pub give_shown-requires-clause-still : goal.give_shown-requires-clause-still
+give_shown-requires-clause-still c =
+    subst (λ (ws : List Window). HasGivenOff (shape c.args.lists.now) c.args.p ws c.args.from c.args.areas.now (has_place c.args.pixels.now)) (sym c.deref.ensures.value) c.requires.still
 
 pub set_windows-requires-clause-standing : goal.set_windows-requires-clause-standing
 set_windows-requires-clause-standing c = standing-forest (with_list (shape c.args.lists.now) c.args.p c.args.list.items) c.requires.forest

@@ -12,7 +12,9 @@ use Rattle.r9_locate.specs.Table.{shape}
 use Rattle.r9_pixels.specs.Kept.{form_at, has_place, kept_at}
 use Rattle.r9_pixels.specs.Owns.{plane_form}
 use Rattle.r9_pixels.specs.Places.{with_form, with_places, StandsOn}
+use Rattle.r9_cells.specs.Fitting.{AreOne}
 use Rattle.r9_resize.specs.Sizes.{with_rects}
+use Rattle.r9_resize.proofs.Ones.{all_taken, ones}
 use Rattle.r9_resize.proofs.Resized.{rects_at, rects_live}
 use Rattle.r9_resize.proofs.Shapes.{form_back, own_back, own_on, plane_is, places_there, rects_again, rects_forms, root_form, IsPlaneOf}
 use Rattle.r9_resize.proofs.resizing.enter.Goals as goal
@@ -67,6 +69,16 @@ reserve_hidden-requires-clause-windows c =
     let now = shape c.set_rects.new.lists in
     subst (All (StandsOn now c.args.i)) (ap (λ (im : Image). im.windows) c.get.ensures ∙ sym c.deref.ensures.value)
     (own_on now c.args.i (forest at.After-set_rects (sized at.After-set_rects)) (alive at.After-set_rects (sized at.After-set_rects)))
+
+pub reserve_hidden-requires-clause-one : goal.reserve_hidden-requires-clause-one
+reserve_hidden-requires-clause-one c =
+    let at = goal.at.reserve_hidden-requires-clause-one c in
+    let is = sized at.After-set_rects in
+    subst AreOne (ap (λ (im : Image). im.windows) c.get.ensures ∙ sym c.deref.ensures.value)
+    (ones (shape c.set_rects.new.lists) (forest at.After-set_rects is) c.args.i (alive at.After-set_rects is))
+
+pub reserve_hidden-requires-clause-still : goal.reserve_hidden-requires-clause-still
+reserve_hidden-requires-clause-still c = all_taken (shape c.set_rects.new.lists) c.args.i c.deref.result.now (has_place c.replace_whole-had.new.self)
 
 -- the lists once more
 again : (c : After-set_rects) → shape c.set_rects.new.lists ≡ with_rects (shape c.args.lists.now) c.args.i (rect_of c.args.plane) (rect_of c.args.plane) → with_rects (shape c.set_rects.new.lists) c.args.i c.get-frame.result.now.r c.get-frame.result.now.clipr ≡ shape c.args.lists.now

@@ -12,9 +12,11 @@ use Rattle.r9_locate.specs.Table.{shape}
 use Rattle.r9_pixels.specs.Kept.{has_place, kept_at}
 use Rattle.r9_pixels.specs.Places.{in_hidden, in_shown, with_places, HasCells, StandsOn}
 use Rattle.r9_relist.proofs.Surfaces.{placed_alike}
+use Rattle.r9_cells.specs.Fitting.{AreOne}
 use Rattle.r9_resize.specs.Moves.{HasPlacesFor, IsResized}
 use Rattle.r9_resize.specs.Sizes.{with_rects}
 use Rattle.r9_resize.proofs.Celled.{cells_then, places_for}
+use Rattle.r9_resize.proofs.Ones.{all_given, all_taken, ones}
 use Rattle.r9_resize.proofs.Resized.{rects_at, rects_live, rects_same, resized_world}
 use Rattle.r9_resize.proofs.Shapes.{cells_still, own_here, own_on, own_there, sized_area, sized_forest}
 use Rattle.r9_resize.proofs.resizing.resize.Given.{Over}
@@ -62,6 +64,26 @@ take_hidden-requires-clause-windows g c =
     let now = shape c.enter.new.lists in
     subst (All (StandsOn now c.args.i)) (ap (λ (im : Image). im.windows) c.get-2.ensures ∙ sym c.deref.ensures.value)
     (own_on now c.args.i (forest g at.After-deref is (then_ok g at.Start)) (alive g at.After-deref is (then_live g at.Start)))
+
+pub take_hidden-requires-clause-one : goal.take_hidden-requires-clause-one
+take_hidden-requires-clause-one g c =
+    let at = goal.at.take_hidden-requires-clause-one g c in
+    let is = lists_are g at.After-deref in
+    subst AreOne (ap (λ (im : Image). im.windows) c.get-2.ensures ∙ sym c.deref.ensures.value)
+    (ones (shape c.enter.new.lists) (forest g at.After-deref is (then_ok g at.Start)) c.args.i (alive g at.After-deref is (then_live g at.Start)))
+
+pub take_hidden-requires-clause-still : goal.take_hidden-requires-clause-still
+take_hidden-requires-clause-still g c = all_taken (shape c.enter.new.lists) c.args.i c.deref.result.now (has_place c.enter.new.pixels)
+
+pub give_shown-requires-clause-one : goal.give_shown-requires-clause-one
+give_shown-requires-clause-one g c =
+    let at = goal.at.give_shown-requires-clause-one g c in
+    let is = lists_are g at.After-deref in
+    subst AreOne (ap (λ (im : Image). im.windows) c.get-3.ensures ∙ sym c.deref-2.ensures.value)
+    (ones (shape c.enter.new.lists) (forest g at.After-deref is (then_ok g at.Start)) c.args.i (alive g at.After-deref is (then_live g at.Start)))
+
+pub give_shown-requires-clause-still : goal.give_shown-requires-clause-still
+give_shown-requires-clause-still g c = all_given (shape c.enter.new.lists) c.args.i c.deref-2.result.now (has_place c.move_pixels.new.pixels)
 
 pub move_pixels-requires-clause-forest : goal.move_pixels-requires-clause-forest
 move_pixels-requires-clause-forest g c =

@@ -34,7 +34,7 @@ pub change_within-requires-clause-bits : goal.change_within-requires-clause-bits
 change_within-requires-clause-bits g c = subst (HasBits (shape c.args.lists.now)) (sym c.loop-area.invariant.forms) c.requires.bits
 
 pub change_within-requires-clause-given : goal.change_within-requires-clause-given
-change_within-requires-clause-given g c x = subst (λ (forms : ℕ → Option Form). g.S.Source.given c.args.source.now x < 2 ^ bits_in forms c.args.p) (sym c.loop-area.invariant.forms) (c.requires.given x)
+change_within-requires-clause-given g c stands x = subst (λ (forms : ℕ → Option Form). g.S.Source.given c.args.source.now x < 2 ^ bits_in forms c.args.p) (sym c.loop-area.invariant.forms) (c.requires.given stands x)
 
 pub change_within-requires-clause-fill : goal.change_within-requires-clause-fill
 change_within-requires-clause-fill g c z = subst (λ (forms : ℕ → Option Form). g.S.Source.fill c.args.source.now z < 2 ^ bits_in forms c.args.p) (sym c.loop-area.invariant.forms) (c.requires.fill z)

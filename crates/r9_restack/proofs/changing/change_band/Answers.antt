@@ -7,13 +7,13 @@ use Rattle.r9_locate.specs.Forms.{bits_in, Form, HasBits}
 use Rattle.r9_locate.specs.Table.{shape}
 use Rattle.r9_restack.specs.Stacks.{after_of, tops_at}
 use Rattle.r9_shown.specs.Shown.{block}
-use Rattle.r9_shown.proofs.Blocks.{block_none, block_part, corner_in}
+use Rattle.r9_shown.proofs.Pieces.{block_none, block_part, corner_in}
 use Rattle.r9_restack.specs.Moving.{more_in, IsFreshIn}
 use Rattle.r9_restack.specs.Changing.{IsChanged}
 use Rattle.r9_restack.proofs.Changes.{changed-same}
 use Rattle.r9_restack.proofs.Parting.{nearby}
 use Rattle.r9_restack.proofs.Blocked.{done_right, fresh_right}
-use Rattle.r9_restack.proofs.Steady.{across_first, steady_block}
+use Rattle.r9_restack.proofs.Steady.{across_first, block_fewer, steady_block}
 use Rattle.r9_restack.proofs.changing.change_band.Goals as goal
 
 pub loop-done-init : goal.loop-done-init
@@ -31,17 +31,17 @@ change_block-requires-clause-near g c =
     let r = (image_at (shape c.args.lists.now) c.args.p).r in
     let len = c.run_of-run.result.extent.columns in
     let q = c.along-q.result in
-    let here = block_part c.args.at c.loop-done.done len c.args.columns c.args.rows q (omega (arith, c.run_of-run.ensures.most, c.loop-done-test.true))
+    let here = block_part c.args.at c.loop-done.done len c.args.columns c.args.rows q (omega (arith, c.run_of-run.ensures.most, c.min.ensures, c.loop-done-test.true))
     (ap (λ (p : Point). holds (block p len c.args.rows) q) (sym c.along-q.ensures) ∙ corner_in q len c.args.rows c.run_of-run.ensures.some c.requires.some) in
     near_point (2 ^ 40) r q (nearby c.args.lists.now c.args.p c.requires.change.live).0 (c.requires.inside q here)
 
 pub change_block-requires-clause-columns : goal.change_block-requires-clause-columns
-change_block-requires-clause-columns g c = omega (arith, c.run_of-run.ensures.most, c.requires.columns)
+change_block-requires-clause-columns g c = omega (arith, c.run_of-run.ensures.most, c.min.ensures, c.requires.columns)
 
 pub change_block-requires-clause-inside : goal.change_block-requires-clause-inside
 change_block-requires-clause-inside g c z h =
     let len = c.run_of-run.result.extent.columns in
-    c.requires.inside z (block_part c.args.at c.loop-done.done len c.args.columns c.args.rows z (omega (arith, c.run_of-run.ensures.most, c.loop-done-test.true)) (ap (λ p. holds (block p len c.args.rows) z) (sym c.along-q.ensures) ∙ h))
+    c.requires.inside z (block_part c.args.at c.loop-done.done len c.args.columns c.args.rows z (omega (arith, c.run_of-run.ensures.most, c.min.ensures, c.loop-done-test.true)) (ap (λ p. holds (block p len c.args.rows) z) (sym c.along-q.ensures) ∙ h))
 
 -- what is told of its row is told of all of the block
 pub change_block-requires-clause-tops : goal.change_block-requires-clause-tops
@@ -49,15 +49,21 @@ change_block-requires-clause-tops g c =
     let run = c.run_of-run.result in
     let extent = run.extent in
     steady_block (tops_at c.args.stacks.now) c.args.at c.along-q.result c.loop-done.done extent.columns c.args.columns c.args.rows run.tops c.along-q.ensures
-    (omega (arith, c.run_of-run.ensures.most, c.loop-done-test.true))
+    (omega (arith, c.run_of-run.ensures.most, c.min.ensures, c.loop-done-test.true))
     c.requires.tops
-    (across_first (tops_at c.args.stacks.now) c.along-q.result extent.columns extent.rows run.tops c.run_of-run.ensures.some_rows c.run_of-run.ensures.same)
+    (across_first (tops_at c.args.stacks.now) c.along-q.result extent.columns extent.rows run.tops c.run_of-run.ensures.some_rows
+    (λ z h.
+    sym (c.requires.same z
+    (block_part c.args.at c.loop-done.done extent.columns c.args.columns c.args.rows z (omega (arith, c.run_of-run.ensures.most, c.min.ensures, c.loop-done-test.true))
+    (ap (λ p. holds (block p extent.columns c.args.rows) z) (sym c.along-q.ensures)
+    ∙ block_fewer c.along-q.result z extent.columns extent.rows extent.columns c.args.rows (omega arith) c.run_of-run.ensures.most_rows h)))
+    ∙ c.run_of-run.ensures.same z h))
 
 pub change_block-requires-clause-bits : goal.change_block-requires-clause-bits
 change_block-requires-clause-bits g c = subst (HasBits (shape c.args.lists.now)) (sym c.loop-done.invariant.forms) c.requires.bits
 
 pub change_block-requires-clause-given : goal.change_block-requires-clause-given
-change_block-requires-clause-given g c x = subst (λ (forms : ℕ → Option Form). g.S.Source.given c.args.source.now x < 2 ^ bits_in forms c.args.p) (sym c.loop-done.invariant.forms) (c.requires.given x)
+change_block-requires-clause-given g c stands x = subst (λ (forms : ℕ → Option Form). g.S.Source.given c.args.source.now x < 2 ^ bits_in forms c.args.p) (sym c.loop-done.invariant.forms) (c.requires.given stands x)
 
 pub change_block-requires-clause-fill : goal.change_block-requires-clause-fill
 change_block-requires-clause-fill g c z = subst (λ (forms : ℕ → Option Form). g.S.Source.fill c.args.source.now z < 2 ^ bits_in forms c.args.p) (sym c.loop-done.invariant.forms) (c.requires.fill z)
@@ -69,7 +75,7 @@ loop-done-preserved g c =
     let done_so = c.loop-done.done in
     let len = c.run_of-run.result.extent.columns in
     let q = c.along-q.result in
-    let fits : done_so + len ≤ c.args.columns = omega (arith, c.run_of-run.ensures.most, c.loop-done-test.true) in
+    let fits : done_so + len ≤ c.args.columns = omega (arith, c.run_of-run.ensures.most, c.min.ensures, c.loop-done-test.true) in
     let more_steps : (done_so + len) * rows ≡ done_so * rows + len * rows = grind arith in
     record {
       within = fits;

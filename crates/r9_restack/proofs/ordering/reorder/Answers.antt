@@ -1,4 +1,4 @@
-use Rattle.std.proofs.Common.{◌≡◌, ◌∙◌, All, List, append-nil, sym, subst, ap}
+use Rattle.std.proofs.Common.{◌≡◌, ◌∙◌, All, List, sym, subst, ap}
 use Rattle.std.proofs.lemmas.Nat.{pow_pos}
 use Rattle.r9_geom.specs.declared.Point.{Point}
 use Rattle.r9_geom.specs.Geometry.{IsNear}
@@ -17,7 +17,7 @@ use Rattle.r9_restack.proofs.ordering.reorder.Goals.{After-stacks_of-stacks}
 
 -- the list of after
 after : (g : Over) (c : After-stacks_of-stacks g) → c.args.new.now ≡ after_of c.stacks_of-stacks.result
-after g c = sym (c.stacks_of-stacks.ensures.after ∙ append-nil c.args.new.now)
+after g c = sym c.stacks_of-stacks.ensures.after
 
 pub change_areas-requires-clause-stacks : goal.change_areas-requires-clause-stacks
 change_areas-requires-clause-stacks g c = record {
@@ -30,7 +30,7 @@ change_areas-requires-clause-change g c =
     subst (λ (ws : List Window). IsChange (shape c.args.lists.now) c.args.p ws c.args.p) (after g (goal.at.change_areas-requires-clause-change g c).After-stacks_of-stacks)
     (record {
       live = c.requires.order.live;
-      places = λ i other. c.requires.order.places i;
+      places = λ i z other h top. c.requires.order.places i;
       stand = c.requires.order.stand;
       one = c.requires.order.one;
     })
@@ -49,7 +49,7 @@ change_areas-requires-clause-places g c =
     })
 
 pub change_areas-requires-clause-given : goal.change_areas-requires-clause-given
-change_areas-requires-clause-given g c x = pow_pos (bits_in (g.P.Pixels.forms c.args.pixels.now) c.args.p)
+change_areas-requires-clause-given g c stands x = pow_pos (bits_in (g.P.Pixels.forms c.args.pixels.now) c.args.p)
 
 pub change_areas-requires-clause-fill : goal.change_areas-requires-clause-fill
 change_areas-requires-clause-fill g c z = pow_pos (bits_in (g.P.Pixels.forms c.args.pixels.now) c.args.p)

@@ -2,7 +2,8 @@ use Rattle.std.proofs.Common.{◌≡◌, ◌∙◌, ℕ, ◌+◌, ◌*◌, ◌<�
 use Rattle.std.proofs.lemmas.Bool.{false≢true, or_left, or_right}
 use Rattle.std.proofs.lemmas.Int.{ints}
 use Rattle.r9_geom.specs.declared.Point.{Point}
-use Rattle.r9_geom.specs.Geometry.{holds, strip}
+use Rattle.r9_geom.specs.declared.Rect.{Rect}
+use Rattle.r9_geom.specs.Geometry.{area_of, holds, strip, IsOrdered, IsRectNear}
 use Rattle.r9_geom.proofs.GeometryLemmas.{bounds_of}
 use Rattle.r9_plane.specs.Pixels.{along}
 use Rattle.r9_plane.proofs.PlaneLemmas.{along_holds}
@@ -10,9 +11,85 @@ use Rattle.model_kept.specs.Keeping.{own, Place}
 use Rattle.r9_locate.specs.Forms.{bits_in, Form}
 use Rattle.r9_locate.proofs.Locating.{strip_at}
 use Rattle.r9_shown.specs.Shown.{block, down}
+use Rattle.r9_shown.proofs.Pieces.{block_area, block_ordered, corner_in}
 use Rattle.r9_restack.proofs.Orders.{or_cases}
 use Rattle.r9_restack.proofs.Blocked.{no_rows, one_row, row_in}
+use Rattle.r9_restack.proofs.placing.keep_block.Given.{Over}
 use Rattle.r9_restack.proofs.placing.keep_block.Goals as goal
+use Rattle.r9_restack.proofs.placing.keep_block.Goals.{After-block-r}
+
+-- a point of the rectangle is one of the block
+of_block : (g : Over) (c : After-block-r g) (z : Point) → holds c.block-r.result z ≡ true → holds (block c.args.x c.args.columns c.args.rows) z ≡ true
+of_block g c z h = ap (λ (r : Rect). holds r z) (sym c.block-r.ensures) ∙ h
+
+to_block : (g : Over) (c : After-block-r g) (z : Point) → holds (block c.args.x c.args.columns c.args.rows) z ≡ true → holds c.block-r.result z ≡ true
+to_block g c z h = ap (λ (r : Rect). holds r z) c.block-r.ensures ∙ h
+
+area_is : (g : Over) (c : After-block-r g) → area_of c.block-r.result ≡ c.args.columns * c.args.rows
+area_is g c = ap area_of c.block-r.ensures ∙ block_area c.args.x c.args.columns c.args.rows
+
+-- ---- where one pixel is told
+
+pub fill_block-requires-clause-near : goal.fill_block-requires-clause-near
+fill_block-requires-clause-near g c = subst IsRectNear (sym c.block-r.ensures) c.requires.near
+
+pub fill_block-requires-clause-ordered : goal.fill_block-requires-clause-ordered
+fill_block-requires-clause-ordered g c = subst IsOrdered (sym c.block-r.ensures) (block_ordered c.args.x c.args.columns c.args.rows)
+
+pub fill_block-requires-clause-has : goal.fill_block-requires-clause-has
+fill_block-requires-clause-has g c z h = c.requires.has z (of_block g (goal.at.fill_block-requires-clause-has g c).After-block-r z h)
+
+pub fill_block-requires-clause-below : goal.fill_block-requires-clause-below
+fill_block-requires-clause-below g c =
+    let x = c.args.x in
+    let first = to_block g (goal.at.fill_block-requires-clause-below g c).After-block-r x (corner_in x c.args.columns c.args.rows c.requires.some c.requires.some_rows) in
+    subst (λ (n : ℕ). n < 2 ^ bits_in (g.P.Pixels.forms c.args.pixels.now) c.args.w) (c.given_in.ensures.plain c.in-Plain.raw c.in-Plain.is x first) (c.requires.below x)
+
+pub returns-in-Plain-clause-at : goal.returns-in-Plain-clause-at
+returns-in-Plain-clause-at g c z h =
+    let there = to_block g (goal.at.returns-in-Plain-clause-at g c).After-block-r z h in
+    c.fill_block.ensures.at z there ∙ sym (c.given_in.ensures.plain c.in-Plain.raw c.in-Plain.is z there)
+
+pub returns-in-Plain-clause-others : goal.returns-in-Plain-clause-others
+returns-in-Plain-clause-others g c place apart =
+    let now = (goal.at.returns-in-Plain-clause-others g c).After-block-r in
+    c.fill_block.ensures.others place (λ z h. apart z (of_block g now z h))
+
+pub returns-in-Plain-clause-steps : goal.returns-in-Plain-clause-steps
+returns-in-Plain-clause-steps g c = omega (arith, c.fill_block.ensures.steps, area_is g (goal.at.returns-in-Plain-clause-steps g c).After-block-r)
+
+-- ---- where rows are told
+
+pub write_block-requires-clause-near : goal.write_block-requires-clause-near
+write_block-requires-clause-near g c = subst IsRectNear (sym c.block-r.ensures) c.requires.near
+
+pub write_block-requires-clause-ordered : goal.write_block-requires-clause-ordered
+write_block-requires-clause-ordered g c = subst IsOrdered (sym c.block-r.ensures) (block_ordered c.args.x c.args.columns c.args.rows)
+
+pub write_block-requires-clause-has : goal.write_block-requires-clause-has
+write_block-requires-clause-has g c z h = c.requires.has z (of_block g (goal.at.write_block-requires-clause-has g c).After-block-r z h)
+
+pub write_block-requires-clause-rows : goal.write_block-requires-clause-rows
+write_block-requires-clause-rows g c = c.given_in.ensures.enough c.in-Rows.raws c.in-Rows.first c.in-Rows.width c.in-Rows.is
+
+pub write_block-requires-clause-below : goal.write_block-requires-clause-below
+write_block-requires-clause-below g c z h =
+    subst (λ (n : ℕ). n < 2 ^ bits_in (g.P.Pixels.forms c.args.pixels.now) c.args.w) (c.given_in.ensures.rows c.in-Rows.raws c.in-Rows.first c.in-Rows.width c.in-Rows.is z h) (c.requires.below z)
+
+pub returns-in-Rows-clause-at : goal.returns-in-Rows-clause-at
+returns-in-Rows-clause-at g c z h =
+    let there = to_block g (goal.at.returns-in-Rows-clause-at g c).After-block-r z h in
+    c.write_block.ensures.at z there ∙ sym (c.given_in.ensures.rows c.in-Rows.raws c.in-Rows.first c.in-Rows.width c.in-Rows.is z there)
+
+pub returns-in-Rows-clause-others : goal.returns-in-Rows-clause-others
+returns-in-Rows-clause-others g c place apart =
+    let now = (goal.at.returns-in-Rows-clause-others g c).After-block-r in
+    c.write_block.ensures.others place (λ z h. apart z (of_block g now z h))
+
+pub returns-in-Rows-clause-steps : goal.returns-in-Rows-clause-steps
+returns-in-Rows-clause-steps g c = omega (arith, c.write_block.ensures.steps, area_is g (goal.at.returns-in-Rows-clause-steps g c).After-block-r)
+
+-- ---- where nothing is told
 
 pub loop-row-init : goal.loop-row-init
 loop-row-init g c = record {
@@ -69,18 +146,18 @@ loop-row-preserved g c =
       steps = omega (arith, c.keep_strip.ensures.steps, c.loop-row.invariant.steps, more_steps);
     }
 
-pub returns-clause-at : goal.returns-clause-at
-returns-clause-at g c z h =
+pub returns-after-loop-row-clause-at : goal.returns-after-loop-row-clause-at
+returns-after-loop-row-clause-at g c z h =
     let end : c.loop-row.row ≡ c.args.rows = omega (arith, c.loop-row-test.false, c.loop-row.auto.row-end) in
     c.loop-row.invariant.at z (ap (λ rows. holds (block c.args.x c.args.columns rows) z) end ∙ h)
 
-pub returns-clause-others : goal.returns-clause-others
-returns-clause-others g c place apart =
+pub returns-after-loop-row-clause-others : goal.returns-after-loop-row-clause-others
+returns-after-loop-row-clause-others g c place apart =
     let end : c.loop-row.row ≡ c.args.rows = omega (arith, c.loop-row-test.false, c.loop-row.auto.row-end) in
     c.loop-row.invariant.others place (λ z h. apart z (ap (λ rows. holds (block c.args.x c.args.columns rows) z) (sym end) ∙ h))
 
-pub returns-clause-steps : goal.returns-clause-steps
-returns-clause-steps g c =
+pub returns-after-loop-row-clause-steps : goal.returns-after-loop-row-clause-steps
+returns-after-loop-row-clause-steps g c =
     let end : c.loop-row.row ≡ c.args.rows = omega (arith, c.loop-row-test.false, c.loop-row.auto.row-end) in
     let all : c.args.columns * c.loop-row.row ≡ c.args.columns * c.args.rows = ap (λ n. c.args.columns * n) end in
     omega (arith, c.loop-row.invariant.steps, all)

@@ -3,7 +3,7 @@ use Rattle.std.specs.Prelude.{◌||◌}
 use Rattle.std.proofs.lemmas.Bool.{false_from_ne_true, false≢true, true≢false}
 use Rattle.std.proofs.lemmas.Int.{ints}
 use Rattle.r9_geom.specs.declared.Point.{Point}
-use Rattle.r9_geom.specs.Geometry.{carried, holds, IsNear}
+use Rattle.r9_geom.specs.Geometry.{carried, holds, IsRectNear}
 use Rattle.r9_geom.proofs.GeometryLemmas.{bounds_of, near_wider, same_point}
 use Rattle.r9_plane.specs.Pixels.{along}
 use Rattle.model_forest.specs.World.{Image, image_at}
@@ -12,16 +12,17 @@ use Rattle.model_kept.specs.Restack.{with_own}
 use Rattle.r9_locate.specs.Forms.{bits_in, Form, HasBits}
 use Rattle.r9_locate.specs.Table.{shape}
 use Rattle.r9_shown.specs.Shown.{block}
-use Rattle.r9_shown.proofs.Blocks.{block_none, block_part, block_split, corner_in}
+use Rattle.r9_shown.proofs.Pieces.{block_none, block_part, block_split}
 use Rattle.r9_restack.specs.Placing.{comes, with_coming, IsComing, IsPlaced}
 use Rattle.r9_restack.specs.Showing.{shown_at}
 use Rattle.r9_restack.specs.Stacks.{after_of}
+use Rattle.r9_restack.proofs.Carrying.{near_block}
 use Rattle.r9_restack.proofs.Changes.{changed-same}
 use Rattle.r9_restack.proofs.Orders.{or_cases}
 use Rattle.r9_restack.proofs.Placed.{coming_none, coming_part, coming_two}
 use Rattle.r9_restack.proofs.Blocked.{block_carried}
-use Rattle.r9_restack.proofs.Showing.{shown_none, unshown}
-use Rattle.r9_restack.proofs.Steady.{across_first, steady_block}
+use Rattle.r9_restack.proofs.Showing.{shown_none, shown_same, unshown}
+use Rattle.r9_restack.proofs.Steady.{across_first, block_fewer, steady_block}
 use Rattle.r9_restack.proofs.placing.place_band.Given.{Over}
 use Rattle.r9_restack.proofs.placing.place_band.Goals as goal
 use Rattle.r9_restack.proofs.placing.place_band.Goals.{After-part_of-part}
@@ -47,7 +48,7 @@ loop-done-init g c =
 
 -- its columns are columns of the band
 fits : (g : Over) (c : After-part_of-part g) → c.loop-done.done + c.part_of-part.result.extent.columns ≤ c.args.columns
-fits g c = omega (arith, c.part_of-part.ensures.most, c.loop-done-test.true)
+fits g c = omega (arith, c.part_of-part.ensures.most, c.min.ensures, c.loop-done-test.true)
 
 below_is : (g : Over) (c : After-part_of-part g) → (image_at (shape c.args.lists.now) c.args.p).r ≡ c.get.result.now.r
 below_is g c = ap (λ (im : Image). im.r) c.get.ensures
@@ -60,7 +61,13 @@ all_shown g c =
     steady_block at c.args.q c.along-from.result c.loop-done.done part.extent.columns c.args.columns c.args.rows part.shown c.along-from.ensures (fits g c)
     c.requires.shown
     (across_first at c.along-from.result part.extent.columns part.extent.rows part.shown c.part_of-part.ensures.some_rows
-    (λ z h. ap (λ r. shown_at r c.args.area.now c.args.stacks.now c.args.w z) (below_is g c) ∙ c.part_of-part.ensures.same z h))
+    (λ z h.
+    let inside = block_part c.args.q c.loop-done.done part.extent.columns c.args.columns c.args.rows z (fits g c)
+    (ap (λ p. holds (block p part.extent.columns c.args.rows) z) (sym c.along-from.ensures)
+    ∙ block_fewer c.along-from.result z part.extent.columns part.extent.rows part.extent.columns c.args.rows (omega arith) c.part_of-part.ensures.most_rows h) in
+    ap (λ r. shown_at r c.args.area.now c.args.stacks.now c.args.w z) (below_is g c)
+    ∙ shown_same c.get.result.now.r c.args.area.now c.args.stacks.now c.args.near.now c.args.w z c.requires.stacks.apart c.requires.apart (sym (c.requires.same z inside))
+    ∙ c.part_of-part.ensures.same z h))
 
 -- the block of the window stands at that of the image below
 there : (g : Over) (c : After-part_of-part g) (z : Point) → holds (block c.along-from.result c.part_of-part.result.extent.columns c.args.rows) (carried z c.args.x c.args.q) ≡ holds (block (along c.args.x c.loop-done.done) c.part_of-part.result.extent.columns c.args.rows) z
@@ -70,21 +77,20 @@ there g c z =
 
 pub along-requires-clause-near : goal.along-requires-clause-near
 along-requires-clause-near g c =
-    let near = c.requires.near c.args.x (corner_in c.args.x c.args.columns c.args.rows (omega (arith, c.loop-done-test.true)) c.requires.some) in
-    near_wider (2 ^ 40) (2 ^ 42) c.args.x (lit≤ tt) near
+    near_wider (2 ^ 40) (2 ^ 42) c.args.x (lit≤ tt) c.requires.near.min
 
 pub part_of-part-requires-clause-apart : goal.part_of-part-requires-clause-apart
-part_of-part-requires-clause-apart g c = c.requires.stacks.apart
+part_of-part-requires-clause-apart g c = c.requires.apart
 
 pub place_block-requires-clause-near : goal.place_block-requires-clause-near
 place_block-requires-clause-near g c =
     let now = (goal.at.place_block-requires-clause-near g c).After-part_of-part in
-    let at = along c.args.x c.loop-done.done in
-    subst IsNear (sym c.along.ensures)
-    (c.requires.near at (block_part c.args.x c.loop-done.done c.part_of-part.result.extent.columns c.args.columns c.args.rows at (fits g now) (corner_in at c.part_of-part.result.extent.columns c.args.rows c.part_of-part.ensures.some c.requires.some)))
+    let len = c.part_of-part.result.extent.columns in
+    subst (λ p. IsRectNear (block p len c.args.rows)) (sym c.along.ensures)
+    (near_block c.args.x c.loop-done.done len c.args.columns c.args.rows c.args.rows (fits g now) (omega arith) c.requires.near)
 
 pub place_block-requires-clause-columns : goal.place_block-requires-clause-columns
-place_block-requires-clause-columns g c = omega (arith, c.part_of-part.ensures.most, c.requires.columns)
+place_block-requires-clause-columns g c = omega (arith, c.part_of-part.ensures.most, c.min.ensures, c.requires.columns)
 
 pub place_block-requires-clause-shown : goal.place_block-requires-clause-shown
 place_block-requires-clause-shown g c = all_shown g (goal.at.place_block-requires-clause-shown g c).After-part_of-part

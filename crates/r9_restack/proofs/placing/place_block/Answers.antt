@@ -10,7 +10,7 @@ use Rattle.model_kept.specs.Keeping.{own, Place}
 use Rattle.model_kept.specs.Restack.{with_own}
 use Rattle.r9_locate.specs.Table.{shape}
 use Rattle.r9_shown.specs.Shown.{block}
-use Rattle.r9_shown.proofs.Blocks.{corner_in}
+use Rattle.r9_shown.proofs.Pieces.{corner_in}
 use Rattle.r9_restack.specs.Moving.{more_in}
 use Rattle.r9_restack.specs.Placing.{comes, shows, with_coming}
 use Rattle.r9_restack.specs.Stacks.{after_of}
@@ -121,3 +121,6 @@ returns-else-not-shown-clause-moved g c before done coming m =
     and_none : (b : Bool) → (b && false) ≡ false
     and_none true = refl
     and_none false = refl
+
+pub change_block-requires-clause-given : goal.change_block-requires-clause-given
+change_block-requires-clause-given g c stands x = c.requires.given x

@@ -1,4 +1,4 @@
-use Rattle.std.proofs.Common.{◌≡◌, ◌∙◌, ◌<◌, ◌^◌, ℕ, List, Option, append-nil, sym, subst, ap}
+use Rattle.std.proofs.Common.{◌≡◌, ◌∙◌, ◌<◌, ◌^◌, ℕ, List, Option, sym, subst, ap}
 use Rattle.std.specs.Prelude.{All}
 use Rattle.r9_geom.specs.declared.Rect.{Rect}
 use Rattle.r9_geom.specs.Geometry.{carried, holds, IsNear, IsRectNear}
@@ -10,7 +10,7 @@ use Rattle.r9_locate.specs.Forms.{bits_in, Form, HasBits}
 use Rattle.r9_locate.specs.Table.{shape}
 use Rattle.r9_restack.specs.Changing.{HasPlacesBut, IsChange, IsGiven, StaysTop}
 use Rattle.r9_restack.specs.Placing.{shows}
-use Rattle.r9_restack.specs.Stacks.{after_of, IsStacked}
+use Rattle.r9_restack.specs.Stacks.{after_of, IsFront, IsStacked}
 use Rattle.r9_restack.proofs.Changes.{changed-all, changing, inside_w, shown_then}
 use Rattle.r9_restack.proofs.Parting.{nearby}
 use Rattle.r9_restack.proofs.Placed.{done_inside, done_last, done_outside, own_under, placed_from}
@@ -20,7 +20,7 @@ use Rattle.r9_restack.proofs.restacking.restack.Goals.{After-stacks_of-stacks}
 
 -- the list of after, and what is known of it
 after : (g : Over) (c : After-stacks_of-stacks g) → c.args.new.now ≡ after_of c.stacks_of-stacks.result
-after g c = sym (c.stacks_of-stacks.ensures.after ∙ append-nil c.args.new.now)
+after g c = sym c.stacks_of-stacks.ensures.after
 
 change_after : (g : Over) (c : After-stacks_of-stacks g) → IsChange (shape c.args.lists.now) c.args.p (after_of c.stacks_of-stacks.result) c.args.w
 change_after g c = subst (λ (ws : List Window). IsChange (shape c.args.lists.now) c.args.p ws c.args.w) (after g c) c.requires.change
@@ -36,6 +36,9 @@ near_after g c = subst (All (λ v. IsNear v.place.min)) (after g c) c.requires.n
 
 places_after : (g : Over) (c : After-stacks_of-stacks g) → HasPlacesBut (shape c.args.lists.now) c.args.p (after_of c.stacks_of-stacks.result) c.args.w (g.P.Pixels.has c.args.pixels.now)
 places_after g c = subst (λ (ws : List Window). HasPlacesBut (shape c.args.lists.now) c.args.p ws c.args.w (g.P.Pixels.has c.args.pixels.now)) (after g c) c.requires.places
+
+pub stacks_of-stacks-requires : goal.stacks_of-stacks-requires
+stacks_of-stacks-requires g c = subst (λ (ws : List Window). IsFront ws c.args.new.now c.args.w c.args.from) (ap (λ (im : Image). im.windows) c.get.ensures ∙ sym c.deref.ensures.value) c.requires.front
 
 pub change_area-requires-clause-change : goal.change_area-requires-clause-change
 change_area-requires-clause-change g c = change_after g (goal.at.change_area-requires-clause-change g c).After-stacks_of-stacks
@@ -124,3 +127,6 @@ returns-clause-moved g c as_before was given_is =
     subst (λ (ws : List Window). StaysTop world p ws w q) is (c.requires.outside q h where_not.0 (ap (λ ws. is_top ws w q) is ∙ where_not.1)))
     (c.place.ensures.moved old (placed_from world p new w given fill s c.requires.above old (kept c.change_area.new.pixels) (holds area) c.change_area.ensures.moved))
     with_w)
+
+pub change_area-requires-clause-given : goal.change_area-requires-clause-given
+change_area-requires-clause-given g c stands x = c.requires.given x

@@ -7,9 +7,8 @@ use Rattle.r9_restack.proofs.stacks.steady_rows_of.Given as goal
 
 abbrev pub invariant-loop-done : goal.invariant-loop-done
 invariant-loop-done l = record {
-  within : l.done ≤ l.columns;
   some : 0 < l.rows;
-  most : l.rows ≤ l.n;
+  most : l.rows ≤ l.fn.first.rows;
   same : (z : Point) (k : ℕ) → holds (strip l.at l.done) z ≡ true → k < l.rows → tops_at l.stacks (down z k) ≡ tops_at l.stacks z;
 }
 

@@ -5,7 +5,7 @@ use Rattle.r9_strings.proofs.Strings.{next_drawn, Alike-after_draw, Alike-same, 
 use Rattle.r9_strings.proofs.drawing.draw_characters.Goals as goal
 
 pub loop-piece-preserved : goal.loop-piece-preserved
-loop-piece-preserved c = record {
+loop-piece-preserved g c = record {
   alike =
       Alike-then _ _ _ c.loop-piece.invariant.alike
       (Alike-then _ _ _ (Alike-after_draw (world c.loop-piece.forest) (letter c.args.lettering.now _) (c.loop-piece.invariant.alike.lives _ c.requires.images.dst)) (Alike-same _ _ c.draw_character.ensures.drawn));
@@ -16,8 +16,8 @@ loop-piece-preserved c = record {
 }
 
 pub draw_character-requires-clause-images : goal.draw_character-requires-clause-images
-draw_character-requires-clause-images c = CanLetter-still _ _ c.args.lettering.now c.loop-piece.invariant.alike c.requires.images
+draw_character-requires-clause-images g c = CanLetter-still _ _ c.args.lettering.now c.loop-piece.invariant.alike c.requires.images
 
 pub draw_character-requires-clause-room : goal.draw_character-requires-clause-room
-draw_character-requires-clause-room c =
+draw_character-requires-clause-room g c =
     Fits-still _ _ _ _ _ _ c.loop-piece.invariant.alike c.loop-piece.invariant.grown (c.requires.room c.loop-piece.piece-index _ c.loop-piece-test.true)

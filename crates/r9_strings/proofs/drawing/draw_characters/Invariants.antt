@@ -7,7 +7,7 @@ use Rattle.r9_strings.proofs.Strings.{Alike}
 use Rattle.r9_strings.proofs.drawing.draw_characters.Given as goal
 
 abbrev pub invariant-loop-piece : goal.invariant-loop-piece
-invariant-loop-piece l = record {
+invariant-loop-piece g l = record {
   alike : Alike (world l.fn.forest) (world l.forest);
   numbers : numbers l.forest ≡ numbers l.fn.forest;
   grown : room l.fn.forest ≤ room l.forest;

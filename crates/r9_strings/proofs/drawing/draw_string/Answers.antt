@@ -9,13 +9,13 @@ use Rattle.r9_strings.proofs.Strings.{string_drawn, Alike, Alike-same, Alike-und
 use Rattle.r9_strings.proofs.drawing.draw_string.Goals as goal
 
 pub draw_characters-requires-clause-images : goal.draw_characters-requires-clause-images
-draw_characters-requires-clause-images c =
+draw_characters-requires-clause-images g c =
     CanLetter-still _ _ c.args.lettering.now
     (Alike-under (world c.args.forest.now) _ _ c.args.lettering.now _ c.requires.ready.dst (c.in_ok-room_for_characters.ensures.same.world ∙ c.in_ok-room_for_background.ensures.same.world) c.draw_background.ensures.drawn)
     c.requires.ready
 
 pub draw_characters-requires-clause-room : goal.draw_characters-requires-clause-room
-draw_characters-requires-clause-room c =
+draw_characters-requires-clause-room g c =
     let before = world c.room_for_background.new.forest in
     let live = (Alike-same (world c.args.forest.now) before c.in_ok-room_for_background.ensures.same.world).lives _ c.requires.ready.dst in
     let alike : Alike before (world c.draw_background.new.forest) = Alike-under before _ _ c.args.lettering.now _ live c.in_ok-room_for_characters.ensures.same.world c.draw_background.ensures.drawn in
@@ -23,7 +23,7 @@ draw_characters-requires-clause-room c =
     (λ piece fits. Fits-still _ _ _ _ _ piece.r alike c.draw_background.ensures.room fits) _ c.in_ok-room_for_characters.ensures.ok
 
 pub returns-clause-drawn : goal.returns-clause-drawn
-returns-clause-drawn c =
+returns-clause-drawn g c =
     let W = world c.args.forest.now in
     string_drawn W _ _ _ c.args.font.now c.args.lettering.now c.args.indices.now (layout_of c.in_ok-laid.laid) c.background_rect-under.result _ c.in_ok-laid.ensures.laid
     (c.background_rect-under.ensures.value

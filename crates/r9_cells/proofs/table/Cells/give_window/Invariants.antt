@@ -5,10 +5,12 @@ use Rattle.r9_store.specs.Tiles.{spare}
 use Rattle.r9_cells.specs.Rows.{cell_at, row_at}
 use Rattle.r9_cells.specs.Cells.{all_rows, cell_pixel, tiles_in}
 use Rattle.r9_cells.specs.Fitting.{hides_cell}
+use Rattle.r9_cells.specs.Walking.{IsAtCell}
 use Rattle.r9_cells.proofs.table.Cells.give_window.Given as goal
 
 abbrev pub invariant-loop-k : goal.invariant-loop-k
 invariant-loop-k l = record {
+  at : IsAtCell l.walk l.r l.w.place.min l.k;
   pixels : (j n : ℕ) (p : Point) → cell_pixel l.self j n p ≡ (if is_some (cell_at (all_rows l.self) j n) then cell_pixel l.fn.self j n p else 0);
   more : spare (tiles_in l.fn.self) ≤ spare (tiles_in l.self);
   given : (j n : ℕ) → is_some (cell_at (all_rows l.self) j n) ≡ (not ((j == l.i) && (nat_lt n l.k && not (hides_cell l.below l.windows l.i l.r n))) && is_some (cell_at (all_rows l.fn.self) j n));

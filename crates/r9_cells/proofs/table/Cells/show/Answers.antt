@@ -1,4 +1,4 @@
-use Rattle.std.proofs.Common.{lit≤, ◌≡◌, ◌∙◌, ◌+◌, ◌<◌, ◌≤◌, ◌^◌, ℕ, true, length, sym, ap, arith}
+use Rattle.std.proofs.Common.{lit≤, ◌≡◌, ◌∙◌, ◌+◌, ◌<◌, ◌^◌, ℕ, length, sym, ap, arith}
 use Rattle.std.specs.Prelude.{is_some, slice_index, if◌then◌else◌}
 use Rattle.r9_geom.specs.declared.Point.{Point}
 use Rattle.r9_geom.specs.Geometry.{carried, distance, holds, strip}

@@ -19,7 +19,7 @@ use Rattle.model_images.proofs.Ties.{HasTies-leave}
 use Rattle.r9_device.proofs.device.Device.leave.Goals as goal
 
 pub release-requires : goal.release-requires
-release-requires c =
+release-requires g c =
     let before = c.args.self.now in
     let freed : Freed = record { book = c.leave.new.self.book; gone = c.in_ok-gone.gone } in
     let is : IsFreed before.book.book freed = subst (IsFreed before.book.book) c.in_ok-gone.ensures.left (c.leave_frees.ensures.freed before.book.book c.args.client before.kept.screens) in
@@ -27,7 +27,7 @@ release-requires c =
     (before.book.book, subst (λ (gone : List Thing). CanRelease (world before.forest) before.book.book gone) (sym c.as_slice.ensures) (can-release (world before.forest) before.book.book freed before.kept is order))
 
 pub invariant_of-self-2-clause-kept : goal.invariant_of-self-2-clause-kept
-invariant_of-self-2-clause-kept c =
+invariant_of-self-2-clause-kept g c =
     let before = c.args.self.now in
     let freed : Freed = record { book = c.leave.new.self.book; gone = c.in_ok-gone.gone } in
     let is : IsFreed before.book.book freed = subst (IsFreed before.book.book) c.in_ok-gone.ensures.left (c.leave_frees.ensures.freed before.book.book c.args.client before.kept.screens) in
@@ -41,11 +41,11 @@ invariant_of-self-2-clause-kept c =
     (c.release.ensures.world ∙ ap (λ (gone : List Thing). fold images_without (world before.forest) gone) c.as_slice.ensures)
 
 pub invariant_of-self-2-clause-manager : goal.invariant_of-self-2-clause-manager
-invariant_of-self-2-clause-manager c =
+invariant_of-self-2-clause-manager g c =
     ap (λ (es : List (ℕ × Client)). lookup es 0) c.remove.ensures ∙ manager-without c.args.self.now.clients.entries c.args.client c.requires c.args.self.now.manager
 
 pub returns-clause-left : goal.returns-clause-left
-returns-clause-left c =
+returns-clause-left g c =
     let before = c.args.self.now in
     let freed : Freed = record { book = c.leave.new.self.book; gone = c.in_ok-gone.gone } in
     let images : world c.release.new.forest ≡ fold images_without (world before.forest) freed.gone =
@@ -56,7 +56,7 @@ returns-clause-left c =
     ∙ sym (left-world (world_of before) c.args.client freed c.in_ok-gone.ensures.left)
 
 pub invariant_of-self-2-clause-spare : goal.invariant_of-self-2-clause-spare
-invariant_of-self-2-clause-spare c =
+invariant_of-self-2-clause-spare g c =
     let before = c.args.self.now in
     let freed : Freed = record { book = c.leave.new.self.book; gone = c.in_ok-gone.gone } in
     spare-freed before.book.book freed before.spare before.kept.screens
@@ -65,7 +65,7 @@ invariant_of-self-2-clause-spare c =
     (subst (GivesBack before.book.book) c.in_ok-gone.ensures.left (leave-gives before.book.book c.args.client))
 
 pub invariant_of-self-2-clause-ties : goal.invariant_of-self-2-clause-ties
-invariant_of-self-2-clause-ties c =
+invariant_of-self-2-clause-ties g c =
     let before = c.args.self.now in
     subst (λ (f : Freed). HasTies f.book) c.in_ok-gone.ensures.left
     (HasTies-leave before.book.book c.args.client (not_manager before.clients.entries c.args.client c.requires before.manager) before.ties)

@@ -1,14 +1,20 @@
-use Rattle.std.proofs.Common.{◌≡◌, ◌∙◌, ℕ, ◌≤◌, None, sym, subst, ap, arith}
+use Rattle.std.proofs.Common.{◌≡◌, ◌∙◌, ℕ, ◌<◌, ◌≤◌, ◌^◌, List, None, length, lit≤, sym, subst, ap, arith}
 use Rattle.std.specs.Prelude.{option_map}
-use Rattle.model_forest.specs.World.{Image, IsForest, IsLive}
+use Rattle.std.proofs.lemmas.Nat.{pow_pos}
+use Rattle.r9_geom.specs.declared.Point.{Point}
+use Rattle.r9_geom.proofs.GeometryLemmas.{rect_near_wider}
+use Rattle.model_pixel.specs.Channels.{depth}
+use Rattle.model_forest.specs.World.{Image, image_at, IsForest, IsLive}
 use Rattle.model_kept.specs.Keeping.{with_kept}
 use Rattle.model_kept.proofs.Worlds.{pictured}
 use Rattle.r9_locate.specs.Table.{made, shape, HasRoom}
 use Rattle.r9_pixels.specs.Kept.{kept_at}
-use Rattle.r9_arrive.specs.Arriving.{listed}
+use Rattle.r9_fills.specs.Content.{content}
+use Rattle.r9_arrive.specs.Arriving.{after_coming, listed}
 use Rattle.r9_arrive.proofs.Bare.{bared_lists}
 use Rattle.r9_arrive.proofs.Entering.{on_err}
 use Rattle.r9_arrive.proofs.Windows.{coming_live}
+use Rattle.r9_forest.specs.Given.{given_at}
 use Rattle.r9_forest.specs.Images.{numbers, world}
 use Rattle.r9_forest.specs.Numbered.{numbers_of, IsTaken}
 use Rattle.r9_forest.proofs.Numbers.{peeked, taken_peeked, IsNext}
@@ -16,7 +22,7 @@ use Rattle.r9_forest.proofs.Roomy.{fills_same, fills_window}
 use Rattle.r9_forest.proofs.Sounding.{sound_live, sound_same, window_sound}
 use Rattle.r9_forest.proofs.images.Images.come.Given.{Over}
 use Rattle.r9_forest.proofs.images.Images.come.Goals as goal
-use Rattle.r9_forest.proofs.images.Images.come.Goals.{After-take_number, Start}
+use Rattle.r9_forest.proofs.images.Images.come.Goals.{After-content, After-take_number, Start}
 
 -- the number is free
 next : (g : Over) (c : Start g) → (c.args.w.image ≤ made c.args.self.now.lists) × (shape c.args.self.now.lists c.args.w.image ≡ None)
@@ -53,9 +59,30 @@ arrive-requires-clause-cells g c = c.args.self.now.sound.cells
 pub arrive-requires-clause-parent : goal.arrive-requires-clause-parent
 arrive-requires-clause-parent g c = live g (goal.at.arrive-requires-clause-parent g c).Start
 
+-- what is given
+given_is : (g : Over) (c : After-content g) (x : Point) → content c.content.result x ≡ given_at c.args.given c.args.r c.args.self.now.room.items x
+given_is g c x = c.content.ensures x ∙ ap (λ (raws : List ℕ). given_at c.args.given c.args.r raws x) c.deref.ensures.value
+
+came : (g : Over) (c : After-content g) → after_coming (world c.args.self.now) c.args.w.image c.args.standing.parent c.args.standing.fill c.args.r (content c.content.result) c.args.list.items ≡ after_coming (world c.args.self.now) c.args.w.image c.args.standing.parent c.args.standing.fill c.args.r (given_at c.args.given c.args.r c.args.self.now.room.items) c.args.list.items
+came g c =
+    ap (λ (pixels : Point → ℕ). after_coming (world c.args.self.now) c.args.w.image c.args.standing.parent c.args.standing.fill c.args.r pixels c.args.list.items) (λ j x. given_is g c x j)
+
+pub content-requires-clause-near : goal.content-requires-clause-near
+content-requires-clause-near g c = rect_near_wider (2 ^ 34) (2 ^ 40) c.args.r (lit≤ tt) c.requires.near
+
+pub content-requires-clause-room : goal.content-requires-clause-room
+content-requires-clause-room g c = let items = ap length c.deref.ensures.value in omega (arith, items, c.requires.fills, c.args.self.now.room.ok.0)
+
 pub arrive-requires-clause-forest : goal.arrive-requires-clause-forest
 unfolding world
-arrive-requires-clause-forest g c = c.requires.forest
+arrive-requires-clause-forest g c = subst IsForest (sym (came g (goal.at.arrive-requires-clause-forest g c).After-content)) c.requires.forest
+
+pub arrive-requires-clause-given : goal.arrive-requires-clause-given
+arrive-requires-clause-given g c x =
+    subst (λ (n : ℕ). n < 2 ^ depth (image_at (shape c.args.self.now.lists) c.args.standing.parent).chan) (sym (given_is g (goal.at.arrive-requires-clause-given g c).After-content x)) (c.requires.given x)
+
+pub arrive-requires-clause-fill : goal.arrive-requires-clause-fill
+arrive-requires-clause-fill g c z = pow_pos (depth (image_at (shape c.args.self.now.lists) c.args.standing.parent).chan)
 
 -- ---- where there is no memory
 
@@ -109,7 +136,7 @@ invariant_of-self-2 g c =
           window_sound now.lists c.arrive.new.lists now.pixels c.arrive.new.pixels now.spare.items c.take_number.new.spare.items i p c.args.standing.fill c.args.r c.args.list.items now.sound
           (coming_live (shape now.lists) (kept_at now.pixels) i p c.args.standing.fill c.args.r (record { free = (next g at.Start).1; bare = bared_lists now.lists; whole = now.sound.forest; live = live g at.Start })) is
           c.in_ok-arrive.ensures.lists c.in_ok-arrive.ensures.made (omega (arith, most))
-          (subst IsForest (sym c.in_ok-arrive.ensures.world) c.requires.forest)
+          (subst IsForest (sym (c.in_ok-arrive.ensures.world ∙ came g at.After-content)) c.requires.forest)
           c.in_ok-arrive.ensures.cells c.in_ok-arrive.ensures.forms;
       back = omega (arith, c.in_ok-arrive.ensures.made, is.most, c.requires.back, c.take_number.ensures.room);
       fills =
@@ -125,7 +152,7 @@ returns-clause-free g c =
 
 pub returns-clause-world : goal.returns-clause-world
 unfolding world
-returns-clause-world g c = c.in_ok-arrive.ensures.world
+returns-clause-world g c = c.in_ok-arrive.ensures.world ∙ came g (goal.at.returns-clause-world g c).After-content
 
 pub returns-clause-taken : goal.returns-clause-taken
 unfolding numbers

@@ -1,15 +1,11 @@
-use Rattle.std.proofs.Common.{◌≡◌, ◌∙◌, Bool, List, get_or, map, take, refl, sym, ap, arith}
+use Rattle.std.proofs.Common.{◌≡◌, ◌∙◌, get_or, sym, ap}
 use Rattle.std.specs.Prelude.{◌&&◌, ◌||◌}
-use Rattle.std.proofs.lemmas.List.{take_all}
-use Rattle.r9_geom.specs.declared.Point.{Point}
-use Rattle.r9_geom.specs.declared.Rect.{Rect}
 use Rattle.r9_geom.specs.Geometry.{holds}
 use Rattle.r9_info.specs.declared.ImageNo.{ImageNo}
 use Rattle.model_forest.specs.World.{Image, image_at}
 use Rattle.model_kept.specs.Keeping.{place_among}
 use Rattle.r9_region.specs.Region.{covers}
 use Rattle.r9_locate.specs.Table.{shape}
-use Rattle.r9_forest.specs.Groups.{places_of}
 use Rattle.r9_forest.proofs.Groups.{corner_covers, places_all, places_more}
 use Rattle.r9_forest.proofs.images.Images.places_of.Goals as goal
 

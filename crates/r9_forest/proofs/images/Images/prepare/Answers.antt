@@ -20,8 +20,8 @@ pub get-below-requires : goal.get-below-requires
 unfolding world
 get-below-requires c = sound_live c.args.self.now.lists (kept_at c.args.self.now.pixels) c.args.parent c.requires.parent
 
-pub room_for-requires : goal.room_for-requires
-room_for-requires c = stands (goal.at.room_for-requires c).Start
+pub room_left-requires : goal.room_left-requires
+room_left-requires c = stands (goal.at.room_left-requires c).Start
 
 pub later-requires : goal.later-requires
 later-requires c = stands (goal.at.later-requires c).Start

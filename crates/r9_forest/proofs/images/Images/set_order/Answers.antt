@@ -8,11 +8,13 @@ use Rattle.model_forest.specs.World.{image_at, IsForest}
 use Rattle.model_kept.specs.Keeping.{with_kept, Place}
 use Rattle.model_kept.specs.Restack.{with_list}
 use Rattle.r9_locate.specs.Table.{shape}
-use Rattle.r9_pixels.specs.Kept.{kept_at, spare_in, wanted_in}
-use Rattle.r9_pixels.specs.Places.{HasCells, StandsOn}
+use Rattle.r9_pixels.specs.Kept.{has_place, kept_at, spare_in, wanted_in}
+use Rattle.r9_cells.specs.Fitting.{AreOne}
+use Rattle.r9_pixels.specs.Places.{HasCells, HasTakenOff, StandsOn}
 use Rattle.r9_forest.specs.Images.{numbers, world}
 use Rattle.r9_forest.specs.Numbered.{numbers_of}
-use Rattle.r9_relist.proofs.Relisted.{relist_on}
+use Rattle.r9_relist.proofs.Off.{ordered_taken}
+use Rattle.r9_relist.proofs.Relisted.{relist_on, relist_ones}
 use Rattle.r9_forest.proofs.Sounding.{list_sound, sound_forest, sound_list, sound_same}
 use Rattle.r9_forest.proofs.Roomy.{fills_put, fills_same}
 use Rattle.r9_forest.proofs.images.Images.set_order.Given.{Over}
@@ -34,6 +36,17 @@ pub reserve_hidden-requires-clause-windows : goal.reserve_hidden-requires-clause
 reserve_hidden-requires-clause-windows g c =
     subst (All (StandsOn (shape c.args.self.now.lists) c.args.parent)) (sym c.deref.ensures.value)
     (relist_on (shape c.args.self.now.lists) c.args.parent c.args.list.items c.requires.order.live (listed g (goal.at.reserve_hidden-requires-clause-windows g c).Start))
+
+pub reserve_hidden-requires-clause-one : goal.reserve_hidden-requires-clause-one
+reserve_hidden-requires-clause-one g c =
+    subst AreOne (sym c.deref.ensures.value)
+    (relist_ones (shape c.args.self.now.lists) c.args.parent c.args.list.items c.requires.order.live (listed g (goal.at.reserve_hidden-requires-clause-one g c).Start))
+
+pub reserve_hidden-requires-clause-still : goal.reserve_hidden-requires-clause-still
+reserve_hidden-requires-clause-still g c =
+    let was = c.args.self.now in
+    subst (λ (ws : List Window). HasTakenOff (shape was.lists) c.args.parent ws 0 c.args.areas.now (has_place was.pixels)) (sym c.deref.ensures.value)
+    (ordered_taken (shape was.lists) c.args.parent c.args.list.items c.requires.order c.args.areas.now c.requires.outside (sound_forest was.lists (kept_at was.pixels) was.sound.forest) (has_place was.pixels) was.sound.cells)
 
 pub reorder_windows-requires-clause-before : goal.reorder_windows-requires-clause-before
 reorder_windows-requires-clause-before g c = sound_forest c.args.self.now.lists (kept_at c.args.self.now.pixels) c.args.self.now.sound.forest

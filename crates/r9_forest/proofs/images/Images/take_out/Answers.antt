@@ -33,7 +33,7 @@ use Rattle.r9_forest.proofs.Showing.{bits_of}
 use Rattle.r9_forest.proofs.Sounding.{sound_forest}
 use Rattle.r9_forest.proofs.images.Images.take_out.Given.{Over}
 use Rattle.r9_forest.proofs.images.Images.take_out.Goals as goal
-use Rattle.r9_forest.proofs.images.Images.take_out.Goals.{After-common-area, After-gather, After-new-fill, After-place_among, After-push, After-take_away, Start}
+use Rattle.r9_forest.proofs.images.Images.take_out.Goals.{After-common-area, After-gather, After-new, After-place_among, After-push, After-take_away, Start}
 
 parent : (g : Over) (c : Start g) → parent_of (shape c.args.self.now.lists) c.args.i ≡ Some c.args.standing.parent
 unfolding world
@@ -141,36 +141,36 @@ chan_is g c =
     ∙ (bare_canvas (shape c.gather.new.self.lists) (kept_at c.gather.new.self.pixels)).chan c.args.standing.parent
 
 -- what was gathered is the fill
-gathered : (g : Over) (c : After-new-fill g) (z : Point) → holds c.common-area.result z ≡ true → pictured c.new-fill.result z ≡ fill_at (world c.args.self.now) c.get-below.result.now.chan c.args.standing.fill z
+gathered : (g : Over) (c : After-new g) (z : Point) → holds c.common-area.result z ≡ true → pictured c.new.result z ≡ fill_at (world c.args.self.now) c.get-below.result.now.chan c.args.standing.fill z
 unfolding world
 gathered g c z h =
     let area = c.common-area.result in
-    c.new-fill.ensures z
+    c.new.ensures z
     ∙ (λ j. if h j then get_or (c.deref-2.ensures.value j) (number_of area z) 0 else 0)
     ∙ c.gather.ensures.gathered z h
 
-lawful : (g : Over) (c : After-new-fill g) → IsLive (shape c.args.self.now.lists) c.args.standing.parent → is_descriptor c.get-below.result.now.chan ≡ true
+lawful : (g : Over) (c : After-new g) → IsLive (shape c.args.self.now.lists) c.args.standing.parent → is_descriptor c.get-below.result.now.chan ≡ true
 lawful g c live =
     let was = c.args.self.now in
     subst (λ (image : Image). is_descriptor image.chan ≡ true) c.get-below.ensures
     ((sound_forest was.lists (kept_at was.pixels) was.sound.forest).images c.args.standing.parent live).chan
 
-bounded : (g : Over) (c : After-new-fill g) → IsLive (shape c.args.self.now.lists) c.args.standing.parent → (z : Point) → pictured c.new-fill.result z < 2 ^ depth c.get-below.result.now.chan
+bounded : (g : Over) (c : After-new g) → IsLive (shape c.args.self.now.lists) c.args.standing.parent → (z : Point) → pictured c.new.result z < 2 ^ depth c.get-below.result.now.chan
 unfolding world
 bounded g c live z = by_test (holds c.common-area.result z) refl
   where
     was : World
     was = world c.args.self.now
 
-    by_test : (b : Bool) → holds c.common-area.result z ≡ b → pictured c.new-fill.result z < 2 ^ depth c.get-below.result.now.chan
+    by_test : (b : Bool) → holds c.common-area.result z ≡ b → pictured c.new.result z < 2 ^ depth c.get-below.result.now.chan
     by_test true h = subst (λ (n : ℕ). n < 2 ^ depth c.get-below.result.now.chan) (sym (gathered g c z h)) (fill_below was c.get-below.result.now.chan c.args.standing.fill z c.args.self.now.sound.forest (fill_stands was c.args.i c.args.standing c.args.self.now.sound.forest c.requires.stands).1 (lawful g c live))
     by_test false h =
         subst (λ (n : ℕ). n < 2 ^ depth c.get-below.result.now.chan)
-        (sym (c.new-fill.ensures z ∙ ap (λ b. if b then get_or c.deref-2.result.now (number_of c.common-area.result z) 0 else 0) h)) (pow_pos (depth c.get-below.result.now.chan))
+        (sym (c.new.ensures z ∙ ap (λ b. if b then get_or c.deref-2.result.now (number_of c.common-area.result z) 0 else 0) h)) (pow_pos (depth c.get-below.result.now.chan))
 
-pub new-fill-requires-clause-enough : goal.new-fill-requires-clause-enough
-new-fill-requires-clause-enough g c =
-    let at = goal.at.new-fill-requires-clause-enough g c in
+pub new-requires-clause-enough : goal.new-requires-clause-enough
+new-requires-clause-enough g c =
+    let at = goal.at.new-requires-clause-enough g c in
     let most = small g at.After-common-area (placed_is g at.Start) (place_is g at.After-place_among) in
     let room = c.args.self.now.fills c.args.i c.args.standing.parent (parent g at.Start) in
     let items = ap length c.deref-2.ensures.value in
@@ -185,14 +185,12 @@ bits g c =
     bits_of now.lists now.pixels now.spare.items c.args.standing.parent now.sound live ∙ ap depth (sym (chan_is g c))
 
 pub take_away-requires-clause-given : goal.take_away-requires-clause-given
-take_away-requires-clause-given g c x =
-    let at = goal.at.take_away-requires-clause-given g c in
-    subst (λ (n : ℕ). pictured c.new-fill.result x < 2 ^ n) (sym (bits g at.After-gather)) (bounded g at.After-new-fill (below g at.Start) x)
+take_away-requires-clause-given g c x = pow_pos (bits_in (form_at c.gather.new.self.pixels) c.args.standing.parent)
 
 pub take_away-requires-clause-fill : goal.take_away-requires-clause-fill
 take_away-requires-clause-fill g c x =
     let at = goal.at.take_away-requires-clause-fill g c in
-    subst (λ (n : ℕ). pictured c.new-fill.result x < 2 ^ n) (sym (bits g at.After-gather)) (bounded g at.After-new-fill (below g at.Start) x)
+    subst (λ (n : ℕ). pictured c.new.result x < 2 ^ n) (sym (bits g at.After-gather)) (bounded g at.After-new (below g at.Start) x)
 
 pub take_away-requires-clause-fills : goal.take_away-requires-clause-fills
 unfolding world
@@ -202,11 +200,11 @@ take_away-requires-clause-fills g c =
     let is = going g at.After-gather in
     let filled : fill_of (with_kept (shape now.lists) (kept_at now.pixels)) c.args.i ≡ c.args.standing.fill =
     (fill_stands (with_kept (shape now.lists) (kept_at now.pixels)) c.args.i c.args.standing now.sound.forest (stands g at.After-gather)).0 in
-    fill_right (shape now.lists) (kept_at now.pixels) c.args.i c.args.standing.parent c.common-area.result (pictured c.new-fill.result) (places-forest (shape now.lists) is.before)
+    fill_right (shape now.lists) (kept_at now.pixels) c.args.i c.args.standing.parent c.common-area.result (pictured c.new.result) (places-forest (shape now.lists) is.before)
     (is.before.parents c.args.i c.args.standing.parent is.can.live is.stands)
     (covers g at.After-gather (place_is g at.After-place_among))
     (λ z h.
-    gathered g at.After-new-fill z h
+    gathered g at.After-new z h
     ∙ (λ j. fill_at (sym (same g at.After-gather) j) (chan_is g at.After-gather j) (sym filled j) z))
 
 -- ---- and then

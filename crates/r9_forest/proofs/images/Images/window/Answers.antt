@@ -1,13 +1,15 @@
-use Rattle.std.proofs.Common.{◌≡◌, ◌∙◌, ℕ, ◌+◌, ◌<◌, ◌^◌, List, ◌∷◌, None, is_some, length, sym, subst, ap, arith}
-use Rattle.std.specs.Prelude.{option_map}
+use Rattle.std.proofs.Common.{◌≡◌, ◌∙◌, ℕ, ◌+◌, ◌<◌, ◌^◌, List, [], ◌∷◌, Some, None, cond, find, is_some, length, eq-eqb, refl, sym, subst, ap, arith}
+use Rattle.std.specs.Prelude.{◌==◌, option_map}
+use Rattle.std.specs.Option.{option_map_or}
+use Rattle.std.specs.List.{count_by}
 use Rattle.std.proofs.lemmas.List.Elements.{All-nil}
-use Rattle.std.proofs.lemmas.Nat.{pow_pos}
 use Rattle.model_pixel.specs.Channels.{depth}
 use Rattle.model_forest.specs.declared.Window.{Window}
 use Rattle.model_forest.specs.Numbers.{next_number, taken}
 use Rattle.model_forest.specs.Stack.{after_window}
-use Rattle.model_forest.specs.World.{Image, World, image_at, IsForest, IsLive}
+use Rattle.model_forest.specs.World.{Image, World, image_at, no_rect, IsForest, IsLive}
 use Rattle.model_forest.proofs.Steps.{IsForest-after_window}
+use Rattle.model_kept.specs.Keeping.{place_among}
 use Rattle.model_kept.proofs.Worlds.{pictured}
 use Rattle.r9_locate.specs.Table.{made, shape}
 use Rattle.r9_pixels.specs.Kept.{kept_at}
@@ -126,9 +128,6 @@ shape_fits g c =
 pub come-requires-clause-given : goal.come-requires-clause-given
 come-requires-clause-given g c = λ x. shape_fits g (goal.at.come-requires-clause-given g c).In_ok-reserve_window
 
-pub come-requires-clause-fill : goal.come-requires-clause-fill
-come-requires-clause-fill g c = λ z. pow_pos (depth (image_at (shape c.reserve_window.new.self.lists) c.args.parent).chan)
-
 pub come-requires-clause-also : goal.come-requires-clause-also
 come-requires-clause-also g c = below g (goal.at.come-requires-clause-also g c).In_ok-reserve_window
 
@@ -136,6 +135,23 @@ pub come-requires-clause-later : goal.come-requires-clause-later
 come-requires-clause-later g c =
     let now = c.reserve_window.new.self in
     All-nil (StandsOn (with_coming (shape now.lists) c.peek_number-i.result c.args.parent c.args.fill c.args.r) c.args.parent)
+
+pub come-requires-clause-later_one : goal.come-requires-clause-later_one
+come-requires-clause-later_one g c = All-nil (λ (w : Window). count_by (λ (v : Window). v.image == w.image) [] ≡ 1)
+
+pub come-requires-clause-left : goal.come-requires-clause-left
+come-requires-clause-left g c at w k here below hidden shown unlisted = let none : None ≡ Some at = here.first in absurd (cc)
+
+pub come-requires-clause-left_own : goal.come-requires-clause-left_own
+come-requires-clause-left_own g c at w k here same below hidden shown = let none : None ≡ Some at = here.first in absurd (cc)
+
+pub come-requires-clause-stands : goal.come-requires-clause-stands
+come-requires-clause-stands g c =
+    let now = c.reserve_window.new.self in
+    let i = c.peek_number-i.result in
+    let ws = (image_at (shape now.lists) c.args.parent).windows in
+    ap (λ (vs : List Window). place_among vs i) (list g (goal.at.come-requires-clause-stands g c).After-on_top)
+    ∙ ap (λ b. option_map_or (λ (v : Window). v.place) (cond b (Some (record { image = i; place = c.args.r })) (find (λ (v : Window). v.image == i) ws)) no_rect) (eq-eqb i i refl)
 
 pub returns-clause-number : goal.returns-clause-number
 unfolding numbers

@@ -8,14 +8,14 @@ use Rattle.r9_layers.proofs.forest.Forest.run.Goals as goal
 
 pub returns-then-is_empty-clause-ok : goal.returns-then-is_empty-clause-ok
 unfolding world
-returns-then-is_empty-clause-ok c =
+returns-then-is_empty-clause-ok g c =
     let d = drawing_of c.args.task.now in
     let W = world c.args.self.now in
     drawn_nowhere W d c.requires.dst (area_none W d c.area-area.result c.area-area.ensures (sym c.is_empty.ensures.exact ∙ c.if-is_empty.true))
 
 pub returns-in-None-clause-memory : goal.returns-in-None-clause-memory
 unfolding world room
-returns-in-None-clause-memory c fits =
+returns-in-None-clause-memory g c fits =
     let d = drawing_of c.args.task.now in
     let W = world c.args.self.now in
     let count : area_of c.area-area.result ≤ room c.args.self.now = omega (arith, area_count W d c.area-area.result c.area-area.ensures (sym c.is_empty.ensures.exact ∙ c.if-is_empty.false), fits) in
@@ -24,7 +24,7 @@ returns-in-None-clause-memory c fits =
 
 pub returns-in_err-room-clause-memory : goal.returns-in_err-room-clause-memory
 unfolding world room
-returns-in_err-room-clause-memory c fits =
+returns-in_err-room-clause-memory g c fits =
     let d = drawing_of c.args.task.now in
     let W = world c.args.self.now in
     let count : area_of c.area-area.result ≤ room c.args.self.now = omega (arith, area_count W d c.area-area.result c.area-area.ensures (sym c.is_empty.ensures.exact ∙ c.if-is_empty.false), fits) in

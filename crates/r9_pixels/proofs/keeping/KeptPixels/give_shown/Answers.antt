@@ -3,6 +3,7 @@ use Rattle.r9_cells.specs.Rows.{cell_at}
 use Rattle.r9_locate.specs.Table.{shape}
 use Rattle.std.specs.Prelude.{is_some}
 use Rattle.r9_pixels.specs.Owns.{own_at}
+use Rattle.r9_pixels.proofs.Off.{given_off}
 use Rattle.r9_pixels.proofs.Standing.{windowed}
 use Rattle.r9_pixels.proofs.Taking.{given_kept, given_place, given_tabled, held_fewer, still_bounded}
 use Rattle.r9_pixels.proofs.keeping.KeptPixels.give_shown.Goals as goal
@@ -27,3 +28,6 @@ returns-clause-kept c place =
 pub returns-clause-has : goal.returns-clause-has
 returns-clause-has c =
     given_place c.args.self.now.owns.items c.args.self.now.cells c.give_shown.new.self (shape c.args.lists.now) c.args.p c.args.windows.now c.requires.forms c.requires.windows c.give_shown.ensures.given
+
+pub give_shown-requires-clause-still : goal.give_shown-requires-clause-still
+give_shown-requires-clause-still c = given_off c.args.self.now.owns.items c.args.self.now.cells (shape c.args.lists.now) c.args.p c.args.windows.now c.args.from c.args.areas.now c.requires.forms c.requires.windows c.requires.still

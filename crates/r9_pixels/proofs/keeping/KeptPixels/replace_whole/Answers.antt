@@ -1,4 +1,4 @@
-use Rattle.std.proofs.Common.{rules, ◌≡◌, ◌∙◌, ℕ, ◌<◌, false, length, List, Option, Some, sym, ap, subst, arith}
+use Rattle.std.proofs.Common.{rules, ◌≡◌, ◌∙◌, ℕ, ◌<◌, false, length, List, Option, Some, sym, ap, subst}
 use Rattle.std.specs.Prelude.{option_map, slice_set}
 use Rattle.r9_cells.specs.Cells.{all_rows}
 use Rattle.r9_locate.specs.Forms.{Form}

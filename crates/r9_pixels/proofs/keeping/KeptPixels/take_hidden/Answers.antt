@@ -1,6 +1,7 @@
 use Rattle.std.proofs.Common.{arith}
 use Rattle.r9_cells.specs.Cells.{all_rows}
 use Rattle.r9_locate.specs.Table.{shape}
+use Rattle.r9_pixels.proofs.Off.{taken_off}
 use Rattle.r9_pixels.proofs.Standing.{windowed}
 use Rattle.r9_pixels.proofs.Taking.{still_bounded, taken_place, taken_tabled}
 use Rattle.r9_pixels.proofs.keeping.KeptPixels.take_hidden.Goals as goal
@@ -21,3 +22,6 @@ invariant_of-self c =
 pub returns-clause-has : goal.returns-clause-has
 returns-clause-has c =
     taken_place c.args.self.now.owns.items c.args.self.now.cells c.take_hidden.new.self (shape c.args.lists.now) c.args.p c.args.windows.now c.requires.forms c.requires.windows c.take_hidden.ensures.taken
+
+pub take_hidden-requires-clause-still : goal.take_hidden-requires-clause-still
+take_hidden-requires-clause-still c = taken_off c.args.self.now.owns.items c.args.self.now.cells (shape c.args.lists.now) c.args.p c.args.windows.now c.args.from c.args.areas.now c.requires.forms c.requires.windows c.requires.still

@@ -1,0 +1,19 @@
+use Rattle.std.proofs.Common.{◌≡◌, ◌-◌, ◌≤◌}
+use Rattle.r9_geom.specs.Geometry.{width}
+use Rattle.r9_store.specs.Tiles.{spare}
+use Rattle.r9_cells.specs.Cells.{all_rows, place_pixel, tiles_in}
+use Rattle.r9_cells.specs.Rows.{cell_place, CellPlace}
+use Rattle.r9_cells.proofs.Bands.{side}
+use Rattle.r9_cells.proofs.Sets.{IsSet}
+use Rattle.r9_cells.proofs.table.Cells.fill_band.Given as goal
+
+abbrev pub invariant-loop-column : goal.invariant-loop-column
+invariant-loop-column l = record {
+  within : l.column ≤ width l.band;
+  set : IsSet CellPlace (side l.band l.column) (cell_place l.i l.r) (λ p. l.raw) (place_pixel l.fn.self) (place_pixel l.self);
+  rows : all_rows l.self ≡ all_rows l.fn.self;
+  spare : spare (tiles_in l.self) ≡ spare (tiles_in l.fn.self);
+}
+
+abbrev pub decreases-loop-column : goal.decreases-loop-column
+decreases-loop-column l = width l.band - l.column

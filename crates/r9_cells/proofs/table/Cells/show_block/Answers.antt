@@ -1,0 +1,179 @@
+use Rattle.std.proofs.Common.{◌≡◌, ◌∙◌, ◌+◌, ◌^◌, ◌<◌, ℕ, refl, sym, ap, subst, arith}
+use Rattle.std.specs.Prelude.{if◌then◌else◌}
+use Rattle.std.proofs.lemmas.Int.{ints}
+use Rattle.r9_geom.specs.declared.Point.{Point}
+use Rattle.r9_geom.specs.declared.Rect.{Rect}
+use Rattle.r9_geom.specs.Geometry.{carried, height, holds}
+use Rattle.r9_geom.proofs.GeometryLemmas.{band, band_none, height_most, near_point, same_point}
+use Rattle.model_pixel.specs.Channels.{depth}
+use Rattle.r9_plane.specs.Pixels.{pixel_at, rect_of}
+use Rattle.r9_cells.specs.Cells.{all_rows, place_pixel}
+use Rattle.r9_cells.specs.Rows.{cell_place}
+use Rattle.r9_cells.proofs.Bands.{first_point, band_back, band_carried, band_lies, band_next, band_points, band_row, band_tells, band_whole}
+use Rattle.r9_cells.proofs.Inner.{has_lies}
+use Rattle.r9_cells.proofs.Places.{tile_parts}
+use Rattle.r9_cells.proofs.Sets.{shown_more}
+use Rattle.r9_cells.proofs.table.Cells.show_block.Goals as goal
+
+pub loop-row-init : goal.loop-row-init
+loop-row-init c =
+    record { within = omega arith; rect = refl; chan = refl; shown = λ q. sym (ap (λ b. if b then place_pixel c.args.self.now (cell_place c.args.i c.args.r.now (carried q c.args.to c.args.block.now.min)) else pixel_at c.args.plane.now q) (band_none c.args.block.now (carried q c.args.to c.args.block.now.min))) }
+
+pub band_of-band-requires-clause-row : goal.band_of-band-requires-clause-row
+band_of-band-requires-clause-row c =
+    omega (arith, c.loop-row-test.true, c.height.ensures)
+
+pub band_of-band-requires-clause-inside : goal.band_of-band-requires-clause-inside
+band_of-band-requires-clause-inside c p h =
+    (tile_parts (all_rows c.args.self.now) c.args.i c.args.r.now p (c.requires.has p h)).0
+
+pub down-there-requires-clause-rows : goal.down-there-requires-clause-rows
+down-there-requires-clause-rows c =
+    omega (arith, c.loop-row-test.true, c.height.ensures, height_most c.args.block.now c.requires.also c.requires.ordered)
+
+pub show_band-requires-clause-also : goal.show_band-requires-clause-also
+show_band-requires-clause-also c =
+    let r = c.args.r.now in
+    let whole = c.args.block.now in
+    let at = c.loop-row.row in
+    let piece = c.band_of-band.result in
+    let lies = has_lies c.args.self.now c.args.i c.args.r.now c.args.block.now c.requires.also c.requires.ordered c.requires.some c.requires.has in
+    let is = band_tells r whole piece at c.band_of-band.ensures (omega (arith, c.loop-row-test.true, c.height.ensures)) in
+    let here = band_lies r whole piece at is lies in
+    here.near
+
+pub show_band-requires-clause-ordered : goal.show_band-requires-clause-ordered
+show_band-requires-clause-ordered c =
+    let r = c.args.r.now in
+    let whole = c.args.block.now in
+    let at = c.loop-row.row in
+    let piece = c.band_of-band.result in
+    let lies = has_lies c.args.self.now c.args.i c.args.r.now c.args.block.now c.requires.also c.requires.ordered c.requires.some c.requires.has in
+    let is = band_tells r whole piece at c.band_of-band.ensures (omega (arith, c.loop-row-test.true, c.height.ensures)) in
+    let here = band_lies r whole piece at is lies in
+    here.ordered
+
+pub show_band-requires-clause-some : goal.show_band-requires-clause-some
+show_band-requires-clause-some c =
+    let r = c.args.r.now in
+    let whole = c.args.block.now in
+    let at = c.loop-row.row in
+    let piece = c.band_of-band.result in
+    let lies = has_lies c.args.self.now c.args.i c.args.r.now c.args.block.now c.requires.also c.requires.ordered c.requires.some c.requires.has in
+    let is = band_tells r whole piece at c.band_of-band.ensures (omega (arith, c.loop-row-test.true, c.height.ensures)) in
+    let here = band_lies r whole piece at is lies in
+    here.some
+
+pub show_band-requires-clause-band : goal.show_band-requires-clause-band
+show_band-requires-clause-band c =
+    let r = c.args.r.now in
+    let whole = c.args.block.now in
+    let at = c.loop-row.row in
+    let piece = c.band_of-band.result in
+    let lies = has_lies c.args.self.now c.args.i c.args.r.now c.args.block.now c.requires.also c.requires.ordered c.requires.some c.requires.has in
+    let is = band_tells r whole piece at c.band_of-band.ensures (omega (arith, c.loop-row-test.true, c.height.ensures)) in
+    let here = band_lies r whole piece at is lies in
+    band_row r whole piece at is lies
+
+pub show_band-requires-clause-has : goal.show_band-requires-clause-has
+show_band-requires-clause-has c p h =
+    let r = c.args.r.now in
+    let whole = c.args.block.now in
+    let at = c.loop-row.row in
+    let piece = c.band_of-band.result in
+    let lies = has_lies c.args.self.now c.args.i c.args.r.now c.args.block.now c.requires.also c.requires.ordered c.requires.some c.requires.has in
+    let is = band_tells r whole piece at c.band_of-band.ensures (omega (arith, c.loop-row-test.true, c.height.ensures)) in
+    let here = band_lies r whole piece at is lies in
+    c.requires.has p (band_points r whole piece at is lies.ordered p h)
+
+pub show_band-requires-clause-inside : goal.show_band-requires-clause-inside
+show_band-requires-clause-inside c p h =
+    let r = c.args.r.now in
+    let whole = c.args.block.now in
+    let at = c.loop-row.row in
+    let piece = c.band_of-band.result in
+    let lies = has_lies c.args.self.now c.args.i c.args.r.now c.args.block.now c.requires.also c.requires.ordered c.requires.some c.requires.has in
+    let is = band_tells r whole piece at c.band_of-band.ensures (omega (arith, c.loop-row-test.true, c.height.ensures)) in
+    let here = band_lies r whole piece at is lies in
+    ap (λ (s : Rect). holds s (carried p piece.min c.down-there.result)) c.loop-row.invariant.rect ∙ ap (holds (rect_of c.args.plane.now)) (ap (carried p piece.min) c.down-there.ensures ∙ band_carried r whole piece at p c.args.to is) ∙ c.requires.inside p (band_points r whole piece at is lies.ordered p h)
+
+pub show_band-requires-clause-to : goal.show_band-requires-clause-to
+show_band-requires-clause-to c =
+    let r = c.args.r.now in
+    let whole = c.args.block.now in
+    let at = c.loop-row.row in
+    let piece = c.band_of-band.result in
+    let lies = has_lies c.args.self.now c.args.i c.args.r.now c.args.block.now c.requires.also c.requires.ordered c.requires.some c.requires.has in
+    let is = band_tells r whole piece at c.band_of-band.ensures (omega (arith, c.loop-row-test.true, c.height.ensures)) in
+    let here = band_lies r whole piece at is lies in
+    let first = first_point r piece here in
+    let there : carried piece.min piece.min c.down-there.result ≡ carried piece.min whole.min c.args.to = (ap (carried piece.min piece.min) c.down-there.ensures ∙ band_carried r whole piece at piece.min c.args.to is) in
+    let self : carried piece.min piece.min c.down-there.result ≡ c.down-there.result = same_point (carried piece.min piece.min c.down-there.result) c.down-there.result (omega (arith, ints)) (omega (arith, ints)) in
+    near_point (2 ^ 40) (rect_of c.args.plane.now) c.down-there.result c.args.plane.now.near (ap (holds (rect_of c.args.plane.now)) (sym self ∙ there) ∙ c.requires.inside piece.min (band_points r whole piece at is lies.ordered piece.min first))
+
+pub show_band-requires-clause-below : goal.show_band-requires-clause-below
+show_band-requires-clause-below c p h =
+    let r = c.args.r.now in
+    let whole = c.args.block.now in
+    let at = c.loop-row.row in
+    let piece = c.band_of-band.result in
+    let lies = has_lies c.args.self.now c.args.i c.args.r.now c.args.block.now c.requires.also c.requires.ordered c.requires.some c.requires.has in
+    let is = band_tells r whole piece at c.band_of-band.ensures (omega (arith, c.loop-row-test.true, c.height.ensures)) in
+    let here = band_lies r whole piece at is lies in
+    subst (λ (m : ℕ). place_pixel c.args.self.now (cell_place c.args.i r p) < 2 ^ depth m) (sym c.loop-row.invariant.chan) (c.requires.below p (band_points r whole piece at is lies.ordered p h))
+
+pub height-row-requires : goal.height-row-requires
+height-row-requires c =
+    let r = c.args.r.now in
+    let whole = c.args.block.now in
+    let at = c.loop-row.row in
+    let piece = c.band_of-band.result in
+    let lies = has_lies c.args.self.now c.args.i c.args.r.now c.args.block.now c.requires.also c.requires.ordered c.requires.some c.requires.has in
+    let is = band_tells r whole piece at c.band_of-band.ensures (omega (arith, c.loop-row-test.true, c.height.ensures)) in
+    let here = band_lies r whole piece at is lies in
+    here.ordered
+
+pub overflow_add-row : goal.overflow_add-row
+overflow_add-row c =
+    let r = c.args.r.now in
+    let whole = c.args.block.now in
+    let at = c.loop-row.row in
+    let piece = c.band_of-band.result in
+    let lies = has_lies c.args.self.now c.args.i c.args.r.now c.args.block.now c.requires.also c.requires.ordered c.requires.some c.requires.has in
+    let is = band_tells r whole piece at c.band_of-band.ensures (omega (arith, c.loop-row-test.true, c.height.ensures)) in
+    let here = band_lies r whole piece at is lies in
+    omega (arith, is.fits, c.height-row.ensures, height_most whole c.requires.also c.requires.ordered)
+
+pub loop-row-smaller : goal.loop-row-smaller
+loop-row-smaller c =
+    let r = c.args.r.now in
+    let whole = c.args.block.now in
+    let at = c.loop-row.row in
+    let piece = c.band_of-band.result in
+    let lies = has_lies c.args.self.now c.args.i c.args.r.now c.args.block.now c.requires.also c.requires.ordered c.requires.some c.requires.has in
+    let is = band_tells r whole piece at c.band_of-band.ensures (omega (arith, c.loop-row-test.true, c.height.ensures)) in
+    let here = band_lies r whole piece at is lies in
+    omega (arith, is.some, is.fits, c.height-row.ensures, c.loop-row.invariant.within)
+
+pub loop-row-preserved : goal.loop-row-preserved
+loop-row-preserved c =
+    let r = c.args.r.now in
+    let whole = c.args.block.now in
+    let at = c.loop-row.row in
+    let piece = c.band_of-band.result in
+    let lies = has_lies c.args.self.now c.args.i c.args.r.now c.args.block.now c.requires.also c.requires.ordered c.requires.some c.requires.has in
+    let is = band_tells r whole piece at c.band_of-band.ensures (omega (arith, c.loop-row-test.true, c.height.ensures)) in
+    let here = band_lies r whole piece at is lies in
+    record {
+      within = omega (arith, is.fits, c.height-row.ensures);
+      rect = c.show_band.ensures.rect ∙ c.loop-row.invariant.rect;
+      chan = c.show_band.ensures.chan ∙ c.loop-row.invariant.chan;
+      shown = λ q.
+          shown_more (band whole at) piece (band whole (at + height piece)) (carried q c.args.to whole.min) (pixel_at c.args.plane.now q) (pixel_at c.loop-row.plane q) (pixel_at c.show_band.new.plane q) (place_pixel c.args.self.now (cell_place c.args.i r (carried q c.args.to whole.min))) (band_next r whole piece at is) (c.loop-row.invariant.shown q)
+          (c.show_band.ensures.pixels q ∙ ap (λ (p : Point). if holds piece p then place_pixel c.args.self.now (cell_place c.args.i r p) else pixel_at c.loop-row.plane q) (ap (λ (t : Point). carried q t piece.min) c.down-there.ensures ∙ band_back r whole piece at q c.args.to is))
+          ∙ ap (λ n. if holds (band whole (at + n)) (carried q c.args.to whole.min) then (place_pixel c.args.self.now (cell_place c.args.i r (carried q c.args.to whole.min))) else pixel_at c.args.plane.now q) (sym c.height-row.ensures);
+    }
+
+pub returns-clause-pixels : goal.returns-clause-pixels
+returns-clause-pixels c q =
+    c.loop-row.invariant.shown q ∙ ap (λ (s : Rect). if holds s (carried q c.args.to c.args.block.now.min) then place_pixel c.args.self.now (cell_place c.args.i c.args.r.now (carried q c.args.to c.args.block.now.min)) else pixel_at c.args.plane.now q) (band_whole c.args.block.now c.loop-row.row c.requires.ordered c.loop-row.invariant.within (omega (arith, c.loop-row-test.false, c.height.ensures)))

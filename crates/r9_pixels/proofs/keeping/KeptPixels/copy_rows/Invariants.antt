@@ -1,0 +1,6 @@
+use Rattle.r9_geom.proofs.GeometryLemmas.{band}
+use Rattle.r9_pixels.specs.Carried.{IsCarriedBlock}
+use Rattle.r9_pixels.proofs.keeping.KeptPixels.copy_rows.Given as goal
+
+abbrev pub invariant-loop-row : goal.invariant-loop-row
+invariant-loop-row l = IsCarriedBlock l.fn.self l.self l.from (band l.r l.row) l.to l.p

@@ -1,0 +1,21 @@
+use Rattle.std.proofs.Common.{◌≡◌, ◌≢◌, ◌+◌, ◌-◌, ◌<◌, ◌≤◌, ℕ, length}
+use Rattle.r9_plane.specs.Pixels.{along}
+use Rattle.model_kept.specs.Keeping.{keeping, Place}
+use Rattle.r9_locate.specs.Table.{shape}
+use Rattle.r9_restack.specs.Giving.{pixels_of}
+use Rattle.r9_restack.proofs.giving.show_row.Given as goal
+
+abbrev pub invariant-loop-done : goal.invariant-loop-done
+invariant-loop-done g l = record {
+  within : l.done ≤ l.n;
+  at : (k : ℕ) → k < l.done → g.P.Pixels.kept l.pixels (keeping (shape l.lists) l.p (along l.q k)) ≡ pixels_of (g.S.Source.given l.source) (g.S.Source.fill l.source) l.kind (along l.at k);
+  others : (place : Place) → ((k : ℕ) → k < l.done → place ≢ keeping (shape l.lists) l.p (along l.q k)) → g.P.Pixels.kept l.pixels place ≡ g.P.Pixels.kept l.fn.pixels place;
+  long : length l.block ≡ 256;
+  has : g.P.Pixels.has l.pixels ≡ g.P.Pixels.has l.fn.pixels;
+  forms : g.P.Pixels.forms l.pixels ≡ g.P.Pixels.forms l.fn.pixels;
+  spare : g.P.Pixels.spare l.pixels ≡ g.P.Pixels.spare l.fn.pixels;
+  steps : l.steps ≡ l.fn.steps + l.done;
+}
+
+abbrev pub decreases-loop-done : goal.decreases-loop-done
+decreases-loop-done g l = l.n - l.done

@@ -1,0 +1,44 @@
+use Rattle.std.proofs.Common.{◌≡◌, ◌∙◌, ◌-◌, ◌<◌, length, ⊎_elim, refl, sym, ap, arith}
+use Rattle.std.proofs.lemmas.Bool.{cases_lt}
+use Rattle.r9_geom.specs.Geometry.{holds}
+use Rattle.model_forest.specs.declared.Window.{Window}
+use Rattle.model_forest.specs.World.{no_rect}
+use Rattle.r9_locate.proofs.Rowed.{here_is}
+use Rattle.r9_shown.proofs.Above.{bare_of, covered_by}
+use Rattle.r9_shown.proofs.Keepers.{block_within}
+use Rattle.r9_shown.proofs.blocks.cover_over.Goals as goal
+
+pub loop-left-preserved : goal.loop-left-preserved
+loop-left-preserved c =
+    let now = c.loop-left.left - 1 in
+    record {
+      within = omega (arith, c.loop-left.invariant.within);
+      some = c.cut-extent.ensures.some;
+      some_rows = c.cut-extent.ensures.some_rows;
+      few = omega (arith, c.cut-extent.ensures.most, c.loop-left.invariant.few);
+      few_rows = omega (arith, c.cut-extent.ensures.most_rows, c.loop-left.invariant.few_rows);
+      clear = λ j d z from there inside.
+          ⊎_elim
+          (λ (late : now < j).
+          c.loop-left.invariant.clear j d z (omega (arith, late)) there
+          (block_within c.args.q z c.cut-extent.result.columns c.cut-extent.result.rows c.loop-left.extent.columns c.loop-left.extent.rows c.cut-extent.ensures.most c.cut-extent.ensures.most_rows inside))
+          (λ early.
+          let here : j ≡ now = omega (arith, early, from) in
+          ap (λ (w : Window). holds w.place z) (here_is c.args.windows.now j now d _ here there)
+          ∙ c.cut-extent.ensures.same z inside
+          ∙ sym c.if-holds.ensures)
+          (cases_lt now j);
+    }
+
+pub returns-clause-same : goal.returns-clause-same
+returns-clause-same c z inside =
+    bare_of c.args.windows.now z (λ j d lt. c.loop-left.invariant.clear j d z (omega (arith, c.loop-left-test.false)) lt inside)
+
+pub returns-then-holds-clause-same : goal.returns-then-holds-clause-same
+returns-then-holds-clause-same c z inside =
+    let ws = c.args.windows.now in
+    let now = c.loop-left.left - 1 in
+    let d : Window = record { image = 0; place = no_rect } in
+    let there : now < length ws = omega (arith, c.loop-left-test.true, c.loop-left.invariant.within) in
+    covered_by ws now d z there
+    (ap (λ (w : Window). holds w.place z) (here_is ws now now d _ refl there) ∙ c.cut.ensures.same z inside ∙ sym c.if-holds.ensures)

@@ -1,0 +1,102 @@
+use Rattle.std.proofs.Common.{◌≡◌, ◌∙◌, ◌+◌, ◌*◌, ◌^◌, true, refl, sym, ap, subst, arith}
+use Rattle.std.proofs.lemmas.Bool.{true≢false}
+use Rattle.r9_geom.specs.declared.Point.{Point}
+use Rattle.r9_geom.specs.Geometry.{area_of, height, holds, width}
+use Rattle.r9_geom.proofs.GeometryLemmas.{band, band_all, band_none, empty_holds}
+use Rattle.model_kept.specs.Keeping.{keeping, Place}
+use Rattle.r9_locate.specs.Forms.{bits_in, HasBits}
+use Rattle.r9_locate.specs.Table.{shape}
+use Rattle.r9_shown.specs.Shown.{rows_of}
+use Rattle.r9_shown.proofs.Columns.{band_inside, empty_area, rows_more, some_points}
+use Rattle.r9_shown.proofs.Parts.{kept_apart}
+use Rattle.r9_shown.proofs.Writing.{filled_more, filled_none}
+use Rattle.r9_shown.proofs.viewing.paint_area.Goals as goal
+
+pub returns-then-is_empty-clause-at : goal.returns-then-is_empty-clause-at
+returns-then-is_empty-clause-at g c p h =
+    absurd (true≢false (sym h ∙ empty_holds c.args.r.now p (sym c.is_empty.ensures.exact ∙ c.if-is_empty.true)))
+
+pub returns-then-is_empty-clause-steps : goal.returns-then-is_empty-clause-steps
+returns-then-is_empty-clause-steps g c =
+    let none = empty_area c.args.r.now c.requires.ordered (sym c.is_empty.ensures.exact ∙ c.if-is_empty.true) in
+    omega (arith, none)
+
+pub loop-row-init : goal.loop-row-init
+loop-row-init g c =
+    record {
+      within = omega arith;
+      filled = filled_none Place (keeping (shape c.args.lists.now) c.args.i) (λ (_ : Point). c.args.raw) (g.P.Pixels.kept c.args.pixels.now) (band c.args.r.now 0) (band_none c.args.r.now);
+      has = refl;
+      forms = refl;
+      spare = refl;
+      steps = omega arith;
+    }
+
+pub band_at-band-requires-clause-some : goal.band_at-band-requires-clause-some
+band_at-band-requires-clause-some g c =
+    some_points c.args.r.now (sym c.is_empty.ensures.exact ∙ c.if-is_empty.false)
+
+pub band_at-band-requires-clause-row : goal.band_at-band-requires-clause-row
+band_at-band-requires-clause-row g c =
+    omega (arith, c.loop-row-test.true, c.height-height.ensures)
+
+pub paint_band-requires-clause-row : goal.paint_band-requires-clause-row
+paint_band-requires-clause-row g c =
+    omega (arith, c.loop-row-test.true, c.height-height.ensures)
+
+pub paint_band-requires-clause-has : goal.paint_band-requires-clause-has
+paint_band-requires-clause-has g c p h =
+    ap (λ has. has (keeping (shape c.args.lists.now) c.args.i p)) c.loop-row.invariant.has ∙ c.requires.has p h
+
+pub paint_band-requires-clause-bits : goal.paint_band-requires-clause-bits
+paint_band-requires-clause-bits g c =
+    subst (HasBits (shape c.args.lists.now)) (sym c.loop-row.invariant.forms) c.requires.bits
+
+pub paint_band-requires-clause-below : goal.paint_band-requires-clause-below
+paint_band-requires-clause-below g c =
+    let bits : 2 ^ bits_in (g.P.Pixels.forms c.loop-row.pixels) c.args.i ≡ 2 ^ bits_in (g.P.Pixels.forms c.args.pixels.now) c.args.i = ap (λ f. 2 ^ bits_in f c.args.i) c.loop-row.invariant.forms in
+    omega (arith, c.requires.below, bits)
+
+pub loop-row-preserved : goal.loop-row-preserved
+unfolding shape
+loop-row-preserved g c =
+    let w = shape c.args.lists.now in
+    let i = c.args.i in
+    let r = c.args.r.now in
+    let row = c.loop-row.row in
+    let rows = c.band_at-band.result.rows in
+    let is = c.band_at-band.ensures in
+    let ok = c.args.lists.now.standing in
+    let more : width r * (row + rows) ≡ width r * row + width r * rows = grind arith in
+    record {
+      within = is.most;
+      filled =
+          filled_more Place (keeping (shape c.args.lists.now) c.args.i) (λ (_ : Point). c.args.raw) (g.P.Pixels.kept c.args.pixels.now) (g.P.Pixels.kept c.loop-row.pixels) (g.P.Pixels.kept c.paint_band.new.pixels) r (band r row) (rows_of r row rows) (band r (row + rows))
+          (kept_apart (shape c.args.lists.now) c.args.lists.now.standing c.args.i c.requires.live c.args.r.now)
+          (λ p h. band_inside r (row + rows) p c.requires.ordered is.most h)
+          (λ p. rows_more r row rows p)
+          c.loop-row.invariant.filled
+          (record { at = c.paint_band.ensures.at; others = c.paint_band.ensures.others });
+      has = c.paint_band.ensures.has ∙ c.loop-row.invariant.has;
+      forms = c.paint_band.ensures.forms ∙ c.loop-row.invariant.forms;
+      spare = c.paint_band.ensures.spare ∙ c.loop-row.invariant.spare;
+      steps = omega (arith, c.paint_band.ensures.steps, c.loop-row.invariant.steps, more);
+    }
+
+pub returns-clause-at : goal.returns-clause-at
+returns-clause-at g c p h =
+    let end : c.loop-row.row ≡ height c.args.r.now = omega (arith, c.loop-row-test.false, c.height-height.ensures, c.loop-row.invariant.within) in
+    let all : (q : Point) → holds (band c.args.r.now c.loop-row.row) q ≡ holds c.args.r.now q = λ q. ap (λ n. holds (band c.args.r.now n) q) end ∙ band_all c.args.r.now q c.requires.ordered.down in
+    c.loop-row.invariant.filled.at p (all p ∙ h)
+
+pub returns-clause-others : goal.returns-clause-others
+returns-clause-others g c place apart =
+    let end : c.loop-row.row ≡ height c.args.r.now = omega (arith, c.loop-row-test.false, c.height-height.ensures, c.loop-row.invariant.within) in
+    let all : (q : Point) → holds (band c.args.r.now c.loop-row.row) q ≡ holds c.args.r.now q = λ q. ap (λ n. holds (band c.args.r.now n) q) end ∙ band_all c.args.r.now q c.requires.ordered.down in
+    c.loop-row.invariant.filled.others place (λ p h. apart p (sym (all p) ∙ h))
+
+pub returns-clause-steps : goal.returns-clause-steps
+returns-clause-steps g c =
+    let end : c.loop-row.row ≡ height c.args.r.now = omega (arith, c.loop-row-test.false, c.height-height.ensures, c.loop-row.invariant.within) in
+    let size : width c.args.r.now * c.loop-row.row ≡ area_of c.args.r.now = ap (λ n. width c.args.r.now * n) end in
+    omega (arith, c.loop-row.invariant.steps, size)

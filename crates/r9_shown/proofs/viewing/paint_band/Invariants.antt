@@ -1,0 +1,21 @@
+use Rattle.std.proofs.Common.{◌≡◌, ◌≤◌, ◌+◌, ◌*◌, ◌-◌}
+use Rattle.r9_geom.specs.declared.Point.{Point}
+use Rattle.r9_geom.specs.Geometry.{width}
+use Rattle.model_kept.specs.Keeping.{keeping, Place}
+use Rattle.r9_locate.specs.Table.{shape}
+use Rattle.r9_shown.proofs.Columns.{left_of}
+use Rattle.r9_shown.proofs.Writing.{IsFilled}
+use Rattle.r9_shown.proofs.viewing.paint_band.Given as goal
+
+abbrev pub invariant-loop-done : goal.invariant-loop-done
+invariant-loop-done g l = record {
+  within : l.done ≤ width l.r;
+  filled : IsFilled Place (keeping (shape l.lists) l.i) (λ (p : Point). l.raw) (g.P.Pixels.kept l.fn.pixels) (g.P.Pixels.kept l.pixels) (left_of l.r l.row l.band.rows l.done);
+  has : g.P.Pixels.has l.pixels ≡ g.P.Pixels.has l.fn.pixels;
+  forms : g.P.Pixels.forms l.pixels ≡ g.P.Pixels.forms l.fn.pixels;
+  spare : g.P.Pixels.spare l.pixels ≡ g.P.Pixels.spare l.fn.pixels;
+  steps : l.steps ≡ l.fn.steps + l.done * l.band.rows;
+}
+
+abbrev pub decreases-loop-done : goal.decreases-loop-done
+decreases-loop-done g l = width l.r - l.done

@@ -1,0 +1,236 @@
+//! Blocks of points over which one image keeps what an image shows.
+
+ghost use Rattle.std.specs.Prelude.{◌≡◌, ◌==◌, ◌&&◌, ◌^◌, ◌<◌, ◌≤◌, ◌<ℤ◌, ◌≤ℤ◌, ◌+ℤ◌, pos, ℕ, false, length, take, IfSome, IsTrue};
+ghost use Rattle.std.specs.List.{position};
+ghost use Rattle.r9_geom.specs.declared.Point.{Point as Spot};
+ghost use Rattle.r9_geom.specs.Geometry.{carried, holds, strip, IsNear};
+ghost use Rattle.model_forest.specs.View.{is_bare};
+ghost use Rattle.model_forest.specs.World.{image_at, IsLive};
+ghost use Rattle.model_kept.specs.Keeping.{keeping, own};
+ghost use Rattle.r9_locate.specs.Table.{shape};
+ghost use Rattle.r9_shown.specs.Shown as spec;
+ghost use Rattle.r9_shown.specs.Shown.{IsKeptBelow};
+
+use model_forest::Window;
+use r9_geom::{Point, Rect, distance};
+use r9_locate::{Frame, Lists, along};
+
+/// So many columns and rows, from a point on.
+#[derive(Clone, Copy)]
+pub struct Extent {
+    pub columns: usize,
+    pub rows: u64,
+}
+
+/// Whether no window stands over a block, or one does over all of it.
+#[derive(Clone, Copy)]
+pub struct Cover {
+    pub bare: bool,
+    pub extent: Extent,
+}
+
+/// A block of points, where an image keeps them itself.
+#[derive(Clone, Copy)]
+pub struct Block {
+    pub image: u32,
+    pub at: Point,
+    pub extent: Extent,
+}
+
+// Whether a number is not above another, or less than so many above it.
+fn is_before(at: i64, low: i64, n: u64) -> bool
+    ensures { result ≡ false → (low +ℤ pos n) ≤ℤ at }
+{
+    if at <= low {
+        return true;
+    }
+    distance(low, at) < n
+}
+
+// Whether a rectangle begins before a block ends: where not, it has no point of it.
+fn begins_in(r: &Rect, q: Point, most: Extent) -> bool
+    ensures { result ≡ false → (z : Spot) → IsTrue (holds (spec.block q most.columns most.rows) z) → holds r.now z ≡ false }
+{
+    if !is_before(r.min.x, q.x, most.columns as u64) {
+        return false;
+    }
+    is_before(r.min.y, q.y, most.rows)
+}
+
+/// For how many columns and rows from a point on a rectangle holds all points or none.
+pub fn cut(r: &Rect, q: Point, most: Extent) -> Extent
+    requires columns { 0 < most.columns }
+    requires rows { 0 < most.rows }
+    ensures some { 0 < result.columns }
+    ensures some_rows { 0 < result.rows }
+    ensures most { result.columns ≤ most.columns }
+    ensures most_rows { result.rows ≤ most.rows }
+    ensures same { (z : Spot) → IsTrue (holds (spec.block q result.columns result.rows) z) → holds r.now z ≡ holds r.now q }
+{
+    let Extent { columns, rows } = most;
+    if r.max.x <= q.x {
+        return most;
+    }
+    if r.max.y <= q.y {
+        return most;
+    }
+    if !begins_in(r, q, most) {
+        return most;
+    }
+    if q.x < r.min.x {
+        return cut_left(r, q, most);
+    }
+    if q.y < r.min.y {
+        return Extent {
+            columns,
+            rows: rows.min(distance(q.y, r.min.y)),
+        };
+    }
+    Extent {
+        columns: columns.min(distance(q.x, r.max.x) as usize),
+        rows: rows.min(distance(q.y, r.max.y)),
+    }
+}
+
+// The same left of the rectangle: where it begins below, as many columns as there are.
+fn cut_left(r: &Rect, q: Point, most: Extent) -> Extent
+    requires columns { 0 < most.columns }
+    requires rows { 0 < most.rows }
+    requires left { q.x <ℤ r.now.min.x }
+    ensures some { 0 < result.columns }
+    ensures some_rows { 0 < result.rows }
+    ensures most { result.columns ≤ most.columns }
+    ensures most_rows { result.rows ≤ most.rows }
+    ensures same { (z : Spot) → IsTrue (holds (spec.block q result.columns result.rows) z) → holds r.now z ≡ holds r.now q }
+{
+    let Extent { columns, rows } = most;
+    let before = distance(q.x, r.min.x) as usize;
+    if q.y < r.min.y && before < columns {
+        return Extent {
+            columns,
+            rows: rows.min(distance(q.y, r.min.y)),
+        };
+    }
+    Extent {
+        columns: columns.min(before),
+        rows,
+    }
+}
+
+/// Whether a window of a list stands at a point, and over how large a block from there on. The lowest ones are tried first: in a
+/// pile they are the ones that hide the most.
+pub fn cover_over(windows: &[Window], q: Point, most: Extent) -> Cover
+    requires columns { 0 < most.columns }
+    requires rows { 0 < most.rows }
+    ensures some { 0 < result.extent.columns }
+    ensures some_rows { 0 < result.extent.rows }
+    ensures most { result.extent.columns ≤ most.columns }
+    ensures most_rows { result.extent.rows ≤ most.rows }
+    ensures same { (z : Spot) → IsTrue (holds (spec.block q result.extent.columns result.extent.rows) z) → is_bare windows.now z ≡ result.bare }
+{
+    let mut extent = most;
+    let mut left = windows.len();
+    while left > 0 {
+        left -= 1;
+        let place = &windows[left].place;
+        if place.holds(q) {
+            return Cover {
+                bare: false,
+                extent: cut(place, q, most),
+            };
+        }
+        extent = cut(place, q, extent);
+    }
+    Cover { bare: true, extent }
+}
+
+// Where a window stands in a list.
+fn place_in(windows: &[Window], i: u32) -> Option<usize>
+    ensures first { result ≡ position (λ w. w.image == i) windows.now }
+    ensures within { IfSome result (λ at. at < length windows.now) }
+{
+    windows.iter().position(|w| w.image == i)
+}
+
+// Whether an image shows a window of it that stands at a point, and over how large a block from there on: it does where the
+// image has the points, and none of the windows above it.
+fn shown_over(below: &Frame, at: usize, q: Point, most: Extent) -> Cover
+    requires window { at < length below.now.windows.items }
+    requires columns { 0 < most.columns }
+    requires rows { 0 < most.rows }
+    ensures some { 0 < result.extent.columns }
+    ensures some_rows { 0 < result.extent.rows }
+    ensures most { result.extent.columns ≤ most.columns }
+    ensures most_rows { result.extent.rows ≤ most.rows }
+    ensures same { (z : Spot) → IsTrue (holds (spec.block q result.extent.columns result.extent.rows) z) → (holds below.now.r z && is_bare (take at below.now.windows.items) z) ≡ result.bare }
+{
+    let within = cut(&below.r, q, most);
+    if !below.r.holds(q) {
+        return Cover {
+            bare: false,
+            extent: within,
+        };
+    }
+    cover_over(&below.windows[..at], q, within)
+}
+
+/// Where the first points of a block of an image are kept: those from its upper left corner on, over so many columns and rows.
+pub fn block_of(lists: &Lists, i: u32, at: Point, most: Extent) -> Block
+    requires live { IsLive (shape lists.now) i }
+    requires columns { 0 < most.columns }
+    requires rows { 0 < most.rows }
+    requires inside { (p : Spot) → IsTrue (holds (spec.block at most.columns most.rows) p) → IsTrue (holds (image_at (shape lists.now) i).r p) }
+    ensures some { 0 < result.extent.columns }
+    ensures some_rows { 0 < result.extent.rows }
+    ensures most { result.extent.columns ≤ most.columns }
+    ensures most_rows { result.extent.rows ≤ most.rows }
+    ensures kept { (p : Spot) → IsTrue (holds (spec.block at result.extent.columns result.extent.rows) p) → keeping (shape lists.now) i p ≡ own result.image (carried p at result.at) }
+{
+    let mut block = Block {
+        image: i,
+        at,
+        extent: most,
+    };
+    while let Some(standing) = lists.get(block.image).standing {
+        let below = lists.get(standing.parent);
+        let Some(k) = place_in(&below.windows, block.image) else {
+            return block;
+        };
+        let from = lists.get(block.image).r.min;
+        let q = block.at.carried(from, below.windows[k].place.min);
+        let shown = shown_over(below, k, q, block.extent);
+        block.extent = shown.extent;
+        if !shown.bare {
+            return block;
+        }
+        block.image = standing.parent;
+        block.at = q;
+    }
+    block
+}
+
+/// For how many rows down so many points side by side are kept as in the first of them, of which this is known of the first block.
+pub fn steady_blocks(lists: &Lists, i: u32, at: Point, columns: usize, first: Extent) -> u64
+    requires live { IsLive (shape lists.now) i }
+    requires near { IsNear at }
+    requires columns { columns ≤ 2 ^ 41 }
+    requires rows { 0 < first.rows }
+    requires steady { (z : Spot) (k : ℕ) → IsTrue (holds (strip at first.columns) z) → k < first.rows → IsKeptBelow (shape lists.now) i z k }
+    requires inside { (p : Spot) → IsTrue (holds (spec.block at columns first.rows) p) → IsTrue (holds (image_at (shape lists.now) i).r p) }
+    ensures some { 0 < result }
+    ensures most { result ≤ first.rows }
+    ensures same { (z : Spot) (k : ℕ) → IsTrue (holds (strip at columns) z) → k < result → IsKeptBelow (shape lists.now) i z k }
+{
+    let mut rows = first.rows;
+    let mut done = first.columns;
+    while done < columns {
+        let most = Extent {
+            columns: columns - done,
+            rows,
+        };
+        let extent = block_of(lists, i, along(at, done), most).extent;
+        rows = extent.rows;
+        done += extent.columns;
+    }
+    rows
+}

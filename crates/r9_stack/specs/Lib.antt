@@ -1,6 +1,0 @@
-pub mod Fills
-pub mod Images
-pub mod Lists
-pub mod Planes
-pub mod Table
-pub mod Told

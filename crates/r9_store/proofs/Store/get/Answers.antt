@@ -1,0 +1,18 @@
+use Rattle.std.proofs.Common.{◌∙◌, [], ap, sym, arith}
+use Rattle.std.specs.Prelude.{slice_index}
+use Rattle.std.specs.Option.{unwrap_or}
+use Rattle.r9_store.specs.Tiles.{place_of}
+use Rattle.r9_store.proofs.Slots.{flag_below, held_flag, slot_is}
+use Rattle.r9_store.proofs.Store.get.Goals as goal
+
+pub index-requires : goal.index-requires
+index-requires c =
+    let held = held_flag c.self.inside.flags.items c.self.inside.tiles.items c.self.inside.room c.t.inside.0 c.args.t c.args.self.now c.self.view_is c.t.view_is c.self.invariant.0.same c.requires.held in
+    omega (arith, flag_below c.self.inside.flags.items c.t.inside.0 held, c.self.invariant.0.same, c.self.inside.tiles.ok.0)
+
+pub returns : goal.returns
+returns c =
+    let held = held_flag c.self.inside.flags.items c.self.inside.tiles.items c.self.inside.room c.t.inside.0 c.args.t c.args.self.now c.self.view_is c.t.view_is c.self.invariant.0.same c.requires.held in
+    let slot = slot_is c.self.inside.flags.items c.self.inside.tiles.items c.t.inside.0 c.index.result.now c.self.invariant.0.same held c.index.ensures in
+    rw (← c.self.view_is, ← c.t.view_is, c.requires.inside)
+    (ap (slice_index c.index.result.now) c.place_of.ensures.value ∙ sym (ap (λ tile. slice_index (unwrap_or tile []) (place_of c.args.p)) slot))
