@@ -28,6 +28,7 @@ use Rattle.model_world.specs.Walking.{attach_answer, ctl_of, last, most_at_once,
 use Rattle.model_world.specs.Whole.{attached, client, commanded, desktop_for, device_commanded, moused, used_by, view_of, window_made, with_device, written_data}
 use Rattle.model_world.specs.Writing.{write_answer}
 use Rattle.model_client.specs.Files.{file, open_on, own_file}
+use Rattle.model_client.specs.Saying.{drawn}
 
 -- ---- attaching
 
@@ -88,7 +89,7 @@ opened_file session desktop tag fid mode node found lives allowed new ctl mouse 
 pub wrote_data : (session : Session) (desktop : Desktop) (tag fid root connection mode offset done : ℕ) (bytes : List ℕ) (next : draw.World)
     → lookup session.fids fid ≡ Some (open_on (file root Data connection) mode) → writes mode ≡ true → list_any (λ n. eqb n connection) session.connections ≡ true
     → written (client 1 connection) desktop.device bytes None ≡ record { world = next; done = done; refusal = None }
-    → answer_to (desktop_for 1) session desktop None (Twrite tag fid offset bytes) ≡ Ok (left (session, with_device desktop next) (Rwrite tag (length bytes)))
+    → answer_to (desktop_for 1) session desktop None (Twrite tag fid offset bytes) ≡ Ok (left (session, drawn (client 1 connection) desktop next bytes) (Rwrite tag (length bytes)))
 unfolding write_answer written_data view_of check_live row
 wrote_data session desktop tag fid root connection mode offset done bytes next found opened lives wrote = rw (found, opened, lives, wrote) refl
 

@@ -11,11 +11,11 @@ use Rattle.model_draw.specs.World as draw
 use Rattle.model_world.specs.Session.{Session, fid_at}
 use Rattle.model_world.specs.Fids.{is_kind}
 use Rattle.model_world.specs.Desktop.{Desktop}
-use Rattle.model_world.specs.Whole.{client, device_commanded, moused, view_of, with_device}
+use Rattle.model_world.specs.Whole.{client, device_commanded, moused, view_of}
 use Rattle.model_world.specs.World.{World}
 use Rattle.model_world.specs.Replay.{step}
 use Rattle.model_client.specs.Files.{data_way, file, new_way, open_on, to_data, to_new}
-use Rattle.model_client.specs.Saying.{AreAnswered, IsClient, answered, greeted, says, world_left}
+use Rattle.model_client.specs.Saying.{AreAnswered, IsClient, answered, drawn, greeted, says, world_left}
 use Rattle.model_client.specs.Pointing.{command, paint, point, point_replies, pointer, to_point, with_connection}
 use Rattle.model_client.proofs.Saying.{nothing_said, said, stays, then_said}
 use Rattle.model_client.proofs.May.{may_attach_device, may_open, may_walk_data, may_walk_mousein, may_walk_new, may_walk_wctl, may_write}
@@ -61,7 +61,7 @@ at_data = record greeted {
 }
 
 abbrev told : Desktop → Desktop
-told desktop = record desktop { notes = [] }
+told desktop = record desktop { notes = []; cost = 0 }
 
 mousein_opens : (session : Session) (desktop : Desktop) → check_live (view_of desktop.table session.connections (file 0 Mousein 0)) (file 0 Mousein 0) ≡ Ok tt
 unfolding view_of check_live row
@@ -163,8 +163,8 @@ ordered world bytes next client done short =
 
 -- draw messages that are not refused do what they do one after the other
 pub painted : (world : World) (bytes : List ℕ) (after : draw.World) → IsClient world pointer → Leads (client 1 1) world.desktop.device after bytes → length bytes ≤ 65537
-    → step world (says (paint bytes)) ≡ answered world (pointer, with_device world.desktop after) (Rwrite 1 (length bytes))
+    → step world (says (paint bytes)) ≡ answered world (pointer, drawn (client 1 1) world.desktop after bytes) (Rwrite 1 (length bytes))
 painted world bytes after alone leads short =
     let run = leads_written (client 1 1) world.desktop.device after bytes leads in
-    said world pointer (paint bytes) (pointer, with_device world.desktop after) (Rwrite 1 (length bytes)) alone (may_write pointer 4 bytes refl (omega arith) short)
+    said world pointer (paint bytes) (pointer, drawn (client 1 1) world.desktop after bytes) (Rwrite 1 (length bytes)) alone (may_write pointer 4 bytes refl (omega arith) short)
     (wrote_data pointer world.desktop 1 4 0 1 2 0 run.done bytes after refl refl refl run.is) refl

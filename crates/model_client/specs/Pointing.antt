@@ -48,7 +48,7 @@ point_replies =
 
 -- the desktop in a later turn, with a connection of the client's
 abbrev pub with_connection : Desktop → Desktop
-with_connection desktop = record (with_device desktop (draw.after_connect desktop.device (client 1 1))) { notes = [] }
+with_connection desktop = record (with_device desktop (draw.after_connect desktop.device (client 1 1))) { notes = []; cost = 0 }
 
 -- what it writes then: an event of the mouse, a command, and draw messages
 abbrev pub point : List ℕ → T

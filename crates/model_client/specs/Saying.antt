@@ -1,12 +1,16 @@
 -- A client: the one session of a server, which has agreed on a version and has no read that waits, and what it says (intro(5)).
-use Rattle.std.specs.Prelude.{◌≡◌, ◌≤◌, ◌==◌, true, false, List, [], ◌∷◌, codes, length, map, None}
+use Rattle.std.specs.Prelude.{ℕ, ◌≡◌, ◌≤◌, ◌==◌, true, false, List, [], ◌∷◌, codes, length, map, None}
 use Rattle.r9_event.specs.declared.event.Event.{Event}
 use Rattle.r9_event.specs.declared.event.Event.TheVariants.{Msg}
 use Rattle.model_event.specs.Legal.{IsMessage}
 use Rattle.model_wire.specs.Message.{T, R, Rversion, Tversion, no_tag, tag_of_t}
 use Rattle.model_wire.specs.Spelling.{SpellsT, spelling_of_t, spelling_of_r}
+use Rattle.model_draw.specs.World as draw
+use Rattle.model_draw.specs.Act.{written}
+use Rattle.model_cost.specs.Cost.{messages_cost}
 use Rattle.model_world.specs.Session.{Session, fresh}
 use Rattle.model_world.specs.Desktop.{Desktop}
+use Rattle.model_world.specs.Whole.{with_cost}
 use Rattle.model_world.specs.World.{World}
 use Rattle.model_world.specs.Replay.{Turn, replies_from, world_from}
 
@@ -28,7 +32,7 @@ pub record MaySay (session : Session) (m : T) : Type 0 where
 
 -- the world after a message that left this of the client and of the desktop
 abbrev pub world_left : World → Session × Desktop → World
-world_left world after = record world { desktop = record after.1 { notes = [] }; sessions = (1, after.0) ∷ [] }
+world_left world after = record world { desktop = record after.1 { notes = []; cost = 0 }; sessions = (1, after.0) ∷ [] }
 
 -- the turn of a message that left this, and had this reply
 abbrev pub answered : World → Session × Desktop → R → Turn
@@ -37,7 +41,12 @@ answered world after reply = record {
   replies = record { session = 1; bytes = spelling_of_r reply } ∷ [];
   notes = after.1.notes;
   closed = None;
+  cost = after.1.cost;
 }
+
+-- the desktop after a write of draw messages of connection k, none of which is refused, that leaves this of the draw device
+abbrev pub drawn : (k : ℕ) → Desktop → draw.World → List ℕ → Desktop
+drawn k desktop after bytes = with_cost desktop after (messages_cost (written k desktop.device bytes None).done k desktop.device bytes)
 
 -- ---- the beginning
 

@@ -248,27 +248,29 @@ module _ (c : ℕ) (begun : 0 < c) (Like : Option (ℕ × ℕ) → Option (ℕ �
 
   -- ---- what is done with the device
 
-  windows_beside : (o : Option ℕ) (s : Desktop) (t : LoneDesktop) (d e : draw.World) → SameWindows s t o → SameWindows (whole.with_device s d) (alone.with_device t e) o
-  windows_beside None s t d e is = is
-  windows_beside (Some n) s t d e is = record { alone = is.alone; rect = is.rect; root = is.root; bare = is.bare; counted = is.counted }
+  windows_beside : (o : Option ℕ) (s : Desktop) (t : LoneDesktop) (d e : draw.World) (cost : ℕ) → SameWindows s t o → SameWindows (record s { device = d; cost = cost }) (alone.with_device t e) o
+  windows_beside None s t d e cost is = is
+  windows_beside (Some n) s t d e cost is = record { alone = is.alone; rect = is.rect; root = is.root; bare = is.bare; counted = is.counted }
 
-  pub device_same : (s : Desktop) (t : LoneDesktop) (d e : draw.World) → Have s t → IsDrawn (whole.with_device s d) → Uses s.device d → Like (known_size s) (named_in s own) d e → Have (whole.with_device s d) (alone.with_device t e)
-  device_same s t d e same drawn used like = record {
+  -- whatever was asked for that
+  pub device_same : (s : Desktop) (t : LoneDesktop) (d e : draw.World) (cost : ℕ) → Have s t → IsDrawn (record s { device = d; cost = cost }) → Uses s.device d → Like (known_size s) (named_in s own) d e
+      → Have (record s { device = d; cost = cost }) (alone.with_device t e)
+  device_same s t d e cost same drawn used like = record {
     drawn = drawn;
     order = same.order;
     names = names.uses s.device d s.table s.panes same.drawn.orderly same.names used;
-    window = windows_beside own s t d e same.window;
+    window = windows_beside own s t d e cost same.window;
     device = like;
   }
 
   pub connect_same : (s : Desktop) (t : LoneDesktop) → Have s t → (n : ℕ) → HasConnection n → Have ((desktop_for c).connect s n) (lone_desktop.connect t n)
   connect_same s t same n few =
-      device_same s t (draw.after_connect s.device (client c n)) (draw.after_connect t.device (client 1 n)) same (connect_drawn s s (client c n) (led_itself s same.drawn)).drawn (begins (client c n))
+      device_same s t (draw.after_connect s.device (client c n)) (draw.after_connect t.device (client 1 n)) s.cost same (connect_drawn s s (client c n) (led_itself s same.drawn)).drawn (begins (client c n))
       (laws.connect (known_size s) (named_in s own) s.device t.device same.device n few)
 
   pub leave_same : (s : Desktop) (t : LoneDesktop) → Have s t → (n : ℕ) → HasConnection n → Have ((desktop_for c).leave s n) (lone_desktop.leave t n)
   leave_same s t same n few =
-      device_same s t (draw.after_leave s.device (client c n)) (draw.after_leave t.device (client 1 n)) same (leave_drawn s s (client c n) (client_other s c n begun) (led_itself s same.drawn)).drawn (ends (client c n) (client_other s c n begun))
+      device_same s t (draw.after_leave s.device (client c n)) (draw.after_leave t.device (client 1 n)) _ same (leave_drawn s s (client c n) (client_other s c n begun) (led_itself s same.drawn)).drawn (ends (client c n) (client_other s c n begun))
       (laws.leave (known_size s) (named_in s own) s.device t.device same.device n few)
 
   pub write_same : (s : Desktop) (t : LoneDesktop) → Have s t → (n : ℕ) (bytes : List ℕ) (mark told : Option ℕ) → HasConnection n → May c own s (Draws n bytes mark told)
@@ -277,9 +279,10 @@ module _ (c : ℕ) (begun : 0 < c) (Like : Option (ℕ × ℕ) → Option (ℕ �
   write_same s t same n bytes mark told few may =
       let after = written (client c n) s.device bytes mark in
       let law = laws.write (known_size s) (named_in s own) s.device t.device same.device n bytes mark few may.0 in
-      let drawn : IsDrawn (whole.with_device s after.world) = (written_data_drawn s (client c n) s bytes mark (client_other s c n begun) (led_itself s same.drawn)).drawn in
-      subst (λ (m : Option ℕ). Have (whole.with_device s after.world) (alone.with_device t (written_alone (client 1 n) t.device bytes m).0) × (after.refusal ≡ (written_alone (client 1 n) t.device bytes m).1)) (sym may.1)
-      (device_same s t after.world _ same drawn (writes (client c n) bytes mark (client_other s c n begun)) law.0, law.1)
+      let next : Desktop = ((desktop_for c).write_data s n bytes mark).0 in
+      let drawn : IsDrawn next = (written_data_drawn s (client c n) s bytes mark (client_other s c n begun) (led_itself s same.drawn)).drawn in
+      subst (λ (m : Option ℕ). Have next (alone.with_device t (written_alone (client 1 n) t.device bytes m).0) × (after.refusal ≡ (written_alone (client 1 n) t.device bytes m).1)) (sym may.1)
+      (device_same s t after.world _ next.cost same drawn (writes (client c n) bytes mark (client_other s c n begun)) law.0, law.1)
 
   pub read_same : (s : Desktop) (t : LoneDesktop) → Have s t → (n most : ℕ) → HasConnection n
       → SameOutcome (λ (a : List ℕ × Desktop) (b : List ℕ × LoneDesktop). (a.0 ≡ b.0) × Have a.1 b.1 × (a.1.notes ≡ s.notes)) ((desktop_for c).read_data s n most) (lone_desktop.read_data t n most)
@@ -288,10 +291,10 @@ module _ (c : ℕ) (begun : 0 < c) (Like : Option (ℕ × ℕ) → Option (ℕ �
     where
       by : (x : Outcome (List ℕ × draw.World)) → read_data (client c n) s.device most ≡ x → (y : Outcome (List ℕ × draw.World)) → SameOutcome (λ (a b : List ℕ × draw.World). (a.0 ≡ b.0) × Like (known_size s) (named_in s own) a.1 b.1) x y
           → SameOutcome (λ (a : List ℕ × Desktop) (b : List ℕ × LoneDesktop). (a.0 ≡ b.0) × Have a.1 b.1 × (a.1.notes ≡ s.notes)) (x >>= λ got. Ok (got.0, whole.with_device s got.1)) (y >>= λ got. Ok (got.0, alone.with_device t got.1))
-      by (Ok got) at (Ok given) law = (law.0, device_same s t got.1 given.1 same (drawn got at) (reads (client c n) most got at) law.1, refl)
+      by (Ok got) at (Ok given) law = (law.0, device_same s t got.1 given.1 s.cost same (drawn got at) (reads (client c n) most got at) law.1, refl)
         where
           drawn : (got : List ℕ × draw.World) → read_data (client c n) s.device most ≡ Ok got → IsDrawn (whole.with_device s got.1)
-          drawn got at = (led_by s s got.1 (led_itself s same.drawn) (reads (client c n) most got at) (read_is (client c n) s.device most got same.drawn.orderly at)).drawn
+          drawn got at = (led_by s s got.1 s.cost (led_itself s same.drawn) (reads (client c n) most got at) (read_is (client c n) s.device most got same.drawn.orderly at)).drawn
       by (Err a) at (Err b) law = law
       by (Ok got) at (Err b) law = absurd law
       by (Err a) at (Ok given) law = absurd law
@@ -304,7 +307,7 @@ module _ (c : ℕ) (begun : 0 < c) (Like : Option (ℕ × ℕ) → Option (ℕ �
       by : (x : Outcome draw.World) → write_ctl (client c n) s.device bytes ≡ x → (y : Outcome draw.World) → SameOutcome (Like (known_size s) (named_in s own)) x y
           → SameOutcome (λ (a : Desktop) (b : LoneDesktop). Have a b × (a.notes ≡ s.notes)) (x >>= λ d. Ok (whole.with_device s d)) (y >>= λ d. Ok (alone.with_device t d))
       by (Ok d) at (Ok e) law =
-          (device_same s t d e same (led_by s s d (led_itself s same.drawn) (chooses (client c n) bytes d at) (choice_is (client c n) s.device bytes d same.drawn.orderly at)).drawn (chooses (client c n) bytes d at) law, refl)
+          (device_same s t d e s.cost same (led_by s s d s.cost (led_itself s same.drawn) (chooses (client c n) bytes d at) (choice_is (client c n) s.device bytes d same.drawn.orderly at)).drawn (chooses (client c n) bytes d at) law, refl)
       by (Err a) at (Err b) law = law
       by (Ok d) at (Err b) law = absurd law
       by (Err a) at (Ok e) law = absurd law

@@ -8,7 +8,7 @@ use Rattle.model_world.specs.World.{World, opened}
 use Rattle.model_world.specs.Whole.{with_device}
 use Rattle.model_world.specs.Replay.{step}
 use Rattle.model_client.specs.Pointing.{paint, point_replies, pointer, to_point}
-use Rattle.model_client.specs.Saying.{hello, welcome, world_left}
+use Rattle.model_client.specs.Saying.{drawn, hello, welcome, world_left}
 use Rattle.model_client.proofs.Pointing.{painted}
 use Rattle.model_client.proofs.Saying.{all_said, nothing_said, stays, then_said}
 use Rattle.model_client.proofs.Writes.{Leads}
@@ -29,7 +29,7 @@ opened_inked =
     record {
       left = left;
       answered = all_said first is.left left (hello ∷ to_point) (writes (4, inks) ∷ []) (welcome ∷ point_replies) (written_all (4, inks) ∷ []) is.answered
-          (then_said is.left left (paint inks) [] (pointer, with_device is.left.desktop last_device) (Rwrite 1 (length inks)) [] (painted is.left inks last_device is.at.alone leads inks_short) (nothing_said left));
+          (then_said is.left left (paint inks) [] (pointer, drawn connection is.left.desktop last_device inks) (Rwrite 1 (length inks)) [] (painted is.left inks last_device is.at.alone leads inks_short) (nothing_said left));
       at = record { alone = stays is.left (pointer, with_device is.left.desktop last_device) refl refl refl; follows = is.at.follows };
       inked = subst (λ (table : Table). IsInked last_device table) (sym is.table) last_inked;
     }

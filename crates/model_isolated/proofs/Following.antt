@@ -132,7 +132,7 @@ module _ (c : ℕ) (begin : 0 < c) (Like : Option (ℕ × ℕ) → Option (ℕ �
         living = record {
           with = record {
             lives = and-here world.sessions c fresh ∙ ap Some (sym is.fresh_so);
-            same = subst (λ (o : Option ℕ). SameDesktops Like Named o (record world.desktop { notes = [] }) lone.desktop) (sym window_none) (quiet_same c begin Like Named laws names unseen world.desktop lone.desktop is.same);
+            same = subst (λ (o : Option ℕ). SameDesktops Like Named o (record world.desktop { notes = []; cost = 0 }) lone.desktop) (sym window_none) (quiet_same c begin Like Named laws names unseen world.desktop lone.desktop is.same);
             mine = subst (λ (o : Option ℕ). KeepsMine o lone.session) (sym window_none) (fresh_mine lone.session is.fresh_so);
             order = ascend-and world.sessions c fresh served_so.well.order;
             elsewhere = λ d session other at. subst (λ (o : Option ℕ). IsElsewhere o session) (sym window_none) (record {
@@ -280,7 +280,7 @@ module _ (c : ℕ) (begin : 0 < c) (Like : Option (ℕ × ℕ) → Option (ℕ �
       gone_late : (replies_to c (settled gone).1 ≡ []) × (lookup (settled gone).0.sessions c ≡ None)
       gone_late = absent_within c (waiting_in gone) gone gone_order (without-here world.sessions c served_so.well.order)
 
-      gone_lost : (window : ℕ) → seen.window ≡ Some window → IsLost window (record (settled gone).0.desktop { notes = [] })
+      gone_lost : (window : ℕ) → seen.window ≡ Some window → IsLost window (record (settled gone).0.desktop { notes = []; cost = 0 })
       gone_lost window its =
           let some = counted_window window its in
           let end = own_end c window some world served_so.well.order (is.living.used window its) lone.session with_so.lives (rooted_of c begin Like Named laws names seen.window lone.session with_so.mine window some its) in

@@ -211,7 +211,7 @@ module _ (c : ℕ) (begin : 0 < c) (Like : Option (ℕ × ℕ) → Option (ℕ �
     told_items = Sent bytes (effective bytes mark all_replies) ∷ noted known_after final.desktop.notes
 
     abbrev turn_world : World
-    turn_world = record final { desktop = record final.desktop { notes = [] } }
+    turn_world = record final { desktop = record final.desktop { notes = []; cost = 0 } }
 
     -- how the event is judged, from its turn
     abbrev judged_turn : Turn → Judged

@@ -29,7 +29,7 @@ use Rattle.model_world.specs.World.{World}
 use Rattle.model_world.specs.Replay.{step}
 use Rattle.model_world.specs.Whole.{with_device}
 use Rattle.model_client.specs.Pointing.{paint, pointer}
-use Rattle.model_client.specs.Saying.{AreAnswered, answered, says, world_left}
+use Rattle.model_client.specs.Saying.{AreAnswered, answered, drawn, says, world_left}
 use Rattle.model_client.proofs.Pointing.{painted}
 use Rattle.model_client.proofs.Saying.{all_said, nothing_said, stays, then_said}
 use Rattle.model_page.specs.Text.{rgb24}
@@ -41,7 +41,7 @@ use Rattle.model_ready.specs.Ready.{IsAble, IsReady}
 use Rattle.model_ready.proofs.Kept.{on_display, ready_after}
 use Rattle.model_ready.proofs.Places as places
 use Rattle.model_steered.specs.Steered.{messages, replies_to}
-use Rattle.model_inked.specs.Inked.{IsInked}
+use Rattle.model_inked.specs.Inked.{IsInked, connection}
 use Rattle.model_inked.specs.Carried.{IsCarried}
 use Rattle.model_inked.proofs.Kept.{inked_after}
 use Rattle.model_banded.specs.Banded.{HasSheet, band_box, blank, menu_box}
@@ -109,8 +109,8 @@ module _ (k : ℕ) (d : Desk) (e : Mouse) (world : World) (at : IsDeskIn d world
   abbrev end : World
   end = world_left c.left (pointer, with_device c.left.desktop w.after)
 
-  turn : step c.left (says (paint bytes)) ≡ answered c.left (pointer, with_device c.left.desktop w.after) (Rwrite 1 (length bytes))
-  turn = subst (λ (bs : List ℕ). step c.left (says (paint bs)) ≡ answered c.left (pointer, with_device c.left.desktop w.after) (Rwrite 1 (length bs))) (sym bytes_are)
+  turn : step c.left (says (paint bytes)) ≡ answered c.left (pointer, drawn connection c.left.desktop w.after bytes) (Rwrite 1 (length bytes))
+  turn = subst (λ (bs : List ℕ). step c.left (says (paint bs)) ≡ answered c.left (pointer, drawn connection c.left.desktop w.after bs) (Rwrite 1 (length bs))) (sym bytes_are)
       (painted c.left (bands d.next x y) w.after c.at.alone w.leads w.short)
 
   mode_is : (after d e).mode ≡ Menu (spot e) d.next
@@ -147,7 +147,7 @@ module _ (k : ℕ) (d : Desk) (e : Mouse) (world : World) (at : IsDeskIn d world
   menu_opened = record {
     left = end;
     answered = all_said world c.left end (messages (written d e)) (paint bytes ∷ []) (replies_to (written d e)) (Rwrite 1 (length bytes) ∷ []) c.answered
-        (then_said c.left end (paint bytes) [] (pointer, with_device c.left.desktop w.after) (Rwrite 1 (length bytes)) [] turn (nothing_said end));
+        (then_said c.left end (paint bytes) [] (pointer, drawn connection c.left.desktop w.after bytes) (Rwrite 1 (length bytes)) [] turn (nothing_said end));
     placed = record { alone = stays c.left (pointer, with_device c.left.desktop w.after) refl refl refl; follows = c.at.follows };
     drawn = w.inked;
     menu = subst (λ (mode : Mode). ShowsMenu mode end) (sym mode_is) shows_bands;

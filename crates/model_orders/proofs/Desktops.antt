@@ -25,7 +25,7 @@ use Rattle.model_draw.specs.Files.{read_data, write_ctl}
 use Rattle.model_world.specs.Session.{Fid}
 use Rattle.model_world.specs.Fids.{is_kind, let_go, with_held}
 use Rattle.model_world.specs.Desktop.{Desktop, is_user, stepped, stepped_if, stepped_or, users_of, without_user}
-use Rattle.model_world.specs.Whole.{attached, client, commanded, ctl_written, data_read, desktop_for, device_commanded, device_commanded_by, host_of, left_one, made_by, moused, resized, serial_of, typed, window_made, with_device, written_data}
+use Rattle.model_world.specs.Whole.{attached, client, commanded, connection_left, ctl_written, data_read, desktop_for, device_commanded, device_commanded_by, host_of, left_one, made_by, moused, resized, serial_of, typed, window_made, with_device, written_data}
 use Rattle.model_world.proofs.Others.{after_if, after_step}
 use Rattle.model_rio.specs.Sound.{IsSound}
 use Rattle.model_draw.specs.Orders.{carried_out}
@@ -195,24 +195,24 @@ module _ (start : Desktop) where
 
   pub written_data_drawn : (k : ℕ) (desktop : Desktop) (bytes : List ℕ) (mark : Option ℕ) → (k == 0) ≡ false → Led desktop → Led (written_data k desktop bytes mark).0
   unfolding written_data
-  written_data_drawn k desktop bytes mark other is = led_by start desktop _ is (writes k bytes mark other) (written_still k desktop.device bytes mark other is.drawn.orderly)
+  written_data_drawn k desktop bytes mark other is = led_by start desktop _ _ is (writes k bytes mark other) (written_still k desktop.device bytes mark other is.drawn.orderly)
 
   abbrev pub IsReadDrawn : List ℕ × Desktop → Type 0
   IsReadDrawn got = Led got.1
 
   pub data_read_drawn : (k : ℕ) (desktop : Desktop) (most : ℕ) → Led desktop → IfOk (data_read k desktop most) IsReadDrawn
   unfolding data_read
-  data_read_drawn k desktop most is = after_step _ (read_data k desktop.device most) _ (λ got e. led_by start desktop got.1 is (reads k most got e) (read_is k desktop.device most got is.drawn.orderly e))
+  data_read_drawn k desktop most is = after_step _ (read_data k desktop.device most) _ (λ got e. led_by start desktop got.1 desktop.cost is (reads k most got e) (read_is k desktop.device most got is.drawn.orderly e))
 
   pub ctl_written_drawn : (k : ℕ) (desktop : Desktop) (bytes : List ℕ) → Led desktop → IfLed (ctl_written k desktop bytes)
   unfolding ctl_written
-  ctl_written_drawn k desktop bytes is = after_step _ (write_ctl k desktop.device bytes) _ (λ device e. led_by start desktop device is (chooses k bytes device e) (choice_is k desktop.device bytes device is.drawn.orderly e))
+  ctl_written_drawn k desktop bytes is = after_step _ (write_ctl k desktop.device bytes) _ (λ device e. led_by start desktop device desktop.cost is (chooses k bytes device e) (choice_is k desktop.device bytes device is.drawn.orderly e))
 
   pub connect_drawn : (desktop : Desktop) (k : ℕ) → Led desktop → Led (with_device desktop (draw.after_connect desktop.device k))
-  connect_drawn desktop k is = led_by start desktop _ is (begins k) (connect_still desktop.device k is.drawn.orderly)
+  connect_drawn desktop k is = led_by start desktop _ desktop.cost is (begins k) (connect_still desktop.device k is.drawn.orderly)
 
-  pub leave_drawn : (desktop : Desktop) (k : ℕ) → (k == 0) ≡ false → Led desktop → Led (with_device desktop (draw.after_leave desktop.device k))
-  leave_drawn desktop k other is = led_by start desktop _ is (ends k other) (leave_still desktop.device k other is.drawn.orderly)
+  pub leave_drawn : (desktop : Desktop) (k : ℕ) → (k == 0) ≡ false → Led desktop → Led (connection_left k desktop)
+  leave_drawn desktop k other is = led_by start desktop _ _ is (ends k other) (leave_still desktop.device k other is.drawn.orderly)
 
   pub all_leave_drawn : (c : ℕ) (gone : List ℕ) (desktop : Desktop) → 0 < c → Led desktop → Led (fold (desktop_for c).leave desktop gone)
   all_leave_drawn c [] desktop begun is = is

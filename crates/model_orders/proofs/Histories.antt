@@ -59,8 +59,8 @@ module _ (start : Desktop) where
   settled_served : (most : ℕ) (world : World) → IsServed start world → IsServed start (settled_within most world).0
   settled_served most world is = settled_keeps (IsServed start) late_served most world is
 
-  turned_served : (world after : World) → IsServed start after → world ≡ record after { desktop = record after.desktop { notes = [] } } → IsServed start world
-  turned_served world after is same = subst (IsServed start) (sym same) (record { drawn = led_beside start after.desktop (record after.desktop { notes = [] }) refl refl is.drawn; order = is.order; begun = is.begun })
+  turned_served : (world after : World) → IsServed start after → world ≡ record after { desktop = record after.desktop { notes = []; cost = 0 } } → IsServed start world
+  turned_served world after is same = subst (IsServed start) (sym same) (record { drawn = led_beside start after.desktop (record after.desktop { notes = []; cost = 0 }) refl refl is.drawn; order = is.order; begun = is.begun })
 
   served_served : (world : World) (c : ℕ) (bytes : List ℕ) (mark : Option ℕ) (found : Option Session) → IsServed start world → lookup world.sessions c ≡ found → IsServed start (served world c bytes mark found).world
   served_served world c bytes mark None is at = turned_served (served world c bytes mark None).world world is refl

@@ -1,5 +1,5 @@
 -- A desktop that is drawn, and to which another leads.
-use Rattle.std.proofs.Common.{◌≡◌, refl, sym, subst}
+use Rattle.std.proofs.Common.{◌≡◌, ℕ, refl, sym, subst}
 use Rattle.model_rio.specs.Table.{Table}
 use Rattle.model_rio.specs.Sound.{IsSound}
 use Rattle.model_draw.specs.World.{World}
@@ -32,9 +32,9 @@ led_beside start desktop after table device is = record {
   leads = uses desktop after is.leads table (subst (Uses desktop.device) (sym device) rests);
 }
 
--- and the device by a use of it
-pub led_by : (start desktop : Desktop) (device : World) → IsLed start desktop → Uses desktop.device device → Still desktop.device device → IsLed start (record desktop { device = device })
-led_by start desktop device is used still = record {
+-- and the device by a use of it, whatever was asked for that
+pub led_by : (start desktop : Desktop) (device : World) (cost : ℕ) → IsLed start desktop → Uses desktop.device device → Still desktop.device device → IsLed start (record desktop { device = device; cost = cost })
+led_by start desktop device cost is used still = record {
   drawn = record { sound = is.drawn.sound; orderly = still.orderly; furnished = used_furnished desktop.device device used is.drawn.orderly is.drawn.furnished; shows = shows_follow desktop.device device desktop.table still is.drawn.shows };
-  leads = uses desktop (record desktop { device = device }) is.leads refl used;
+  leads = uses desktop (record desktop { device = device; cost = cost }) is.leads refl used;
 }

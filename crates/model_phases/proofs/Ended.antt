@@ -49,7 +49,7 @@ module _ (window : ℕ) where
     pub lost : IsLost window world.desktop
     pub quiet : is_told window notes ≡ false
 
-  turned_silent : (world : World) → IsSilent window world.desktop → IsTurnSilent (record world { desktop = record world.desktop { notes = [] } }) world.desktop.notes
+  turned_silent : (world : World) → IsSilent window world.desktop → IsTurnSilent (record world { desktop = record world.desktop { notes = []; cost = 0 } }) world.desktop.notes
   turned_silent world is = record { lost = record { sound = is.lost.sound; given = is.lost.given; gone = is.lost.gone }; quiet = is.quiet }
 
   still_silent : (world : World) → world.desktop.notes ≡ [] → IsLost window world.desktop → IsSilent window world.desktop

@@ -77,7 +77,7 @@ module _ (c window : ℕ) where
   settled_used world order is = (settled_keeps IsSo late_used (waiting_in world) world (order, is)).1
 
   -- what is told is told
-  pub turned_used : (world : World) → IsUsed world → IsUsed (record world { desktop = record world.desktop { notes = [] } })
+  pub turned_used : (world : World) → IsUsed world → IsUsed (record world { desktop = record world.desktop { notes = []; cost = 0 } })
   turned_used world is = record {
     used = record { sound = is.used.sound; given = is.used.given; alone = is.used.alone };
     empty = λ session there none. (let lost = is.empty session there none in record { sound = lost.sound; given = lost.given; gone = lost.gone });
@@ -137,7 +137,7 @@ module _ (c window : ℕ) where
           empty = λ own there none. cleared_keeps (desktop_for d) (IsLost window) (lost_all d window) session world.desktop (is.empty own (sym (without-others world.sessions d c (λ same. other (sym same))) ∙ there) none);
         }))
 
-    pub other_begins : IsUsed (record world { desktop = record world.desktop { notes = [] }; sessions = and world.sessions d fresh })
+    pub other_begins : IsUsed (record world { desktop = record world.desktop { notes = []; cost = 0 }; sessions = and world.sessions d fresh })
     other_begins = (let after = turned_used world is in record { used = after.used; empty = λ own there none. after.empty own (sym (and-others world.sessions d c fresh (λ same. other (sym same))) ∙ there) none })
 
   -- ---- the session itself

@@ -67,7 +67,7 @@ module _ (c : ℕ) (begin : 0 < c) (Like : Option (ℕ × ℕ) → Option (ℕ �
   have_told : (s : Desktop) → Have s → Told s
   have_told s is = subst (λ (notes : List Note). SameDesktops Like Named None s (fold noted_alone t notes)) (sym (notes_none s.notes)) is
 
-  quiet_have : (s : Desktop) → Have s → Have (record s { notes = [] })
+  quiet_have : (s : Desktop) → Have s → Have (record s { notes = []; cost = 0 })
   quiet_have s is = quiet_same c begin Like Named laws names unseen s t is
 
   -- ---- late answers

@@ -217,8 +217,10 @@ module _ (c : ℕ) (begin : 0 < c) (Like : Option (ℕ × ℕ) → Option (ℕ �
 
   -- ---- the draw device
 
-  device_told : (s : Desktop) (next : draw.World) → Told s → IsDrawn (whole.with_device s next) → Uses s.device next → Like (known_size s) (named_in s own) next (fold noted_alone t (notes_of own s.notes)).device → Told (whole.with_device s next)
-  device_told s next is drawn used like = record {
+  -- whatever was asked for it
+  device_told : (s : Desktop) (next : draw.World) (cost : ℕ) → Told s → IsDrawn (record s { device = next; cost = cost }) → Uses s.device next → Like (known_size s) (named_in s own) next (fold noted_alone t (notes_of own s.notes)).device
+      → Told (record s { device = next; cost = cost })
+  device_told s next cost is drawn used like = record {
     drawn = drawn;
     order = is.order;
     names = names.uses s.device next s.table s.panes is.drawn.orderly is.names used;
@@ -229,7 +231,7 @@ module _ (c : ℕ) (begin : 0 < c) (Like : Option (ℕ × ℕ) → Option (ℕ �
       u : LoneDesktop
       u = fold noted_alone t (notes_of own s.notes)
 
-      beside : (o : Option ℕ) → SameWindows s u o → SameWindows (whole.with_device s next) u o
+      beside : (o : Option ℕ) → SameWindows s u o → SameWindows (record s { device = next; cost = cost }) u o
       beside None is = is
       beside (Some n) is = record { alone = is.alone; rect = is.rect; root = is.root; bare = is.bare; counted = is.counted }
 
@@ -238,31 +240,32 @@ module _ (c : ℕ) (begin : 0 < c) (Like : Option (ℕ × ℕ) → Option (ℕ �
 
   pub connect_told : (s : Desktop) (n : ℕ) → n < 2 ^ 26 → Told s → Told ((desktop_for d).connect s n)
   connect_told s n few is =
-      device_told s (draw.after_connect s.device (client d n)) is (connect_drawn s s (client d n) (led_itself s is.drawn)).drawn (begins (client d n))
+      device_told s (draw.after_connect s.device (client d n)) s.cost is (connect_drawn s s (client d n) (led_itself s is.drawn)).drawn (begins (client d n))
       (laws.others_connect (known_size s) (named_in s own) s.device _ is.device d n first other few)
 
   pub leave_told : (s : Desktop) (n : ℕ) → n < 2 ^ 26 → Told s → Told ((desktop_for d).leave s n)
   leave_told s n few is =
       let apart = client_other s d n zero_below in
-      device_told s (draw.after_leave s.device (client d n)) is (leave_drawn s s (client d n) apart (led_itself s is.drawn)).drawn (ends (client d n) apart)
+      device_told s (draw.after_leave s.device (client d n)) _ is (leave_drawn s s (client d n) apart (led_itself s is.drawn)).drawn (ends (client d n) apart)
       (laws.others_leave (known_size s) (named_in s own) s.device _ is.device d n first other few)
 
   pub write_told : (s : Desktop) (n : ℕ) (bytes : List ℕ) (mark : Option ℕ) → n < 2 ^ 26 → All (LeavesName (named_in s own)) (looked_at (client d n) s.device bytes mark) → Told s → Told ((desktop_for d).write_data s n bytes mark).0
   unfolding whole.written_data
   write_told s n bytes mark few leaves is =
       let apart = client_other s d n zero_below in
-      let drawn : IsDrawn (whole.with_device s (written (client d n) s.device bytes mark).world) = (written_data_drawn s (client d n) s bytes mark apart (led_itself s is.drawn)).drawn in
-      device_told s (written (client d n) s.device bytes mark).world is drawn (writes (client d n) bytes mark apart)
+      let next : Desktop = ((desktop_for d).write_data s n bytes mark).0 in
+      let drawn : IsDrawn next = (written_data_drawn s (client d n) s bytes mark apart (led_itself s is.drawn)).drawn in
+      device_told s (written (client d n) s.device bytes mark).world next.cost is drawn (writes (client d n) bytes mark apart)
       (laws.others_write (known_size s) (named_in s own) s.device _ is.device d n bytes mark first other few leaves)
 
   pub read_told : (s : Desktop) (n most : ℕ) → n < 2 ^ 26 → Told s → IfOk ((desktop_for d).read_data s n most) (λ got. Told got.1)
   unfolding whole.data_read
   read_told s n most few is = after_step (λ (got : List ℕ × Desktop). Told got.1) (read_data (client d n) s.device most) _ (λ got at.
-      device_told s got.1 is (led_by s s got.1 (led_itself s is.drawn) (reads (client d n) most got at) (read_is (client d n) s.device most got is.drawn.orderly at)).drawn (reads (client d n) most got at)
+      device_told s got.1 s.cost is (led_by s s got.1 s.cost (led_itself s is.drawn) (reads (client d n) most got at) (read_is (client d n) s.device most got is.drawn.orderly at)).drawn (reads (client d n) most got at)
       (laws.others_read (known_size s) (named_in s own) s.device _ is.device d n most first other few got at))
 
   pub choose_told : (s : Desktop) (n : ℕ) (bytes : List ℕ) → n < 2 ^ 26 → Told s → IfOk ((desktop_for d).write_ctl s n bytes) Told
   unfolding whole.ctl_written
   choose_told s n bytes few is = after_step Told (write_ctl (client d n) s.device bytes) _ (λ next at.
-      device_told s next is (led_by s s next (led_itself s is.drawn) (chooses (client d n) bytes next at) (choice_is (client d n) s.device bytes next is.drawn.orderly at)).drawn (chooses (client d n) bytes next at)
+      device_told s next s.cost is (led_by s s next s.cost (led_itself s is.drawn) (chooses (client d n) bytes next at) (choice_is (client d n) s.device bytes next is.drawn.orderly at)).drawn (chooses (client d n) bytes next at)
       (laws.others_choose (known_size s) (named_in s own) s.device _ is.device d n bytes first other few next at))

@@ -52,17 +52,17 @@ module _ (c : ℕ) (begin : 0 < c) (Like : Option (ℕ × ℕ) → Option (ℕ �
 
   -- ---- the end of a turn
 
-  -- that nothing is told any more makes no difference
-  pub quiet_same : (s : Desktop) (t : LoneDesktop) → Have s t → Have (record s { notes = [] }) t
+  -- that nothing is told and nothing was asked any more makes no difference
+  pub quiet_same : (s : Desktop) (t : LoneDesktop) → Have s t → Have (record s { notes = []; cost = 0 }) t
   quiet_same s t is = record {
-    drawn = (led_beside s s (record s { notes = [] }) refl refl (led_itself s is.drawn)).drawn;
+    drawn = (led_beside s s (record s { notes = []; cost = 0 }) refl refl (led_itself s is.drawn)).drawn;
     order = is.order;
     names = is.names;
     window = windows seen.window is.window;
     device = is.device;
   }
     where
-      windows : (o : Option ℕ) → SameWindows s t o → SameWindows (record s { notes = [] }) t o
+      windows : (o : Option ℕ) → SameWindows s t o → SameWindows (record s { notes = []; cost = 0 }) t o
       windows None is = is
       windows (Some n) is = record { alone = is.alone; rect = is.rect; root = is.root; bare = is.bare; counted = is.counted }
 

@@ -47,7 +47,7 @@ use Rattle.model_client.proofs.Answering.{attached_window, made_window, opened_f
 use Rattle.model_client.proofs.May.{may_open, may_walk_data, may_walk_new}
 use Rattle.model_client.proofs.Walking.{window_data, window_new}
 use Rattle.model_client.proofs.Saying.{agreed_on_version, all_said, nothing_said, said, stays, then_said}
-use Rattle.model_client.specs.Saying.{AreAnswered, IsClient, MaySay, answered, greeted, hello, says, welcome, world_left}
+use Rattle.model_client.specs.Saying.{AreAnswered, IsClient, MaySay, answered, drawn, greeted, hello, says, welcome, world_left}
 use Rattle.model_wire.specs.Message.{Rattach, Ropen, Rwalk, Rwrite, T, Tattach, Topen, Twalk, no_fid}
 use Rattle.model_wire.specs.Spelling.{message, sized}
 use Rattle.std.proofs.lemmas.List.{length-append}
@@ -225,7 +225,7 @@ abbrev connected : Desktop → Desktop
 connected desktop = with_device desktop (draw.after_connect desktop.device connection)
 
 abbrev told : Desktop → Desktop
-told desktop = record desktop { notes = [] }
+told desktop = record desktop { notes = []; cost = 0 }
 
 pub files_opened : (world : World) → IsClient world entered → is_some (window_of world.desktop.table 1) ≡ true
     → AreAnswered world opens (world_left world (typist, connected (told world.desktop))) opened_replies
@@ -352,7 +352,7 @@ opened_text shape pixels is all =
           (then_said greeted_world after (Tattach 1 0 no_fid [] (asked shape)) _ (entered, entered_desktop shape) (Rattach 1 (qid (own_file 1 Window))) _ (attaches shape is (fits_window shape is) (asks_for_page shape is))
           (all_said (entered_world shape) (files_world shape) after opens (write (making shape pixels) ∷ []) opened_replies (Rwrite 1 (length (making shape pixels)) ∷ [])
           (files_opened (entered_world shape) (stays greeted_world (entered, entered_desktop shape) refl refl refl) (window_lives shape))
-          (then_said (files_world shape) after (write (making shape pixels)) [] (typist, with_device (files_world shape).desktop final) (Rwrite 1 (length (making shape pixels))) [] write_turn (nothing_said after))));
+          (then_said (files_world shape) after (write (making shape pixels)) [] (typist, drawn connection (files_world shape).desktop final (making shape pixels)) (Rwrite 1 (length (making shape pixels))) [] write_turn (nothing_said after))));
       shows = record {
         alone = stays (files_world shape) (typist, with_device (files_world shape).desktop final) refl refl refl;
         lives = window_lives shape;

@@ -9,7 +9,7 @@ use Rattle.model_draw.specs.World as draw
 use Rattle.model_world.specs.Whole.{client, with_device}
 use Rattle.model_world.specs.World.{World}
 use Rattle.model_world.specs.Replay.{step}
-use Rattle.model_client.specs.Saying.{IsClient, answered, says}
+use Rattle.model_client.specs.Saying.{IsClient, answered, drawn, says}
 use Rattle.model_client.proofs.May.{may_write}
 use Rattle.model_client.proofs.Saying.{said, stays}
 use Rattle.model_client.proofs.Answering.{wrote_data}
@@ -22,14 +22,14 @@ use Rattle.model_typed.specs.Typing.{ShowsPage, typist}
 -- the step of draw messages
 pub record IsTyped (shape : Shape) (pixels : List ℕ) (n : Numbers) (next : List (List ℕ)) (world : World) (bytes : List ℕ) : Type 0 where
   pub after : draw.World
-  pub is : step world (says (write bytes)) ≡ answered world (typist, with_device world.desktop after) (Rwrite 1 (length bytes))
+  pub is : step world (says (write bytes)) ≡ answered world (typist, drawn (client 1 1) world.desktop after bytes) (Rwrite 1 (length bytes))
   pub shows : ShowsPage shape pixels n next (step world (says (write bytes))).world
 
 pub written_step : (world : World) (bytes : List ℕ) (after : draw.World) → length bytes ≤ 65537 → Leads (client 1 1) world.desktop.device after bytes → IsClient world typist
-    → step world (says (write bytes)) ≡ answered world (typist, with_device world.desktop after) (Rwrite 1 (length bytes))
+    → step world (says (write bytes)) ≡ answered world (typist, drawn (client 1 1) world.desktop after bytes) (Rwrite 1 (length bytes))
 written_step world bytes after few leads alone =
     let run = leads_written (client 1 1) world.desktop.device after bytes leads in
-    said world typist (write bytes) (typist, with_device world.desktop after) (Rwrite 1 (length bytes)) alone (may_write typist 2 bytes refl (omega arith) few)
+    said world typist (write bytes) (typist, drawn (client 1 1) world.desktop after bytes) (Rwrite 1 (length bytes)) alone (may_write typist 2 bytes refl (omega arith) few)
     (wrote_data typist world.desktop 1 2 1 1 2 0 run.done bytes after refl refl refl run.is)
     refl
 

@@ -104,11 +104,11 @@ settled_well most world is = settled_keeps IsWell late_well most world is
 
 -- ---- events
 
-turned_well : (world after : World) → IsWell after → world ≡ record after { desktop = record after.desktop { notes = [] } } → IsWell world
+turned_well : (world after : World) → IsWell after → world ≡ record after { desktop = record after.desktop { notes = []; cost = 0 } } → IsWell world
 turned_well world after is same = subst IsWell (sym same) (record {
   order = is.order;
   begun = is.begun;
-  drawn = (led_beside after.desktop after.desktop (record after.desktop { notes = [] }) refl refl (led_itself after.desktop is.drawn)).drawn;
+  drawn = (led_beside after.desktop after.desktop (record after.desktop { notes = []; cost = 0 }) refl refl (led_itself after.desktop is.drawn)).drawn;
   regular = record { sound = is.regular.sound; unused = is.regular.unused };
   within = is.within;
 })

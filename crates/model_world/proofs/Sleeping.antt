@@ -19,7 +19,9 @@ use Rattle.model_tree.specs.declared.Kind.TheVariants as kind
 use Rattle.model_tree.specs.Node.{Node, is_directory, may, reads, writes}
 use Rattle.model_tree.specs.Listing.{stats}
 use Rattle.model_tree.specs.Tree.{check_live}
+use Rattle.model_draw.specs.Act.{written}
 use Rattle.model_draw.specs.Files.{read_data, write_ctl}
+use Rattle.model_cost.specs.Cost.{leave_cost, messages_cost}
 use Rattle.model_world.specs.Session.{Fid, Wait, Session}
 use Rattle.model_world.specs.Desktop.{Desktop}
 use Rattle.model_world.specs.Whole.{attached, client, commanded, ctl_written, data_read, desktop_for, device_commanded, left_one, moused, resized, typed, written_data}
@@ -32,7 +34,7 @@ use Rattle.model_world.specs.Waiting.{answered_or, awaited, first_of, given_or_r
 use Rattle.model_world.specs.Answer.{Taking, Ignored, TooLong, Closes, Reads, agreed_on, answer, answer_read, answer_to, asks_for_9p, clunk_answer, denied, is_version, read_or_not, replied, stat_answer, taken, taking, version_answer}
 use Rattle.model_world.specs.Sleeping.{written_at, written_in, written_to}
 use Rattle.model_world.proofs.Others.{after_if, after_step}
-use Rattle.model_world.proofs.Windows.{IsQuiet, Leaves, LeavesBut, LeavesMade, attached_leaves, beside_leaves, but, commanded_leaves, device_commanded_leaves, device_leaves, hear_others, hear_quiet, left_leaves, leaves_same, leaves_then, moused_leaves, quiet_leaves, resized_leaves, sleeps_same, typed_leaves}
+use Rattle.model_world.proofs.Windows.{IsQuiet, Leaves, LeavesBut, LeavesMade, attached_leaves, beside_leaves, but, commanded_leaves, cost_leaves, device_commanded_leaves, device_leaves, hear_others, hear_quiet, left_leaves, leaves_same, leaves_then, moused_leaves, quiet_leaves, resized_leaves, sleeps_same, typed_leaves}
 
 -- ---- files that one fid at a time has open
 
@@ -58,7 +60,7 @@ ended_leaves : (c : ℕ) (ns : List ℕ) (desktop : Desktop) → Leaves desktop 
 ended_leaves c [] desktop = leaves_same desktop
 ended_leaves c (n ∷ ns) desktop =
     let next = (desktop_for c).leave desktop n in
-    leaves_then desktop next (fold (desktop_for c).leave next ns) (device_leaves desktop next.device) (ended_leaves c ns next)
+    leaves_then desktop next (fold (desktop_for c).leave next ns) (cost_leaves desktop next.device (leave_cost desktop.device (client c n))) (ended_leaves c ns next)
 
 settled_leaves : (c : ℕ) (session : Session) (desktop : Desktop) → Leaves desktop (settled (desktop_for c) session desktop).1
 unfolding settled
@@ -159,7 +161,9 @@ ctl_leaves k desktop bytes = after_step _ (write_ctl k desktop.device bytes) _ (
 
 written_data_leaves : (k : ℕ) (desktop : Desktop) (bytes : List ℕ) (mark : Option ℕ) → Leaves desktop (written_data k desktop bytes mark).0
 unfolding written_data
-written_data_leaves k desktop bytes mark = device_leaves desktop (written_data k desktop bytes mark).0.device
+written_data_leaves k desktop bytes mark =
+    let after = written k desktop.device bytes mark in
+    cost_leaves desktop after.world (messages_cost after.done k desktop.device bytes)
 
 file_written_leaves : (c : ℕ) (desktop : Desktop) (node : Node) (offset : ℕ) (bytes : List ℕ) (mark : Option ℕ) (k : Kind)
     → IfOk (file_written (desktop_for c) desktop node offset bytes mark k) (LeavesWritten node.serial desktop)
@@ -178,7 +182,7 @@ file_written_leaves c desktop node offset bytes mark kind.Hwsize =
 file_written_leaves c desktop node offset bytes mark kind.Snarf =
     let old = (desktop_for c).snarf desktop node.serial in
     whole_but node.serial desktop (snarf_written old offset bytes >>= λ new. Ok ((desktop_for c).with_snarf desktop node.serial new))
-    (after_step _ (snarf_written old offset bytes) _ (λ new _. beside_leaves desktop desktop.device desktop.users ((desktop_for c).with_snarf desktop node.serial new).snarfs))
+    (after_step _ (snarf_written old offset bytes) _ (λ new _. beside_leaves desktop desktop.device desktop.users ((desktop_for c).with_snarf desktop node.serial new).snarfs desktop.cost))
 file_written_leaves c desktop node offset bytes mark kind.DeviceWctl = whole_but node.serial desktop (device_commanded desktop bytes) (device_commanded_leaves desktop bytes)
 file_written_leaves c desktop node offset bytes mark kind.Cons = hear_others c desktop node.serial (Written bytes)
 file_written_leaves c desktop node offset bytes mark kind.Consctl =

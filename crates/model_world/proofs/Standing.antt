@@ -129,7 +129,7 @@ pub of_each : (world : World) (sessions : List (ℕ × Session)) → EachWaitsOn
 of_each world [] each = refl
 of_each world ((c, session) ∷ more) each = ap (λ (o : Option (Left Desktop)). answered_in world c o (first_answered world more)) each.0 ∙ of_each world more each.1
 
--- ---- what the windows were told makes no difference
+-- ---- what the windows were told, and what was asked, makes no difference
 
 pub mapped_none : {A B : Type 0} (f : A → B) (o : Option A) → option_map f o ≡ None → o ≡ None
 mapped_none f None none = refl
@@ -138,41 +138,41 @@ mapped_none f (Some x) none = absurd (cc none)
 text_none : {A B : Type 0} (f g : A → B) (o : Option A) → option_map f o ≡ None → option_map g o ≡ None
 text_none f g o none = ap (λ (x : Option _). option_map g x) (mapped_none f o none)
 
-now_untold : (c : ℕ) (desktop : Desktop) (notes : List (ℕ × Note)) (fid : Fid) (count : ℕ) (k : Kind) → given_now (desktop_for c) desktop fid count k ≡ None
-    → given_now (desktop_for c) (record desktop { notes = notes }) fid count k ≡ None
-now_untold c desktop notes fid count kind.Mouse none = text_none _ _ (answer_text ((desktop_for c).pane desktop fid.node.serial).mouse) none
-now_untold c desktop notes fid count kind.Cons none = text_none _ _ (console.read count ((desktop_for c).pane desktop fid.node.serial).console) none
-now_untold c desktop notes fid count kind.Wctl none = text_none _ _ (wctl_answer fid.told (wctl_text ((desktop_for c).pane desktop fid.node.serial).known)) none
-now_untold c desktop notes fid count _ none = refl
+now_untold : (c : ℕ) (desktop : Desktop) (notes : List (ℕ × Note)) (cost : ℕ) (fid : Fid) (count : ℕ) (k : Kind) → given_now (desktop_for c) desktop fid count k ≡ None
+    → given_now (desktop_for c) (record desktop { notes = notes; cost = cost }) fid count k ≡ None
+now_untold c desktop notes cost fid count kind.Mouse none = text_none _ _ (answer_text ((desktop_for c).pane desktop fid.node.serial).mouse) none
+now_untold c desktop notes cost fid count kind.Cons none = text_none _ _ (console.read count ((desktop_for c).pane desktop fid.node.serial).console) none
+now_untold c desktop notes cost fid count kind.Wctl none = text_none _ _ (wctl_answer fid.told (wctl_text ((desktop_for c).pane desktop fid.node.serial).known)) none
+now_untold c desktop notes cost fid count _ none = refl
 
-given_untold : (c : ℕ) (desktop : Desktop) (notes : List (ℕ × Note)) (count : ℕ) (fid : Outcome Fid) → given_or_refused (desktop_for c) desktop count fid ≡ None
-    → given_or_refused (desktop_for c) (record desktop { notes = notes }) count fid ≡ None
-given_untold c desktop notes count (Err n) none = absurd (cc none)
-given_untold c desktop notes count (Ok fid) none =
-    ap (λ (o : Option (Given Desktop)). option_map Ok o) (now_untold c desktop notes fid count fid.node.kind (mapped_none Ok (given_now (desktop_for c) desktop fid count fid.node.kind) none))
+given_untold : (c : ℕ) (desktop : Desktop) (notes : List (ℕ × Note)) (cost : ℕ) (count : ℕ) (fid : Outcome Fid) → given_or_refused (desktop_for c) desktop count fid ≡ None
+    → given_or_refused (desktop_for c) (record desktop { notes = notes; cost = cost }) count fid ≡ None
+given_untold c desktop notes cost count (Err n) none = absurd (cc none)
+given_untold c desktop notes cost count (Ok fid) none =
+    ap (λ (o : Option (Given Desktop)). option_map Ok o) (now_untold c desktop notes cost fid count fid.node.kind (mapped_none Ok (given_now (desktop_for c) desktop fid count fid.node.kind) none))
 
 pub both_none : {S : Type 0} (session : Session) (rest : S) (tag : ℕ) (wait : Wait) (o : Option (Outcome (Given S))) (later : Option (Left S)) → answered_or session rest tag wait o later ≡ None → (o ≡ None) × (later ≡ None)
 both_none session rest tag wait None later none = (refl, none)
 both_none session rest tag wait (Some got) later none = absurd (cc none)
 
-first_untold : (c : ℕ) (session : Session) (desktop : Desktop) (notes : List (ℕ × Note)) (before after : List (ℕ × Wait)) → first_of (desktop_for c) session desktop before after ≡ None
-    → first_of (desktop_for c) session (record desktop { notes = notes }) before after ≡ None
+first_untold : (c : ℕ) (session : Session) (desktop : Desktop) (notes : List (ℕ × Note)) (cost : ℕ) (before after : List (ℕ × Wait)) → first_of (desktop_for c) session desktop before after ≡ None
+    → first_of (desktop_for c) session (record desktop { notes = notes; cost = cost }) before after ≡ None
 unfolding first_of wait_answer
-first_untold c session desktop notes before [] none = refl
-first_untold c session desktop notes before ((tag, wait) ∷ after) none =
+first_untold c session desktop notes cost before [] none = refl
+first_untold c session desktop notes cost before ((tag, wait) ∷ after) none =
     let rest : Session = record session { waiting = before ++ after } in
     let both = both_none rest desktop tag wait (wait_answer (desktop_for c) session desktop wait) (first_of (desktop_for c) session desktop (before ++ (tag, wait) ∷ []) after) none in
-    let quiet : Desktop = record desktop { notes = notes } in
+    let quiet : Desktop = record desktop { notes = notes; cost = cost } in
     ap (λ (o : Option (Outcome (Given Desktop))). answered_or rest quiet tag wait o (first_of (desktop_for c) session quiet (before ++ (tag, wait) ∷ []) after))
-    (given_untold c desktop notes wait.count (awaited (desktop_for c) session desktop wait) both.0)
-    ∙ first_untold c session desktop notes (before ++ (tag, wait) ∷ []) after both.1
+    (given_untold c desktop notes cost wait.count (awaited (desktop_for c) session desktop wait) both.0)
+    ∙ first_untold c session desktop notes cost (before ++ (tag, wait) ∷ []) after both.1
 
-each_untold : (desktop : Desktop) (notes : List (ℕ × Note)) (sessions : List (ℕ × Session)) → EachWaitsOn desktop sessions → EachWaitsOn (record desktop { notes = notes }) sessions
-each_untold desktop notes [] each = tt
-each_untold desktop notes ((c, session) ∷ more) each = (first_untold c session desktop notes [] session.waiting each.0, each_untold desktop notes more each.1)
+each_untold : (desktop : Desktop) (notes : List (ℕ × Note)) (cost : ℕ) (sessions : List (ℕ × Session)) → EachWaitsOn desktop sessions → EachWaitsOn (record desktop { notes = notes; cost = cost }) sessions
+each_untold desktop notes cost [] each = tt
+each_untold desktop notes cost ((c, session) ∷ more) each = (first_untold c session desktop notes cost [] session.waiting each.0, each_untold desktop notes cost more each.1)
 
 turned_waits : (world : World) (replies : List Reply) (closed : Option ℕ) → AllWaitOn world → AllWaitOn (turned world replies closed).world
-turned_waits world replies closed all = of_each (turned world replies closed).world world.sessions (each_untold world.desktop [] world.sessions (each_of world world.sessions all))
+turned_waits world replies closed all = of_each (turned world replies closed).world world.sessions (each_untold world.desktop [] 0 world.sessions (each_of world world.sessions all))
 
 -- ---- each event
 

@@ -1,6 +1,6 @@
 -- What leaves the reads that wait at a window asleep.
 use Rattle.std.proofs.Common.{◌≡◌, ◌∙◌, ℕ, Bool, true, false, cond, not, eqb, List, [], ◌∷◌, length, Option, Some, None, Ok, Err, refl, sym, ap, subst}
-use Rattle.std.specs.Prelude.{◌==◌, ◌||◌, is_some, IfOk}
+use Rattle.std.specs.Prelude.{◌+◌, ◌==◌, ◌||◌, is_some, IfOk}
 use Rattle.std.specs.List.{fold}
 use Rattle.std.specs.Option.{unwrap_or}
 use Rattle.std.proofs.lemmas.Bool.{cond_both, eqb-true, eqb-false}
@@ -28,7 +28,7 @@ use Rattle.model_rio.proofs.Lives.{acts_tell, told_parts}
 use Rattle.model_tree.specs.Attach.{Attach, Whole, Existing, Fresh, Unknown}
 use Rattle.model_draw.specs.World as draw
 use Rattle.model_world.specs.Desktop.{Desktop, is_user, pane_of, pane_told, panes_told, stepped, stepped_if, stepped_or, users_of, without_user}
-use Rattle.model_world.specs.Whole.{attached, commanded, desktop_for, device_commanded, device_commanded_by, host_of, left_one, made_by, moused, resized, serial_of, typed, used_by, window_made, with_device}
+use Rattle.model_world.specs.Whole.{attached, commanded, desktop_for, device_commanded, device_commanded_by, host_of, left_one, made_by, moused, resized, serial_of, typed, used_by, window_made, with_cost, with_device}
 use Rattle.model_world.specs.Sleeping.{SleepsOn, stirs}
 use Rattle.model_world.proofs.Others.{after_if, after_step}
 
@@ -155,15 +155,19 @@ leaves_then a b c first second window none =
     let one = first window two.0 in
     (one.0, sleeps_then a b c window one.1 two.1)
 
--- the device, the users and the snarfs make no difference
-pub beside_leaves : (desktop : Desktop) (device : draw.World) (users : List (ℕ × List ℕ)) (snarfs : List (ℕ × List ℕ)) → Leaves desktop (record desktop { device = device; users = users; snarfs = snarfs })
-beside_leaves desktop device users snarfs window none = (none, record { lives = refl; known = refl; mouse = λ none. none; console = λ count none. none })
+-- the device, the users, the snarfs and the cost make no difference
+pub beside_leaves : (desktop : Desktop) (device : draw.World) (users : List (ℕ × List ℕ)) (snarfs : List (ℕ × List ℕ)) (cost : ℕ)
+    → Leaves desktop (record desktop { device = device; users = users; snarfs = snarfs; cost = cost })
+beside_leaves desktop device users snarfs cost window none = (none, record { lives = refl; known = refl; mouse = λ none. none; console = λ count none. none })
 
 pub device_leaves : (desktop : Desktop) (device : draw.World) → Leaves desktop (with_device desktop device)
-device_leaves desktop device = beside_leaves desktop device desktop.users desktop.snarfs
+device_leaves desktop device = beside_leaves desktop device desktop.users desktop.snarfs desktop.cost
+
+pub cost_leaves : (desktop : Desktop) (device : draw.World) (cost : ℕ) → Leaves desktop (with_cost desktop device cost)
+cost_leaves desktop device cost = beside_leaves desktop device desktop.users desktop.snarfs (desktop.cost + cost)
 
 users_leaves : (desktop : Desktop) (users : List (ℕ × List ℕ)) → Leaves desktop (record desktop { users = users })
-users_leaves desktop users = beside_leaves desktop desktop.device users desktop.snarfs
+users_leaves desktop users = beside_leaves desktop desktop.device users desktop.snarfs desktop.cost
 
 -- ---- what is heard
 

@@ -1,5 +1,5 @@
 -- What all sessions share: the draw device, and the windows with what their files have (draw(3), rio(4)).
-use Rattle.std.specs.Prelude.{ℕ, ◌==◌, ◌&&◌, ◌||◌, Bool, false, not, List, [], ◌∷◌, ◌++◌, filter, is_some, Ok, Err, if◌then◌else◌}
+use Rattle.std.specs.Prelude.{ℕ, ◌+◌, ◌==◌, ◌&&◌, ◌||◌, Bool, false, not, List, [], ◌∷◌, ◌++◌, filter, is_some, Ok, Err, if◌then◌else◌}
 use Rattle.std.specs.List.{fold, list_any}
 use Rattle.std.specs.Option.{unwrap_or}
 use Rattle.r9_geom.specs.declared.Rect.{Rect}
@@ -16,11 +16,13 @@ use Rattle.model_rio.specs.Table as rio
 use Rattle.model_rio.specs.Step.{Step}
 use Rattle.model_draw.specs.World as draw
 use Rattle.model_draw.specs.Orders.{carried_out, with_root_rio}
+use Rattle.model_cost.specs.Cost.{orders_cost}
 use Rattle.model_world.specs.Fids.{put}
 
 -- The draw device; the windows of all rios; whether the display has changed its size; what the files of each live window have, by
 -- its serial; the sessions that have a fid whose attach named a window, in ascending order, by the window's serial; the snarf of
--- each rio, by the serial of its host; and what the windows were told in this turn.
+-- each rio, by the serial of its host; and of this turn what the windows were told, and what all that was asked of the draw device costs:
+-- the most pixels that it may write.
 pub record Desktop : Type 0 where
   pub device : draw.World
   pub table : rio.Table
@@ -29,6 +31,7 @@ pub record Desktop : Type 0 where
   pub users : List (ℕ × List ℕ)
   pub snarfs : List (ℕ × List ℕ)
   pub notes : List (ℕ × Note)
+  pub cost : ℕ
 
 abbrev pub first_desktop : draw.Opening → Desktop
 first_desktop opening = record {
@@ -39,6 +42,7 @@ first_desktop opening = record {
   users = [];
   snarfs = (0, []) ∷ [];
   notes = [];
+  cost = 0;
 }
 
 -- ---- what happens at windows
@@ -84,6 +88,7 @@ stepped desktop step = record {
   users = fold users_told desktop.users step.notes;
   snarfs = fold snarfs_ordered desktop.snarfs step.orders;
   notes = desktop.notes ++ step.notes;
+  cost = desktop.cost + orders_cost desktop.device step.orders;
 }
 
 -- the same of an act that may be refused

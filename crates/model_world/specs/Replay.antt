@@ -1,5 +1,5 @@
 -- What a history leaves and what it answers.
-use Rattle.std.specs.Prelude.{ℕ, zero, suc, ◌==◌, List, [], ◌∷◌, ◌++◌, length, Option, Some, None, filter, if◌then◌else◌}
+use Rattle.std.specs.Prelude.{ℕ, zero, suc, ◌==◌, ◌+◌, List, [], ◌∷◌, ◌++◌, length, Option, Some, None, filter, if◌then◌else◌}
 use Rattle.std.specs.List.{flat_map, sum_by}
 use Rattle.std.specs.Option.{option_map_or}
 use Rattle.r9_event.specs.declared.event.Event.{Event}
@@ -20,20 +20,23 @@ use Rattle.model_world.specs.Desktop.{Desktop}
 use Rattle.model_world.specs.Whole.{desktop_for}
 use Rattle.model_world.specs.World.{World, opened}
 
--- the world after an event, the replies to it in their order, what the windows were told, and the tag by which it closed its session
+-- The world after an event, the replies to it in their order, what the windows were told, the tag by which it closed its session, and
+-- what all that it asked of the draw device costs: the most pixels that it may write.
 pub record Turn : Type 0 where
   pub world : World
   pub replies : List Reply
   pub notes : List (ℕ × Note)
   pub closed : Option ℕ
+  pub cost : ℕ
 
 -- the turn ends: what was told in it is told
 abbrev pub turned : World → List Reply → Option ℕ → Turn
 turned world replies closed = record {
-  world = record world { desktop = record world.desktop { notes = [] } };
+  world = record world { desktop = record world.desktop { notes = []; cost = 0 } };
   replies = replies;
   notes = world.desktop.notes;
   closed = closed;
+  cost = world.desktop.cost;
 }
 
 abbrev pub silent : World → Turn
@@ -118,6 +121,11 @@ abbrev pub replies_from : World → List Event → List Reply
 replies_from world [] = []
 replies_from world (event ∷ events) = (step world event).replies ++ replies_from (step world event).world events
 
+-- what the events of a history cost, one after the other
+abbrev pub costs_from : World → List Event → ℕ
+costs_from world [] = 0
+costs_from world (event ∷ events) = (step world event).cost + costs_from (step world event).world events
+
 -- the state after a history
 abbrev pub replay : Opening → List Event → World
 replay opening events = world_from (opened opening) events
@@ -125,6 +133,10 @@ replay opening events = world_from (opened opening) events
 -- all replies to a history, in order
 abbrev pub replies : Opening → List Event → List Reply
 replies opening events = replies_from (opened opening) events
+
+-- what a whole history costs
+abbrev pub costs : Opening → List Event → ℕ
+costs opening events = costs_from (opened opening) events
 
 -- the world in which a journal ends
 abbrev pub world_at : Journal → World

@@ -22,6 +22,7 @@ use Rattle.model_draw.specs.World as draw
 use Rattle.model_draw.specs.Act.{written}
 use Rattle.model_draw.specs.Files.{read_data, read_ctl, write_ctl}
 use Rattle.model_draw.specs.Orders.{picture_of}
+use Rattle.model_cost.specs.Cost.{leave_cost, messages_cost}
 use Rattle.model_world.specs.Outside.{Outside}
 use Rattle.model_world.specs.Desktop.{Desktop, pane_of, pane_told, stepped_or, stepped_if, users_of, is_user, with_user, without_user}
 
@@ -137,9 +138,17 @@ client session connection = 2 ^ 26 * session + connection
 abbrev pub with_device : Desktop → draw.World → Desktop
 with_device desktop device = record desktop { device = device }
 
+-- the draw device has become another, and what made it so costs so much
+abbrev pub with_cost : Desktop → draw.World → (cost : ℕ) → Desktop
+with_cost desktop device cost = record desktop { device = device; cost = desktop.cost + cost }
+
 unfoldable pub written_data : (k : ℕ) → Desktop → List ℕ → Option ℕ → Desktop × Option ℕ
 written_data k desktop bytes mark =
-    let after = written k desktop.device bytes mark in (with_device desktop after.world, after.refusal)
+    let after = written k desktop.device bytes mark in
+    (with_cost desktop after.world (messages_cost after.done k desktop.device bytes), after.refusal)
+
+abbrev pub connection_left : (k : ℕ) → Desktop → Desktop
+connection_left k desktop = with_cost desktop (draw.after_leave desktop.device k) (leave_cost desktop.device k)
 
 unfoldable pub data_read : (k : ℕ) → Desktop → (most : ℕ) → Outcome (List ℕ × Desktop)
 data_read k desktop most = read_data k desktop.device most >>= λ got. Ok (got.0, with_device desktop got.1)
@@ -164,7 +173,7 @@ desktop_for session = record {
   snarf = λ desktop host. unwrap_or (lookup desktop.snarfs host) [];
   with_snarf = λ desktop host bytes. record desktop { snarfs = with desktop.snarfs host bytes };
   connect = λ desktop n. with_device desktop (draw.after_connect desktop.device (client session n));
-  leave = λ desktop n. with_device desktop (draw.after_leave desktop.device (client session n));
+  leave = λ desktop n. connection_left (client session n) desktop;
   write_data = λ desktop n bytes mark. written_data (client session n) desktop bytes mark;
   read_data = λ desktop n most. data_read (client session n) desktop most;
   read_ctl = λ desktop n. read_ctl (client session n) desktop.device n;

@@ -1,6 +1,6 @@
 //! A history that runs event by event, and in which a session is watched.
 
-ghost use Rattle.std.specs.Prelude.{◌≡◌, ℕ, true, IfOk, Err, Some};
+ghost use Rattle.std.specs.Prelude.{◌≡◌, ◌<◌, ℕ, true, IfOk, Err, Some};
 ghost use Rattle.model_alone.specs.Own.{not_alone};
 ghost use Rattle.model_event.specs.Legal.{IsLegal};
 ghost use Rattle.r9_hall.specs.WorldView.{IsFirst};
@@ -11,18 +11,25 @@ use r9_hall::World;
 use r9_journal::Record;
 use r9_memory::Memory;
 use r9_replay::make_seen;
+use r9_steps::Steps;
 use r9_watch::{Watch, WatchFault};
 use std::alloc::Global;
+use std::marker::Brand;
+use std::sync::ledger::{Blank, Ledger};
 
 /// The watch of a session at the end of a history, which runs event by event in a world that has just started, as its record is read.
 /// NotAlone at the first entry by which the session is not alone with its window; what follows it is not run. Memory also where there are
-/// more entries than can be counted.
-fn watch_events(
+/// more entries than can be counted. Nobody asks how many pixels it writes.
+fn watch_events<L: Ledger>(
     alloc: Global,
     session: u32,
     world: &mut World,
     mut left: Record,
+    blank: Blank,
 ) -> Result<Watch, WatchFault>
+    requires name { blank.name ≡ L.name }
+    requires parts { blank.parts ≡ L.parts }
+    requires some { 0 < L.parts }
     requires first { IsFirst world.old.opening world.old }
     requires watches { world.old.watches ≡ true }
     requires legal { IsLegal left }
@@ -31,8 +38,9 @@ fn watch_events(
 {
     let mut watch = Watch::new(alloc, session);
     let mut number: u64 = 1;
+    let mut pixels = Steps::<L>::new(blank);
     'events: while let Some(event) = left.pop_first(alloc)? {
-        let did = make_seen(world, &event)?;
+        let did = make_seen(world, &event, &mut pixels)?;
         watch.see(&Entry { number, event }, &did)?;
         number = number.checked_add(1).ok_or(Memory)?;
     }
@@ -51,5 +59,5 @@ pub(crate) fn watched(
     ensures ends { (entry reason : ℕ) → result ≡ Err (WatchFault.NotAlone entry reason) → not_alone opening session left.entry ≡ Some (entry, reason) }
 {
     let mut world = World::start(alloc, opening, true)?;
-    watch_events(alloc, session, &mut world, left)
+    watch_events::<Brand>(alloc, session, &mut world, left, Blank::new(1))
 }

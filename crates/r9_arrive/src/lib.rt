@@ -159,6 +159,7 @@ pub fn arrive<S: Source, L: Ledger>(
     ensures made_err { OnErr result (made lists.new ≡ made lists.old) }
     ensures err { OnErr result (IsUnchanged pixels.old pixels.new) }
     ensures steps { steps.new ≤ steps.old + 2 * area_of r }
+    ensures uncounted { OnErr result (steps.new ≡ steps.old) }
 {
     let below = lists.get(standing.parent);
     let frame = window_frame(alloc, r, below.chan, standing, below.depth + 1);

@@ -13,6 +13,7 @@ parts_of d = record {
   users = d.users.entries;
   snarfs = d.snarfs.entries;
   notes = d.notes;
+  cost = d.spending.asked.sum;
 }
 
 -- The same as one value: crates above need not look into it.

@@ -5,17 +5,22 @@ ghost use Rattle.model_text.specs.Map.{lookup};
 ghost use Rattle.model_draw.specs.Act.{no_memory};
 ghost use Rattle.model_draw.specs.Memory.{MayRunOut};
 ghost use Rattle.model_draw.specs.World.{client_of};
-ghost use Rattle.model_world.specs.Whole.{client, desktop_for};
+ghost use Rattle.model_world.specs.Whole.{client, connection_left, desktop_for, written_data};
 ghost use Rattle.r9_around.specs.Words.{AreTold, IfRefused, mark_after};
-ghost use Rattle.r9_desktop.specs.Words.{fault_of_draw, tells_for};
-ghost use Rattle.r9_desktop.specs.World.{desktop_of};
+ghost use Rattle.r9_desktop.specs.Words.{AreDone, fault_of_draw, tells_for};
+ghost use Rattle.r9_desktop.specs.World.{desktop_of, parts_of};
 
 use crate::desktop::Desktop;
+use crate::spending::{Leave, Messages};
 use r9_around::{Told, Wrote};
 use r9_draw::DrawFault;
 use r9_files::Fault;
 use r9_memory::Memory;
+use r9_steps::Steps;
 use r9_text::Bytes;
+use std::marker::Brand;
+use std::snapshot::Snapshot;
+use std::sync::ledger::{Blank, Ledger};
 
 /// The refusal where memory ran out in a data write.
 const NO_IMAGE_MEMORY: u8 = 24;
@@ -49,6 +54,22 @@ impl Desktop {
         self.device.connect(client(session, connection))
     }
 
+    /// A connection ends, with a count of the pixels that this writes.
+    fn leave_counted<L: Ledger>(&mut self, client: u64, blank: Blank) -> Result<(), Memory>
+        requires name { blank.name ≡ L.name }
+        requires parts { blank.parts ≡ L.parts }
+        requires some { 0 < L.parts }
+        requires live { IsSome (lookup (parts_of self.old).device.clients client) }
+        ensures left { OnOk result (parts_of self.new ≡ connection_left client (parts_of self.old)) }
+        ensures kept { OnErr result (parts_of self.new ≡ parts_of self.old) }
+    {
+        let mut pixels = Steps::<L>::new(blank);
+        let device = Snapshot::of(&self.device);
+        self.device.leave(client, &mut pixels)?;
+        self.spending.add(pixels.count(), &Leave { device, client });
+        Ok(())
+    }
+
     /// A connection of a session ends: its ids are freed, and what nothing refers to any more goes. After Memory all is as
     /// before.
     #[tactic(auto, unfolding(crate::specs::World::desktop_of))]
@@ -57,13 +78,62 @@ impl Desktop {
         ensures left { OnOk result (desktop_of self.new ≡ (desktop_for session).leave (desktop_of self.old) connection) }
         ensures kept { OnErr result (desktop_of self.new ≡ desktop_of self.old) }
     {
-        self.device.leave(client(session, connection))
+        self.leave_counted::<Brand>(client(session, connection), Blank::new(1))
+    }
+
+    /// Does the messages of a write of a connection, with a count of the pixels that they write.
+    #[tactic(auto, unfolding(model_world::specs::Whole::written_data))]
+    fn write_counted<L: Ledger>(
+        &mut self,
+        client: u64,
+        bytes: &[u8],
+        mark: Option<u32>,
+        blank: Blank,
+    ) -> Result<Wrote, Memory>
+        requires name { blank.name ≡ L.name }
+        requires parts { blank.parts ≡ L.parts }
+        requires some { 0 < L.parts }
+        requires live { IsSome (lookup (parts_of self.old).device.clients client) }
+        requires few { length bytes.now < 2 ^ 32 }
+        ensures written { IfOk result (λ w. written_data client (parts_of self.old) bytes.now (mark_after mark w.short) ≡ (parts_of self.new, w.refusal)) }
+        ensures cause { IfOk result (λ w. IfSome w.short (λ k. (mark ≡ Some k) ⊎ MayRunOut client (parts_of self.old).device bytes.now k)) }
+        ensures refused { IfOk result (λ w. IsSome w.short ↔ (w.refusal ≡ Some no_memory)) }
+        ensures told { IfOk result (λ w. AreTold w.told (AreDone client (parts_of self.old).device bytes.now (mark_after mark w.short))) }
+        ensures kept { OnErr result (parts_of self.new ≡ parts_of self.old) }
+    {
+        let mut pixels = Steps::<L>::new(blank);
+        let device = Snapshot::of(&self.device);
+        let wrote = self.device.write(client, bytes, mark, &mut pixels)?;
+        let done = wrote.done;
+        let asked = Messages {
+            device,
+            client,
+            bytes,
+            done,
+        };
+        self.spending.add(pixels.count(), &asked);
+        let told = Some(Told {
+            done,
+            rows: wrote.rows,
+        });
+        if wrote.short {
+            return Ok(Wrote {
+                refusal: Some(NO_IMAGE_MEMORY),
+                short: Some(done),
+                told,
+            });
+        }
+        Ok(Wrote {
+            refusal: wrote.refusal,
+            short: None,
+            told,
+        })
     }
 
     /// Does the messages that the bytes spell, until one is refused; those before it stand. It stops before a message that is
     /// not refused where its mark stands or memory runs out, which is the refusal 24. Memory where that is the first one; then
     /// all is as before.
-    #[tactic(auto, unfolding(crate::specs::World::desktop_of, model_world::specs::Whole::written_data))]
+    #[tactic(auto, unfolding(crate::specs::World::desktop_of))]
     pub fn write_data(
         &mut self,
         session: u32,
@@ -79,23 +149,7 @@ impl Desktop {
         ensures told { IfOk result (λ w. AreTold w.told (tells_for session connection (desktop_of self.old) bytes.now (mark_after mark w.short))) }
         ensures kept { OnErr result (desktop_of self.new ≡ desktop_of self.old) }
     {
-        let wrote = self.device.write(client(session, connection), bytes, mark)?;
-        let told = Some(Told {
-            done: wrote.done,
-            rows: wrote.rows,
-        });
-        if wrote.short {
-            return Ok(Wrote {
-                refusal: Some(NO_IMAGE_MEMORY),
-                short: Some(wrote.done),
-                told,
-            });
-        }
-        Ok(Wrote {
-            refusal: wrote.refusal,
-            short: None,
-            told,
-        })
+        self.write_counted::<Brand>(client(session, connection), bytes, mark, Blank::new(1))
     }
 
     /// The pending bytes of a connection, which are then gone. Refused by 26 exactly where there are none, and by 25 exactly

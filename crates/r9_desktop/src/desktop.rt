@@ -1,6 +1,6 @@
 //! The desktop as one value.
 
-ghost use Rattle.std.specs.Prelude.{◌≡◌, ◌^◌, ◌∷◌, ◌<ℤ◌, pos, [], map, IfOk};
+ghost use Rattle.std.specs.Prelude.{◌≡◌, ◌≤◌, ◌^◌, ◌∷◌, ◌<ℤ◌, pos, [], map, IfOk};
 ghost use Rattle.r9_geom.specs.Geometry.{IsOrdered};
 ghost use Rattle.model_cost.specs.Cells.{cells};
 ghost use Rattle.model_draw.specs.Files.{screen_file};
@@ -9,6 +9,7 @@ ghost use Rattle.model_rio.specs.Table.{window_of};
 ghost use Rattle.model_world.specs.Desktop.{first_desktop};
 ghost use Rattle.r9_desktop.specs.World.{desktop_of};
 
+use crate::spending::Spending;
 use crate::telling::{Panes, Snarfs, Users};
 use r9_chan::Chan;
 use r9_draw::Draw;
@@ -24,7 +25,7 @@ use std::collections::BTreeMap;
 
 /// What all sessions share: the draw device; the windows of all rios; whether the display has changed its size; by a window's
 /// serial what its files have, and which sessions have a fid whose attach named it, in ascending order; by the serial of its host
-/// the snarf of each rio; and what windows were told since the notes were taken last.
+/// the snarf of each rio; and of this turn what windows were told, and what was asked of the draw device.
 #[derive(Drop)]
 pub struct Desktop {
     pub(crate) alloc: Global,
@@ -35,6 +36,15 @@ pub struct Desktop {
     pub(crate) users: Users,
     pub(crate) snarfs: Snarfs,
     pub(crate) notes: Notes,
+    pub(crate) spending: Spending,
+}
+
+/// What windows were told in a turn, each with the serial of its window, and how many pixels the turn wrote, or 2^64 - 1 where
+/// they were more.
+#[derive(Drop)]
+pub struct Turn {
+    pub notes: Notes,
+    pub pixels: u64,
 }
 
 impl Desktop {
@@ -60,10 +70,11 @@ impl Desktop {
             users: BTreeMap::new(alloc),
             snarfs,
             notes: Notes::new(alloc),
+            spending: Spending::none(),
         })
     }
 
-    /// What windows were told since the notes were taken last, each with the serial of its window.
+    /// What windows were told in this turn, each with the serial of its window.
     #[tactic(auto, unfolding(crate::specs::World::desktop_of))]
     pub fn notes(&self) -> &[(u32, Note)]
         ensures { result.now ≡ (desktop_of self.now).notes }
@@ -71,13 +82,20 @@ impl Desktop {
         self.notes.as_slice()
     }
 
-    /// Takes what windows were told since this was asked last.
+    /// The turn ends, and another begins: what windows were told in it, and how many pixels it wrote, which is at most what all that
+    /// it asked of the draw device costs.
     #[tactic(auto, unfolding(crate::specs::World::desktop_of))]
-    pub fn take_notes(&mut self) -> Notes
-        ensures taken { result ≡ (desktop_of self.old).notes }
-        ensures left { desktop_of self.new ≡ record (desktop_of self.old) { notes = [] } }
+    pub fn take_turn(&mut self) -> Turn
+        ensures taken { result.notes ≡ (desktop_of self.old).notes }
+        ensures pixels { result.pixels ≤ (desktop_of self.old).cost }
+        ensures left { desktop_of self.new ≡ record (desktop_of self.old) { notes = []; cost = 0 } }
     {
-        std::mem::replace(&mut self.notes, Notes::new(self.alloc))
+        let notes = std::mem::replace(&mut self.notes, Notes::new(self.alloc));
+        let spending = std::mem::replace(&mut self.spending, Spending::none());
+        Turn {
+            notes,
+            pixels: spending.pixels(),
+        }
     }
 
     /// What the files of windows have, by the windows' serials.

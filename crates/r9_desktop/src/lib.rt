@@ -11,10 +11,11 @@ mod finding;
 mod hearing;
 mod input;
 mod sizing;
+mod spending;
 mod stepping;
 mod telling;
 mod using;
 mod viewing;
 
 pub use connections::client;
-pub use desktop::Desktop;
+pub use desktop::{Desktop, Turn};

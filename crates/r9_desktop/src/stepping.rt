@@ -1,10 +1,12 @@
 //! Steps of the window manager, and what comes of them (rio(4)).
 
-ghost use Rattle.std.specs.Prelude.{◌≡◌, ◌++◌, ◌||◌, not, Ok, Err, IfErr, OnOk};
+ghost use Rattle.std.specs.Prelude.{◌≡◌, ◌+◌, ◌++◌, ◌<◌, ◌||◌, not, Ok, Err, IfErr, OnOk};
 ghost use Rattle.std.specs.List.{fold};
+ghost use Rattle.model_cost.specs.Cost.{orders_cost};
 ghost use Rattle.model_draw.specs.Orders.{carried_out};
 ghost use Rattle.model_rio.specs.Rio.{rio};
 ghost use Rattle.model_world.specs.Desktop.{is_as_large, panes_told, snarfs_ordered, stepped_if, stepped_or, users_told};
+ghost use Rattle.model_world.specs.Whole.{with_cost};
 ghost use Rattle.r9_wmgr.specs.Acts.{act_of, AreKeys};
 ghost use Rattle.r9_around.specs.Words.{IfRefused};
 ghost use Rattle.r9_desktop.specs.Words.{SameClients};
@@ -12,15 +14,36 @@ ghost use Rattle.r9_desktop.specs.World.{parts_of};
 
 use crate::desktop::Desktop;
 use crate::sizing::is_as_large;
+use crate::spending::Ordered;
 use crate::telling::{order_snarfs, tell_panes, tell_users};
 use model_draw::orders_keep_connections;
 use model_rio::acts_end_no_connection;
+use r9_event::Orders;
 use r9_files::Fault;
 use r9_geom::Rect;
 use r9_memory::Memory;
+use r9_steps::Steps;
 use r9_wmgr::{Act, ActFault, Step};
+use std::marker::Brand;
+use std::snapshot::Snapshot;
+use std::sync::ledger::{Blank, Ledger};
 
 impl Desktop {
+    /// Carries out orders, with a count of the pixels that they write.
+    fn obey<L: Ledger>(&mut self, orders: &Orders, blank: Blank) -> Result<(), Memory>
+        requires name { blank.name ≡ L.name }
+        requires parts { blank.parts ≡ L.parts }
+        requires some { 0 < L.parts }
+        ensures { OnOk result (parts_of self.new ≡ with_cost (parts_of self.old) (carried_out (parts_of self.old).device orders.now) (orders_cost (parts_of self.old).device orders.now)) }
+    {
+        let mut pixels = Steps::<L>::new(blank);
+        let device = Snapshot::of(&self.device);
+        self.device.orders(orders, &mut pixels)?;
+        self.spending
+            .add(pixels.count(), &Ordered { device, orders });
+        Ok(())
+    }
+
     /// Does what a step asks of the draw device, and tells windows and rios what happened. The table of windows is that of
     /// the step already.
     fn follow(&mut self, step: Step) -> Result<(), Memory>
@@ -32,10 +55,11 @@ impl Desktop {
           users = fold users_told (parts_of self.old).users step.notes;
           snarfs = fold snarfs_ordered (parts_of self.old).snarfs step.orders;
           notes = (parts_of self.old).notes ++ step.notes;
+          cost = (parts_of self.old).cost + orders_cost (parts_of self.old).device step.orders;
         }) }
     {
         let Step { orders, notes } = step;
-        self.device.orders(&orders)?;
+        self.obey::<Brand>(&orders, Blank::new(1))?;
         tell_panes(self.alloc, &mut self.panes, notes.as_slice())?;
         tell_users(&mut self.users, notes.as_slice());
         order_snarfs(self.alloc, &mut self.snarfs, orders.as_slice())?;

@@ -145,7 +145,7 @@ can-go book now past rest i g forest = record {
 
 -- ---- one thing goes
 
-another : (j i : ℕ) (rest : List Thing) (b : Bool) → (j == i) ≡ b → list_any (same_thing (Shown i)) rest ≡ false → list_any (same_thing (Shown j)) rest ≡ true → (j == i) ≡ false
+pub another : (j i : ℕ) (rest : List Thing) (b : Bool) → (j == i) ≡ b → list_any (same_thing (Shown i)) rest ≡ false → list_any (same_thing (Shown j)) rest ≡ true → (j == i) ≡ false
 another j i rest false e none some = e
 another j i rest true e none some =
     absurd (not_both (list_any (same_thing (Shown i)) rest) (ap (λ n. list_any (same_thing (Shown n)) rest) (sym (eqb-true j i e)) ∙ some) none)

@@ -7,6 +7,7 @@ pub mod Screens
 pub mod Manager
 pub mod Worlds
 pub mod Releasing
+pub mod Costs
 pub mod AllUsed
 pub mod Starting
 pub mod Raising

@@ -48,7 +48,7 @@ releases-screen before now gone rest s r = record {
 pub next-goes : (before now : Forest) (gone rest : List Thing) (i : ℕ) → IsReleasing before now gone (Image i ∷ rest) → IsForest (world now) → CanGo (world now) i
 next-goes before now gone rest i r forest = can-go r.book (world now) r.past rest i r.going forest
 
-next-of : (gone : List Thing) (n : ℕ) (t : Thing) → n < length gone → slice_index_or gone n (Image 0) ≡ t → drop n gone ≡ t ∷ drop (n + 1) gone
+pub next-of : (gone : List Thing) (n : ℕ) (t : Thing) → n < length gone → slice_index_or gone n (Image 0) ≡ t → drop n gone ≡ t ∷ drop (n + 1) gone
 next-of gone n t h e = let more : suc n ≡ n + 1 = omega arith in drop-cons gone n (Image 0) h ∙ λ i. e i ∷ drop (more i) gone
 
 pub at-next : (before now : Forest) (gone : List Thing) (n : ℕ) (t : Thing) → n < length gone → slice_index_or gone n (Image 0) ≡ t

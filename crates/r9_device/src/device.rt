@@ -1,6 +1,6 @@
 //! The device, and the connections that begin and end.
 
-ghost use Rattle.std.specs.Prelude.{ℕ, true, false, Ok, is_some, ◌≡◌, ◌≤◌, ◌<◌, ◌^◌, ◌<ℤ◌, pos, None, Some, IfOk, OnOk, OnErr, IsSome};
+ghost use Rattle.std.specs.Prelude.{ℕ, ◌+◌, true, false, Ok, is_some, ◌≡◌, ◌≤◌, ◌<◌, ◌^◌, ◌<ℤ◌, pos, None, Some, IfOk, OnOk, OnErr, IsSome};
 ghost use Rattle.r9_geom.specs.Geometry.{area_of, IsOrdered};
 ghost use Rattle.r9_layers.specs.Forest.{numbers, room, world};
 ghost use Rattle.std.specs.List.{fold};
@@ -8,6 +8,7 @@ ghost use Rattle.model_text.specs.Map.{lookup};
 ghost use Rattle.model_draw.specs.Sound.{IsAllUsed};
 ghost use Rattle.model_draw.specs.Orders.{dot, everywhere, with_root_rio};
 ghost use Rattle.model_draw.specs.World.{started, after_connect, after_leave};
+ghost use Rattle.model_cost.specs.Cost.{going_all, leave_cost};
 ghost use Rattle.model_forest.specs.Numbers.{next_number, taken};
 ghost use Rattle.model_forest.specs.Steps.{after_image, after_set};
 ghost use Rattle.model_images.specs.Book.{add_id, empty_book, new_screen, Book as Ids};
@@ -114,6 +115,7 @@ pub fn release<L: Ledger>(forest: &mut Forest, gone: &[Thing], steps: &mut Steps
     ensures world { world forest.new ≡ fold images_without (world forest.old) gone.now }
     ensures numbers { numbers forest.new ≡ fold numbers_without (numbers forest.old) gone.now }
     ensures room { room forest.old ≤ room forest.new }
+    ensures steps { steps.new ≤ steps.old + going_all (world forest.old) gone.now }
 {
     forest.keeps();
     for thing in gone {
@@ -183,6 +185,8 @@ impl Device {
         requires { IsSome (lookup (world_of self.old).clients client) }
         ensures left { OnOk result (world_of self.new ≡ after_leave (world_of self.old) client) }
         ensures kept { OnErr result (world_of self.new ≡ world_of self.old) }
+        ensures steps { steps.new ≤ steps.old + leave_cost (world_of self.old) client }
+        ensures uncounted { OnErr result (steps.new ≡ steps.old) }
     {
         leave_frees();
         self.forest.keeps();

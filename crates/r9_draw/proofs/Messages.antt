@@ -16,6 +16,7 @@ use Rattle.model_draw.specs.World.{World}
 use Rattle.model_draw.specs.Act.{act, behind, one_message, spelled}
 use Rattle.model_draw.specs.Memory.{takes_no_memory}
 use Rattle.r9_draw.proofs.Refusals.{act_not, not-of}
+use Rattle.model_cost.specs.Cost.{first_cost, message_cost, of_found}
 use Rattle.model_looked.specs.Rows.{rows_first, rows_of}
 use Rattle.r9_draw.specs.declared.message.Step.{Step}
 use Rattle.r9_draw.specs.declared.message.Step.TheVariants.{Done}
@@ -186,3 +187,9 @@ same-rows k w bytes rows _ none = refl
 -- what was added goes
 pub rows-truncated : (rows added all : List ℕ) (n : ℕ) → all ≡ rows ++ added → n ≡ length rows → take n all ≡ rows
 rows-truncated rows added all n e is = rw (e, is, take-append-le (length rows) rows added (omega arith), take_all (length rows) rows (omega arith)) refl
+
+-- ---- the cost
+
+-- the message that stands first costs what it costs
+pub first-costs : (k : ℕ) (w : World) (bytes rest : List ℕ) (m : Message) → first_message bytes ≡ IsMessage m rest → first_cost k w bytes ≡ message_cost k w m
+first-costs k w bytes rest m e = ap (λ (f : First). of_found (λ m. message_cost k w m.0) (spelled f)) e

@@ -1,11 +1,12 @@
 -- What becomes of one message.
-use Rattle.std.specs.Prelude.{◌≡◌, ◌≢◌, ◌<◌, ◌≤◌, ◌⊎◌, ◌++◌, ℕ, Bool, true, false, List, [], ◌∷◌, length, drop, None, Ok, Err, is_ok, IsSome}
+use Rattle.std.specs.Prelude.{◌≡◌, ◌≢◌, ◌+◌, ◌<◌, ◌≤◌, ◌⊎◌, ◌++◌, ℕ, Bool, true, false, List, [], ◌∷◌, length, drop, None, Ok, Err, is_ok, IsSome}
 use Rattle.model_text.specs.Map.{lookup}
 use Rattle.model_dmsg.specs.Message.{Message, LowY}
 use Rattle.model_draw.specs.World.{World}
 use Rattle.model_draw.specs.Act.{one_message, no_memory}
 use Rattle.model_draw.specs.Memory.{MayRunOut}
 use Rattle.model_looked.specs.Rows.{rows_first}
+use Rattle.model_cost.specs.Cost.{first_cost}
 use Rattle.r9_draw.specs.declared.message.Step.{Step}
 use Rattle.r9_draw.specs.declared.message.Step.TheVariants.{Done, Refused, Short}
 
@@ -43,3 +44,10 @@ rows_by m len = []
 abbrev pub HasRows : ℕ → World → List ℕ → Step → (before after : List ℕ) → Type 0
 HasRows k world bytes (Done len) before after = after ≡ before ++ rows_first k world bytes
 HasRows k world bytes step before after = after ≡ before
+
+-- ---- the cost
+
+-- no more pixels were written than the first of these bytes' messages costs, where it is done, and none where it is not
+abbrev pub IsCounted : ℕ → World → List ℕ → Step → (before after : ℕ) → Type 0
+IsCounted k world bytes (Done len) before after = after ≤ before + first_cost k world bytes
+IsCounted k world bytes step before after = after ≡ before

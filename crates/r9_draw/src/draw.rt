@@ -1,12 +1,12 @@
 //! The draw device as its callers have it, and the connections that begin and end.
 
-ghost use Rattle.std.specs.Prelude.{Ok, is_some, ◌≡◌, ◌≤◌, ◌<◌, ◌^◌, ◌<ℤ◌, pos, None, IfOk, OnOk, OnErr, IsSome};
+ghost use Rattle.std.specs.Prelude.{Ok, ◌+◌, is_some, ◌≡◌, ◌≤◌, ◌<◌, ◌^◌, ◌<ℤ◌, pos, None, IfOk, OnOk, OnErr, IsSome};
 ghost use Rattle.r9_geom.specs.Geometry.{IsOrdered};
 ghost use Rattle.model_text.specs.Map.{lookup};
+ghost use Rattle.model_cost.specs.Cost.{leave_cost, orders_cost};
 ghost use Rattle.model_draw.specs.Sound.{IsAllUsed};
 ghost use Rattle.model_draw.specs.Orders.{carried_out, with_root_rio};
 ghost use Rattle.model_draw.specs.World.{started, after_connect, after_leave};
-ghost use Rattle.r9_device.specs.World.{world_of as device_world};
 
 use r9_chan::Chan;
 use r9_device::Device;
@@ -16,30 +16,7 @@ use r9_memory::Memory;
 use r9_orders::carry_out;
 use r9_steps::Steps;
 use std::alloc::Global;
-use std::marker::Brand;
-use std::sync::ledger::{Blank, Ledger};
-
-// A connection ends, with a count of the pixels that this writes.
-fn leave<L: Ledger>(device: &mut Device, client: u64, blank: Blank) -> Result<(), Memory>
-    requires name { blank.name ≡ L.name }
-    requires parts { blank.parts ≡ L.parts }
-    requires some { 0 < L.parts }
-    requires live { IsSome (lookup (device_world device.old).clients client) }
-    ensures left { OnOk result (device_world device.new ≡ after_leave (device_world device.old) client) }
-    ensures kept { OnErr result (device_world device.new ≡ device_world device.old) }
-{
-    device.leave(client, &mut Steps::<L>::new(blank))
-}
-
-// Carries out orders, with a count of the pixels that they write.
-fn obey<L: Ledger>(device: &mut Device, list: &Orders, blank: Blank) -> Result<(), Memory>
-    requires name { blank.name ≡ L.name }
-    requires parts { blank.parts ≡ L.parts }
-    requires some { 0 < L.parts }
-    ensures { OnOk result (device_world device.new ≡ carried_out (device_world device.old) list.now) }
-{
-    carry_out(device, list, &mut Steps::<L>::new(blank))
-}
+use std::sync::ledger::Ledger;
 
 /// The draw device: images, what the ids of connections refer to, and the connections, each of which has a number of its own
 /// that the caller chooses, from 1 on.
@@ -89,20 +66,24 @@ impl Draw {
         self.device.connect(client)
     }
 
-    /// A connection ends: its ids are freed, and what nothing refers to any more goes. After Memory all is as before.
-    pub fn leave(&mut self, client: u64) -> Result<(), Memory>
+    /// A connection ends: its ids are freed, and what nothing refers to any more goes. After Memory all is as before. Each pixel that
+    /// is written is counted in `pixels`.
+    pub fn leave<L: Ledger>(&mut self, client: u64, pixels: &mut Steps<L>) -> Result<(), Memory>
         requires { IsSome (lookup (world_of self.old).clients client) }
         ensures left { OnOk result (world_of self.new ≡ after_leave (world_of self.old) client) }
         ensures kept { OnErr result (world_of self.new ≡ world_of self.old) }
+        ensures pixels { pixels.new ≤ pixels.old + leave_cost (world_of self.old) client }
+        ensures uncounted { OnErr result (pixels.new ≡ pixels.old) }
     {
-        leave::<Brand>(&mut self.device, client, Blank::new(1))
+        self.device.leave(client, pixels)
     }
 
     /// Carries out orders of the window manager, one after the other. One that does not fit changes nothing. After Memory some
-    /// may have been carried out.
-    pub fn orders(&mut self, list: &Orders) -> Result<(), Memory>
+    /// may have been carried out. Each pixel that is written is counted in `pixels`.
+    pub fn orders<L: Ledger>(&mut self, list: &Orders, pixels: &mut Steps<L>) -> Result<(), Memory>
         ensures done { OnOk result (world_of self.new ≡ carried_out (world_of self.old) list.now) }
+        ensures pixels { OnOk result (pixels.new ≤ pixels.old + orders_cost (world_of self.old) list.now) }
     {
-        obey::<Brand>(&mut self.device, list, Blank::new(1))
+        carry_out(&mut self.device, list, pixels)
     }
 }

@@ -4,7 +4,7 @@ ghost use Rattle.std.specs.Prelude.{◌≡◌, ◌≤◌, Ok, Err, IsSome, lengt
 ghost use Rattle.model_text.specs.Map.{lookup};
 ghost use Rattle.model_dmsg.specs.Reading.{IsMessage, first_message};
 ghost use Rattle.r9_dmsg.specs.Listed.{listed_len, listed_message, HasShortList, IsNearListed};
-ghost use Rattle.r9_draw.specs.Steps.{IsStep};
+ghost use Rattle.r9_draw.specs.Steps.{IsCounted, IsStep};
 ghost use Rattle.r9_device.specs.World.{world_of};
 
 use crate::message::Step;
@@ -28,7 +28,8 @@ pub(crate) fn listed_message<L: Ledger>(
     requires short { HasShortList asked.now }
     requires found { first_message bytes.now ≡ IsMessage (listed_message asked.now) (drop (listed_len asked.now) bytes.now) }
     requires within { listed_len asked.now ≤ length bytes.now }
-    ensures { IsStep client (world_of device.old) bytes.now marked result (world_of device.new) }
+    ensures step { IsStep client (world_of device.old) bytes.now marked result (world_of device.new) }
+    ensures steps { IsCounted client (world_of device.old) bytes.now result steps.old steps.new }
 {
     if let Err(refusal) = look_listed(device, client, asked) {
         return Step::Refused(refusal);

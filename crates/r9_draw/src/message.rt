@@ -7,10 +7,11 @@ ghost use Rattle.model_draw.specs.World.{World};
 ghost use Rattle.model_text.specs.Map.{lookup};
 ghost use Rattle.r9_dmsg.specs.Listed.{has_list};
 ghost use Rattle.r9_dmsg.specs.View.{message_of};
-ghost use Rattle.r9_draw.specs.Steps.{HasRows, IsStep, rows_by};
+ghost use Rattle.r9_draw.specs.Steps.{HasRows, IsCounted, IsStep, rows_by};
 ghost use Rattle.r9_device.specs.World.{world_of};
+ghost use Rattle.r9_messages.specs.Costs.{plan_cost};
 ghost use Rattle.r9_messages.specs.Plans.{IsReady, after, is_spare, rows_behind};
-ghost use Rattle.std.specs.Prelude.{IsSome, List, OnErr, OnOk, drop, false, length, ℕ, ◌++◌, ◌<◌, ◌^◌, ◌≡◌, ◌≤◌};
+ghost use Rattle.std.specs.Prelude.{IsSome, ◌+◌, List, OnErr, OnOk, drop, false, length, ℕ, ◌++◌, ◌<◌, ◌^◌, ◌≡◌, ◌≤◌};
 
 use crate::listed::listed_message;
 use r9_device::Device;
@@ -19,8 +20,7 @@ use r9_memory::Memory;
 use r9_messages::{Plan, carry_out, plan_message};
 use r9_steps::Steps;
 use r9_text::Numbers;
-use std::marker::Brand;
-use std::sync::ledger::{Blank, Ledger};
+use std::sync::ledger::Ledger;
 
 /// What became of one message.
 #[derive(Clone, Copy)]
@@ -73,6 +73,8 @@ fn do_plan<L: Ledger>(
     ensures kept { OnErr result (world_of device.new ≡ world_of device.old) }
     ensures rows_kept { OnErr result (rows.new ≡ rows.old) }
     ensures memory { OnErr result (takes_no_memory client (world_of device.old) (message_of message.now) ≡ false) }
+    ensures steps { steps.new ≤ steps.old + plan_cost client (world_of device.old) plan.now }
+    ensures uncounted { OnErr result (steps.new ≡ steps.old) }
 {
     let known = rows.len();
     push_rows(rows, message, plan.rows_behind() as u32)?;
@@ -99,6 +101,7 @@ pub(crate) fn plain_message<L: Ledger>(
     requires plain { (m : Message) (rest : List ℕ) → first_message bytes.now ≡ IsMessage m rest → has_list m ≡ false }
     ensures step { IsStep client (world_of device.old) bytes.now marked result (world_of device.new) }
     ensures rows { HasRows client (world_of device.old) bytes.now result rows.old rows.new }
+    ensures steps { IsCounted client (world_of device.old) bytes.now result steps.old steps.new }
 {
     let message = match next_msg(device.alloc, bytes) {
         Ok(message) => message,
@@ -123,43 +126,24 @@ pub(crate) fn plain_message<L: Ledger>(
     }
 }
 
-// The first message of the bytes, with a count of the pixels that it writes.
-fn counted_message<L: Ledger>(
-    device: &mut Device,
-    client: u64,
-    bytes: &[u8],
-    marked: bool,
-    rows: &mut Numbers,
-    blank: Blank,
-) -> Step
-    requires name { blank.name ≡ L.name }
-    requires parts { blank.parts ≡ L.parts }
-    requires some { 0 < L.parts }
-    requires live { IsSome (lookup (world_of device.old).clients client) }
-    requires few { length bytes.now < 2 ^ 32 }
-    ensures step { IsStep client (world_of device.old) bytes.now marked result (world_of device.new) }
-    ensures rows { HasRows client (world_of device.old) bytes.now result rows.old rows.new }
-{
-    let mut steps = Steps::<L>::new(blank);
-    match next_listed(bytes) {
-        Some(asked) => listed_message(device, client, bytes, &asked, marked, &mut steps),
-        None => plain_message(device, client, bytes, marked, rows, &mut steps),
-    }
-}
-
 /// The first message of the bytes. Where it is marked, it is looked at, and not done. Where it is done, the length of its rows is
 /// added if it is a `y`.
-pub(crate) fn one_message(
+pub(crate) fn one_message<L: Ledger>(
     device: &mut Device,
     client: u64,
     bytes: &[u8],
     marked: bool,
     rows: &mut Numbers,
+    steps: &mut Steps<L>,
 ) -> Step
     requires live { IsSome (lookup (world_of device.old).clients client) }
     requires few { length bytes.now < 2 ^ 32 }
     ensures step { IsStep client (world_of device.old) bytes.now marked result (world_of device.new) }
     ensures rows { HasRows client (world_of device.old) bytes.now result rows.old rows.new }
+    ensures steps { IsCounted client (world_of device.old) bytes.now result steps.old steps.new }
 {
-    counted_message::<Brand>(device, client, bytes, marked, rows, Blank::new(1))
+    match next_listed(bytes) {
+        Some(asked) => listed_message(device, client, bytes, &asked, marked, steps),
+        None => plain_message(device, client, bytes, marked, rows, steps),
+    }
 }

@@ -1,7 +1,8 @@
 //! One write of messages.
 
-ghost use Rattle.std.specs.Prelude.{◌≡◌, ◌≢◌, ◌<◌, ◌^◌, ◌⊎◌, ℕ, length, true, false, None, Some, IfOk, OnErr, IsSome};
+ghost use Rattle.std.specs.Prelude.{◌≡◌, ◌≢◌, ◌<◌, ◌≤◌, ◌+◌, ◌^◌, ◌⊎◌, ℕ, length, true, false, None, Some, IfOk, OnErr, IsSome};
 ghost use Rattle.model_text.specs.Map.{lookup};
+ghost use Rattle.model_cost.specs.Cost.{messages_cost};
 ghost use Rattle.model_draw.specs.Act.{is_marked, no_memory, written, written_within};
 ghost use Rattle.model_draw.specs.Memory.{MayRunOut};
 ghost use Rattle.model_looked.specs.Rows.{rows_within};
@@ -10,7 +11,9 @@ ghost use Rattle.r9_draw.specs.World.{world_of};
 use crate::draw::Draw;
 use crate::message::{Step, behind, one_message};
 use r9_memory::Memory;
+use r9_steps::Steps;
 use r9_text::Numbers;
+use std::sync::ledger::Ledger;
 
 /// How a write ended.
 #[derive(Debug, Drop)]
@@ -38,8 +41,15 @@ fn is_marked(mark: Option<u32>, done: u32) -> bool
 impl Draw {
     /// Does the messages that the bytes spell, one after the other, until one is refused. Those that were done stand. With a
     /// mark it stops after so many messages, where the next one is not refused. Where memory runs out in a message that is
-    /// not refused, it stops before it, and answers Memory where that is the first one.
-    pub fn write(&mut self, client: u64, bytes: &[u8], mark: Option<u32>) -> Result<Wrote, Memory>
+    /// not refused, it stops before it, and answers Memory where that is the first one. Each pixel that is written is counted in
+    /// `pixels`.
+    pub fn write<L: Ledger>(
+        &mut self,
+        client: u64,
+        bytes: &[u8],
+        mark: Option<u32>,
+        pixels: &mut Steps<L>,
+    ) -> Result<Wrote, Memory>
         requires live { IsSome (lookup (world_of self.old).clients client) }
         requires few { length bytes.now < 2 ^ 32 }
         ensures plain { IfOk result (λ w. w.short ≡ false → written client (world_of self.old) bytes.now mark ≡ record { world = world_of self.new; done = w.done; refusal = w.refusal }) }
@@ -48,13 +58,15 @@ impl Draw {
         ensures rows { IfOk result (λ w. w.rows ≡ rows_within w.done client (world_of self.old) bytes.now) }
         ensures cause { IfOk result (λ w. w.short ≡ true → (mark ≡ Some w.done) ⊎ MayRunOut client (world_of self.old) bytes.now w.done) }
         ensures memory { OnErr result ((world_of self.new ≡ world_of self.old) × ((n : ℕ) × MayRunOut client (world_of self.old) bytes.now n)) }
+        ensures pixels { IfOk result (λ w. pixels.new ≤ pixels.old + messages_cost w.done client (world_of self.old) bytes.now) }
+        ensures uncounted { OnErr result (pixels.new ≡ pixels.old) }
     {
         let mut rest = bytes;
         let mut done = 0;
         let mut rows = Numbers::new(self.device.alloc);
         'messages: while !rest.is_empty() {
             let marked = is_marked(mark, done);
-            match one_message(&mut self.device, client, rest, marked, &mut rows) {
+            match one_message(&mut self.device, client, rest, marked, &mut rows, pixels) {
                 Step::Done(len) => rest = behind(rest, len),
                 Step::Refused(refusal) => {
                     return Ok(Wrote {
@@ -87,8 +99,15 @@ impl Draw {
     }
 
     /// Does the messages that stand first in the bytes, so many at most, one after the other, until one is refused. What stands
-    /// behind them is not looked at. Where memory runs out in a message that is not refused, it stops before it.
-    pub fn write_first(&mut self, client: u64, bytes: &[u8], most: u32) -> Wrote
+    /// behind them is not looked at. Where memory runs out in a message that is not refused, it stops before it. Each pixel that is
+    /// written is counted in `pixels`.
+    pub fn write_first<L: Ledger>(
+        &mut self,
+        client: u64,
+        bytes: &[u8],
+        most: u32,
+        pixels: &mut Steps<L>,
+    ) -> Wrote
         requires live { IsSome (lookup (world_of self.old).clients client) }
         requires few { length bytes.now < 2 ^ 32 }
         ensures plain { result.short ≡ false → written_within most client (world_of self.old) None 0 bytes.now ≡ record { world = world_of self.new; done = result.done; refusal = result.refusal } }
@@ -96,12 +115,13 @@ impl Draw {
         ensures refused { result.refusal ≢ Some no_memory }
         ensures rows { result.rows ≡ rows_within result.done client (world_of self.old) bytes.now }
         ensures cause { result.short ≡ true → MayRunOut client (world_of self.old) bytes.now result.done }
+        ensures pixels { pixels.new ≤ pixels.old + messages_cost result.done client (world_of self.old) bytes.now }
     {
         let mut rest = bytes;
         let mut done = 0;
         let mut rows = Numbers::new(self.device.alloc);
         'messages: while done < most && !rest.is_empty() {
-            match one_message(&mut self.device, client, rest, false, &mut rows) {
+            match one_message(&mut self.device, client, rest, false, &mut rows, pixels) {
                 Step::Done(len) => rest = behind(rest, len),
                 Step::Refused(refusal) => {
                     return Wrote {

@@ -18,3 +18,4 @@ pub mod Setting
 pub mod Showing
 pub mod Sized
 pub mod Sounding
+pub mod Still

@@ -72,6 +72,7 @@ impl Images {
         ensures taken { OnOk result (numbers self.new ≡ taken (numbers self.old)) }
         ensures err { OnErr result (IsUnchanged self.old self.new) }
         ensures steps { steps.new ≤ steps.old + 2 * area_of r }
+        ensures uncounted { OnErr result (steps.new ≡ steps.old) }
     {
         self.reserve_window(&r)?;
         let below = self.lists.get(parent);
@@ -136,6 +137,7 @@ impl Images {
         ensures later { OnOk result (wanted_in self.new.pixels (shape self.new.lists) q later.now ≤ spare_in self.new.pixels) }
         ensures err { OnErr result (IsUnchanged self.old self.new) }
         ensures steps { steps.new ≤ steps.old + 2 * area_of r }
+        ensures uncounted { OnErr result (steps.new ≡ steps.old) }
     {
         let made = self.lists.len();
         // Nothing becomes bare.

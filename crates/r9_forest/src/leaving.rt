@@ -25,6 +25,7 @@ impl Images {
         ensures world { world self.new ≡ after_release (world self.old) i }
         ensures back { numbers self.new ≡ given_back (numbers self.old) i }
         ensures steps { steps.new ≤ steps.old + 2 * area_of (image_at (world self.old) i).r }
+        ensures bare { parent_of (world self.old) i ≡ None → steps.new ≡ steps.old }
     {
         match self.lists.get(i).standing {
             Some(standing) => self.take_out(i, standing, steps),

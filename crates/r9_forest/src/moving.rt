@@ -16,7 +16,7 @@ ghost use Rattle.r9_forest.specs.Groups.{IsMoved};
 ghost use Rattle.r9_fills.specs.Fills.{fill_at};
 ghost use Rattle.r9_forest.specs.Given.{filled_at, given_at, left_of, IsEnough};
 ghost use Rattle.r9_forest.specs.Replaced.{IsShown};
-ghost use Rattle.model_kept.specs.Keeping.{is_top};
+ghost use Rattle.model_kept.specs.Keeping.{is_top, place_among as place_in};
 
 use super::coming::{Given, content};
 use super::filling::put_block;
@@ -98,7 +98,7 @@ impl Images {
 
     /// Gives an image another min in its own coordinates, where its pixels and its windows move along, and a window another
     /// corner on its parent, where its fill then shows. At most two pixels are written for each point where a window stood, and
-    /// two for each where it stands then.
+    /// two for each where it stands then; none where it gets the place that it has.
     pub fn origin<L: Ledger>(
         &mut self,
         i: u32,
@@ -113,6 +113,8 @@ impl Images {
         ensures numbers { numbers self.new ≡ numbers self.old }
         ensures err { OnErr result (world self.new ≡ world self.old) }
         ensures steps { steps.new ≤ steps.old + 4 * area_of (image_at (world self.old) i).r }
+        ensures uncounted { OnErr result (steps.new ≡ steps.old) }
+        ensures still { IfSome (image_at (world self.old) i).standing (λ s. place_in (image_at (world self.old) s.parent).windows i ≡ carried_place (image_at (world self.old) i).r (image_at (world self.old) i).r.min corner) → steps.new ≡ steps.old }
     {
         let Some(standing) = self.lists.get(i).standing else {
             self.shift_own(i, min);
@@ -147,10 +149,15 @@ impl Images {
         ensures numbers { numbers self.new ≡ numbers self.old }
         ensures err { OnErr result (world self.new ≡ world self.old) }
         ensures steps { steps.new ≤ steps.old + 4 * area_of (image_at (world self.old) i).r }
+        ensures uncounted { OnErr result (steps.new ≡ steps.old) }
+        ensures still { place_in (image_at (world self.old) standing.parent).windows i ≡ carried_place (image_at (world self.old) i).r (image_at (world self.old) i).r.min corner → steps.new ≡ steps.old }
     {
         let r = self.lists.get(i).r;
         let place = carried_rect(&r, r.min, corner);
         let below = self.lists.get(standing.parent);
+        if place_among(&below.windows, i) == place {
+            return Ok(());
+        }
         let is_hidden = place.meet(&below.r).is_empty();
         let list = moved_list(self.alloc, &below.windows, i, place)?;
         reserve_move(&self.lists, &mut self.pixels, standing.parent, i, &list)?;
@@ -176,6 +183,7 @@ impl Images {
         ensures numbers { numbers self.new ≡ numbers self.old }
         ensures err { OnErr result (world self.new ≡ world self.old) }
         ensures steps { steps.new ≤ steps.old + 4 * area_of (image_at (world self.old) i).r }
+        ensures uncounted { OnErr result (steps.new ≡ steps.old) }
     {
         if is_hidden {
             self.leave_place(i, standing, list, steps);

@@ -38,6 +38,7 @@ impl Images {
         ensures numbers { numbers self.new ≡ numbers self.old }
         ensures err { OnErr result (world self.new ≡ world self.old) }
         ensures steps { steps.new ≤ steps.old + 2 * group_area (world self.old) (map (λ i. i.0) group.now) }
+        ensures uncounted { OnErr result (steps.new ≡ steps.old) }
     {
         let Some(parent) = self.parent_of_first(group) else {
             return Ok(());
@@ -59,6 +60,7 @@ impl Images {
         ensures numbers { numbers self.new ≡ numbers self.old }
         ensures err { OnErr result (world self.new ≡ world self.old) }
         ensures steps { steps.new ≤ steps.old + 2 * group_area (world self.old) (map (λ i. i.0) group.now) }
+        ensures uncounted { OnErr result (steps.new ≡ steps.old) }
     {
         let Some(parent) = self.parent_of_first(group) else {
             return Ok(());
@@ -114,6 +116,7 @@ impl Images {
         ensures numbers { numbers self.new ≡ numbers self.old }
         ensures err { OnErr result (world self.new ≡ world self.old) }
         ensures steps { steps.new ≤ steps.old + 2 * sum_by area_of areas.now }
+        ensures uncounted { OnErr result (steps.new ≡ steps.old) }
     {
         self.pixels
             .reserve_hidden(&self.lists, parent, &list, 0, areas)?;

@@ -86,6 +86,7 @@ impl Images {
         ensures taken { OnOk result (numbers self.new ≡ taken (numbers self.old)) }
         ensures err { OnErr result (IsUnchanged self.old self.new) }
         ensures steps { steps.new ≤ steps.old + 2 * area_of r + 4 * area_of (image_at (world self.old) old).r }
+        ensures uncounted { OnErr result (steps.new ≡ steps.old) }
     {
         let Some(left) = self.lists.get(old).standing else {
             return Err(Memory);
@@ -122,6 +123,7 @@ impl Images {
         ensures taken { OnOk result (numbers self.new ≡ taken (numbers self.old)) }
         ensures err { OnErr result (IsUnchanged self.old self.new) }
         ensures steps { steps.new ≤ steps.old + 2 * area_of r + 4 * area_of (image_at (world self.old) old).r }
+        ensures uncounted { OnErr result (steps.new ≡ steps.old) }
     {
         let Some(left) = self.lists.get(old).standing else {
             return Err(Memory);
@@ -160,6 +162,7 @@ impl Images {
         ensures taken { OnOk result (numbers self.new ≡ taken (numbers self.old)) }
         ensures err { OnErr result (IsUnchanged self.old self.new) }
         ensures steps { steps.new ≤ steps.old + 2 * area_of r + 4 * area_of (image_at (world self.old) old).r }
+        ensures uncounted { OnErr result (steps.new ≡ steps.old) }
     {
         self.reserve_window(&r)?;
         let exchange = self.prepare(old, left, standing.parent, over, &r, corner)?;

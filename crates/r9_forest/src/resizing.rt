@@ -32,6 +32,7 @@ impl Images {
         ensures numbers { numbers self.new ≡ numbers self.old }
         ensures err { OnErr result (IsUnchanged self.old self.new) }
         ensures steps { steps.new ≤ steps.old + 2 * area_of (image_at (world self.old) i).r + width * height }
+        ensures uncounted { OnErr result (steps.new ≡ steps.old) }
     {
         resize(
             self.alloc,

@@ -31,7 +31,7 @@ use Rattle.model_served.proofs.Pushed.{by_history}
 use Rattle.model_served.proofs.Rolls.{ended_begun, living_begun}
 use Rattle.model_served.proofs.Seen.{history_order}
 use Rattle.model_served.proofs.Silent.{IsMute, step_mute}
-use Rattle.r9_hall.specs.Acts.{HasGivenUp, IsAct, IsDone, IsHeard, IsMadeOf, answer_by}
+use Rattle.r9_hall.specs.Acts.{HasGivenUp, IsAct, IsCounted, IsDone, IsHeard, IsMadeOf, answer_by}
 use Rattle.r9_hall.specs.HallView.{AllowedNext, HallValue, IsAsStored, OfHistories, StandsFor, StandsForMore}
 use Rattle.r9_hall.specs.Outboxes.{waiting}
 use Rattle.r9_hall.specs.WorldView.{world_in}
@@ -77,6 +77,34 @@ pub gave_up_act : (h now next : HallValue) (asked : Ask) (acted : Acted Answer) 
 gave_up_act h now next asked acted may is going stored given before stands =
     let left = gives_up h now next acted.entered going stored given before stands in
     (left.0, left.1, subst (λ (a : Answer). May (served h.opening) before asked a left.0) (sym is) (may before left.0 left.2), left.3)
+
+-- ---- what is counted
+
+-- an event was made
+pub made_counted : (h now : HallValue) (event : Event) (did : Did) (acted : Acted Answer) (old new : ℕ) → acted.entered ≡ true → IsMadeOf h event did now → h.broken ≡ false
+    → OfHistories h (λ events. new ≤ old + (step (replay h.opening events) (marked event did.short)).cost) → IsCounted h acted now old new
+made_counted h now event did acted old new entered is whole less before stands =
+    let entry : Entry = record { number = length before + 1; event = marked event did.short } in
+    subst (λ (b : Bool). MatchBool b ((e : Entry) × StandsFor now (before ++ e ∷ []) × (new ≤ old + (step (replay h.opening (events_of before)) e.event).cost)) (new ≡ old)) (sym entered)
+    (entry, is.entered before stands, less whole before stands)
+
+-- a Stop was made, or nothing
+quiet : (h next : HallValue) (entered : Bool) (old new : ℕ) → HasGivenUp h next entered → new ≡ old → (before : List Entry) → StandsFor h before
+    → MatchBool entered ((entry : Entry) × StandsFor next (before ++ entry ∷ []) × (new ≤ old + (step (replay h.opening (events_of before)) entry.event).cost)) (new ≡ old)
+quiet h next true old new given silent before stands = (record { number = length before + 1; event = Stop }, given before stands, omega (arith, silent))
+quiet h next false old new given silent before stands = silent
+
+pub quiet_counted : (h next : HallValue) (acted : Acted Answer) (old new : ℕ) → HasGivenUp h next acted.entered → new ≡ old → IsCounted h acted next old new
+quiet_counted h next acted old new given silent = quiet h next acted.entered old new given silent
+
+-- after an event that was not made
+pub gave_up_counted : (h now next : HallValue) (acted : Acted Answer) (old mid new : ℕ) → IsAsStored h now → HasGivenUp now next acted.entered → mid ≡ old → new ≡ mid
+    → IsCounted h acted next old new
+gave_up_counted h now next acted old mid new stored given none silent = quiet_counted h next acted old new (as_given acted.entered given) (silent ∙ none)
+  where
+    as_given : (entered : Bool) → HasGivenUp now next entered → HasGivenUp h next entered
+    as_given true more = λ before stands. more before (stored.stands before stands)
+    as_given false on = λ before stands. on before (stored.stands before stands)
 
 -- ---- Begin
 

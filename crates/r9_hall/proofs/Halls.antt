@@ -58,6 +58,10 @@ begun_more begun roll (Take c) is = is
 begun_more begun roll (End c) is = is
 begun_more begun roll Stop is = is
 
+-- nothing of a turn is still to be told
+abbrev pub IsTold : World → Type 0
+IsTold world = (world.desktop.notes ≡ []) × (world.desktop.cost ≡ 0)
+
 -- The event is one entry more, and its step of the world was made.
 pub record HasTurned (h : HallValue) (event : Event) (after : HallValue) : Type 0 where
   pub opening : after.opening ≡ h.opening
@@ -66,33 +70,33 @@ pub record HasTurned (h : HallValue) (event : Event) (after : HallValue) : Type 
   pub roll : after.roll ≡ roll_after h.roll event
   pub allowed : Allowed h.roll event
   pub whole : after.broken ≡ false → h.broken ≡ false
-  pub world : after.broken ≡ false → (world_in h.world).desktop.notes ≡ [] → world_in after.world ≡ (step (world_in h.world) event).world
+  pub world : after.broken ≡ false → IsTold (world_in h.world) → world_in after.world ≡ (step (world_in h.world) event).world
   pub outboxes : after.broken ≡ false → (c : ℕ) → waiting after.outboxes c ≡ waiting_after c (waiting h.outboxes c) event (step (world_in h.world) event).replies
 
 -- ---- what was told in a turn is told
 
-served_told : (world : World) (c : ℕ) (bytes : List ℕ) (mark : Option ℕ) (session : Option Session) → (served world c bytes mark session).world.desktop.notes ≡ []
-served_told world c bytes mark None = refl
-served_told world c bytes mark (Some session) = refl
+served_told : (world : World) (c : ℕ) (bytes : List ℕ) (mark : Option ℕ) (session : Option Session) → IsTold (served world c bytes mark session).world
+served_told world c bytes mark None = (refl, refl)
+served_told world c bytes mark (Some session) = (refl, refl)
 
-ended_told : (world : World) (c : ℕ) (session : Option Session) → (ended world c session).world.desktop.notes ≡ []
-ended_told world c None = refl
-ended_told world c (Some session) = refl
+ended_told : (world : World) (c : ℕ) (session : Option Session) → IsTold (ended world c session).world
+ended_told world c None = (refl, refl)
+ended_told world c (Some session) = (refl, refl)
 
-step_told : (world : World) (event : Event) → (step world event).world.desktop.notes ≡ []
-step_told world (Begin c) = refl
+step_told : (world : World) (event : Event) → IsTold (step world event).world
+step_told world (Begin c) = (refl, refl)
 step_told world (Msg c bytes mark) = served_told world c bytes mark (lookup world.sessions c)
-step_told world (Take c) = refl
+step_told world (Take c) = (refl, refl)
 step_told world (End c) = ended_told world c (lookup world.sessions c)
-step_told world Stop = refl
+step_told world Stop = (refl, refl)
 
-world_from_told : (world : World) (events : List Event) → world.desktop.notes ≡ [] → (world_from world events).desktop.notes ≡ []
+world_from_told : (world : World) (events : List Event) → IsTold world → IsTold (world_from world events)
 world_from_told world [] told = told
 world_from_told world (e ∷ events) told = world_from_told (step world e).world events (step_told world e)
 
 -- so a history ends with nothing that is still to be told
-history_told : (opening : Opening) (events : List Event) → (replay opening events).desktop.notes ≡ []
-history_told opening events = world_from_told (opened opening) events refl
+history_told : (opening : Opening) (events : List Event) → IsTold (replay opening events)
+history_told opening events = world_from_told (opened opening) events (refl, refl)
 
 -- ---- the hall stands for one entry more
 
@@ -111,7 +115,7 @@ led_more : (h after : HallValue) (event : Event) (history : List Entry) (entry :
 led_more h after event history entry turned led is whole =
     let es = events_of history in
     let pushed : es ++ event ∷ [] ≡ events_of (history ++ entry ∷ []) = ap (λ (e : Event). es ++ e ∷ []) (sym is) ∙ sym (events_of-push history entry) in
-    let told : (world_in h.world).desktop.notes ≡ [] = ap (λ (w : World). w.desktop.notes) led.world ∙ history_told h.opening es in
+    let told : IsTold (world_in h.world) = subst (λ (w : World). IsTold w) (sym led.world) (history_told h.opening es) in
     record {
       world = turned.world whole told ∙ ap (λ (w : World). (step w event).world) led.world ∙ sym (world_from-push (opened h.opening) es event) ∙ (λ i. replay (sym turned.opening i) (pushed i));
       outboxes = λ c. turned.outboxes whole c
@@ -146,8 +150,8 @@ of_histories h P holds whole history stands = subst P (stands.led whole).world h
 abbrev pub nothing_done : Did
 nothing_done = record { replies = []; notes = []; uses = []; short = None; closed = None }
 
-silent_same : (world : World) → world.desktop.notes ≡ [] → world ≡ (step world Stop).world
-silent_same world told = λ i. record { opening = world.opening; desktop = record world.desktop { notes = told i }; sessions = world.sessions }
+silent_same : (world : World) → IsTold world → world ≡ (step world Stop).world
+silent_same world told = λ i. record { opening = world.opening; desktop = record world.desktop { notes = told.0 i; cost = told.1 i }; sessions = world.sessions }
 
 stop_turned : (h after : HallValue) → AllowedNext h Stop → after.opening ≡ h.opening → after.first ≡ h.first → after.stored ≡ h.stored ++ record { number = h.first + length h.stored; event = Stop } ∷ []
     → after.roll ≡ roll_after h.roll Stop → after.broken ≡ h.broken → after.world ≡ h.world → after.outboxes ≡ h.outboxes → HasTurned h Stop after
@@ -174,7 +178,7 @@ stop_made h after event did is none allowed opening first stored roll broken wor
       entered = stands_more h after Stop turned;
       allowed = next;
       replies = λ whole history stands. refl;
-      notes = λ whole history stands. sym (history_told h.opening (events_of history));
+      notes = λ whole history stands. sym (history_told h.opening (events_of history)).0;
       uses = λ watches whole history stands. refl;
       closed = λ whole history stands. refl;
       short = λ whole history stands. tt;

@@ -1,6 +1,6 @@
 -- The state after an event.
 use Rattle.std.specs.Prelude.{◌||◌}
-use Rattle.std.proofs.Common.{◌≡◌, ℕ, Bool, true, false, eqb, List, [], Option, Some, None, Result, Ok, Err, IfOk, IfSome, refl, sym, ap, subst, ◌∙◌}
+use Rattle.std.proofs.Common.{◌≡◌, ◌≤◌, arith, ℕ, Bool, true, false, eqb, List, [], Option, Some, None, Result, Ok, Err, IfOk, IfSome, refl, sym, ap, subst, ◌∙◌}
 use Rattle.std.proofs.lemmas.Bool.{eqb-true, eqb-false}
 use Rattle.r9_event.specs.declared.event.Event.{Event}
 use Rattle.r9_event.specs.declared.event.Event.TheVariants.{End}
@@ -21,7 +21,7 @@ use Rattle.model_world.specs.Sleeping.{may_wake, stirred, told_windows}
 use Rattle.model_world.specs.Standing.{AllWaitOn}
 use Rattle.model_world.specs.Waiting.{one_answered}
 use Rattle.model_world.specs.Whole.{desktop_for}
-use Rattle.model_world.specs.Replay.{Turn, ended, marked, settled_after, turned}
+use Rattle.model_world.specs.Replay.{Turn, ended, marked, settled_after, step, turned}
 use Rattle.model_world.specs.World.{World}
 use Rattle.model_world.proofs.Desktops.{device_of, keeps_connections}
 use Rattle.model_world.proofs.Answers.{answer_holds}
@@ -148,10 +148,17 @@ absent_made opening before after c (Some session) false used at lives left same 
 
 -- the turn ends, and what the windows were told is taken
 pub turn_of : (opening : Opening) (before kept after : Sessions) (event : Event) (made : Made) (did : Did) → IsMade opening before event made kept → did.replies ≡ made.replies → did.closed ≡ made.closed
-    → did.notes ≡ (desktop_of kept.desktop).notes → desktop_of after.desktop ≡ record (desktop_of kept.desktop) { notes = [] } → after.live.entries ≡ kept.live.entries → IsTurn opening before event did after
+    → did.notes ≡ (desktop_of kept.desktop).notes → desktop_of after.desktop ≡ record (desktop_of kept.desktop) { notes = []; cost = 0 } → after.live.entries ≡ kept.live.entries → IsTurn opening before event did after
 turn_of opening before kept after event made did is replies closed told left live = record {
   world = ap (λ (t : Turn). t.world) is.step_is ∙ λ i. world_of opening (sym live i) (sym left i);
   replies_are = ap (λ (t : Turn). t.replies) is.step_is ∙ sym replies;
   notes_are = ap (λ (t : Turn). t.notes) is.step_is ∙ sym told;
   closed_is = ap (λ (t : Turn). t.closed) is.step_is ∙ sym closed;
 }
+
+-- what was written in the turn is at most what the event costs
+pub turn_cost : (opening : Opening) (before kept : Sessions) (event : Event) (made : Made) (written : ℕ) → IsMade opening before event made kept → written ≤ (desktop_of kept.desktop).cost
+    → written ≤ (step (world_with opening before) event).cost
+turn_cost opening before kept event made written is less =
+    let cost : (step (world_with opening before) event).cost ≡ (desktop_of kept.desktop).cost = ap (λ (t : Turn). t.cost) is.step_is in
+    omega (arith, less, cost)

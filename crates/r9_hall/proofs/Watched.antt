@@ -150,7 +150,7 @@ unused_made before after event same (Ok made) is none unused = λ opening.
 
 -- ---- what windows were told is taken
 
-told_used : (world next : World) (event : Event) → event_used world next event ≡ event_used world (record next { desktop = record next.desktop { notes = [] } }) event
+told_used : (world next : World) (event : Event) → event_used world next event ≡ event_used world (record next { desktop = record next.desktop { notes = []; cost = 0 } }) event
 unfolding event_used
 told_used world next (Begin c) = refl
 told_used world next (Msg c bytes mark) = refl
@@ -159,7 +159,7 @@ told_used world next (End c) = refl
 told_used world next Stop = refl
 
 pub turn_used : (opening : Opening) (before kept after : Sessions) (event : Event) (used made : List Use) → used ≡ made → made ≡ event_used (world_with opening before) (world_with opening kept) event
-    → desktop_of after.desktop ≡ record (desktop_of kept.desktop) { notes = [] } → after.live.entries ≡ kept.live.entries
+    → desktop_of after.desktop ≡ record (desktop_of kept.desktop) { notes = []; cost = 0 } → after.live.entries ≡ kept.live.entries
     → used ≡ event_used (world_with opening before) (world_with opening after) event
 turn_used opening before kept after event used made is was left live =
     is ∙ was ∙ told_used (world_with opening before) (world_with opening kept) event ∙ (λ i. event_used (world_with opening before) (world_of opening (sym live i) (sym left i)) event)

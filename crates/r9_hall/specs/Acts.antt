@@ -1,5 +1,5 @@
 -- What an event makes of a hall, and what an act does.
-use Rattle.std.specs.Prelude.{◌≡◌, ◌++◌, ℕ, Bool, true, List, [], ◌∷◌, Option, Some, None, IfSome, IsSome, MatchBool}
+use Rattle.std.specs.Prelude.{◌≡◌, ◌≤◌, ◌+◌, ◌++◌, ℕ, Bool, true, List, [], ◌∷◌, Option, Some, None, IfSome, IsSome, MatchBool}
 use Rattle.r9_event.specs.declared.event.Event.{Event}
 use Rattle.r9_event.specs.declared.event.Event.TheVariants.{Stop}
 use Rattle.r9_event.specs.declared.event.Entry.{Entry}
@@ -8,6 +8,7 @@ use Rattle.r9_event.specs.declared.ask.Ask.{Ask}
 use Rattle.r9_event.specs.declared.ask.Answer.{Answer}
 use Rattle.r9_event.specs.declared.ask.Answer.TheVariants.{Went, Duplicate}
 use Rattle.r9_lock.specs.declared.chronicle.Acted.{Acted}
+use Rattle.model_event.specs.Journal.{events_of}
 use Rattle.model_session.specs.Acts.{May}
 use Rattle.model_served.specs.Served.{served}
 use Rattle.model_alone.specs.Uses.{event_used}
@@ -35,6 +36,13 @@ IsAct h ask acted now =
     (before : List Entry) → StandsFor h before
     → (after : List Entry) × StandsFor now after × May (served h.opening) before ask acted.answer after
     × MatchBool acted.entered ((entry : Entry) × (after ≡ before ++ entry ∷ [])) (after ≡ before)
+
+-- What is counted rises by at most what the entry costs that an act made of a history that the hall stood for, and by nothing where it
+-- made none.
+abbrev pub IsCounted : (before : HallValue) → Acted Answer → (after : HallValue) → (old new : ℕ) → Type 0
+IsCounted h acted now old new =
+    (before : List Entry) → StandsFor h before
+    → MatchBool acted.entered ((entry : Entry) × StandsFor now (before ++ entry ∷ []) × (new ≤ old + (step (replay h.opening (events_of before)) entry.event).cost)) (new ≡ old)
 
 -- a Stop was made, or nothing
 abbrev pub HasGivenUp : (before after : HallValue) → (entered : Bool) → Type 0

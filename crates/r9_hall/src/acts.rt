@@ -5,14 +5,16 @@ ghost use Rattle.model_text.specs.Map.{lookup};
 ghost use Rattle.r9_event.specs.declared.ask.Ask.{Ask};
 ghost use Rattle.r9_event.specs.declared.ask.Answer.{Answer};
 ghost use Rattle.r9_event.specs.declared.event.Event.{Event};
-ghost use Rattle.r9_hall.specs.Acts.{HasGivenUp, IsAct, IsDone, IsHeard};
+ghost use Rattle.r9_hall.specs.Acts.{HasGivenUp, IsAct, IsCounted, IsDone, IsHeard};
 ghost use Rattle.r9_hall.specs.HallView.{StandsForMore, entries};
 ghost use Rattle.r9_hall.specs.WorldView.{world_in};
 
 use crate::hall::Hall;
 use r9_event::{Answer, Ask, Did, Event};
 use r9_lock::{Acted, bell_of};
+use r9_steps::Steps;
 use r9_text::Bytes;
+use std::sync::ledger::Ledger;
 
 /// An answer to an ask that made no event.
 fn told(answer: Answer) -> Acted<Answer>
@@ -50,43 +52,46 @@ fn bells_of_others(session: u32, did: &Did) -> u64 {
 impl Hall {
     /// Does what a session asks: it makes the event, or for want of memory a Stop, or none. It makes a Stop where the event broke the
     /// hall, and always where memory ran out in the end of a session. After a Stop each ask is answered by `Memory`. Where nothing was
-    /// entered the hall is as before.
-    pub fn act(&mut self, ask: Ask) -> Acted<Answer>
+    /// entered the hall is as before. Each pixel that the event wrote is counted in `pixels`; a Stop writes none.
+    pub fn act<L: Ledger>(&mut self, ask: Ask, pixels: &mut Steps<L>) -> Acted<Answer>
         requires { entries self.old < 2 ^ 61 }
         ensures opening { self.new.opening ≡ self.old.opening }
         ensures first { self.new.first ≡ self.old.first }
         ensures history { IsAct self.old ask result self.new }
         ensures whole { result.entered ≡ false → self.new.broken ≡ self.old.broken }
+        // It writes at most the pixels that its entry costs, and none where it made none.
+        ensures pixels { IsCounted self.old result self.new pixels.old pixels.new }
     {
         if !self.can(&Event::Stop) {
             return told(Answer::Memory);
         }
         if self.broken {
-            return self.stop();
+            return self.stop(pixels);
         }
         match ask {
-            Ask::Begin => self.begin(),
-            Ask::Msg { session, bytes } => self.hear(session, bytes),
-            Ask::Look { session } => self.look(session),
-            Ask::End { session } => self.end(session),
+            Ask::Begin => self.begin(pixels),
+            Ask::Msg { session, bytes } => self.hear(session, bytes, pixels),
+            Ask::Look { session } => self.look(session, pixels),
+            Ask::End { session } => self.end(session, pixels),
         }
     }
 
     /// Makes a Stop. All are rung for it: from now on each look is answered otherwise.
-    fn stop(&mut self) -> Acted<Answer>
+    fn stop<L: Ledger>(&mut self, pixels: &mut Steps<L>) -> Acted<Answer>
         requires going { IsFalse self.old.roll.stopped }
         requires room { entries self.old < 2 ^ 61 }
         ensures opening { self.new.opening ≡ self.old.opening }
         ensures first { self.new.first ≡ self.old.first }
         ensures answer { result ≡ record { answer = Answer.Memory; entered = true; rings = 2 ^ 64 - 1 } }
         ensures entered { StandsForMore self.old Event.Stop self.new }
+        ensures silent { pixels.new ≡ pixels.old }
     {
-        let _ = self.event(Event::Stop);
+        let _ = self.event(Event::Stop, pixels);
         made(Answer::Memory, u64::MAX)
     }
 
     /// After want of memory in an event: makes a Stop where the hall is broken, and else nothing.
-    fn give_up(&mut self) -> Acted<Answer>
+    fn give_up<L: Ledger>(&mut self, pixels: &mut Steps<L>) -> Acted<Answer>
         requires going { IsFalse self.old.roll.stopped }
         requires room { entries self.old < 2 ^ 61 }
         ensures opening { self.new.opening ≡ self.old.opening }
@@ -94,14 +99,15 @@ impl Hall {
         ensures answer { result.answer ≡ Answer.Memory }
         ensures entered { HasGivenUp self.old self.new result.entered }
         ensures whole { result.entered ≡ false → self.new.broken ≡ false }
+        ensures silent { pixels.new ≡ pixels.old }
     {
         if self.broken {
-            return self.stop();
+            return self.stop(pixels);
         }
         told(Answer::Memory)
     }
 
-    fn begin(&mut self) -> Acted<Answer>
+    fn begin<L: Ledger>(&mut self, pixels: &mut Steps<L>) -> Acted<Answer>
         requires going { IsFalse self.old.roll.stopped }
         requires whole { self.old.broken ≡ false }
         requires room { entries self.old < 2 ^ 61 }
@@ -109,6 +115,7 @@ impl Hall {
         ensures first { self.new.first ≡ self.old.first }
         ensures history { IsAct self.old Ask.Begin result self.new }
         ensures whole { result.entered ≡ false → self.new.broken ≡ false }
+        ensures pixels { IsCounted self.old result self.new pixels.old pixels.new }
     {
         let Some(session) = self.world.begun().checked_add(1) else {
             return told(Answer::Crowded);
@@ -117,8 +124,8 @@ impl Hall {
         if !self.can(&event) {
             return told(Answer::Crowded);
         }
-        let Ok(_) = self.event(event) else {
-            return self.give_up();
+        let Ok(_) = self.event(event, pixels) else {
+            return self.give_up(pixels);
         };
         made(Answer::Began(session), 0)
     }
@@ -135,7 +142,12 @@ impl Hall {
         }
     }
 
-    fn hear(&mut self, session: u32, bytes: Bytes) -> Acted<Answer>
+    fn hear<L: Ledger>(
+        &mut self,
+        session: u32,
+        bytes: Bytes,
+        pixels: &mut Steps<L>,
+    ) -> Acted<Answer>
         requires going { IsFalse self.old.roll.stopped }
         requires whole { self.old.broken ≡ false }
         requires room { entries self.old < 2 ^ 61 }
@@ -143,6 +155,7 @@ impl Hall {
         ensures first { self.new.first ≡ self.old.first }
         ensures history { IsAct self.old (Ask.Msg session bytes) result self.new }
         ensures whole { result.entered ≡ false → self.new.broken ≡ false }
+        ensures pixels { IsCounted self.old result self.new pixels.old pixels.new }
     {
         let event = Event::Msg {
             session,
@@ -152,8 +165,8 @@ impl Hall {
         if !self.can(&event) {
             return told(Answer::Closed);
         }
-        let Ok(did) = self.event(event) else {
-            return self.give_up();
+        let Ok(did) = self.event(event, pixels) else {
+            return self.give_up(pixels);
         };
         made(self.heard(session), bells_of_others(session, &did))
     }
@@ -165,7 +178,7 @@ impl Hall {
         self.world.session_size(session).is_none() || self.world.closed_by(session).is_some()
     }
 
-    fn look(&mut self, session: u32) -> Acted<Answer>
+    fn look<L: Ledger>(&mut self, session: u32, pixels: &mut Steps<L>) -> Acted<Answer>
         requires going { IsFalse self.old.roll.stopped }
         requires whole { self.old.broken ≡ false }
         requires room { entries self.old < 2 ^ 61 }
@@ -173,6 +186,7 @@ impl Hall {
         ensures first { self.new.first ≡ self.old.first }
         ensures history { IsAct self.old (Ask.Look session) result self.new }
         ensures whole { result.entered ≡ false → self.new.broken ≡ false }
+        ensures pixels { IsCounted self.old result self.new pixels.old pixels.new }
     {
         let event = Event::Take { session };
         if !self.can(&event) {
@@ -184,13 +198,13 @@ impl Hall {
             }
             return told(Answer::Nothing);
         }
-        let Ok(given) = self.make(event) else {
-            return self.give_up();
+        let Ok(given) = self.make(event, pixels) else {
+            return self.give_up(pixels);
         };
         made(Answer::Taken(given.taken), 0)
     }
 
-    fn end(&mut self, session: u32) -> Acted<Answer>
+    fn end<L: Ledger>(&mut self, session: u32, pixels: &mut Steps<L>) -> Acted<Answer>
         requires going { IsFalse self.old.roll.stopped }
         requires whole { self.old.broken ≡ false }
         requires room { entries self.old < 2 ^ 61 }
@@ -198,13 +212,14 @@ impl Hall {
         ensures first { self.new.first ≡ self.old.first }
         ensures history { IsAct self.old (Ask.End session) result self.new }
         ensures whole { result.entered ≡ false → self.new.broken ≡ false }
+        ensures pixels { IsCounted self.old result self.new pixels.old pixels.new }
     {
         let event = Event::End { session };
         if !self.can(&event) {
             return told(Answer::Closed);
         }
-        let Ok(did) = self.event(event) else {
-            return self.stop();
+        let Ok(did) = self.event(event, pixels) else {
+            return self.stop(pixels);
         };
         made(Answer::Ended, bells_of_others(session, &did))
     }

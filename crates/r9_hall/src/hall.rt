@@ -8,7 +8,7 @@ ghost use Rattle.model_draw.specs.Files.{screen_file};
 ghost use Rattle.model_draw.specs.Orders.{picture_of};
 ghost use Rattle.model_event.specs.Legal.{roll_after};
 ghost use Rattle.model_served.specs.Served.{journal_of};
-ghost use Rattle.model_world.specs.Replay.{marked, outbox};
+ghost use Rattle.model_world.specs.Replay.{marked, outbox, replay, step};
 ghost use Rattle.r9_hall.specs.Acts.{IsMadeOf};
 ghost use Rattle.r9_hall.specs.HallView.{AllowedNext, IsAsStored, OfHistories, StandsFor, StandsOn, entries};
 ghost use Rattle.r9_hall.specs.Outboxes.{taken};
@@ -19,10 +19,12 @@ use crate::world::World;
 use r9_event::{Did, Entry, Event, Notes, Opening, Replies, Uses};
 use r9_journal::Roll;
 use r9_memory::Memory;
+use r9_steps::Steps;
 use r9_text::Bytes;
 use std::alloc::Global;
 use std::collections::BTreeMap;
 use std::marker::Model;
+use std::sync::ledger::Ledger;
 
 /// The server: an opening, what has happened since, and to what that led. It stands for a whole history, whose entries are numbered
 /// from 1, and stores those from the number `first` on; those before were forgotten. Once memory ran out in the middle of an event
@@ -214,7 +216,11 @@ impl Hall {
     }
 
     /// Makes an event, and gives as well what it took of what waited.
-    pub(crate) fn make(&mut self, event: Event) -> Result<Given, Memory>
+    pub(crate) fn make<L: Ledger>(
+        &mut self,
+        event: Event,
+        pixels: &mut Steps<L>,
+    ) -> Result<Given, Memory>
         requires can { AllowedNext self.old event }
         requires room { entries self.old < 2 ^ 61 }
         ensures opening { self.new.opening ≡ self.old.opening }
@@ -226,6 +232,9 @@ impl Hall {
         ensures stop { event ≡ Event.Stop → IsOk result }
         ensures stopped { event ≡ Event.Stop → IfOk result (λ given. given.did ≡ record { replies = []; notes = []; uses = []; short = None; closed = None }) }
         ensures err { OnErr result (IsAsStored self.old self.new) }
+        ensures pixels { IfOk result (λ given. OfHistories self.old (λ events. pixels.new ≤ pixels.old + (step (replay self.old.opening events) (marked event given.did.short)).cost)) }
+        ensures uncounted { OnErr result (pixels.new ≡ pixels.old) }
+        ensures silent { event ≡ Event.Stop → pixels.new ≡ pixels.old }
     {
         if let Event::Stop = event {
             enter(&mut self.roll, &mut self.stored, self.first, event)?;
@@ -233,23 +242,28 @@ impl Hall {
         }
         self.stored.reserve(2)?;
         self.broken = true;
-        let did = self.world.step(&event)?;
+        let stepped = self.world.make(&event)?;
         let taken = post(
             self.alloc,
             &mut self.outboxes,
             &event,
-            did.replies.as_slice(),
+            stepped.did.replies.as_slice(),
         )?;
-        let event = marked(event, did.short);
+        let event = marked(event, stepped.did.short);
         enter(&mut self.roll, &mut self.stored, self.first, event)?;
         self.broken = false;
-        Ok(Given { did, taken })
+        pixels.add(stepped.pixels);
+        Ok(Given {
+            did: stepped.did,
+            taken,
+        })
     }
 
     /// Makes an event: its entry is one more in the history, and the answer is what it gave. A data write in which memory ran out has
     /// in the history the mark that the answer tells, with which it may come next as well. For want of memory elsewhere the history
-    /// stays as it was, and the hall is as before or broken. A Stop takes no memory.
-    pub fn event(&mut self, event: Event) -> Result<Did, Memory>
+    /// stays as it was, and the hall is as before or broken. A Stop takes no memory. Each pixel that the event wrote is counted in
+    /// `pixels`; for want of memory none is, and none at a Stop, which writes nothing.
+    pub fn event<L: Ledger>(&mut self, event: Event, pixels: &mut Steps<L>) -> Result<Did, Memory>
         requires can { AllowedNext self.old event }
         requires room { entries self.old < 2 ^ 61 }
         ensures opening { self.new.opening ≡ self.old.opening }
@@ -260,8 +274,12 @@ impl Hall {
         ensures stop { event ≡ Event.Stop → IsOk result }
         ensures stopped { event ≡ Event.Stop → IfOk result (λ did. did ≡ record { replies = []; notes = []; uses = []; short = None; closed = None }) }
         ensures err { OnErr result (IsAsStored self.old self.new) }
+        // It writes at most the pixels that what it asks costs.
+        ensures pixels { IfOk result (λ did. OfHistories self.old (λ events. pixels.new ≤ pixels.old + (step (replay self.old.opening events) (marked event did.short)).cost)) }
+        ensures uncounted { OnErr result (pixels.new ≡ pixels.old) }
+        ensures silent { event ≡ Event.Stop → pixels.new ≡ pixels.old }
     {
-        let given = self.make(event)?;
+        let given = self.make(event, pixels)?;
         Ok(given.did)
     }
 

@@ -8,7 +8,7 @@ ghost use Rattle.model_draw.specs.Orders.{picture_of};
 ghost use Rattle.model_world.specs.Cut.{IsCutEvent, IsWantingEvent};
 ghost use Rattle.model_world.specs.Desktop.{first_desktop};
 ghost use Rattle.model_world.specs.Links.{AreLinked, IsLinked};
-ghost use Rattle.model_world.specs.Replay.{marked};
+ghost use Rattle.model_world.specs.Replay.{marked, step};
 ghost use Rattle.model_world.specs.World.{display_of, opened};
 ghost use Rattle.r9_desktop.specs.World.{desktop_of};
 ghost use Rattle.r9_event.specs.declared.event.Event.{Event};
@@ -45,6 +45,13 @@ struct Made {
     uses: Uses,
     short: Option<u32>,
     closed: Option<u16>,
+}
+
+/// What an event gave, and how many pixels it wrote.
+#[derive(Drop)]
+pub(crate) struct Stepped {
+    pub(crate) did: Did,
+    pub(crate) pixels: u64,
 }
 
 /// What a message gave by itself: its reply, if it has one, what it used as far as that is seen then, with what was seen before, the mark
@@ -242,7 +249,7 @@ impl Sessions {
         })
     }
 
-    /// Makes an event. What the windows were told is still to be taken.
+    /// Makes an event. Its turn has still to end: what the windows were told and how many pixels were written is to be taken.
     fn make(&mut self, alloc: Global, event: &Event, watches: bool) -> Result<Made, Memory>
         requires whole { IsWhole event.now }
         requires linked { AreLinked (desktop_of self.old.desktop).device self.old.live.entries }
@@ -265,24 +272,34 @@ impl Sessions {
     }
 
     /// Makes an event, and gives the replies to it, what the windows were told, what it used where that is watched, and the mark with
-    /// which it stands in the history where that is not its own. Nothing is said of the sessions and what they share where memory ran out.
-    pub fn step(&mut self, alloc: Global, event: &Event, watches: bool) -> Result<Did, Memory>
+    /// which it stands in the history where that is not its own, and how many pixels it wrote. Nothing is said of the sessions and what
+    /// they share where memory ran out.
+    pub(crate) fn step(
+        &mut self,
+        alloc: Global,
+        event: &Event,
+        watches: bool,
+    ) -> Result<Stepped, Memory>
         requires whole { IsWhole event.now }
         requires linked { AreLinked (desktop_of self.old.desktop).device self.old.live.entries }
         requires quiet { (c : ℕ) → WaitsAt self.old.live.entries (desktop_of self.old.desktop) c }
-        ensures turn { IfOk result (λ did. (opening : Opening) → IsTurn opening self.old (marked event.now did.short) did self.new) }
-        ensures short { IfOk result (λ did. (opening : Opening) → IfSome did.short (λ k. IsCutEvent (world_with opening self.old) event.now k)) }
-        ensures told { IfOk result (λ did. (opening : Opening) → IsWantingEvent (world_with opening self.old) (marked event.now did.short) → IsSome did.short) }
-        ensures uses { watches ≡ true → IfOk result (λ did. (opening : Opening) → did.uses ≡ event_used (world_with opening self.old) (world_with opening self.new) (marked event.now did.short)) }
+        ensures turn { IfOk result (λ gave. (opening : Opening) → IsTurn opening self.old (marked event.now gave.did.short) gave.did self.new) }
+        ensures short { IfOk result (λ gave. (opening : Opening) → IfSome gave.did.short (λ k. IsCutEvent (world_with opening self.old) event.now k)) }
+        ensures told { IfOk result (λ gave. (opening : Opening) → IsWantingEvent (world_with opening self.old) (marked event.now gave.did.short) → IsSome gave.did.short) }
+        ensures uses { watches ≡ true → IfOk result (λ gave. (opening : Opening) → gave.did.uses ≡ event_used (world_with opening self.old) (world_with opening self.new) (marked event.now gave.did.short)) }
+        ensures pixels { IfOk result (λ gave. (opening : Opening) → gave.pixels ≤ (step (world_with opening self.old) (marked event.now gave.did.short)).cost) }
     {
         let made = self.make(alloc, event, watches)?;
-        let notes = self.desktop.take_notes();
-        Ok(Did {
-            replies: made.replies,
-            notes,
-            uses: made.uses,
-            short: made.short,
-            closed: made.closed,
+        let turn = self.desktop.take_turn();
+        Ok(Stepped {
+            did: Did {
+                replies: made.replies,
+                notes: turn.notes,
+                uses: made.uses,
+                short: made.short,
+                closed: made.closed,
+            },
+            pixels: turn.pixels,
         })
     }
 

@@ -1,6 +1,6 @@
 //! The world, without the history that led to it.
 
-ghost use Rattle.std.specs.Prelude.{◌≡◌, true, false, None, option_map, IfOk, IfSome, IsSome};
+ghost use Rattle.std.specs.Prelude.{◌≡◌, ◌≤◌, ◌+◌, true, false, None, option_map, IfOk, OnErr, IfSome, IsSome};
 ghost use Rattle.std.specs.Option.{option_map_or};
 ghost use Rattle.model_text.specs.Map.{lookup};
 ghost use Rattle.model_cost.specs.Cells.{cells};
@@ -13,12 +13,14 @@ ghost use Rattle.model_world.specs.Replay.{marked, step};
 ghost use Rattle.r9_hall.specs.StateView.{IsWhole};
 ghost use Rattle.r9_hall.specs.WorldView.{IsFirst, IsStepped, world_in};
 
-use crate::sessions::Sessions;
+use crate::sessions::{Sessions, Stepped};
 use r9_event::{Did, Event, Opening};
 use r9_memory::Memory;
+use r9_steps::Steps;
 use r9_text::Bytes;
 use std::alloc::Global;
 use std::marker::Model;
+use std::sync::ledger::Ledger;
 
 /// What a history leads to, as a replay needs it: the opening, the sessions that live and what they share. It keeps neither
 /// the events that were made nor the replies to them, so a long history takes no more memory than a short one. Contracts see it
@@ -77,9 +79,35 @@ impl World {
         })
     }
 
+    /// Makes an event, and gives the replies to it, what the windows were told, what it used where that is watched, the mark with which it
+    /// stands in the history where that is not its own, and how many pixels it wrote. A session that begins is the next one. Where memory
+    /// ran out the world is broken, and nothing else is said of it.
+    pub(crate) fn make(&mut self, event: &Event) -> Result<Stepped, Memory>
+        requires whole { IsWhole event.now }
+        requires next { IsNext self.old.begun event.now }
+        requires going { self.old.broken ≡ false }
+        ensures opening { self.new.opening ≡ self.old.opening }
+        ensures watches { self.new.watches ≡ self.old.watches }
+        ensures world { IfOk result (λ gave. IsStepped self.old (marked event.now gave.did.short) self.new) }
+        ensures replies { IfOk result (λ gave. gave.did.replies ≡ (step (world_in self.old) (marked event.now gave.did.short)).replies) }
+        ensures notes { IfOk result (λ gave. gave.did.notes ≡ (step (world_in self.old) (marked event.now gave.did.short)).notes) }
+        ensures uses { self.old.watches ≡ true → IfOk result (λ gave. gave.did.uses ≡ event_used (world_in self.old) (step (world_in self.old) (marked event.now gave.did.short)).world (marked event.now gave.did.short)) }
+        ensures closed { IfOk result (λ gave. gave.did.closed ≡ (step (world_in self.old) (marked event.now gave.did.short)).closed) }
+        ensures short { IfOk result (λ gave. IfSome gave.did.short (λ k. IsCutEvent (world_in self.old) event.now k)) }
+        ensures told { IfOk result (λ gave. IsWantingEvent (world_in self.old) (marked event.now gave.did.short) → IsSome gave.did.short) }
+        ensures pixels { IfOk result (λ gave. gave.pixels ≤ (step (world_in self.old) (marked event.now gave.did.short)).cost) }
+    {
+        self.broken = true;
+        let stepped = self.sessions.step(self.alloc, event, self.watches)?;
+        self.begun = begun_after(self.begun, event);
+        self.broken = false;
+        Ok(stepped)
+    }
+
     /// Makes an event, and gives the replies to it, what the windows were told, what it used where that is watched, and the mark with which
-    /// it stands in the history where that is not its own. A session that begins is the next one. Where memory ran out the world is broken, and nothing else is said of it.
-    pub fn step(&mut self, event: &Event) -> Result<Did, Memory>
+    /// it stands in the history where that is not its own. A session that begins is the next one. Each pixel that the event wrote is counted
+    /// in `pixels`. Where memory ran out the world is broken, and nothing else is said of it, and none is counted.
+    pub fn step<L: Ledger>(&mut self, event: &Event, pixels: &mut Steps<L>) -> Result<Did, Memory>
         requires whole { IsWhole event.now }
         requires next { IsNext self.old.begun event.now }
         requires going { self.old.broken ≡ false }
@@ -94,12 +122,13 @@ impl World {
         ensures short { IfOk result (λ did. IfSome did.short (λ k. IsCutEvent (world_in self.old) event.now k)) }
         // A reply that is the refusal of want of memory tells one.
         ensures told { IfOk result (λ did. IsWantingEvent (world_in self.old) (marked event.now did.short) → IsSome did.short) }
+        // It writes at most the pixels that what it asks costs.
+        ensures pixels { IfOk result (λ did. pixels.new ≤ pixels.old + (step (world_in self.old) (marked event.now did.short)).cost) }
+        ensures uncounted { OnErr result (pixels.new ≡ pixels.old) }
     {
-        self.broken = true;
-        let did = self.sessions.step(self.alloc, event, self.watches)?;
-        self.begun = begun_after(self.begun, event);
-        self.broken = false;
-        Ok(did)
+        let stepped = self.make(event)?;
+        pixels.add(stepped.pixels);
+        Ok(stepped.did)
     }
 
     /// How many sessions have begun. Nothing is said of a broken world.

@@ -11,11 +11,14 @@ ghost use Rattle.r9_isol.specs.Words.{fault_of_draw};
 ghost use Rattle.r9_isol.specs.World.{desktop_of};
 
 use crate::desktop::Desktop;
+use crate::uncounted::{leave, write, write_first};
 use r9_around::{Told, Wrote};
 use r9_draw::{DrawFault, Wrote as Done};
 use r9_files::{Fault, NO_IMAGE_MEMORY};
 use r9_memory::Memory;
 use r9_text::Bytes;
+use std::marker::Brand;
+use std::sync::ledger::Blank;
 
 /// The draw device's number of a connection of the session, which is session 1 there: each session has 2^26 of its own.
 fn client(connection: u32) -> u64
@@ -68,7 +71,7 @@ impl Desktop {
         ensures left { OnOk result (desktop_of self.new ≡ lone_desktop.leave (desktop_of self.old) connection) }
         ensures kept { OnErr result (desktop_of self.new ≡ desktop_of self.old) }
     {
-        self.device.leave(client(connection))
+        leave::<Brand>(&mut self.device, client(connection), Blank::new(1))
     }
 
     /// Does so many messages at most, and looks at none behind them: memory ran out there.
@@ -81,7 +84,13 @@ impl Desktop {
         ensures refused { IsSome result.short ↔ (result.refusal ≡ Some no_memory) }
         ensures told { AreTold result.told (λ _. Unit {0}) }
     {
-        let wrote = self.device.write_first(client(connection), bytes, most);
+        let wrote = write_first::<Brand>(
+            &mut self.device,
+            client(connection),
+            bytes,
+            most,
+            Blank::new(1),
+        );
         if wrote.short {
             let done = wrote.done;
             return ended(wrote, Some(NO_IMAGE_MEMORY), Some(done));
@@ -103,7 +112,7 @@ impl Desktop {
         ensures told { IfOk result (λ w. AreTold w.told (λ _. Unit {0})) }
         ensures kept { OnErr result (desktop_of self.new ≡ desktop_of self.old) }
     {
-        let wrote = self.device.write(client(connection), bytes, None)?;
+        let wrote = write::<Brand>(&mut self.device, client(connection), bytes, Blank::new(1))?;
         if wrote.short {
             let done = wrote.done;
             return Ok(ended(wrote, Some(NO_IMAGE_MEMORY), Some(done)));

@@ -6,5 +6,6 @@ mod desktop;
 mod device;
 mod notes;
 mod outside;
+mod uncounted;
 
 pub use desktop::Desktop;

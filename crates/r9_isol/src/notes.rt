@@ -10,12 +10,15 @@ ghost use Rattle.r9_event.specs.declared.rio.Order.TheVariants as order;
 ghost use Rattle.r9_isol.specs.World.{desktop_of};
 
 use crate::desktop::{Desktop, Window};
+use crate::uncounted::obey;
 use r9_event::{Note, Order, Orders};
 use r9_geom::Rect;
 use r9_memory::Memory;
 use r9_pane::Pane;
 use r9_text::Bytes;
 use std::alloc::Global;
+use std::marker::Brand;
+use std::sync::ledger::Blank;
 
 /// A new image for the window of a serial, under a name.
 fn replacing(alloc: Global, window: u32, r: Rect, name: &Bytes, keep: bool) -> Result<Order, Memory>
@@ -106,7 +109,7 @@ impl Desktop {
         ensures { OnOk result (desktop_of self.new ≡ noted_alone (desktop_of self.old) note.now) }
     {
         let orders = orders_of(self.alloc, self.serial(), note)?;
-        self.device.orders(&orders)?;
+        obey::<Brand>(&mut self.device, &orders, Blank::new(1))?;
         let window = std::mem::replace(&mut self.window, None);
         self.window = noted(self.alloc, window, note)?;
         Ok(())

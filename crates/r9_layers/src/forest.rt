@@ -1,6 +1,6 @@
 //! A forest of images: every call is one step of the world that it stands for.
 
-ghost use Rattle.std.specs.Prelude.{◌≡◌, ◌+◌, ◌*◌, ◌^◌, ◌<◌, ◌≤◌, ◌↔◌, ℕ, None, Some, true, length, map, pos, All, IfOk, IsOk, IsSome, IsTrue, OnErr, OnOk};
+ghost use Rattle.std.specs.Prelude.{◌≡◌, ◌+◌, ◌*◌, ◌^◌, ◌<◌, ◌≤◌, ◌↔◌, ℕ, None, Some, true, length, map, pos, All, IfOk, IfSome, IsOk, IsSome, IsTrue, OnErr, OnOk};
 ghost use Rattle.r9_geom.specs.declared.Point.{Point as Spot};
 ghost use Rattle.r9_geom.specs.Geometry.{area_of, height, holds, meet, HasPoints, IsNearBy, IsOrdered, IsRectNearBy};
 ghost use Rattle.model_pixel.specs.Channels as channels;
@@ -8,7 +8,7 @@ ghost use Rattle.model_pixel.specs.Rows.{row_bytes, row_pixel, rows_of};
 ghost use Rattle.r9_chan.specs.Op.{number};
 ghost use Rattle.model_forest.specs.Draw.{after_draw, after_fill, after_load};
 ghost use Rattle.model_forest.specs.Numbers.{given_back, next_number, no_numbers, taken};
-ghost use Rattle.model_forest.specs.Steps.{after_image, after_origin, after_release, after_replace, after_replace_on, after_set};
+ghost use Rattle.model_forest.specs.Steps.{after_image, after_origin, after_release, after_replace, after_replace_on, after_set, carried_rect};
 ghost use Rattle.model_forest.specs.Stack.{after_lower, after_raise, after_window};
 ghost use Rattle.model_forest.specs.Cost as cost;
 ghost use Rattle.model_forest.specs.Paint.{paint};
@@ -16,7 +16,7 @@ ghost use Rattle.model_forest.specs.View as model;
 ghost use Rattle.model_forest.specs.World.{image_at, parent_of, CanGo, IsForest, IsLive, SameSize};
 ghost use Rattle.model_resize.specs.Resize.{after_resize, CanResize};
 ghost use Rattle.model_kept.specs.Cells.{cell_of, cells_below, in_cell};
-ghost use Rattle.model_kept.specs.Keeping.{is_hidden, is_shown, outward};
+ghost use Rattle.model_kept.specs.Keeping.{is_hidden, is_shown, outward, place_among};
 ghost use Rattle.r9_plane.specs.Pixels.{chan_of, pixel_at, rect_of};
 ghost use Rattle.r9_store.specs.Tiles.{held, is_held};
 ghost use Rattle.r9_forest.specs.Groups.{group_area};
@@ -113,6 +113,7 @@ impl Forest {
         ensures room { room self.old ≤ room self.new }
         ensures err { OnErr result (IsUnchanged self.old self.new) }
         ensures steps { steps.new ≤ steps.old + 2 * area_of r }
+        ensures uncounted { OnErr result (steps.new ≡ steps.old) }
     {
         let number = self.images.window(parent.0, fill.0, r, raw, steps)?;
         Ok(ImageNo(number))
@@ -135,6 +136,8 @@ impl Forest {
         ensures room { room self.old ≤ room self.new }
         ensures err { OnErr result (world self.new ≡ world self.old) }
         ensures steps { steps.new ≤ steps.old + 4 * area_of (image_at (world self.old) i.0).r }
+        ensures uncounted { OnErr result (steps.new ≡ steps.old) }
+        ensures still { IfSome (image_at (world self.old) i.0).standing (λ s. place_among (image_at (world self.old) s.parent).windows i.0 ≡ carried_rect (image_at (world self.old) i.0).r (image_at (world self.old) i.0).r.min corner) → steps.new ≡ steps.old }
     {
         self.images.origin(i.0, min, corner, steps)
     }
@@ -156,6 +159,7 @@ impl Forest {
         ensures room { room self.old ≤ room self.new }
         ensures err { OnErr result (IsUnchanged self.old self.new) }
         ensures steps { steps.new ≤ steps.old + 2 * area_of (image_at (world self.old) i.0).r + width * height }
+        ensures uncounted { OnErr result (steps.new ≡ steps.old) }
     {
         self.images.resize(i.0, width, height, raw, steps)
     }
@@ -172,6 +176,7 @@ impl Forest {
         ensures room { room self.old ≤ room self.new }
         ensures err { OnErr result (world self.new ≡ world self.old) }
         ensures steps { steps.new ≤ steps.old + 2 * group_area (world self.old) (map (λ i. i.0) group.now) }
+        ensures uncounted { OnErr result (steps.new ≡ steps.old) }
     {
         self.images.raise(group, steps)
     }
@@ -188,6 +193,7 @@ impl Forest {
         ensures room { room self.old ≤ room self.new }
         ensures err { OnErr result (world self.new ≡ world self.old) }
         ensures steps { steps.new ≤ steps.old + 2 * group_area (world self.old) (map (λ i. i.0) group.now) }
+        ensures uncounted { OnErr result (steps.new ≡ steps.old) }
     {
         self.images.lower(group, steps)
     }
@@ -216,6 +222,7 @@ impl Forest {
         ensures room { room self.old ≤ room self.new }
         ensures err { OnErr result (IsUnchanged self.old self.new) }
         ensures steps { steps.new ≤ steps.old + 2 * area_of r + 4 * area_of (image_at (world self.old) old.0).r }
+        ensures uncounted { OnErr result (steps.new ≡ steps.old) }
     {
         let number = self.images.replace(old.0, r, corner, raw, keep, steps)?;
         Ok(ImageNo(number))
@@ -251,6 +258,7 @@ impl Forest {
         ensures room { room self.old ≤ room self.new }
         ensures err { OnErr result (IsUnchanged self.old self.new) }
         ensures steps { steps.new ≤ steps.old + 2 * area_of r + 4 * area_of (image_at (world self.old) old.0).r }
+        ensures uncounted { OnErr result (steps.new ≡ steps.old) }
     {
         let number = self
             .images
@@ -266,6 +274,7 @@ impl Forest {
         ensures back { numbers self.new ≡ given_back (numbers self.old) i.0 }
         ensures room { room self.old ≤ room self.new }
         ensures steps { steps.new ≤ steps.old + 2 * area_of (image_at (world self.old) i.0).r }
+        ensures bare { parent_of (world self.old) i.0 ≡ None → steps.new ≡ steps.old }
     {
         self.images.release(i.0, steps);
     }
@@ -323,6 +332,7 @@ impl Forest {
         ensures err { OnErr result (world self.new ≡ world self.old) }
         ensures memory { area_of (meet r (image_at (world self.old) dst.0).r) ≤ room self.old → IsOk result }
         ensures steps { steps.new ≤ steps.old + area_of (cost.area (world self.old) (record { dst = dst.0; clip = clip; r = r; src = src.0; sp = sp; mask = Some mask.0; mp = mp; op = number op })) }
+        ensures uncounted { OnErr result (steps.new ≡ steps.old) }
     {
         self.run(
             &Task {
@@ -360,6 +370,7 @@ impl Forest {
         ensures err { OnErr result (world self.new ≡ world self.old) }
         ensures memory { area_of (meet r (image_at (world self.old) dst.0).r) ≤ room self.old → IsOk result }
         ensures steps { steps.new ≤ steps.old + area_of (cost.area (world self.old) (record { dst = dst.0; clip = clip; r = r; src = src.0; sp = sp; mask = None; mp = record { x = pos 0; y = pos 0 }; op = number op })) }
+        ensures uncounted { OnErr result (steps.new ≡ steps.old) }
     {
         self.run(
             &Task {
@@ -385,6 +396,7 @@ impl Forest {
         ensures err { OnErr result (world self.new ≡ world self.old) }
         ensures memory { area_of (meet task.now.r (image_at (world self.old) task.now.dst).r) ≤ room self.old → IsOk result }
         ensures steps { steps.new ≤ steps.old + area_of (cost.area (world self.old) (drawing_of task.now)) }
+        ensures uncounted { OnErr result (steps.new ≡ steps.old) }
     {
         let area = drawing::area(&self.images, task);
         if area.is_empty() {
@@ -421,6 +433,7 @@ impl Forest {
         ensures room { room self.old ≤ room self.new }
         ensures err { OnErr result (world self.new ≡ world self.old) }
         ensures steps { steps.new ≤ steps.old + area_of r }
+        ensures uncounted { OnErr result (steps.new ≡ steps.old) }
     {
         self.images.load(i.0, r, rows, steps);
         Ok(())

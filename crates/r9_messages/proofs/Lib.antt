@@ -1,3 +1,4 @@
+pub mod Costs
 pub mod Screened
 pub mod Allocating
 pub mod Made

@@ -1,4 +1,5 @@
 pub mod Fonts
 pub mod Strings
 pub mod Plans
+pub mod Costs
 pub mod Restacking

@@ -1,9 +1,10 @@
 //! What a message does that has no list and is not refused.
 
 ghost use Rattle.model_text.specs.Map.{lookup};
+ghost use Rattle.r9_messages.specs.Costs.{plan_cost};
 ghost use Rattle.r9_messages.specs.Plans.{IsReady, after, is_spare};
 ghost use Rattle.r9_device.specs.World.{world_of};
-ghost use Rattle.std.specs.Prelude.{IsOk, IsSome, OnErr, OnOk, true, ◌≡◌};
+ghost use Rattle.std.specs.Prelude.{IsOk, IsSome, OnErr, OnOk, true, ◌+◌, ◌≡◌, ◌≤◌};
 
 use crate::fonts::{load_cell, make_font};
 use crate::image::{clip, free_id, make_image};
@@ -16,7 +17,8 @@ use r9_memory::Memory;
 use r9_steps::Steps;
 use std::sync::ledger::Ledger;
 
-/// Does what a message asks for, behind which these bytes stand. After Memory all is as before.
+/// Does what a message asks for, behind which these bytes stand. After Memory all is as before. Each pixel that is written is
+/// counted in `steps`.
 pub fn carry_out<L: Ledger>(
     device: &mut Device,
     client: u64,
@@ -29,6 +31,8 @@ pub fn carry_out<L: Ledger>(
     ensures done { OnOk result (world_of device.new ≡ after client (world_of device.old) plan.now rest.now) }
     ensures kept { OnErr result (world_of device.new ≡ world_of device.old) }
     ensures memory { is_spare (world_of device.old) plan.now ≡ true → IsOk result }
+    ensures steps { steps.new ≤ steps.old + plan_cost client (world_of device.old) plan.now }
+    ensures uncounted { OnErr result (steps.new ≡ steps.old) }
 {
     match plan {
         Plan::Nothing => Ok(()),

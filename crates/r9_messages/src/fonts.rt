@@ -1,10 +1,12 @@
 //! Fonts: images that hold characters (draw(3)).
 
-ghost use Rattle.std.specs.Prelude.{◌≡◌, ◌^◌, Ok, Err, IfOk, IfErr, IfSome, OnOk, OnErr, IsSome, is_some};
+ghost use Rattle.std.specs.Prelude.{◌≡◌, ◌≤◌, ◌+◌, ◌^◌, Ok, Err, IfOk, IfErr, IfSome, OnOk, OnErr, IsSome, is_some};
 ghost use Rattle.r9_geom.specs.Geometry.{IsNearBy, IsRectNearBy, area_of, meet};
 ghost use Rattle.model_text.specs.Map.{lookup};
 ghost use Rattle.model_fonts.specs.Font.{new_font};
-ghost use Rattle.model_draw.specs.Writing.{is_turned, load_cell, make_font, with_font};
+ghost use Rattle.model_cost.specs.Cost.{drawing_cost};
+ghost use Rattle.model_draw.specs.World.{look};
+ghost use Rattle.model_draw.specs.Writing.{is_turned, load_cell, make_font, s_alone, unmasked, with_font};
 ghost use Rattle.r9_messages.specs.Fonts.{after_load_cell, CanLoad};
 ghost use Rattle.r9_device.specs.World.{world_of};
 
@@ -84,6 +86,10 @@ pub(crate) fn loading(device: &Device, client: u64, asked: &CellAsked) -> Result
     requires source_near { IsNearBy (2 ^ 32) asked.now.sp }
     ensures loaded { IfOk result (λ l. load_cell client (world_of device.now) asked.now.cacheid asked.now.srcid asked.now.index asked.now.r asked.now.sp asked.now.left asked.now.width ≡ Ok (after_load_cell client (world_of device.now) l)) }
     ensures ready { IfOk result (λ l. CanLoad client (world_of device.now) l) }
+    ensures cache { IfOk result (λ l. look (world_of device.now) client asked.now.cacheid ≡ Ok l.cache.0) }
+    ensures source { IfOk result (λ l. look (world_of device.now) client asked.now.srcid ≡ Ok l.src.0) }
+    ensures rect { IfOk result (λ l. l.r ≡ asked.now.r) }
+    ensures point { IfOk result (λ l. l.sp ≡ asked.now.sp) }
     ensures refused { IfErr result (λ n. load_cell client (world_of device.now) asked.now.cacheid asked.now.srcid asked.now.index asked.now.r asked.now.sp asked.now.left asked.now.width ≡ Err n) }
 {
     let cache = device.look(client, asked.cacheid)?;
@@ -139,6 +145,8 @@ pub(crate) fn load_cell<L: Ledger>(
     requires ready { CanLoad client (world_of device.old) loading.now }
     ensures loaded { OnOk result (world_of device.new ≡ after_load_cell client (world_of device.old) loading.now) }
     ensures kept { OnErr result (world_of device.new ≡ world_of device.old) }
+    ensures steps { steps.new ≤ steps.old + drawing_cost (world_of device.old).images (unmasked loading.now.cache.0 loading.now.r loading.now.r loading.now.src.0 loading.now.sp s_alone) }
+    ensures uncounted { OnErr result (steps.new ≡ steps.old) }
 {
     let Loading { cache, r, sp, .. } = *loading;
     device.forest.keeps();

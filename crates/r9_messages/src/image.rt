@@ -1,5 +1,6 @@
 //! Images that are made, freed, and made to repeat or not (draw(3)).
 
+ghost use Rattle.model_cost.specs.Cost.{coming, going_all};
 ghost use Rattle.model_draw.specs.Making.{allocate, clashes, fill_raw, free_image, is_too_large, overhead, set_clip, with_size};
 ghost use Rattle.model_draw.specs.World.{Client as Connection, client_of, with_images};
 ghost use Rattle.model_forest.specs.Numbers.{next_number, taken};
@@ -12,12 +13,13 @@ ghost use Rattle.model_text.specs.Map.{lookup, with};
 ghost use Rattle.r9_chan.specs.Op.{number};
 ghost use Rattle.r9_client.specs.Clients.{entry_of};
 ghost use Rattle.r9_device.specs.Live.{CanHold, IsLiveIn};
-ghost use Rattle.r9_messages.specs.Plans.{CanMake, CanSet, after_free, after_make, images_made, one_pixel, screen_for};
+ghost use Rattle.r9_messages.specs.Costs.{making_cost};
+ghost use Rattle.r9_messages.specs.Plans.{CanMake, CanSet, after_free, after_make, freed_by, images_made, one_pixel, screen_for};
 ghost use Rattle.r9_device.specs.World.{world_of};
 ghost use Rattle.r9_geom.specs.Geometry.{HasPoints, IsRectNearBy};
 ghost use Rattle.r9_layers.specs.Forest.{numbers, room, world};
 ghost use Rattle.std.specs.List.{sum_by};
-ghost use Rattle.std.specs.Prelude.{Err, IfErr, IfNone, IfOk, IfSome, IsSome, None, Ok, OnErr, OnOk, false, is_ok, is_some, true, ◌+◌, ◌<◌, ◌^◌, ◌≡◌, ◌≤◌};
+ghost use Rattle.std.specs.Prelude.{Err, IfErr, IfNone, IfOk, IfSome, IsSome, None, Ok, OnErr, OnOk, false, if◌then◌else◌, is_ok, is_some, not, true, ◌+◌, ◌<◌, ◌==◌, ◌^◌, ◌≡◌, ◌≤◌};
 
 use crate::lookup::rows_len;
 use crate::plan::Making;
@@ -98,6 +100,8 @@ fn one_pixel<L: Ledger>(
     ensures room { room forest.old ≤ room forest.new }
     ensures kept_images { OnErr result (world forest.new ≡ world forest.old) }
     ensures kept_numbers { OnErr result (numbers forest.new ≡ numbers forest.old) }
+    ensures steps { steps.new ≤ steps.old + making_cost making.now }
+    ensures uncounted { OnErr result (steps.new ≡ steps.old) }
 {
     match making.screen {
         None => forest.image(making.r, making.chan, making.raw),
@@ -136,6 +140,8 @@ fn make<L: Ledger>(
     ensures kept_numbers { OnErr result (numbers forest.new ≡ numbers forest.old) }
     ensures kept_book { OnErr result (book.new.book ≡ book.old.book) }
     ensures kept_owner { OnErr result (owner.new ≡ owner.old) }
+    ensures steps { steps.new ≤ steps.old + making_cost making.now }
+    ensures uncounted { OnErr result (steps.new ≡ steps.old) }
 {
     owner.sizes.reserve()?;
     book.reserve()?;
@@ -175,6 +181,8 @@ fn make_for<L: Ledger>(
     ensures kept_images { OnErr result (world forest.new ≡ world forest.old) }
     ensures kept_numbers { OnErr result (numbers forest.new ≡ numbers forest.old) }
     ensures kept_book { OnErr result (book.new.book ≡ book.old.book) }
+    ensures steps { steps.new ≤ steps.old + making_cost making.now }
+    ensures uncounted { OnErr result (steps.new ≡ steps.old) }
 {
     match clients.get_mut(&client) {
         Some(owner) => make(forest, book, owner, client, making, steps),
@@ -215,6 +223,7 @@ pub(crate) fn screen_for(
 ) -> Result<Option<u32>, u8>
     ensures found { IfOk result (λ s. screen_for client (world_of device.now) id chan repl ≡ Ok s) }
     ensures holds { IfOk result (λ s. IfSome s (λ n. CanHold (world_of device.now).images (world_of device.now).book n chan)) }
+    ensures named { IfOk result (λ s. is_some s ≡ not (id == 0)) }
     ensures refused { IfErr result (λ n. screen_for client (world_of device.now) id chan repl ≡ Err n) }
 {
     let named = screen_named(device, client, id)?;
@@ -231,6 +240,7 @@ pub(crate) fn allocate(device: &Device, client: u64, asked: &Asked) -> Result<Ma
     requires clip { IsRectNearBy (2 ^ 33) asked.now.clipr }
     ensures made { IfOk result (λ m. allocate client (world_of device.now) asked.now.id asked.now.screenid asked.now.refresh asked.now.chan asked.now.repl asked.now.r asked.now.clipr asked.now.color ≡ Ok (after_make client (world_of device.now) m)) }
     ensures ready { IfOk result (λ m. CanMake client (world_of device.now) m) }
+    ensures cost { IfOk result (λ m. making_cost m ≡ (if asked.now.screenid == 0 then 0 else coming asked.now.r)) }
     ensures refused { IfErr result (λ n. allocate client (world_of device.now) asked.now.id asked.now.screenid asked.now.refresh asked.now.chan asked.now.repl asked.now.r asked.now.clipr asked.now.color ≡ Err n) }
 {
     if asked.id == 0 || device.knows(client, asked.id) {
@@ -315,6 +325,8 @@ pub(crate) fn make_image<L: Ledger>(
     requires ready { CanMake client (world_of device.old) making.now }
     ensures made { OnOk result (world_of device.new ≡ after_make client (world_of device.old) making.now) }
     ensures kept { OnErr result (world_of device.new ≡ world_of device.old) }
+    ensures steps { steps.new ≤ steps.old + making_cost making.now }
+    ensures uncounted { OnErr result (steps.new ≡ steps.old) }
 {
     make_for(
         &mut device.forest,
@@ -346,6 +358,8 @@ pub(crate) fn free_id<L: Ledger>(
     requires ready { is_ok (free_id (world_of device.old).book client id) ≡ true }
     ensures freed { OnOk result (world_of device.new ≡ after_free client (world_of device.old) id) }
     ensures kept { OnErr result (world_of device.new ≡ world_of device.old) }
+    ensures steps { steps.new ≤ steps.old + going_all (world_of device.old).images (freed_by (world_of device.old) client id).gone }
+    ensures uncounted { OnErr result (steps.new ≡ steps.old) }
 {
     free_id_frees();
     device.forest.keeps();

@@ -1,7 +1,8 @@
 //! The messages that have lists. What they are refused for is found without memory.
 
-ghost use Rattle.std.specs.Prelude.{◌≡◌, [], true, Ok, Err, IfErr, OnOk, OnErr, IsSome, is_ok};
+ghost use Rattle.std.specs.Prelude.{◌≡◌, ◌≤◌, ◌+◌, [], true, Ok, Err, IfErr, OnOk, OnErr, IsSome, is_ok};
 ghost use Rattle.model_text.specs.Map.{lookup};
+ghost use Rattle.model_cost.specs.Cost.{message_cost};
 ghost use Rattle.model_draw.specs.Act.{act};
 ghost use Rattle.r9_dmsg.specs.Listed.{listed_message, HasShortList, IsNearListed};
 ghost use Rattle.r9_device.specs.World.{world_of};
@@ -34,7 +35,8 @@ pub fn look_listed(device: &Device, client: u64, asked: &Listed<'_>) -> Result<(
     }
 }
 
-/// Does what a message with a list asks for, which is not refused. After Memory all is as before.
+/// Does what a message with a list asks for, which is not refused. After Memory all is as before. Each pixel that is written is
+/// counted in `steps`.
 #[tactic(auto, unfolding(model_draw::specs::Act::act))]
 pub fn do_listed<L: Ledger>(
     device: &mut Device,
@@ -48,6 +50,8 @@ pub fn do_listed<L: Ledger>(
     requires accepted { is_ok (act client (world_of device.old) (listed_message asked.now) []) ≡ true }
     ensures done { OnOk result (act client (world_of device.old) (listed_message asked.now) [] ≡ Ok (world_of device.new)) }
     ensures kept { OnErr result (world_of device.new ≡ world_of device.old) }
+    ensures steps { steps.new ≤ steps.old + message_cost client (world_of device.old) (listed_message asked.now) }
+    ensures uncounted { OnErr result (steps.new ≡ steps.old) }
 {
     match asked {
         Listed::Restack(asked) => restack(device, client, asked, steps),

@@ -1,16 +1,17 @@
 //! Drawing, and pixels that are read and written (draw(3)).
 
+ghost use Rattle.model_cost.specs.Cost.{drawing_cost};
 ghost use Rattle.model_draw.specs.Drawing as drawing;
-ghost use Rattle.model_draw.specs.Drawing.{with_operator, with_rows};
-ghost use Rattle.model_draw.specs.World.{at_number, look};
+ghost use Rattle.model_draw.specs.Drawing.{drawing_of, with_operator, with_rows};
+ghost use Rattle.model_draw.specs.World.{at_number, client_of, look};
 ghost use Rattle.model_imgfile.specs.ImageFile.{rows_len};
 ghost use Rattle.model_text.specs.Map.{lookup};
 ghost use Rattle.r9_chan.specs.Op.{number};
-ghost use Rattle.r9_messages.specs.Plans.{CanDraw, CanWrite, IsPart, after_read, after_task, is_spare};
+ghost use Rattle.r9_messages.specs.Plans.{CanDraw, CanWrite, IsPart, after_read, after_task, drawing_by, is_spare};
 ghost use Rattle.r9_messages.specs.declared.plan.Plan.TheVariants as plan;
 ghost use Rattle.r9_device.specs.World.{world_of};
-ghost use Rattle.r9_geom.specs.Geometry.{IsNearBy, IsRectNearBy};
-ghost use Rattle.std.specs.Prelude.{Err, IfErr, IfNone, IfOk, IfSome, IsOk, IsSome, Ok, OnErr, OnOk, false, length, nat_lt, take, true, ◌^◌, ◌≡◌};
+ghost use Rattle.r9_geom.specs.Geometry.{IsNearBy, IsRectNearBy, area_of};
+ghost use Rattle.std.specs.Prelude.{Err, IfErr, IfNone, IfOk, IfSome, IsOk, IsSome, Ok, OnErr, OnOk, false, length, nat_lt, take, true, ◌+◌, ◌^◌, ◌≡◌, ◌≤◌};
 
 use crate::lookup::{part, rows_of_part};
 use crate::plan::Task;
@@ -58,6 +59,7 @@ pub(crate) fn task(
     requires mask_near { IsNearBy (2 ^ 34) mp }
     ensures drawn { IfOk result (λ t. drawing.draw client (world_of device.now) ids.now.dst ids.now.src ids.now.mask r.now sp mp ≡ Ok (after_task client (world_of device.now) t)) }
     ensures ready { IfOk result (λ t. CanDraw (world_of device.now) t) }
+    ensures drawing { IfOk result (λ t. drawing_of client (world_of device.now) ids.now.dst ids.now.src ids.now.mask r.now sp mp ≡ Ok (drawing_by (client_of (world_of device.now) client).op t)) }
     ensures target { IfOk result (λ t. look (world_of device.now) client ids.now.dst ≡ Ok t.dst.0) }
     ensures rect { IfOk result (λ t. t.r ≡ r.now) }
     ensures refused { IfErr result (λ n. drawing.draw client (world_of device.now) ids.now.dst ids.now.src ids.now.mask r.now sp mp ≡ Err n) }
@@ -125,6 +127,8 @@ pub(crate) fn draw<L: Ledger>(
     ensures drawn { OnOk result (world_of device.new ≡ after_task client (world_of device.old) task.now) }
     ensures kept { OnErr result (world_of device.new ≡ world_of device.old) }
     ensures memory { is_spare (world_of device.old) (plan.Draw task.now) ≡ true → IsOk result }
+    ensures steps { steps.new ≤ steps.old + drawing_cost (world_of device.old).images (drawing_by (client_of (world_of device.old) client).op task.now) }
+    ensures uncounted { OnErr result (steps.new ≡ steps.old) }
 {
     let op = op_of(&device.clients, client);
     device.forest.draw(
@@ -172,6 +176,8 @@ pub(crate) fn write_pixels<L: Ledger>(
     requires whole { length rows.now ≡ rows_len (at_number (world_of device.old) image.0).chan r }
     ensures written { OnOk result (world_of device.new ≡ with_rows (world_of device.old) image.0 r rows.now) }
     ensures kept { OnErr result (world_of device.new ≡ world_of device.old) }
+    ensures steps { steps.new ≤ steps.old + area_of r }
+    ensures uncounted { OnErr result (steps.new ≡ steps.old) }
 {
     device.forest.load(image, r, rows, steps)
 }

@@ -1,10 +1,12 @@
 //! What a message asks for, where it is not refused.
 
+ghost use Rattle.model_cost.specs.Cost.{message_cost};
 ghost use Rattle.model_draw.specs.Act.{act, behind};
 ghost use Rattle.model_draw.specs.Memory.{takes_no_memory};
 ghost use Rattle.model_text.specs.Map.{lookup};
 ghost use Rattle.r9_dmsg.specs.Listed.{has_list};
 ghost use Rattle.r9_dmsg.specs.View.{IsNearMessage, message_of};
+ghost use Rattle.r9_messages.specs.Costs.{plan_cost};
 ghost use Rattle.r9_messages.specs.Plans.{IsReady, after, is_spare, rows_behind};
 ghost use Rattle.r9_device.specs.World.{world_of};
 ghost use Rattle.std.specs.Prelude.{Err, IfErr, IfOk, IsSome, Ok, drop, false, length, ◌≡◌, ◌≤◌};
@@ -128,7 +130,7 @@ impl Plan {
 }
 
 /// What a message without a list asks for, with the bytes behind it, or its first refusal.
-#[tactic(auto, unfolding(model_draw::specs::Act::act, model_draw::specs::Act::behind, model_draw::specs::Drawing::set_operator))]
+#[tactic(auto, unfolding(model_draw::specs::Act::act, model_draw::specs::Act::behind, model_draw::specs::Drawing::set_operator, model_cost::specs::Cost::message_cost))]
 pub fn plan_message(device: &Device, client: u64, message: &Dmsg, rest: &[u8]) -> Result<Plan, u8>
     requires live { IsSome (lookup (world_of device.now).clients client) }
     requires near { IsNearMessage message.now }
@@ -139,6 +141,7 @@ pub fn plan_message(device: &Device, client: u64, message: &Dmsg, rest: &[u8]) -
     ensures ready { IfOk result (λ p. IsReady client (world_of device.now) p rest.now) }
     ensures spare { IfOk result (λ p. takes_no_memory client (world_of device.now) (message_of message.now) ≡ is_spare (world_of device.now) p) }
     ensures refused { IfErr result (λ n. act client (world_of device.now) (message_of message.now) rest.now ≡ Err n) }
+    ensures cost { IfOk result (λ p. plan_cost client (world_of device.now) p ≡ message_cost client (world_of device.now) (message_of message.now)) }
 {
     // One arm for each letter: it names the fields and calls the function that does the work. In groups of letters the
     // clauses above would be stated once for each group.

@@ -1,13 +1,14 @@
 //! Screens: images on which windows stand (draw(3)).
 
+ghost use Rattle.model_cost.specs.Cost.{going_all};
 ghost use Rattle.model_draw.specs.Making.{free_screen_id, make_screen, screen_named, share_screen};
 ghost use Rattle.model_images.specs.Book.{fill_of, image_of, is_screen_id_taken, public, screen_numbered};
 ghost use Rattle.model_images.specs.Release.{free_screen};
 ghost use Rattle.model_text.specs.Map.{lookup};
 ghost use Rattle.r9_device.specs.Live.{IsLiveIn};
-ghost use Rattle.r9_messages.specs.Plans.{CanScreen, after_free_screen, after_make_screen, after_share};
+ghost use Rattle.r9_messages.specs.Plans.{CanScreen, after_free_screen, after_make_screen, after_share, screen_freed_by};
 ghost use Rattle.r9_device.specs.World.{world_of};
-ghost use Rattle.std.specs.Prelude.{Err, IfErr, IfOk, IfSome, IsSome, Ok, OnErr, OnOk, is_ok, is_some, true, ◌≡◌};
+ghost use Rattle.std.specs.Prelude.{Err, IfErr, IfOk, IfSome, IsSome, Ok, OnErr, OnOk, is_ok, is_some, not, true, ◌+◌, ◌==◌, ◌≡◌, ◌≤◌};
 
 use crate::plan::Screening;
 use model_images::free_screen_frees;
@@ -26,6 +27,7 @@ pub(crate) fn screen_named(device: &Device, client: u64, id: u32) -> Result<Opti
     ensures there { IfOk result (λ s. IfSome s (λ n. is_some (screen_numbered (world_of device.now).book n) ≡ true)) }
     ensures image { IfOk result (λ s. IfSome s (λ n. IsLiveIn (world_of device.now) (image_of (world_of device.now).book n))) }
     ensures fill { IfOk result (λ s. IfSome s (λ n. IsLiveIn (world_of device.now) (fill_of (world_of device.now).book n))) }
+    ensures named { IfOk result (λ s. is_some s ≡ not (id == 0)) }
     ensures refused { IfErr result (λ n. screen_named (world_of device.now) client id ≡ Err n) }
 {
     if id == 0 {
@@ -176,6 +178,8 @@ pub(crate) fn free_screen_id<L: Ledger>(
     requires ready { is_ok (free_screen (world_of device.old).book client id) ≡ true }
     ensures freed { OnOk result (world_of device.new ≡ after_free_screen client (world_of device.old) id) }
     ensures kept { OnErr result (world_of device.new ≡ world_of device.old) }
+    ensures steps { steps.new ≤ steps.old + going_all (world_of device.old).images (screen_freed_by (world_of device.old) client id).gone }
+    ensures uncounted { OnErr result (steps.new ≡ steps.old) }
 {
     free_screen_frees();
     device.forest.keeps();

@@ -1,11 +1,12 @@
 //! Strings of the characters of a font (draw(3)): written whole, or not at all.
 
-ghost use Rattle.std.specs.Prelude.{◌≡◌, ◌/◌, ◌^◌, ◌≤◌, true, Ok, Err, IfOk, IfErr, IfSome, OnOk, OnErr, IsSome, is_ok, length};
-ghost use Rattle.std.specs.List.{list_all};
+ghost use Rattle.std.specs.Prelude.{◌≡◌, ◌+◌, ◌/◌, ◌^◌, ◌≤◌, true, Ok, Err, IfOk, IfErr, IfSome, OnOk, OnErr, IsSome, is_ok, length};
+ghost use Rattle.std.specs.List.{list_all, sum_by};
 ghost use Rattle.std.specs.Option.{option_map};
 ghost use Rattle.model_text.specs.Map.{lookup};
 ghost use Rattle.model_fonts.specs.Font.{has_index};
 ghost use Rattle.r9_geom.specs.Geometry.{IsNearBy};
+ghost use Rattle.model_cost.specs.Cost.{drawing_cost, of_found};
 ghost use Rattle.model_draw.specs.World.{client_of};
 ghost use Rattle.model_draw.specs.Writing.{look_background, string_drawings, write_string};
 ghost use Rattle.r9_dmsg.specs.Listed.{indices_of, writing_in, IsNearWriting};
@@ -115,6 +116,8 @@ pub(crate) fn write_string<L: Ledger>(
     requires accepted { is_ok (write_string client (world_of device.old) (writing_in asked.now) (background_of asked.now)) ≡ true }
     ensures written { OnOk result (write_string client (world_of device.old) (writing_in asked.now) (background_of asked.now) ≡ Ok (world_of device.new)) }
     ensures kept { OnErr result (world_of device.new ≡ world_of device.old) }
+    ensures steps { steps.new ≤ steps.old + of_found (sum_by (drawing_cost (world_of device.old).images)) (string_drawings client (world_of device.old) (writing_in asked.now) (background_of asked.now)) }
+    ensures uncounted { OnErr result (steps.new ≡ steps.old) }
 {
     let Ok(lettering) = lettering(device, client, asked) else {
         unreachable!()

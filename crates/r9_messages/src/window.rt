@@ -1,14 +1,16 @@
 //! Windows that are moved, and those that go to the top or to the bottom of the image that they stand on (draw(3)). What a
 //! message is refused for is found without memory.
 
+ghost use Rattle.model_cost.specs.Cost.{of_found, window_moved};
 ghost use Rattle.model_draw.specs.Making.{flag};
-ghost use Rattle.model_draw.specs.Moving.{are_on_one_screen, is_on_screen, look_windows, move_window, restack};
+ghost use Rattle.model_draw.specs.Moving.{are_on_one_screen, is_on_screen, look_window, look_windows, move_window, restack};
 ghost use Rattle.model_draw.specs.World.{with_images};
 ghost use Rattle.model_forest.specs.Steps.{after_origin};
 ghost use Rattle.r9_messages.specs.Plans.{CanMove};
 ghost use Rattle.r9_messages.specs.Restacking.{ShowWindows, after_restacking, group_of, ids_of};
 ghost use Rattle.r9_device.specs.World.{world_of};
-ghost use Rattle.std.specs.Prelude.{Err, IfErr, IfOk, Ok, OnErr, OnOk, length, map, slice_index, ◌/◌, ◌<◌, ◌≡◌};
+ghost use Rattle.std.specs.List.{sum_by};
+ghost use Rattle.std.specs.Prelude.{Err, IfErr, IfOk, Ok, OnErr, OnOk, length, map, slice_index, ◌+◌, ◌/◌, ◌<◌, ◌≡◌, ◌≤◌};
 
 use crate::lookup::{is_near_at, look_window};
 use r9_device::Device;
@@ -29,6 +31,7 @@ pub(crate) fn moving(
     scr: Point,
 ) -> Result<ImageNo, u8>
     ensures moved { IfOk result (λ i. move_window client (world_of device.now) id rmin scr ≡ Ok (with_images (world_of device.now) (after_origin (world_of device.now).images i.0 rmin scr))) }
+    ensures found { IfOk result (λ i. look_window (world_of device.now) client id ≡ Ok i.0) }
     ensures ready { IfOk result (λ i. CanMove (world_of device.now) i.0 rmin scr) }
     ensures refused { IfErr result (λ n. move_window client (world_of device.now) id rmin scr ≡ Err n) }
 {
@@ -51,6 +54,8 @@ pub(crate) fn move_window<L: Ledger>(
     requires { CanMove (world_of device.old) image.0 rmin scr }
     ensures moved { OnOk result (world_of device.new ≡ with_images (world_of device.old) (after_origin (world_of device.old).images image.0 rmin scr)) }
     ensures kept { OnErr result (world_of device.new ≡ world_of device.old) }
+    ensures steps { steps.new ≤ steps.old + window_moved (world_of device.old) image.0 }
+    ensures uncounted { OnErr result (steps.new ≡ steps.old) }
 {
     device.forest.keeps();
     device.forest.origin(image, rmin, scr, steps)
@@ -148,6 +153,8 @@ pub(crate) fn restack<L: Ledger>(
     requires { ShowWindows client (world_of device.old) asked.now }
     ensures restacked { OnOk result (world_of device.new ≡ after_restacking client (world_of device.old) asked.now) }
     ensures kept { OnErr result (world_of device.new ≡ world_of device.old) }
+    ensures steps { steps.new ≤ steps.old + of_found (sum_by (window_moved (world_of device.old))) (look_windows (world_of device.old) client (ids_of asked.now)) }
+    ensures uncounted { OnErr result (steps.new ≡ steps.old) }
 {
     device.forest.keeps();
     let group = group(device, client, asked)?;

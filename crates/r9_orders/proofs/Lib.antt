@@ -8,3 +8,4 @@ pub mod Renewing
 pub mod Windows
 pub mod Freed
 pub mod Sizing
+pub mod Costs

@@ -1,13 +1,15 @@
 -- What the steps of the window manager's orders need, and what they leave.
-use Rattle.std.specs.Prelude.{◌≡◌, ℕ, Bool, true, false, ◌==◌, ◌^◌, is_some, IsSome, IsTrue, if◌then◌else◌}
+use Rattle.std.specs.Prelude.{◌≡◌, ℕ, Bool, true, false, ◌+◌, ◌==◌, ◌^◌, is_some, IfSome, IsSome, IsTrue, if◌then◌else◌}
 use Rattle.std.specs.List.{list_any}
 use Rattle.std.specs.Result.{result_unwrap_or}
 use Rattle.r9_geom.specs.declared.Point.{Point}
 use Rattle.r9_geom.specs.declared.Rect.{Rect}
-use Rattle.r9_geom.specs.Geometry.{HasPoints, IsOrdered, IsRectNearBy, holds}
+use Rattle.r9_geom.specs.Geometry.{HasPoints, IsOrdered, IsRectNearBy, area_of, holds}
 use Rattle.model_forest.specs.World.{SameSize, World as Images, image_at, parent_of}
 use Rattle.model_forest.specs.Stack.{after_window}
 use Rattle.model_forest.specs.Steps.{after_replace, after_replace_on}
+use Rattle.model_kept.specs.Keeping.{place_among}
+use Rattle.model_cost.specs.Cost.{border, coming, moving}
 use Rattle.model_images.specs.Book.{Book, fill_of, image_of, new_screen}
 use Rattle.model_draw.specs.World.{World, after_freed, at_number, next_image, with_book}
 use Rattle.model_draw.specs.Making.{with_made}
@@ -32,6 +34,10 @@ with_white world window s place =
     with_made world
     (after_window world.images (next_image world) (image_of world.book s) (fill_of world.book s) place (white (at_number world (image_of world.book s)).chan))
     (with_window_id world.book window (next_image world) s)
+
+-- an image has a place among the windows of its parent
+abbrev pub StandsAt : Images → ℕ → Rect → Type 0
+StandsAt images i place = IfSome (image_at images i).standing (λ s. place_among (image_at images s.parent).windows i ≡ place)
 
 -- ---- a window that gets another image
 
@@ -66,6 +72,14 @@ images_replaced images i next =
 abbrev pub images_renewed : Images → ℕ → Next → Images
 images_renewed images i next =
     if next.keep then images_replaced images i next else bordered (images_replaced images i next) i
+
+-- what the image in place of another costs, and with its border
+abbrev pub replacing : Images → Next → ℕ
+replacing images next =
+    coming next.r + (if next.above then 0 else area_of next.r) + moving (image_at images next.old.0).r
+
+abbrev pub renewing : Images → Next → ℕ
+renewing images next = replacing images next + (if next.keep then 0 else border next.r)
 
 -- the device once a window has the image
 unfoldable pub renewed : World → (window screen : ℕ) → Next → World

@@ -1,5 +1,6 @@
 //! White images with the border of a window, and what the book of ids has of them.
 
+ghost use Rattle.model_cost.specs.Cost.{border, coming};
 ghost use Rattle.model_draw.specs.Orders.{bordered, new_white, inside_border, stands_on, white, with_window_id, with_window_name};
 ghost use Rattle.model_forest.specs.Draw.{with_canvas};
 ghost use Rattle.model_forest.specs.Numbers.{next_number, taken};
@@ -10,10 +11,10 @@ ghost use Rattle.model_pixel.specs.Channels as channels;
 ghost use Rattle.model_pixel.specs.Channels.{pack};
 ghost use Rattle.r9_orders.specs.Ordering.{CanFill};
 ghost use Rattle.r9_device.specs.Live.{CanHold};
-ghost use Rattle.r9_geom.specs.Geometry.{HasPoints, IsRectNearBy, holds};
+ghost use Rattle.r9_geom.specs.Geometry.{HasPoints, IsRectNearBy, area_of, holds};
 ghost use Rattle.r9_layers.specs.Forest.{numbers, room, world};
-ghost use Rattle.std.specs.List.{list_any};
-ghost use Rattle.std.specs.Prelude.{All, IfOk, None, OnErr, OnOk, false, is_some, true, ◌<◌, ◌==◌, ◌^◌, ◌≡◌, ◌≤◌};
+ghost use Rattle.std.specs.List.{list_any, sum_by};
+ghost use Rattle.std.specs.Prelude.{All, IfOk, None, OnErr, OnOk, false, is_some, true, ◌+◌, ◌<◌, ◌==◌, ◌^◌, ◌≡◌, ◌≤◌};
 
 use crate::rects::inside_border;
 use r9_chan::{Chan, Colour};
@@ -56,6 +57,7 @@ fn fill_parts<L: Ledger>(
     ensures world { world forest.new ≡ with_canvas (world forest.old) image.0 (λ p. list_any (λ r. holds r p) parts.now) (λ _. raw) }
     ensures numbers { numbers forest.new ≡ numbers forest.old }
     ensures room { room forest.old ≤ room forest.new }
+    ensures steps { steps.new ≤ steps.old + sum_by area_of parts.now }
 {
     for part in parts {
         forest.fill(image, *part, raw, steps);
@@ -69,7 +71,9 @@ pub(crate) fn add_border<L: Ledger>(forest: &mut Forest, image: ImageNo, steps: 
     ensures world { world forest.new ≡ bordered (world forest.old) image.0 }
     ensures numbers { numbers forest.new ≡ numbers forest.old }
     ensures room { room forest.old ≤ room forest.new }
+    ensures steps { steps.new ≤ steps.old + border (image_at (world forest.old) image.0).r }
 {
+    forest.keeps();
     let info = forest.info(image);
     let raw = info.chan.pack(Colour::of_word(0x55aa_aaff));
     let border = info.r.minus(&inside_border(&info.r));
@@ -100,6 +104,7 @@ fn new_white<L: Ledger>(
     ensures room { room forest.old ≤ room forest.new }
     ensures kept_images { OnErr result (world forest.new ≡ world forest.old) }
     ensures kept_numbers { OnErr result (numbers forest.new ≡ numbers forest.old) }
+    ensures steps { steps.new ≤ steps.old + coming place }
 {
     let parent = ImageNo(book.image_of(screen));
     let fill = ImageNo(book.fill_of(screen));
@@ -141,6 +146,7 @@ pub(crate) fn put_white<L: Ledger>(
     ensures kept_images { OnErr result (world forest.new ≡ world forest.old) }
     ensures kept_numbers { OnErr result (numbers forest.new ≡ numbers forest.old) }
     ensures kept_book { OnErr result (book.new.book ≡ book.old.book) }
+    ensures steps { steps.new ≤ steps.old + coming place }
 {
     book.reserve()?;
     let image = new_white(forest, book, screen, place, steps)?;

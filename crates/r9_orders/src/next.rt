@@ -2,9 +2,9 @@
 
 ghost use Rattle.model_draw.specs.Orders.{corner, white};
 ghost use Rattle.model_forest.specs.Numbers.{next_number, taken};
-ghost use Rattle.r9_orders.specs.Ordering.{CanReplace, images_renewed, images_replaced};
+ghost use Rattle.r9_orders.specs.Ordering.{CanReplace, images_renewed, images_replaced, renewing, replacing};
 ghost use Rattle.r9_layers.specs.Forest.{numbers, room, world};
-ghost use Rattle.std.specs.Prelude.{IfOk, None, OnErr, OnOk, ◌<◌, ◌≡◌, ◌≤◌};
+ghost use Rattle.std.specs.Prelude.{IfOk, None, OnErr, OnOk, ◌+◌, ◌<◌, ◌≡◌, ◌≤◌};
 
 use crate::image::{add_border, white};
 use crate::rects::corner;
@@ -41,6 +41,7 @@ fn next_white<L: Ledger>(
     ensures room { room forest.old ≤ room forest.new }
     ensures kept_images { OnErr result (world forest.new ≡ world forest.old) }
     ensures kept_numbers { OnErr result (numbers forest.new ≡ numbers forest.old) }
+    ensures steps { steps.new ≤ steps.old + replacing (world forest.old) next.now }
 {
     let corner = corner(&next.r, next.hidden);
     if next.above {
@@ -77,6 +78,7 @@ pub(crate) fn next_window<L: Ledger>(
     ensures kept_numbers { OnErr result (numbers forest.new ≡ numbers forest.old) }
     ensures book { book.new.book ≡ book.old.book }
     ensures space { OnOk result (0 < book.new.room) }
+    ensures steps { steps.new ≤ steps.old + renewing (world forest.old) next.now }
 {
     forest.keeps();
     book.reserve()?;

@@ -1,10 +1,11 @@
 //! What the window manager orders: images for its windows, and screens on them for the rios in windows (rio(4)). It is
 //! connection 0. An order that does not fit changes nothing.
 
+ghost use Rattle.model_cost.specs.Cost.{order_cost, orders_cost};
 ghost use Rattle.model_draw.specs.Orders.{after_order, replace_window, carried_out, drop_window, fits, host_rio, make_window, ordered, place_window, rio_screen};
 ghost use Rattle.r9_device.specs.World.{world_of};
 ghost use Rattle.r9_event.specs.declared.rio.Order.TheVariants.{Host};
-ghost use Rattle.std.specs.Prelude.{OnOk, true, ◌<◌, ◌≡◌};
+ghost use Rattle.std.specs.Prelude.{OnOk, true, ◌<◌, ◌+◌, ◌≡◌, ◌≤◌, if◌then◌else◌};
 
 use crate::display::resize_display;
 use crate::rio::host_rio;
@@ -19,9 +20,11 @@ use r9_steps::Steps;
 use std::sync::ledger::Ledger;
 
 // An order that fits.
+#[tactic(auto, unfolding(model_cost::specs::Cost::order_cost))]
 fn obey<L: Ledger>(device: &mut Device, order: &Order, steps: &mut Steps<L>) -> Result<(), Memory>
     requires { fits (world_of device.old) order.now ≡ true }
-    ensures { OnOk result (world_of device.new ≡ after_order (world_of device.old) order.now) }
+    ensures obeyed { OnOk result (world_of device.new ≡ after_order (world_of device.old) order.now) }
+    ensures steps { OnOk result (steps.new ≤ steps.old + order_cost (world_of device.old) order.now) }
 {
     match order {
         Order::Make {
@@ -60,7 +63,8 @@ fn carry_out_order<L: Ledger>(
     order: &Order,
     steps: &mut Steps<L>,
 ) -> Result<(), Memory>
-    ensures { OnOk result (world_of device.new ≡ ordered (world_of device.old) order.now) }
+    ensures ordered { OnOk result (world_of device.new ≡ ordered (world_of device.old) order.now) }
+    ensures steps { OnOk result (steps.new ≤ steps.old + (if fits (world_of device.old) order.now then order_cost (world_of device.old) order.now else 0)) }
 {
     if !fits(device, order) {
         return Ok(());
@@ -76,6 +80,7 @@ pub fn carry_out<L: Ledger>(
     steps: &mut Steps<L>,
 ) -> Result<(), Memory>
     ensures done { OnOk result (world_of device.new ≡ carried_out (world_of device.old) list.now) }
+    ensures steps { OnOk result (steps.new ≤ steps.old + orders_cost (world_of device.old) list.now) }
 {
     for order in list.as_slice() {
         carry_out_order(device, order, steps)?;

@@ -1,5 +1,6 @@
 //! Rios in windows.
 
+ghost use Rattle.model_cost.specs.Cost.{going_all, order_cost, rect_shown};
 ghost use Rattle.model_draw.specs.Orders.{fits, has_rio, host_rio, image_shown, inside_border, is_window_rect, rio_screen, screen_freed};
 ghost use Rattle.model_draw.specs.World.{after_freed, at_number, with_images};
 ghost use Rattle.model_forest.specs.Draw.{after_fill};
@@ -8,7 +9,8 @@ ghost use Rattle.model_pixel.specs.Channels.{colour_of, pack};
 ghost use Rattle.r9_orders.specs.Ordering.{with_rio};
 ghost use Rattle.r9_device.specs.World.{world_of};
 ghost use Rattle.r9_event.specs.declared.rio.Order.TheVariants.{Host};
-ghost use Rattle.std.specs.Prelude.{OnErr, OnOk, false, true, ◌<◌, ◌≡◌};
+ghost use Rattle.r9_geom.specs.Geometry.{area_of};
+ghost use Rattle.std.specs.Prelude.{OnErr, OnOk, false, true, ◌+◌, ◌<◌, ◌≡◌, ◌≤◌};
 
 use crate::rects::inside_border;
 use crate::there::rio_screen;
@@ -28,6 +30,7 @@ pub(crate) fn close_rio<L: Ledger>(
 ) -> Result<(), Memory>
     ensures closed { OnOk result (world_of device.new ≡ after_freed (world_of device.old) (screen_freed (world_of device.old).book window)) }
     ensures kept { OnErr result (world_of device.new ≡ world_of device.old) }
+    ensures steps { OnOk result (steps.new ≤ steps.old + going_all (world_of device.old).images (screen_freed (world_of device.old).book window).gone) }
 {
     free_screen_frees();
     device.forest.keeps();
@@ -44,7 +47,8 @@ pub(crate) fn close_rio<L: Ledger>(
 // The inside of a window becomes grey.
 fn fill_window<L: Ledger>(device: &mut Device, window: u32, steps: &mut Steps<L>)
     requires { is_window_rect (at_number (world_of device.old) (image_shown (world_of device.old) window)).r ≡ true }
-    ensures { world_of device.new ≡ with_images (world_of device.old) (after_fill (world_of device.old).images (image_shown (world_of device.old) window) (inside_border (at_number (world_of device.old) (image_shown (world_of device.old) window)).r) (pack (at_number (world_of device.old) (image_shown (world_of device.old) window)).chan (colour_of 0x777777ff))) }
+    ensures filled { world_of device.new ≡ with_images (world_of device.old) (after_fill (world_of device.old).images (image_shown (world_of device.old) window) (inside_border (at_number (world_of device.old) (image_shown (world_of device.old) window)).r) (pack (at_number (world_of device.old) (image_shown (world_of device.old) window)).chan (colour_of 0x777777ff))) }
+    ensures steps { steps.new ≤ steps.old + area_of (inside_border (rect_shown (world_of device.old) window)) }
 {
     let image = device.image_shown(window);
     let info = device.forest.info(image);
@@ -77,7 +81,8 @@ pub(crate) fn host_rio<L: Ledger>(
     steps: &mut Steps<L>,
 ) -> Result<(), Memory>
     requires { fits (world_of device.old) (Host window fill) ≡ true }
-    ensures { OnOk result (world_of device.new ≡ host_rio (world_of device.old) window fill) }
+    ensures hosted { OnOk result (world_of device.new ≡ host_rio (world_of device.old) window fill) }
+    ensures steps { OnOk result (steps.new ≤ steps.old + order_cost (world_of device.old) (Host window fill)) }
 {
     if fill {
         fill_window(device, window, steps);

@@ -1,18 +1,19 @@
 //! Windows that come, move, get another image, and go.
 
+ghost use Rattle.model_cost.specs.Cost.{border, coming, dropping, going_all, moving, rect_shown, replacing};
 ghost use Rattle.model_draw.specs.Orders.{bordered, can_keep, corner, new_white, replace_window, drop_window, has_rio, has_window, image_freed, image_shown, is_near_point, is_window_rect, make_window, place_window, rio_screen, stands_on, white, with_window_id, with_window_name};
 ghost use Rattle.model_draw.specs.Making.{with_made};
 ghost use Rattle.model_draw.specs.World.{after_freed, at_number, next_image, with_book, with_images};
 ghost use Rattle.model_forest.specs.Stack.{after_lower, after_raise};
-ghost use Rattle.model_forest.specs.Steps.{after_origin, outside};
+ghost use Rattle.model_forest.specs.Steps.{after_origin, carried_rect, outside};
 ghost use Rattle.model_images.specs.Book.{fill_of, image_id, image_of};
 ghost use Rattle.model_images.specs.Release.{is_used};
 ghost use Rattle.model_images.specs.declared.Thing.TheVariants.{Screen};
-ghost use Rattle.r9_orders.specs.Ordering.{CanReplace, IsNext, is_used_by_id, renewed, with_white};
+ghost use Rattle.r9_orders.specs.Ordering.{CanReplace, IsNext, StandsAt, is_used_by_id, renewed, renewing, with_white};
 ghost use Rattle.r9_device.specs.Live.{IsLiveIn};
 ghost use Rattle.r9_device.specs.World.{world_of};
 ghost use Rattle.r9_geom.specs.Geometry.{HasPoints, IsRectNearBy, at_min};
-ghost use Rattle.std.specs.Prelude.{IfOk, OnErr, OnOk, [], false, is_none, true, ◌<◌, ◌==◌, ◌^◌, ◌≡◌, ◌∷◌};
+ghost use Rattle.std.specs.Prelude.{IfOk, OnErr, OnOk, [], false, is_none, true, ◌+◌, ◌<◌, ◌==◌, ◌^◌, ◌≡◌, ◌≤◌, ◌∷◌};
 
 use crate::image::{add_border, add_window, put_white, stands_on, tie_window};
 use crate::next::{Next, next_window};
@@ -38,6 +39,7 @@ pub(crate) fn place_window<L: Ledger>(
     requires { is_near_point at ≡ true }
     ensures placed { OnOk result (world_of device.new ≡ place_window (world_of device.old) window at) }
     ensures kept { OnErr result (world_of device.new ≡ world_of device.old) }
+    ensures steps { steps.new ≤ steps.old + moving (rect_shown (world_of device.old) window) }
 {
     device.forest.keeps();
     let image = device.image_shown(window);
@@ -54,6 +56,7 @@ fn free_window<L: Ledger>(
     requires { (window == 0) ≡ false }
     ensures freed { OnOk result (world_of device.new ≡ after_freed (world_of device.old) (image_freed (world_of device.old).book window)) }
     ensures kept { OnErr result (world_of device.new ≡ world_of device.old) }
+    ensures steps { OnOk result (steps.new ≤ steps.old + going_all (world_of device.old).images (image_freed (world_of device.old).book window).gone) }
 {
     free_id_frees();
     device.forest.keeps();
@@ -75,7 +78,8 @@ pub(crate) fn drop_window<L: Ledger>(
     steps: &mut Steps<L>,
 ) -> Result<(), Memory>
     requires { has_window (world_of device.old) window ≡ true }
-    ensures { OnOk result (world_of device.new ≡ drop_window (world_of device.old) window) }
+    ensures dropped { OnOk result (world_of device.new ≡ drop_window (world_of device.old) window) }
+    ensures steps { OnOk result (steps.new ≤ steps.old + dropping (world_of device.old) window) }
 {
     place_window(device, window, OUTSIDE, steps)?;
     close_rio(device, window, steps)?;
@@ -89,7 +93,8 @@ pub(crate) fn raise_window<L: Ledger>(
     steps: &mut Steps<L>,
 ) -> Result<(), Memory>
     requires { has_window (world_of device.old) window ≡ true }
-    ensures { OnOk result (world_of device.new ≡ with_images (world_of device.old) (after_raise (world_of device.old).images (image_shown (world_of device.old) window ∷ []))) }
+    ensures raised { OnOk result (world_of device.new ≡ with_images (world_of device.old) (after_raise (world_of device.old).images (image_shown (world_of device.old) window ∷ []))) }
+    ensures steps { steps.new ≤ steps.old + moving (rect_shown (world_of device.old) window) }
 {
     device.forest.keeps();
     let image = device.image_shown(window);
@@ -103,7 +108,8 @@ pub(crate) fn lower_window<L: Ledger>(
     steps: &mut Steps<L>,
 ) -> Result<(), Memory>
     requires { has_window (world_of device.old) window ≡ true }
-    ensures { OnOk result (world_of device.new ≡ with_images (world_of device.old) (after_lower (world_of device.old).images (image_shown (world_of device.old) window ∷ []))) }
+    ensures lowered { OnOk result (world_of device.new ≡ with_images (world_of device.old) (after_lower (world_of device.old).images (image_shown (world_of device.old) window ∷ []))) }
+    ensures steps { steps.new ≤ steps.old + moving (rect_shown (world_of device.old) window) }
 {
     device.forest.keeps();
     let image = device.image_shown(window);
@@ -126,7 +132,9 @@ fn add_white<L: Ledger>(
     ensures made { OnOk result (world_of device.new ≡ with_white (world_of device.old) window screen place) }
     ensures live { IfOk result (λ i. IsLiveIn (world_of device.new) i.0) }
     ensures rect { IfOk result (λ i. (at_number (world_of device.new) i.0).r ≡ place) }
+    ensures stands { IfOk result (λ i. StandsAt (world_of device.new).images i.0 place) }
     ensures kept { OnErr result (world_of device.new ≡ world_of device.old) }
+    ensures steps { steps.new ≤ steps.old + coming place }
 {
     put_white(
         &mut device.forest,
@@ -149,7 +157,9 @@ fn hide_image<L: Ledger>(
     requires near { IsRectNearBy (2 ^ 32) (at_min (at_number (world_of device.old) image.0).r min) }
     ensures moved { OnOk result (world_of device.new ≡ with_images (world_of device.old) (after_origin (world_of device.old).images image.0 min outside)) }
     ensures live { IsLiveIn (world_of device.new) image.0 }
+    ensures rect { OnOk result ((at_number (world_of device.new) image.0).r ≡ carried_rect (at_number (world_of device.old) image.0).r (at_number (world_of device.old) image.0).r.min min) }
     ensures kept { OnErr result (world_of device.new ≡ world_of device.old) }
+    ensures still { StandsAt (world_of device.old).images image.0 (carried_rect (at_number (world_of device.old) image.0).r (at_number (world_of device.old) image.0).r.min outside) → steps.new ≡ steps.old }
 {
     device.forest.keeps();
     device.forest.origin(image, min, OUTSIDE, steps)
@@ -158,7 +168,8 @@ fn hide_image<L: Ledger>(
 // An image gets the border of a window.
 fn frame<L: Ledger>(device: &mut Device, image: ImageNo, steps: &mut Steps<L>)
     requires { IsLiveIn (world_of device.old) image.0 }
-    ensures { world_of device.new ≡ with_images (world_of device.old) (bordered (world_of device.old).images image.0) }
+    ensures framed { world_of device.new ≡ with_images (world_of device.old) (bordered (world_of device.old).images image.0) }
+    ensures steps { steps.new ≤ steps.old + border (at_number (world_of device.old) image.0).r }
 {
     add_border(&mut device.forest, image, steps);
 }
@@ -186,6 +197,8 @@ fn white_window<L: Ledger>(
     ensures number { IfOk result (λ i. i.0 ≡ next_image (world_of device.old)) }
     ensures made { OnOk result (world_of device.new ≡ with_made (world_of device.old) (new_white (world_of device.old) screen r hide) (with_window_id (world_of device.old).book window (next_image (world_of device.old)) screen)) }
     ensures live { IfOk result (λ i. IsLiveIn (world_of device.new) i.0) }
+    ensures rect { IfOk result (λ i. (at_number (world_of device.new) i.0).r ≡ r) }
+    ensures steps { steps.new ≤ steps.old + coming r }
 {
     if !hide {
         return add_white(device, window, screen, r, steps);
@@ -209,7 +222,8 @@ pub(crate) fn make_window<L: Ledger>(
     requires rio { has_rio (world_of device.old) host ≡ true }
     requires fresh { is_none (image_id (world_of device.old).book 0 window) ≡ true }
     requires rect { is_window_rect r ≡ true }
-    ensures { OnOk result (world_of device.new ≡ make_window (world_of device.old) window host r name.now hide) }
+    ensures made { OnOk result (world_of device.new ≡ make_window (world_of device.old) window host r name.now hide) }
+    ensures steps { OnOk result (steps.new ≤ steps.old + (coming r + border r)) }
 {
     let screen = rio_screen(device, host);
     let image = white_window(device, window, screen, r, hide, steps)?;
@@ -261,7 +275,8 @@ fn renew_window<L: Ledger>(
     requires screen { is_used_by_id (world_of device.old).book screen ≡ true }
     requires next { IsNext (world_of device.old) window screen next.now }
     requires ready { CanReplace (world_of device.old).images next.now }
-    ensures { OnOk result (world_of device.new ≡ renewed (world_of device.old) window screen next.now) }
+    ensures renewed { OnOk result (world_of device.new ≡ renewed (world_of device.old) window screen next.now) }
+    ensures steps { OnOk result (steps.new ≤ steps.old + (renewing (world_of device.old).images next.now + going_all (world_of device.old).images (image_freed (world_of device.old).book window).gone)) }
 {
     free_id_frees();
     device.forest.keeps();
@@ -295,7 +310,8 @@ pub(crate) fn replace_window<L: Ledger>(
     requires rio { has_rio (world_of device.old) host ≡ true }
     requires next { IsNext (world_of device.old) window (rio_screen (world_of device.old) host) next.now }
     requires ready { CanReplace (world_of device.old).images next.now }
-    ensures { OnOk result (world_of device.new ≡ replace_window (world_of device.old) window host next.now.r name.now next.now.keep next.now.hidden) }
+    ensures replaced { OnOk result (world_of device.new ≡ replace_window (world_of device.old) window host next.now.r name.now next.now.keep next.now.hidden) }
+    ensures steps { OnOk result (steps.new ≤ steps.old + replacing (world_of device.old) window host next.now.r next.now.keep) }
 {
     let screen = rio_screen(device, host);
     renew_window(device, window, screen, next, steps)?;

@@ -1,12 +1,30 @@
 //! The hall is what a recorder keeps.
-ghost use Rattle.r9_hall.specs.HallView.{StandsFor};
+ghost use Rattle.std.specs.Prelude.{◌≡◌, ◌<◌, ◌^◌};
+ghost use Rattle.r9_hall.specs.Acts.{IsAct};
+ghost use Rattle.r9_hall.specs.HallView.{StandsFor, entries};
 ghost use Rattle.r9_hall.proofs.Stored.{stores};
 
 use crate::keeps::Keeps;
 use r9_event::{Answer, Ask, Entry, Event};
 use r9_hall::Hall;
 use r9_lock::Acted;
+use r9_steps::Steps;
 use std::alloc::Global;
+use std::marker::Brand;
+use std::sync::ledger::{Blank, Ledger};
+
+/// Does what a session asks. Nobody asks how many pixels that writes.
+fn act<L: Ledger>(hall: &mut Hall, ask: Ask, blank: Blank) -> Acted<Answer>
+    requires name { blank.name ≡ L.name }
+    requires parts { blank.parts ≡ L.parts }
+    requires some { 0 < L.parts }
+    requires room { entries hall.old < 2 ^ 61 }
+    ensures opening { hall.new.opening ≡ hall.old.opening }
+    ensures first { hall.new.first ≡ hall.old.first }
+    ensures history { IsAct hall.old ask result hall.new }
+{
+    hall.act(ask, &mut Steps::<L>::new(blank))
+}
 
 impl Keeps for Hall {
     ghost opening = { λ h. h.opening };
@@ -18,7 +36,7 @@ impl Keeps for Hall {
     ghost stands = { StandsFor };
 
     fn act(&mut self, ask: Ask) -> Acted<Answer> {
-        Hall::act(self, ask)
+        act::<Brand>(self, ask, Blank::new(1))
     }
 
     fn first(&self) -> u64 {

@@ -1,6 +1,6 @@
 //! The command `replay`.
 
-ghost use Rattle.std.specs.Prelude.{◌≡◌, ◌++◌, ℕ, Bool, true, false, IsTrue, IfOk, OnOk, IsErrOf, Err};
+ghost use Rattle.std.specs.Prelude.{◌≡◌, ◌≤◌, ◌<◌, ◌+◌, ◌++◌, ℕ, Bool, true, false, IsTrue, IfOk, OnOk, IsErrOf, Err};
 ghost use Rattle.r9_outside.specs.Count.{Rose};
 ghost use Rattle.model_alone.specs.Uses.{event_used};
 ghost use Rattle.model_event.specs.Legal.{IsLegal};
@@ -19,7 +19,10 @@ use r9_input::{InputFault, read_up_to};
 use r9_journal::{JournalFault, Record};
 use r9_memory::Memory;
 use r9_outside::Source;
+use r9_steps::Steps;
 use std::alloc::Global;
+use std::marker::Brand;
+use std::sync::ledger::{Blank, Ledger};
 
 /// So many bytes of an input are read at most. One that has them is no record.
 pub const MAX_LEN: usize = 1 << 30;
@@ -71,9 +74,13 @@ fn is_as_made(event: &Event, short: Option<u32>) -> bool
     false
 }
 
-/// Makes an event, and gives the replies to it, what the windows were told, and what it used where that is watched. Where memory ran
-/// out in a data write, that is told as want of memory.
-pub fn make_seen(world: &mut World, event: &Event) -> Result<Did, Memory>
+/// Makes an event, and gives the replies to it, what the windows were told, and what it used where that is watched. Each pixel that it
+/// wrote is counted in `pixels`. Where memory ran out in a data write, that is told as want of memory.
+pub fn make_seen<L: Ledger>(
+    world: &mut World,
+    event: &Event,
+    pixels: &mut Steps<L>,
+) -> Result<Did, Memory>
     requires whole { IsWhole event.now }
     requires next { IsNext world.old.begun event.now }
     requires going { world.old.broken ≡ false }
@@ -83,48 +90,69 @@ pub fn make_seen(world: &mut World, event: &Event) -> Result<Did, Memory>
     ensures replies { IfOk result (λ did. did.replies ≡ (step (world_in world.old) event.now).replies) }
     ensures notes { IfOk result (λ did. did.notes ≡ (step (world_in world.old) event.now).notes) }
     ensures uses { world.old.watches ≡ true → IfOk result (λ did. did.uses ≡ event_used (world_in world.old) (step (world_in world.old) event.now).world event.now) }
+    ensures pixels { OnOk result (pixels.new ≤ pixels.old + (step (world_in world.old) event.now).cost) }
 {
-    let did = world.step(event)?;
+    let did = world.step(event, pixels)?;
     if !is_as_made(event, did.short) {
         return Err(Memory);
     }
     Ok(did)
 }
 
-/// Makes an event, and gives the replies to it. Where memory ran out in a data write, that is told as want of memory.
-pub fn make_event(world: &mut World, event: Event) -> Result<Replies, Memory>
+/// Makes an event, and gives the replies to it. Each pixel that it wrote is counted in `pixels`. Where memory ran out in a data write,
+/// that is told as want of memory.
+pub fn make_event<L: Ledger>(
+    world: &mut World,
+    event: Event,
+    pixels: &mut Steps<L>,
+) -> Result<Replies, Memory>
     requires whole { IsWhole event }
     requires next { IsNext world.old.begun event }
     requires going { world.old.broken ≡ false }
     ensures world { OnOk result (IsStepped world.old event world.new) }
     ensures replies { IfOk result (λ replies. replies ≡ (step (world_in world.old) event).replies) }
+    ensures pixels { OnOk result (pixels.new ≤ pixels.old + (step (world_in world.old) event).cost) }
 {
-    let did = make_seen(world, &event)?;
+    let did = make_seen(world, &event, pixels)?;
     Ok(did.replies)
 }
 
 /// Makes an event, and adds the replies to it at the end.
-fn run_event(world: &mut World, event: Event, log: &mut ReplyLog) -> Result<(), Memory>
+fn run_event<L: Ledger>(
+    world: &mut World,
+    event: Event,
+    log: &mut ReplyLog,
+    pixels: &mut Steps<L>,
+) -> Result<(), Memory>
     requires whole { IsWhole event }
     requires next { IsNext world.old.begun event }
     requires going { world.old.broken ≡ false }
     ensures world { OnOk result (IsStepped world.old event world.new) }
     ensures replies { OnOk result (log.new ≡ log.old ++ (step (world_in world.old) event).replies) }
 {
-    let replies = make_event(world, event)?;
+    let replies = make_event(world, event, pixels)?;
     keep_all(replies.as_slice(), log)
 }
 
-/// What a history leads to, which is run event by event as its record is read.
-fn replayed(alloc: Global, opening: Opening, mut left: Record) -> Result<Ended, Memory>
-    requires { IsLegal left }
+/// What a history leads to, which is run event by event as its record is read. Nobody asks how many pixels it writes.
+fn replayed<L: Ledger>(
+    alloc: Global,
+    opening: Opening,
+    mut left: Record,
+    blank: Blank,
+) -> Result<Ended, Memory>
+    requires name { blank.name ≡ L.name }
+    requires parts { blank.parts ≡ L.parts }
+    requires some { 0 < L.parts }
+    requires legal { IsLegal left }
     ensures replies { IfOk result (λ ended. ended.log ≡ replies opening left.entry) }
     ensures world { IfOk result (λ ended. world_in ended.world ≡ replay opening left.entry) }
 {
     let mut world = World::start(alloc, opening, false)?;
     let mut log = ReplyLog::new(alloc);
+    let mut pixels = Steps::<L>::new(blank);
     'events: while let Some(event) = left.pop_first(alloc)? {
-        run_event(&mut world, event, &mut log)?;
+        run_event(&mut world, event, &mut log, &mut pixels)?;
     }
     Ok(Ended { log, world })
 }
@@ -136,7 +164,7 @@ fn replay_text(alloc: Global, opening: Opening, text: &[u8]) -> Result<Ended, Jo
     ensures late { (first : ℕ) → result ≡ Err (JournalFault.Late first) → IsLate text.now first }
 {
     let left = Record::check(alloc, text)?;
-    let ended = replayed(alloc, opening, left)?;
+    let ended = replayed::<Brand>(alloc, opening, left, Blank::new(1))?;
     Ok(ended)
 }
 

@@ -108,6 +108,7 @@ pub fn resize<L: Ledger>(
     ensures cells { HasCells (shape lists.new) (has_place pixels.new) }
     ensures forms { form_at pixels.new ≡ forms_of (shape lists.new) }
     ensures steps { steps.new ≤ steps.old + 2 * area_of (image_at (shape lists.old) i).r + width * height }
+    ensures uncounted { OnErr result (steps.new ≡ steps.old) }
 {
     let chan = lists.get(i).chan;
     let plane = Plane::new(alloc, sized(width, height), chan, raw)?;

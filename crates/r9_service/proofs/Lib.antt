@@ -4,3 +4,4 @@ mod Ran
 mod Outcomes
 pub mod Whole
 mod Fresh
+mod Sending

@@ -1,7 +1,8 @@
 -- What stays as it was while a string is drawn, and what the server writes for one.
 use Rattle.std.proofs.Common.{◌≡◌, ℕ, suc, ◌+◌, ◌*◌, ◌<◌, ◌^◌, ◌≤◌, ℤ, int_le, ◌||◌, ◌&&◌, Bool, true, false, Option, Some, None, List, [], ◌∷◌, ◌++◌, length, get_or, take, drop, refl, sym, ap, ◌∙◌, subst, arith}
 use Rattle.std.specs.Prelude.{Ok, Err, IfSome, if◌then◌else◌, unwrap_or}
-use Rattle.std.specs.List.{fold, list_all, All}
+use Rattle.std.specs.List.{fold, list_all, sum_by, All}
+use Rattle.std.specs.Option.{option_map_or}
 use Rattle.std.specs.Result.{result_unwrap_or}
 use Rattle.std.proofs.Math.Nat.{mul-zero, zero-mul}
 use Rattle.std.proofs.lemmas.Bool.{false≢true}
@@ -9,7 +10,7 @@ use Rattle.std.proofs.lemmas.Int.{ints}
 use Rattle.std.proofs.Math.Seq.{drop-cons}
 use Rattle.std.proofs.lemmas.List.{drop_all}
 use Rattle.std.proofs.lemmas.List.Elements.{All-more, All-weaker}
-use Rattle.std.proofs.lemmas.List.Sums.{fold-append}
+use Rattle.std.proofs.lemmas.List.Sums.{fold-append, sum_by-append, sum_by-cons}
 use Rattle.r9_geom.specs.declared.Point.{Point}
 use Rattle.r9_geom.specs.declared.Rect.{Rect}
 use Rattle.r9_geom.specs.Geometry.{area_of, distance, height, is_empty, meet, width, IsNearBy, IsRectNearBy}
@@ -18,6 +19,9 @@ use Rattle.model_fonts.specs.declared.Piece.{Piece}
 use Rattle.model_fonts.specs.Font.{Font, Layout, has_index, layout}
 use Rattle.model_forest.specs.World.{Image, World, image_at, no_image, IsLive}
 use Rattle.model_forest.specs.View.{is_bare}
+use Rattle.model_cost.specs.Cost.{drawing_cost}
+use Rattle.model_forest.specs.Cost.{reach}
+use Rattle.model_forest.specs.Steps.{carried_rect}
 use Rattle.model_forest.specs.Draw.{Drawing, after_draw, drawn, in_area}
 use Rattle.model_forest.proofs.Changes.{with_image-each}
 use Rattle.model_forest.proofs.Lives.{lives-with_canvas}
@@ -47,32 +51,40 @@ no_points r none = by_cases (int_le r.max.x r.min.x) (int_le r.max.y r.min.y) no
 
 -- ---- worlds that are alike
 
--- each image lives on, with the rectangle that it had
+-- each image lives on, with the rectangles that it had, and repeats as it did
 pub record Alike (old new : World) : Type 0 where
   pub lives : (i : ℕ) → IsLive old i → IsLive new i
   pub same_r : (i : ℕ) → (image_at new i).r ≡ (image_at old i).r
+  pub same_clipr : (i : ℕ) → (image_at new i).clipr ≡ (image_at old i).clipr
+  pub same_repl : (i : ℕ) → (image_at new i).repl ≡ (image_at old i).repl
 
 pub Alike-same : (old new : World) → new ≡ old → Alike old new
 Alike-same old new same = record {
   lives = λ i live. subst (λ (w : World). IsLive w i) (sym same) live;
   same_r = λ i. ap (λ (w : World). (image_at w i).r) same;
+  same_clipr = λ i. ap (λ (w : World). (image_at w i).clipr) same;
+  same_repl = λ i. ap (λ (w : World). (image_at w i).repl) same;
 }
 
 pub Alike-then : (a b c : World) → Alike a b → Alike b c → Alike a c
 Alike-then a b c first next = record {
   lives = λ i live. next.lives i (first.lives i live);
   same_r = λ i. next.same_r i ∙ first.same_r i;
+  same_clipr = λ i. next.same_clipr i ∙ first.same_clipr i;
+  same_repl = λ i. next.same_repl i ∙ first.same_repl i;
 }
 
 pub Alike-after_draw : (world : World) (d : Drawing) → IsLive world d.dst → Alike world (after_draw world d)
 unfolding after_draw
-Alike-after_draw world d live = record {
-  lives = λ i there. lives-with_canvas world d.dst (in_area world d) (drawn world d) i live ∙ there;
-  same_r = λ i.
-      let image = image_at world d.dst in
-      let changed : Image = record image { canvas = λ p. if in_area world d p && is_bare image.windows p then drawn world d p else image.canvas p } in
-      with_image-each world d.dst (Some changed) (λ n slot. (unwrap_or slot no_image).r ≡ (image_at world n).r) refl (λ n other. refl) i;
-}
+Alike-after_draw world d live =
+    let image = image_at world d.dst in
+    let changed : Image = record image { canvas = λ p. if in_area world d p && is_bare image.windows p then drawn world d p else image.canvas p } in
+    record {
+      lives = λ i there. lives-with_canvas world d.dst (in_area world d) (drawn world d) i live ∙ there;
+      same_r = λ i. with_image-each world d.dst (Some changed) (λ n slot. (unwrap_or slot no_image).r ≡ (image_at world n).r) refl (λ n other. refl) i;
+      same_clipr = λ i. with_image-each world d.dst (Some changed) (λ n slot. (unwrap_or slot no_image).clipr ≡ (image_at world n).clipr) refl (λ n other. refl) i;
+      same_repl = λ i. with_image-each world d.dst (Some changed) (λ n slot. (unwrap_or slot no_image).repl ≡ (image_at world n).repl) refl (λ n other. refl) i;
+    }
 
 pub Alike-characters : (world : World) (l : Lettering) (pieces : List Piece) → IsLive world l.dst.0 → Alike world (fold after_draw world (characters l pieces))
 Alike-characters world l [] live = Alike-same world world refl
@@ -118,13 +130,58 @@ next_fits start world dst room more pieces i d here same grown fitted fits =
     (All-weaker (λ (piece : Piece). Fits start dst room piece.r) (λ (piece : Piece). Fits start dst more piece.r) (λ piece k. Fits-still start start dst room more piece.r (Alike-same start start refl) grown k) (take i pieces) fitted)
     (subst (λ (w : World). Fits w dst more (get_or pieces i d).r) same fits)
 
+next_piece : (pieces : List Piece) (i : ℕ) (d : Piece) → i < length pieces → drop i pieces ≡ get_or pieces i d ∷ drop (i + 1) pieces
+next_piece pieces i d more =
+    let further : suc i ≡ i + 1 = omega arith in
+    drop-cons pieces i d more ∙ ap (λ n. get_or pieces i d ∷ drop n pieces) further
+
+-- ---- what drawings cost
+
+reach-still : (old new : World) (i : ℕ) (from to : Point) (r : Rect) → Alike old new → reach (image_at new i) from to r ≡ reach (image_at old i) from to r
+reach-still old new i from to r alike = λ j.
+    let clipped = meet r (carried_rect (alike.same_clipr i j) from to) in
+    if alike.same_repl i j then clipped else meet clipped (carried_rect (alike.same_r i j) from to)
+
+-- a drawing costs what it cost
+pub cost-still : (old new : World) (d : Drawing) → Alike old new → drawing_cost new d ≡ drawing_cost old d
+cost-still old new d alike = ap area_of (masked d.mask)
+  where
+    cut : World → Rect
+    cut world = meet (meet (meet d.r (image_at world d.dst).r) (image_at world d.dst).clipr) d.clip
+
+    sourced : World → Rect
+    sourced world = reach (image_at world d.src) d.sp d.r.min (cut world)
+
+    same : sourced new ≡ sourced old
+    same =
+        reach-still old new d.src d.sp d.r.min (cut new) alike
+        ∙ (λ j. reach (image_at old d.src) d.sp d.r.min (meet (meet (meet d.r (alike.same_r d.dst j)) (alike.same_clipr d.dst j)) d.clip))
+
+    masked : (mask : Option ℕ)
+        → option_map_or (λ i. reach (image_at new i) d.mp d.r.min (sourced new)) mask (sourced new)
+        ≡ option_map_or (λ i. reach (image_at old i) d.mp d.r.min (sourced old)) mask (sourced old)
+    masked None = same
+    masked (Some i) = reach-still old new i d.mp d.r.min (sourced new) alike ∙ ap (reach (image_at old i) d.mp d.r.min) same
+
+pub costs-still : (old new : World) (ds : List Drawing) → Alike old new → sum_by (drawing_cost new) ds ≡ sum_by (drawing_cost old) ds
+costs-still old new ds alike = ap (λ (cost : Drawing → ℕ). sum_by cost ds) (λ j d. cost-still old new d alike j)
+
+-- So much was written and the characters that are to be drawn yet cost so much, no more than `most`: still so behind one more.
+pub next_within : (start world : World) (l : Lettering) (pieces : List Piece) (i : ℕ) (d : Piece) (written more most : ℕ) → Alike start world → i < length pieces
+    → more ≤ written + drawing_cost world (letter l (get_or pieces i d))
+    → written + sum_by (drawing_cost start) (characters l (drop i pieces)) ≤ most → more + sum_by (drawing_cost start) (characters l (drop (i + 1) pieces)) ≤ most
+next_within start world l pieces i d written more most alike here counted within =
+    let one = cost-still start world (letter l (get_or pieces i d)) alike in
+    let first : drop i pieces ≡ get_or pieces i d ∷ drop (i + 1) pieces = next_piece pieces i d here in
+    let both = ap (λ (ps : List Piece). sum_by (drawing_cost start) (characters l ps)) first in
+    omega (arith, one, counted, within, both, sum_by-cons (drawing_cost start) (letter l (get_or pieces i d)) (characters l (drop (i + 1) pieces)))
+
 -- ---- the characters one after the other
 
 pub next_drawn : (start world new : World) (l : Lettering) (pieces : List Piece) (i : ℕ) (d : Piece) → i < length pieces → new ≡ after_draw world (letter l (get_or pieces i d))
     → fold after_draw world (characters l (drop i pieces)) ≡ fold after_draw start (characters l pieces) → fold after_draw new (characters l (drop (i + 1) pieces)) ≡ fold after_draw start (characters l pieces)
 next_drawn start world new l pieces i d more is rest =
-    let further : suc i ≡ i + 1 = omega arith in
-    let first : drop i pieces ≡ get_or pieces i d ∷ drop (i + 1) pieces = drop-cons pieces i d more ∙ ap (λ n. get_or pieces i d ∷ drop n pieces) further in
+    let first : drop i pieces ≡ get_or pieces i d ∷ drop (i + 1) pieces = next_piece pieces i d more in
     ap (λ (w : World). fold after_draw w (characters l (drop (i + 1) pieces))) is ∙ sym (ap (λ (ps : List Piece). fold after_draw world (characters l ps)) first) ∙ rest
 
 pub all_drawn : (start world : World) (l : Lettering) (pieces : List Piece) (i : ℕ) → length pieces ≤ i
@@ -139,21 +196,39 @@ Alike-under start before after l r live same is =
     let kept : Alike start before = Alike-same start before same in
     Alike-then _ _ _ kept (Alike-then _ _ _ (Alike-background before l r (kept.lives l.dst.0 live)) (Alike-same _ _ is))
 
-pub string_drawn : (start before under after : World) (font : Font) (l : Lettering) (indices : List ℕ) (laid : Layout) (r : Rect) (ps : List Piece)
+-- the drawings of a string that is laid out
+drawings_are : (start : World) (font : Font) (l : Lettering) (indices : List ℕ) (laid : Layout) (r : Rect) (ps : List Piece)
     → laid ≡ laid_out font l.p l.sp indices → r ≡ background_rect l.p laid.end font.ascent (image_at start l.font_image.0).r → ps ≡ laid.pieces
-    → before ≡ start → under ≡ fold after_draw before (background l r) → after ≡ fold after_draw under (characters l ps) → after ≡ fold after_draw start (drawings start font l indices)
+    → background l r ++ characters l ps ≡ drawings start font l indices
 unfolding drawings
-string_drawn start before under after font l indices laid r ps laid_so wide pieces_of same first then_so =
-    then_so
-    ∙ ap (λ (w : World). fold after_draw w (characters l ps)) (first ∙ ap (λ (w : World). fold after_draw w (background l r)) same)
-    ∙ sym (fold-append after_draw start (background l r) (characters l ps))
-    ∙ ap (fold after_draw start) (λ j. background l (rect j) ++ characters l (characters_of j))
+drawings_are start font l indices laid r ps laid_so wide pieces_of = λ j. background l (rect j) ++ characters l (characters_of j)
   where
     rect : r ≡ background_rect l.p (laid_out font l.p l.sp indices).end font.ascent (image_at start l.font_image.0).r
     rect = wide ∙ ap (λ (x : Layout). background_rect l.p x.end font.ascent (image_at start l.font_image.0).r) laid_so
 
     characters_of : ps ≡ (laid_out font l.p l.sp indices).pieces
     characters_of = pieces_of ∙ ap (λ (x : Layout). x.pieces) laid_so
+
+pub string_drawn : (start before under after : World) (font : Font) (l : Lettering) (indices : List ℕ) (laid : Layout) (r : Rect) (ps : List Piece)
+    → laid ≡ laid_out font l.p l.sp indices → r ≡ background_rect l.p laid.end font.ascent (image_at start l.font_image.0).r → ps ≡ laid.pieces
+    → before ≡ start → under ≡ fold after_draw before (background l r) → after ≡ fold after_draw under (characters l ps) → after ≡ fold after_draw start (drawings start font l indices)
+string_drawn start before under after font l indices laid r ps laid_so wide pieces_of same first then_so =
+    then_so
+    ∙ ap (λ (w : World). fold after_draw w (characters l ps)) (first ∙ ap (λ (w : World). fold after_draw w (background l r)) same)
+    ∙ sym (fold-append after_draw start (background l r) (characters l ps))
+    ∙ ap (fold after_draw start) (drawings_are start font l indices laid r ps laid_so wide pieces_of)
+
+-- the background costs what it costs before, and the characters what they cost behind it
+pub string_within : (start before under : World) (font : Font) (l : Lettering) (indices : List ℕ) (laid : Layout) (r : Rect) (ps : List Piece) (written more most : ℕ) → IsLive start l.dst.0
+    → laid ≡ laid_out font l.p l.sp indices → r ≡ background_rect l.p laid.end font.ascent (image_at start l.font_image.0).r → ps ≡ laid.pieces
+    → before ≡ start → under ≡ fold after_draw before (background l r)
+    → more ≤ written + sum_by (drawing_cost before) (background l r) → most ≤ more + sum_by (drawing_cost under) (characters l ps)
+    → most ≤ written + sum_by (drawing_cost start) (drawings start font l indices)
+string_within start before under font l indices laid r ps written more most live laid_so wide pieces_of same first beneath above =
+    let b = costs-still start before (background l r) (Alike-same start before same) in
+    let c = costs-still start under (characters l ps) (Alike-under start before under l r live same first) in
+    let both = ap (sum_by (drawing_cost start)) (drawings_are start font l indices laid r ps laid_so wide pieces_of) in
+    omega (arith, b, c, both, beneath, above, sum_by-append (drawing_cost start) (background l r) (characters l ps))
 
 pub Alike-drawings : (images : World) (font : Font) (l : Lettering) (indices : List ℕ) → IsLive images l.dst.0 → Alike images (fold after_draw images (drawings images font l indices))
 unfolding drawings

@@ -1,9 +1,10 @@
 //! A string is drawn piece by piece, once there is room for each of them.
 
-ghost use Rattle.std.specs.Prelude.{◌≡◌, ◌^◌, ◌≤◌, true, length, All, IfOk, IfSome, OnErr, OnOk};
-ghost use Rattle.std.specs.List.{fold, list_all};
+ghost use Rattle.std.specs.Prelude.{◌≡◌, ◌+◌, ◌^◌, ◌≤◌, true, length, All, IfOk, IfSome, OnErr, OnOk};
+ghost use Rattle.std.specs.List.{fold, list_all, sum_by};
 ghost use Rattle.r9_geom.specs.Geometry.{IsNearBy, IsRectNearBy};
 ghost use Rattle.model_fonts.specs.Font.{has_index, AreWithin};
+ghost use Rattle.model_cost.specs.Cost.{drawing_cost};
 ghost use Rattle.model_forest.specs.Draw.{after_draw};
 ghost use Rattle.model_forest.specs.World.{IsLive};
 ghost use Rattle.model_draw.specs.Writing as writing;
@@ -78,6 +79,7 @@ fn draw_background<L: Ledger>(
     ensures drawn { world forest.new ≡ fold after_draw (world forest.old) (background lettering.now r.now) }
     ensures numbers { numbers forest.new ≡ numbers forest.old }
     ensures room { room forest.old ≤ room forest.new }
+    ensures steps { steps.new ≤ steps.old + sum_by (drawing_cost (world forest.old)) (background lettering.now r.now) }
 {
     let Some(background) = lettering.background else {
         return;
@@ -108,6 +110,7 @@ fn draw_characters<L: Ledger>(
     ensures drawn { world forest.new ≡ fold after_draw (world forest.old) (characters lettering.now pieces.now) }
     ensures numbers { numbers forest.new ≡ numbers forest.old }
     ensures room { room forest.old ≤ room forest.new }
+    ensures steps { steps.new ≤ steps.old + sum_by (drawing_cost (world forest.old)) (characters lettering.now pieces.now) }
 {
     for piece in pieces {
         draw_character(forest, lettering, piece, steps);
@@ -127,6 +130,7 @@ fn draw_character<L: Ledger>(
     ensures drawn { world forest.new ≡ after_draw (world forest.old) (letter lettering.now piece.now) }
     ensures numbers { numbers forest.new ≡ numbers forest.old }
     ensures room { room forest.old ≤ room forest.new }
+    ensures steps { steps.new ≤ steps.old + drawing_cost (world forest.old) (letter lettering.now piece.now) }
 {
     let Ok(()) = forest.draw(
         lettering.dst,
@@ -197,6 +201,8 @@ pub fn draw_string<L: Ledger>(
     ensures numbers { numbers forest.new ≡ numbers forest.old }
     ensures room { room forest.old ≤ room forest.new }
     ensures kept { OnErr result (world forest.new ≡ world forest.old) }
+    ensures steps { steps.new ≤ steps.old + sum_by (drawing_cost (world forest.old)) (drawings (world forest.old) font.now lettering.now indices.now) }
+    ensures uncounted { OnErr result (steps.new ≡ steps.old) }
 {
     let laid = laid_out(font, lettering, indices)?;
     let font_r = forest.info(lettering.font_image).r;

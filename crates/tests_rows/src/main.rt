@@ -1,11 +1,14 @@
 //! Runs the cases of standard input one after the other, and prints what `run` puts into out and err, and the exit status. A
 //! case is two equals signs and a blank, a line that says what it shows, a line with the words of the command, and the input. Cases
-//! of `text` and `desk` have an input of their own, and print what the record that they put out shows.
+//! of `text` and `desk` have an input of their own, and print what the record that they put out shows; those of `gen` have bounds of what
+//! they count.
 #![tactic(auto)]
 
+mod counted;
 mod pointed;
 mod shown;
 
+use counted::count_case;
 use pointed::point_case;
 use r9_outside::{MemSink, MemSource, Sink, SureDoor, SureSource, WriteSink};
 use r9_serve::{DOORS, run};
@@ -43,6 +46,8 @@ fn main(rt: HostRuntime) -> io::Result<()> {
         let mut err = WriteSink::new(rt.stdout());
         if command.starts_with("text ") {
             print!(rt; "{}", show_case(&rt, rt.alloc(), &words, input, &mut err)?)?;
+        } else if command.starts_with("gen ") {
+            print!(rt; "{}", count_case(&rt, rt.alloc(), &words, input, &mut err)?)?;
         } else if command == "desk" {
             print!(rt; "{}", point_case(&rt, rt.alloc(), &words, input, &mut err)?)?;
         } else {

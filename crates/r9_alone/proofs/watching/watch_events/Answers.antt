@@ -13,29 +13,29 @@ same_fault (Ok x) fault given handed e = absurd handed
 same_fault (Err x) fault given handed e = let is : x ≡ given = cc in sym handed ∙ is
 
 pub events-init : goal.events-init
-events-init c = runs_first _ _ _ _ _ c.requires.first c.requires.watches c.new-watch.ensures c.requires.legal
+events-init g c = runs_first _ _ _ _ _ c.requires.first c.requires.watches c.new-watch.ensures c.requires.legal
 
 pub make_seen-requires-clause-whole : goal.make_seen-requires-clause-whole
-make_seen-requires-clause-whole c =
+make_seen-requires-clause-whole g c =
     let first = subst (λ (found : Option Event). IfSome found (λ event. c.events.left ≡ event ∷ c.pop_first.new.self)) c.in-Some.is c.in_ok-event.ensures.first in
     first_whole _ _ _ _ first c.events.invariant.may
 
 pub make_seen-requires-clause-next : goal.make_seen-requires-clause-next
-make_seen-requires-clause-next c =
+make_seen-requires-clause-next g c =
     let first = subst (λ (found : Option Event). IfSome found (λ event. c.events.left ≡ event ∷ c.pop_first.new.self)) c.in-Some.is c.in_ok-event.ensures.first in
     first_next _ _ _ _ first c.events.invariant.may
 
 pub see-requires : goal.see-requires
-see-requires c =
+see-requires g c =
     let first = subst (λ (found : Option Event). IfSome found (λ event. c.events.left ≡ event ∷ c.pop_first.new.self)) c.in-Some.is c.in_ok-event.ensures.first in
     whole_too _ (first_whole _ _ _ _ first c.events.invariant.may)
 
 pub returns-clause-watched : goal.returns-clause-watched
-returns-clause-watched c =
+returns-clause-watched g c =
     has_run _ _ _ _ _ _ _ (subst (λ (found : Option Event). IfNone found (c.events.left ≡ [])) c.in_default.is c.in_ok-event.ensures.none) c.events.invariant
 
 pub returns-in_err-see-clause-ends : goal.returns-in_err-see-clause-ends
-returns-in_err-see-clause-ends c =
+returns-in_err-see-clause-ends g c =
     let first = subst (λ (found : Option Event). IfSome found (λ event. c.events.left ≡ event ∷ c.pop_first.new.self)) c.in-Some.is c.in_ok-event.ensures.first in
     let gave = c.in_ok-did.ensures in
     λ entry reason e.
@@ -44,7 +44,7 @@ returns-in_err-see-clause-ends c =
     c.in_err-see.ensures.refused (same_fault _ _ _ c.from_residual-in_err-see.ensures.1 e) c.events.invariant
 
 pub events-preserved : goal.events-preserved
-events-preserved c =
+events-preserved g c =
     let first = subst (λ (found : Option Event). IfSome found (λ event. c.events.left ≡ event ∷ c.pop_first.new.self)) c.in-Some.is c.in_ok-event.ensures.first in
     let gave = c.in_ok-did.ensures in
     runs_on _ _ _ _ _ _ _ _ _ _ _ _ c.in_ok-did.did first gave.world gave.watches

@@ -3,7 +3,7 @@ use Rattle.r9_alone.proofs.Runs.{RunsOn}
 use Rattle.r9_alone.proofs.watching.watch_events.Given as goal
 
 abbrev pub invariant-events : goal.invariant-events
-invariant-events l = RunsOn l.fn.world.opening l.fn.session l.fn.left l.world l.watch l.number l.left
+invariant-events g l = RunsOn l.fn.world.opening l.fn.session l.fn.left l.world l.watch l.number l.left
 
 abbrev pub decreases-events : goal.decreases-events
-decreases-events l = length l.left
+decreases-events g l = length l.left

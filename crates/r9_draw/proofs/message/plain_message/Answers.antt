@@ -7,7 +7,7 @@ use Rattle.r9_dmsg.specs.View.{message_of}
 use Rattle.r9_device.specs.World.{world_of}
 use Rattle.r9_draw.specs.Steps.{IsDone, IsShortOf}
 use Rattle.r9_draw.proofs.Living.{after-live}
-use Rattle.r9_draw.proofs.Messages.{done-by, refused-act, refused-short, refused-unknown, refused-unsupported, short-marked, short-memory, rows-first-are, spelled-some}
+use Rattle.r9_draw.proofs.Messages.{done-by, first-costs, refused-act, refused-short, refused-unknown, refused-unsupported, short-marked, short-memory, rows-first-are, spelled-some}
 use Rattle.r9_draw.proofs.message.plain_message.Goals as goal
 
 pub returns-in-Err-Short-clause-step : goal.returns-in-Err-Short-clause-step
@@ -67,6 +67,12 @@ returns-in-Ok-do_plan-clause-rows g c =
     c.in-Ok.ensures.message ∙ ap (λ (r : List ℕ). IsMessage m r) (ap (λ (n : ℕ). drop n c.args.bytes.now) (sym c.spelled_len-len.ensures) ∙ sym c.behind-rest.ensures) in
     c.in-Ok-do_plan.ensures.rows
     ∙ ap (λ (l : List ℕ). c.args.rows.now ++ l) (sym (rows-first-are c.args.client world c.args.bytes.now c.behind-rest.result.now m _ first c.in-Ok-plan_message.ensures.behind c.in-Ok-plan_message.ensures.within))
+
+pub returns-in-Ok-do_plan-clause-steps : goal.returns-in-Ok-do_plan-clause-steps
+returns-in-Ok-do_plan-clause-steps g c =
+    let world = world_of c.args.device.now in
+    let first = first-costs c.args.client world c.args.bytes.now _ (message_of c.in-Ok.message) c.in-Ok.ensures.message in
+    omega (arith, first, c.in-Ok-plan_message.ensures.cost, c.do_plan.ensures.steps)
 
 pub returns-clause-step : goal.returns-clause-step
 returns-clause-step g c =

@@ -1,5 +1,7 @@
-use Rattle.std.proofs.Common.{◌≡◌, ℕ, List, sym, ap, subst, ◌∙◌}
+use Rattle.std.proofs.Common.{◌≡◌, ◌≤◌, ℕ, List, sym, ap, subst, ◌∙◌}
+use Rattle.std.specs.Prelude.{◌+◌}
 use Rattle.std.specs.List.{fold}
+use Rattle.model_cost.specs.Cost.{going_all}
 use Rattle.model_text.specs.Map.{lookup}
 use Rattle.model_images.specs.declared.Thing.{Thing}
 use Rattle.model_images.specs.Release.{Freed}
@@ -8,6 +10,7 @@ use Rattle.r9_layers.specs.Forest.{numbers, world}
 use Rattle.r9_device.specs.World.{world_of}
 use Rattle.r9_device.specs.Gone.{CanRelease, images_without, numbers_without}
 use Rattle.r9_device.proofs.Kept.{can-release}
+use Rattle.r9_messages.proofs.Costs.{freed-cost}
 use Rattle.r9_messages.proofs.Freeing.{freed-world}
 use Rattle.r9_device.proofs.Worlds.{kept-after}
 use Rattle.r9_device.proofs.Manager.{manager-with, not_manager, not_owner}
@@ -70,3 +73,10 @@ invariant_of-device-2-clause-ties g c =
     let before = c.args.device.now in
     let freed : Freed = record { book = c.free_id.new.self.book; gone = c.in-Ok.gone } in
     ties-freed before.book.book c.args.client c.args.id freed (not_manager before.clients.entries c.args.client c.requires.live before.manager) before.ties c.in-Ok.ensures.freed
+
+pub returns-clause-steps : goal.returns-clause-steps
+returns-clause-steps g c =
+    let before = c.args.device.now in
+    let freed : Freed = record { book = c.free_id.new.self.book; gone = c.in-Ok.gone } in
+    let same = ap (λ (gone : List Thing). going_all (world before.forest) gone) c.as_slice.ensures ∙ freed-cost (world_of before) c.args.client c.args.id freed c.in-Ok.ensures.freed in
+    subst (λ (n : ℕ). c.release.new.steps ≤ c.args.steps.now + n) same c.release.ensures.steps

@@ -1,9 +1,9 @@
-use Rattle.std.proofs.Common.{◌≡◌, ◌≤◌, Option, Some, rules, sym, ap, subst}
+use Rattle.std.proofs.Common.{◌≡◌, ◌≤◌, Option, Some, rules, sym, ap, subst, ◌∙◌}
 use Rattle.std.specs.Prelude.{◌+◌, ◌^◌}
-use Rattle.std.specs.Option.{option_map_or}
+use Rattle.std.specs.Option.{option_copied_mut, option_map_or}
 use Rattle.std.specs.List.{sum_by}
 use Rattle.model_text.specs.Map.{lookup, with}
-use Rattle.model_map.proofs.Keys.{with-written}
+use Rattle.model_map.proofs.Keys.{lookup_at, with-written}
 use Rattle.model_draw.specs.World.{Client, new_client}
 use Rattle.model_draw.specs.Making.{overhead}
 use Rattle.r9_client.specs.Clients.{entry_of}
@@ -19,7 +19,7 @@ make-requires-clause-fits g c =
 
 pub returns-clause-clients : goal.returns-clause-clients
 returns-clause-clients g c =
-    let found : lookup c.args.clients.now.entries c.args.client ≡ Some c.in-Some.owner.now = search rules in
+    let found : lookup c.args.clients.now.entries c.args.client ≡ Some c.in-Some.owner.now = sym (lookup_at c.args.clients.now.entries c.args.client) ∙ sym c.get_mut.ensures.value ∙ ap option_copied_mut c.in-Some.is in
     let is : c.in-Some.owner.now ≡ entry_of c.args.clients.now.entries c.args.client = sym (ap (λ (o : Option Client). option_map_or (λ x. x) o new_client) found) in
     let written : (c.get_mut.follows.lender c.make.new.owner).entries ≡ with c.args.clients.now.entries c.args.client c.make.new.owner = with-written c.args.clients.now.entries _ c.args.client c.make.new.owner (c.get_mut.follows.holds c.make.new.owner).0 in
     (c.make.new.owner, written, owner_ok c.make.result _ _ c.make.new.owner c.args.making.now.id c.args.making.now.len is c.make.ensures.owner, owner_err c.make.result _ _ c.make.new.owner is c.make.ensures.kept_owner)

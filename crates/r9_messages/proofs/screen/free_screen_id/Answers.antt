@@ -1,5 +1,7 @@
-use Rattle.std.proofs.Common.{◌≡◌, List, sym, ap, subst, ◌∙◌}
+use Rattle.std.proofs.Common.{◌≡◌, ◌≤◌, ℕ, List, sym, ap, subst, ◌∙◌}
+use Rattle.std.specs.Prelude.{◌+◌}
 use Rattle.std.specs.List.{fold}
+use Rattle.model_cost.specs.Cost.{going_all}
 use Rattle.model_images.specs.declared.Thing.{Thing}
 use Rattle.model_images.specs.Release.{Freed}
 use Rattle.model_draw.specs.World.{World}
@@ -8,6 +10,7 @@ use Rattle.r9_device.specs.World.{world_of}
 use Rattle.r9_device.specs.Gone.{CanRelease, images_without, numbers_without}
 use Rattle.r9_device.proofs.Kept.{can-release}
 use Rattle.r9_device.proofs.Worlds.{kept-after}
+use Rattle.r9_messages.proofs.Costs.{screen-freed-cost}
 use Rattle.r9_messages.proofs.Freeing.{screen-freed-world}
 use Rattle.r9_device.proofs.Manager.{not_manager, not_owner}
 use Rattle.model_images.proofs.Spare.{free_screen-gives}
@@ -65,3 +68,10 @@ invariant_of-device-2-clause-ties g c =
     let before = c.args.device.now in
     let freed : Freed = record { book = c.free_screen.new.self.book; gone = c.in-Ok.gone } in
     HasTies-free_screen before.book.book c.args.client c.args.id freed before.ties c.in-Ok.ensures.freed
+
+pub returns-clause-steps : goal.returns-clause-steps
+returns-clause-steps g c =
+    let before = c.args.device.now in
+    let freed : Freed = record { book = c.free_screen.new.self.book; gone = c.in-Ok.gone } in
+    let same = ap (λ (gone : List Thing). going_all (world before.forest) gone) c.as_slice.ensures ∙ screen-freed-cost (world_of before) c.args.client c.args.id freed c.in-Ok.ensures.freed in
+    subst (λ (n : ℕ). c.release.new.steps ≤ c.args.steps.now + n) same c.release.ensures.steps

@@ -1,8 +1,20 @@
-use Rattle.std.proofs.Common.{ℕ, ◌/◌, ◌≡◌, List, length, ap, ◌∙◌, arith}
+use Rattle.std.proofs.Common.{ℕ, ◌/◌, ◌≡◌, ◌≤◌, List, Option, Some, Ok, length, sym, ap, subst, ◌∙◌, arith}
 use Rattle.std.specs.Int.{w16}
+use Rattle.std.specs.List.{sum_by}
+use Rattle.std.specs.Option.{option_map, option_map_or}
+use Rattle.std.specs.Prelude.{◌+◌}
 use Rattle.model_text.specs.Map.{lookup}
-use Rattle.model_draw.specs.World.{Client}
-use Rattle.r9_dmsg.specs.Listed.{indices_of}
+use Rattle.model_text.specs.Outcome.{Outcome}
+use Rattle.model_fonts.specs.Font.{Font, new_font}
+use Rattle.model_forest.specs.Draw.{Drawing}
+use Rattle.model_cost.specs.Cost.{drawing_cost, of_found}
+use Rattle.model_draw.specs.World.{Client, client_of}
+use Rattle.model_draw.specs.Writing.{string_drawings}
+use Rattle.r9_dmsg.specs.Listed.{indices_of, writing_in}
+use Rattle.r9_strings.specs.Drawings.{drawings}
+use Rattle.r9_device.specs.World.{world_of}
+use Rattle.r9_messages.specs.Fonts.{font_of_id}
+use Rattle.r9_messages.specs.Strings.{background_of}
 use Rattle.r9_layers.specs.Forest.{world}
 use Rattle.model_dmsg.proofs.Rest.{length-numbers_of}
 use Rattle.r9_device.proofs.Manager.{manager-with}
@@ -25,3 +37,15 @@ pub invariant_of-device-2-clause-manager : goal.invariant_of-device-2-clause-man
 invariant_of-device-2-clause-manager g c =
     let before = c.args.device.now in
     ap (λ (es : List (ℕ × Client)). lookup es 0) c.set_op.ensures ∙ manager-with before.clients.entries c.args.client _ c.requires.live before.manager
+
+pub returns-clause-steps : goal.returns-clause-steps
+returns-clause-steps g c =
+    let w = world_of c.args.device.now in
+    let k = c.args.client in
+    let asked = c.args.asked.now in
+    let found : lookup (client_of w k).fonts asked.fontid ≡ Some c.in-Some.font.now = sym c.font_of.ensures.found ∙ ap (λ o. option_map (λ f. f.now) o) c.in-Some.is in
+    let font : font_of_id w k asked.fontid ≡ c.in-Some.font.now = ap (λ (o : Option Font). option_map_or (λ f. f) o (new_font 0 0)) found in
+    let indices : c.deref.result.now ≡ indices_of asked = c.deref.ensures.value ∙ c.in_ok-indices.ensures in
+    let drawn : string_drawings k w (writing_in asked) (background_of asked) ≡ Ok (drawings w.images c.in-Some.font.now c.in-Ok.lettering c.deref.result.now) =
+    c.in-Ok.ensures.drawn ∙ (λ i. Ok (drawings w.images (font i) c.in-Ok.lettering (sym indices i))) in
+    subst (λ (o : Outcome (List Drawing)). c.draw_string.new.steps ≤ c.args.steps.now + of_found (sum_by (drawing_cost w.images)) o) (sym drawn) c.draw_string.ensures.steps

@@ -3,6 +3,7 @@ use Rattle.r9_info.specs.declared.ImageNo.{ImageNo}
 use Rattle.r9_layers.specs.Forest.{world}
 use Rattle.r9_device.specs.World.{world_of}
 use Rattle.r9_messages.specs.Restacking.{ids_of}
+use Rattle.r9_messages.proofs.Costs.{group-cost}
 use Rattle.r9_messages.proofs.Restacking.{group-stands}
 use Rattle.r9_device.proofs.Raising.{kept-lowered, kept-raised}
 use Rattle.r9_messages.proofs.window.restack.Goals as goal
@@ -32,3 +33,12 @@ invariant_of-device-else-asked-ne0-clause-kept g c =
     let windows = group-stands c.args.client (world_of before) (ids_of c.args.asked.now) c.deref-else-asked-ne0.result.now before.kept c.requires
     (ap (λ (xs : List ImageNo). map (λ i. i.0) xs) c.deref-else-asked-ne0.ensures.value ∙ c.in_ok-group.ensures) in
     kept-lowered c.lower.result (world before.forest) (world c.lower.new.self) before.book.book c.deref-else-asked-ne0.result.now before.kept c.keeps.ensures windows c.lower.ensures.lowered c.lower.ensures.err
+
+pub returns-then-asked-ne0-clause-steps : goal.returns-then-asked-ne0-clause-steps
+returns-then-asked-ne0-clause-steps g c =
+    group-cost c.args.client (world_of c.args.device.now) (ids_of c.args.asked.now) _ c.args.steps.now c.raise.new.steps c.requires (ap (λ (xs : List ImageNo). map (λ i. i.0) xs) c.deref.ensures.value ∙ c.in_ok-group.ensures) c.raise.ensures.steps
+
+pub returns-clause-steps : goal.returns-clause-steps
+returns-clause-steps g c =
+    group-cost c.args.client (world_of c.args.device.now) (ids_of c.args.asked.now) _ c.args.steps.now c.lower.new.steps c.requires (ap (λ (xs : List ImageNo). map (λ i. i.0) xs) c.deref-else-asked-ne0.ensures.value ∙ c.in_ok-group.ensures)
+    c.lower.ensures.steps

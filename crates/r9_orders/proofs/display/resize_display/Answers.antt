@@ -9,6 +9,7 @@ use Rattle.r9_layers.specs.Forest.{numbers, world, IsUnchanged}
 use Rattle.r9_device.specs.World.{world_of}
 use Rattle.r9_orders.proofs.Hosting.{changed}
 use Rattle.r9_orders.proofs.Sizing.{can-resize, display-shown, kept-resized}
+use Rattle.r9_geom.specs.Geometry.{area_of}
 use Rattle.r9_orders.proofs.display.resize_display.Goals as goal
 
 pub resize-requires-clause-can : goal.resize-requires-clause-can
@@ -28,9 +29,9 @@ invariant_of-device-clause-kept g c =
     (c.image_shown-image.ensures.shown ∙ display-shown (world_of before) before.kept) (omega (arith, c.ranges.width.fits)) (omega (arith, c.ranges.height.fits)) c.resize.ensures.resized
     (IsUnchanged before.forest c.resize.new.self) (λ same. same.world) c.resize.ensures.err
 
-pub returns : goal.returns
+pub returns-clause-resized : goal.returns-clause-resized
 unfolding resize_display
-returns g c =
+returns-clause-resized g c =
     let w = world_of c.args.device.now in
     let i = c.image_shown-image.result.0 in
     let grey : c.pack-grey.result ≡ pack (at_number w i).chan (colour_of 0x777777ff) =
@@ -39,3 +40,8 @@ returns g c =
     (ap (λ (raw : ℕ). after_resize w.images i c.args.width c.args.height raw) grey
     ∙ ap (λ (n : ℕ). after_resize w.images n c.args.width c.args.height (pack (at_number w n).chan (colour_of 0x777777ff))) c.image_shown-image.ensures.shown)
     c.resize.ensures.numbers
+
+pub returns-clause-steps : goal.returns-clause-steps
+returns-clause-steps g c =
+    let same = ap (λ (n : ℕ). area_of (at_number (world_of c.args.device.now) n).r) c.image_shown-image.ensures.shown in
+    omega (arith, same, c.resize.ensures.steps)

@@ -1,12 +1,13 @@
-use Rattle.std.proofs.Common.{◌≡◌, ℕ, All, take, ap, sym, subst, ◌∙◌, rules}
-use Rattle.std.specs.List.{list_any}
-use Rattle.r9_geom.specs.Geometry.{holds}
+use Rattle.std.proofs.Common.{◌≡◌, ℕ, All, take, ap, sym, subst, ◌∙◌, rules, arith}
+use Rattle.std.specs.List.{list_any, sum_by}
+use Rattle.r9_geom.specs.Geometry.{area_of, holds}
 use Rattle.r9_info.specs.declared.Info.{Info}
 use Rattle.model_forest.specs.World.{image_at}
 use Rattle.model_draw.specs.Orders.{border_pixel}
 use Rattle.r9_layers.specs.Forest.{world}
 use Rattle.r9_orders.specs.Ordering.{CanFill}
 use Rattle.r9_orders.proofs.Bordering.{border-made, parts-border, parts-fill}
+use Rattle.r9_orders.proofs.Costs.{border-within}
 use Rattle.r9_orders.proofs.image.add_border.Goals as goal
 
 pub fill_parts-requires-clause-parts : goal.fill_parts-requires-clause-parts
@@ -27,3 +28,12 @@ returns-clause-world g c =
     ∙ border-made images c.args.image.0 c.pack-raw.result (take c.from.result parts.part) raw
     (λ p. ap (λ (n : ℕ). list_any (λ q. holds q p) (take n parts.part)) c.from.ensures
     ∙ parts-border r c.info-info.result.r c.inside_border.result parts (ap (λ (x : Info). x.r) c.info-info.ensures) c.inside_border.ensures c.minus-border.ensures.points p)
+
+pub returns-clause-steps : goal.returns-clause-steps
+returns-clause-steps g c =
+    let images = world c.args.forest.now in
+    let i = c.args.image.0 in
+    let parts = c.minus-border.result in
+    let within = border-within (image_at images i).r c.info-info.result.r c.inside_border.result parts (c.keeps.ensures.images i c.requires.live).ordered (ap (λ (x : Info). x.r) c.info-info.ensures) c.inside_border.ensures c.minus-border.ensures.solid c.minus-border.ensures.points in
+    let same = ap (λ (n : ℕ). sum_by area_of (take n parts.part)) c.from.ensures in
+    omega (arith, within, same, c.fill_parts.ensures.steps)

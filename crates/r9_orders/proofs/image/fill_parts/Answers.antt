@@ -1,25 +1,31 @@
-use Rattle.std.proofs.Common.{ℕ, List, ◌<◌, ◌^◌, ◌∙◌, ap, sym, subst}
+use Rattle.std.proofs.Common.{ℕ, List, ◌<◌, ◌^◌, ◌∙◌, ap, sym, subst, arith}
 use Rattle.std.specs.Prelude.{IsTrue}
-use Rattle.std.specs.List.{list_any}
+use Rattle.std.specs.List.{list_any, sum_by}
 use Rattle.std.proofs.lemmas.List.{take_all}
 use Rattle.r9_geom.specs.declared.Rect.{Rect}
-use Rattle.r9_geom.specs.Geometry.{holds}
+use Rattle.r9_geom.specs.Geometry.{area_of, holds}
 use Rattle.model_pixel.specs.Channels.{depth}
 use Rattle.model_forest.specs.Draw.{with_canvas}
 use Rattle.r9_layers.specs.Forest.{world}
 use Rattle.r9_orders.proofs.Bordering.{filling-begins, filling-more, filling-stays}
+use Rattle.r9_orders.proofs.Costs.{part-within}
 use Rattle.r9_orders.proofs.image.fill_parts.Goals as goal
 
 pub loop-part-init : goal.loop-part-init
-loop-part-init g c = filling-begins c.args.forest.now c.args.image.0 c.args.raw c.args.parts.now c.requires.live
+loop-part-init g c = record { filling = filling-begins c.args.forest.now c.args.image.0 c.args.raw c.args.parts.now c.requires.live; within = omega arith }
 
 pub loop-part-preserved : goal.loop-part-preserved
 loop-part-preserved g c =
-    filling-more c.args.forest.now c.loop-part.forest c.fill.new.self c.args.image.0 c.args.raw c.args.parts.now c.loop-part.part-index _ c.loop-part-test.true c.loop-part.invariant c.fill.ensures.world c.fill.ensures.numbers c.fill.ensures.room
+    let parts = c.args.parts.now in
+    let n = c.loop-part.part-index in
+    record {
+      filling = filling-more c.args.forest.now c.loop-part.forest c.fill.new.self c.args.image.0 c.args.raw parts n _ c.loop-part-test.true c.loop-part.invariant.filling c.fill.ensures.world c.fill.ensures.numbers c.fill.ensures.room;
+      within = part-within parts n _ c.args.steps.now c.loop-part.steps c.fill.new.steps c.loop-part-test.true c.loop-part.invariant.within c.fill.ensures.steps;
+    }
 
 pub fill-requires-clause-live : goal.fill-requires-clause-live
 fill-requires-clause-live g c =
-    let stays = filling-stays c.args.forest.now c.loop-part.forest c.args.image.0 c.args.raw c.args.parts.now c.loop-part.part-index c.requires.live c.loop-part.invariant in
+    let stays = filling-stays c.args.forest.now c.loop-part.forest c.args.image.0 c.args.raw c.args.parts.now c.loop-part.part-index c.requires.live c.loop-part.invariant.filling in
     stays.live ∙ c.requires.live
 
 pub fill-requires-clause-near : goal.fill-requires-clause-near
@@ -30,15 +36,20 @@ fill-requires-clause-ordered g c = (c.requires.parts c.loop-part.part-index _ c.
 
 pub fill-requires-clause-inside : goal.fill-requires-clause-inside
 fill-requires-clause-inside g c = λ p h.
-    let stays = filling-stays c.args.forest.now c.loop-part.forest c.args.image.0 c.args.raw c.args.parts.now c.loop-part.part-index c.requires.live c.loop-part.invariant in
+    let stays = filling-stays c.args.forest.now c.loop-part.forest c.args.image.0 c.args.raw c.args.parts.now c.loop-part.part-index c.requires.live c.loop-part.invariant.filling in
     subst (λ (r : Rect). IsTrue (holds r p)) (sym stays.frame.r) ((c.requires.parts c.loop-part.part-index _ c.loop-part-test.true).inside p h)
 
 pub fill-requires-clause-raw : goal.fill-requires-clause-raw
 fill-requires-clause-raw g c =
-    let stays = filling-stays c.args.forest.now c.loop-part.forest c.args.image.0 c.args.raw c.args.parts.now c.loop-part.part-index c.requires.live c.loop-part.invariant in
+    let stays = filling-stays c.args.forest.now c.loop-part.forest c.args.image.0 c.args.raw c.args.parts.now c.loop-part.part-index c.requires.live c.loop-part.invariant.filling in
     subst (λ (chan : ℕ). c.args.raw < 2 ^ depth chan) (sym stays.frame.chan) c.requires.raw
 
 pub returns-clause-world : goal.returns-clause-world
 returns-clause-world g c =
-    c.loop-part.invariant.images
+    c.loop-part.invariant.filling.images
     ∙ ap (λ (ps : List Rect). with_canvas (world c.args.forest.now) c.args.image.0 (λ p. list_any (λ r. holds r p) ps) (λ _. c.args.raw)) (take_all c.loop-part.part-index c.args.parts.now c.loop-part-test.false)
+
+pub returns-clause-steps : goal.returns-clause-steps
+returns-clause-steps g c =
+    let within = c.loop-part.invariant.within in
+    omega (arith, within, ap (λ (ps : List Rect). sum_by area_of ps) (take_all c.loop-part.part-index c.args.parts.now c.loop-part-test.false))

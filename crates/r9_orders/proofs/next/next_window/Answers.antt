@@ -1,6 +1,8 @@
 use Rattle.std.proofs.Common.{◌^◌, sym, subst}
 use Rattle.r9_geom.specs.Geometry.{IsRectNearBy}
 use Rattle.r9_layers.specs.Forest.{world}
+use Rattle.r9_orders.specs.Ordering.{replacing}
+use Rattle.r9_orders.proofs.Costs.{bordered-within}
 use Rattle.r9_orders.proofs.Ordered.{next-comes}
 use Rattle.r9_orders.proofs.next.next_window.Goals as goal
 
@@ -13,3 +15,10 @@ pub add_border-requires-clause-near : goal.add_border-requires-clause-near
 add_border-requires-clause-near g c =
     let new = next-comes (world c.args.forest.now) (world c.next_white.new.forest) c.in_ok-image.image.0 c.args.next.now c.in_ok-image.ensures.free c.requires.next c.keeps.ensures c.in_ok-image.ensures.made in
     subst (IsRectNearBy (2 ^ 32)) (sym new.rect) c.requires.next.near
+
+pub returns-then-not-next-clause-steps : goal.returns-then-not-next-clause-steps
+returns-then-not-next-clause-steps g c =
+    let images = world c.args.forest.now in
+    let next = c.args.next.now in
+    let new = next-comes images (world c.next_white.new.forest) c.in_ok-image.image.0 next c.in_ok-image.ensures.free c.requires.next c.keeps.ensures c.in_ok-image.ensures.made in
+    bordered-within next.keep next.r _ (replacing images next) c.args.steps.now c.next_white.new.steps c.add_border.new.steps c.if-not-next.true new.rect c.next_white.ensures.steps c.add_border.ensures.steps

@@ -1,7 +1,11 @@
-use Rattle.std.proofs.Common.{◌≡◌, drop}
+use Rattle.std.proofs.Common.{◌≡◌, ◌+◌, ◌≤◌, drop}
+use Rattle.model_cost.specs.Cost.{orders_cost}
 use Rattle.model_draw.specs.Orders.{carried_out}
 use Rattle.r9_device.specs.World.{world_of}
 use Rattle.r9_orders.proofs.orders.carry_out.Given as goal
 
 abbrev pub invariant-loop-order : goal.invariant-loop-order
-invariant-loop-order g l = carried_out (world_of l.device) (drop l.order-index l.fn.list) ≡ carried_out (world_of l.fn.device) l.fn.list
+invariant-loop-order g l = record {
+  done : carried_out (world_of l.device) (drop l.order-index l.fn.list) ≡ carried_out (world_of l.fn.device) l.fn.list;
+  within : l.steps + orders_cost (world_of l.device) (drop l.order-index l.fn.list) ≤ l.fn.steps + orders_cost (world_of l.fn.device) l.fn.list;
+}

@@ -1,4 +1,4 @@
-use Rattle.std.proofs.Common.{◌≡◌, List, Err, sym, ap, subst, ◌∙◌}
+use Rattle.std.proofs.Common.{◌≡◌, List, Err, sym, ap, subst, ◌∙◌, arith}
 use Rattle.std.specs.Prelude.{◌==◌, ◌&&◌, find}
 use Rattle.std.specs.List.{fold}
 use Rattle.model_images.specs.declared.ImageId.{ImageId}
@@ -17,6 +17,8 @@ use Rattle.model_images.proofs.Spare.{free_screen-gives}
 use Rattle.r9_device.proofs.Spare.{spare-freed}
 use Rattle.model_images.proofs.Ties.{HasTies-free_screen}
 use Rattle.r9_orders.proofs.Managed.{free_screen-image_ids}
+use Rattle.model_cost.specs.Cost.{going_all}
+use Rattle.r9_orders.proofs.Costs.{rio-gone}
 use Rattle.r9_orders.proofs.rio.close_rio.Goals as goal
 
 pub release-requires : goal.release-requires
@@ -76,3 +78,10 @@ returns-in-Err-Refused-clause-closed g c =
     let P : BookFault → Type 0 = λ f. IfRefused f (λ n. free_screen w.book 0 c.args.window ≡ Err n) in
     (λ i. let next : World = record w { book = c.in-Err-Refused.ensures.kept i } in next)
     ∙ sym (screen-unknown-world w c.args.window c.in-Err-Refused.field-0-0 (subst P c.in-Err-Refused.field-0-is c.in-Err-Refused.ensures.refused))
+
+pub returns-in-Ok-clause-steps : goal.returns-in-Ok-clause-steps
+returns-in-Ok-clause-steps g c =
+    let before = c.args.device.now in
+    let freed : Freed = record { book = c.free_screen.new.self.book; gone = c.in-Ok.gone } in
+    let same = ap (λ (gone : List Thing). going_all (world before.forest) gone) c.as_slice.ensures in
+    omega (arith, same, rio-gone (world before.forest) before.book.book c.args.window freed c.in-Ok.ensures.freed, c.release.ensures.steps)

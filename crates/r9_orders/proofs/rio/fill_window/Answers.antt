@@ -1,7 +1,7 @@
 use Rattle.std.proofs.Common.{◌≡◌, ◌<◌, ℕ, true, ap, sym, subst, ◌∙◌, arith}
 use Rattle.std.specs.Prelude.{◌^◌}
 use Rattle.r9_geom.specs.declared.Rect.{Rect}
-use Rattle.r9_geom.specs.Geometry.{IsOrdered, IsRectNearBy, holds}
+use Rattle.r9_geom.specs.Geometry.{area_of, IsOrdered, IsRectNearBy, holds}
 use Rattle.r9_info.specs.declared.Info.{Info}
 use Rattle.model_pixel.specs.Channels.{colour_of, depth, pack}
 use Rattle.model_forest.specs.Draw.{after_fill}
@@ -55,8 +55,8 @@ invariant_of-device-clause-kept g c =
     kept-same _ (world c.fill.new.self) before.book.book
     (kept-fill (world before.forest) before.book.book c.image_shown-image.result.0 c.inside_border.result c.pack-grey.result before.kept c.image_shown-image.ensures.live) c.fill.ensures.world
 
-pub returns : goal.returns
-returns g c =
+pub returns-clause-filled : goal.returns-clause-filled
+returns-clause-filled g c =
     let w = world_of c.args.device.now in
     let i = c.image_shown-image.result.0 in
     let area : c.inside_border.result ≡ inside_border (at_number w i).r = c.inside_border.ensures ∙ ap (λ (info : Info). inside_border info.r) c.info-info.ensures in
@@ -66,3 +66,11 @@ returns g c =
     c.fill.ensures.world ∙ (λ j. after_fill w.images i (area j) (grey j))
     ∙ ap (λ (n : ℕ). after_fill w.images n (inside_border (at_number w n).r) (pack (at_number w n).chan (colour_of 0x777777ff))) c.image_shown-image.ensures.shown in
     λ j. let next : World = record w { images = images j; numbers = c.fill.ensures.numbers j } in next
+
+pub returns-clause-steps : goal.returns-clause-steps
+returns-clause-steps g c =
+    let w = world_of c.args.device.now in
+    let i = c.image_shown-image.result.0 in
+    let area : c.inside_border.result ≡ inside_border (at_number w i).r = c.inside_border.ensures ∙ ap (λ (info : Info). inside_border info.r) c.info-info.ensures in
+    let same = ap area_of area ∙ ap (λ (n : ℕ). area_of (inside_border (at_number w n).r)) c.image_shown-image.ensures.shown in
+    omega (arith, same, c.fill.ensures.steps)

@@ -1,8 +1,13 @@
-use Rattle.std.proofs.Common.{◌≡◌, ap, ◌∙◌}
+use Rattle.std.proofs.Common.{◌≡◌, ◌≤◌, ◌+◌, ℕ, sym, subst, ap, ◌∙◌}
 use Rattle.r9_device.specs.declared.device.Device.{Device}
 use Rattle.r9_device.specs.World.{world_of}
 use Rattle.r9_orders.proofs.Hosting.{filled, filled-else, filled-then, host-rect, host-root, hosted}
 use Rattle.r9_orders.proofs.rio.host_rio.Goals as goal
+use Rattle.std.specs.Prelude.{if◌then◌else◌}
+use Rattle.r9_geom.specs.Geometry.{area_of}
+use Rattle.model_cost.specs.Cost.{rect_shown}
+use Rattle.model_draw.specs.Orders.{inside_border}
+use Rattle.r9_orders.proofs.Costs.{fill-else, fill-then, hosted-within}
 use Rattle.r9_orders.proofs.rio.host_rio.Goals.{else-fill, then-fill}
 
 pub fill_window-requires : goal.fill_window-requires
@@ -12,16 +17,29 @@ pub open_rio-requires : goal.open_rio-requires
 open_rio-requires g c =
     let w = world_of c.args.device.now in
     let first : world_of c.if-fill.device ≡ filled w c.args.window c.args.fill = elim c.if-fill.branch [
-      | then-fill v ↦ filled-then w _ c.args.window c.args.fill v.if-fill.true (ap (λ (d : Device). world_of d) v.device-is ∙ v.fill_window.ensures)
+      | then-fill v ↦ filled-then w _ c.args.window c.args.fill v.if-fill.true (ap (λ (d : Device). world_of d) v.device-is ∙ v.fill_window.ensures.filled)
       | else-fill v ↦ filled-else w _ c.args.window c.args.fill v.if-fill.false (ap (λ (d : Device). world_of d) v.device-is)
     ] in
     host-root w (world_of c.if-fill.device) (world_of c.close_rio.new.device) c.args.window c.args.fill c.requires first c.in_ok-close_rio.ensures.closed
 
-pub returns : goal.returns
-returns g c =
+pub returns-clause-hosted : goal.returns-clause-hosted
+returns-clause-hosted g c =
     let w = world_of c.args.device.now in
     let first : world_of c.if-fill.device ≡ filled w c.args.window c.args.fill = elim c.if-fill.branch [
-      | then-fill v ↦ filled-then w _ c.args.window c.args.fill v.if-fill.true (ap (λ (d : Device). world_of d) v.device-is ∙ v.fill_window.ensures)
+      | then-fill v ↦ filled-then w _ c.args.window c.args.fill v.if-fill.true (ap (λ (d : Device). world_of d) v.device-is ∙ v.fill_window.ensures.filled)
       | else-fill v ↦ filled-else w _ c.args.window c.args.fill v.if-fill.false (ap (λ (d : Device). world_of d) v.device-is)
     ] in
     hosted c.open_rio.result w (world_of c.if-fill.device) (world_of c.close_rio.new.device) (world_of c.open_rio.new.device) c.args.window c.args.fill first c.in_ok-close_rio.ensures.closed c.open_rio.ensures.opened
+
+pub returns-clause-steps : goal.returns-clause-steps
+returns-clause-steps g c =
+    let w = world_of c.args.device.now in
+    let first : world_of c.if-fill.device ≡ filled w c.args.window c.args.fill = elim c.if-fill.branch [
+      | then-fill v ↦ filled-then w _ c.args.window c.args.fill v.if-fill.true (ap (λ (d : Device). world_of d) v.device-is ∙ v.fill_window.ensures.filled)
+      | else-fill v ↦ filled-else w _ c.args.window c.args.fill v.if-fill.false (ap (λ (d : Device). world_of d) v.device-is)
+    ] in
+    let most : c.if-fill.steps ≤ c.args.steps.now + (if c.args.fill then area_of (inside_border (rect_shown w c.args.window)) else 0) = elim c.if-fill.branch [
+      | then-fill v ↦ fill-then w c.args.window c.args.fill c.args.steps.now c.if-fill.steps v.if-fill.true (subst (λ (n : ℕ). n ≤ c.args.steps.now + area_of (inside_border (rect_shown w c.args.window))) (sym v.steps-is) v.fill_window.ensures.steps)
+      | else-fill v ↦ fill-else w c.args.window c.args.fill c.args.steps.now c.if-fill.steps v.if-fill.false v.steps-is
+    ] in
+    hosted-within c.open_rio.result w (world_of c.if-fill.device) c.args.window c.args.fill c.args.steps.now c.if-fill.steps c.close_rio.new.steps c.args.device.now.kept c.requires first most c.in_ok-close_rio.ensures.steps

@@ -4,6 +4,7 @@ use Rattle.r9_orders.proofs.Ordered.{can-hold, fresh-other, fresh-taken, kept-wh
 use Rattle.r9_device.proofs.Spare.{spare-added}
 use Rattle.r9_device.proofs.Ties.{ties-made}
 use Rattle.std.proofs.Common.{Some}
+use Rattle.r9_orders.proofs.Costs.{white-placed}
 use Rattle.r9_orders.proofs.window.add_white.Goals as goal
 
 pub put_white-requires-clause-fresh : goal.put_white-requires-clause-fresh
@@ -49,3 +50,9 @@ returns-clause-rect g c =
     let can = can-hold (world before.forest) before.book.book c.args.screen before.kept c.requires.screen in
     white-rect c.put_white.result (world before.forest) (world c.put_white.new.forest) c.args.place _
     (white-stands c.put_white.result (world before.forest) (world c.put_white.new.forest) before.book.book (next_number (numbers before.forest)) c.args.screen c.args.place _ can.image c.put_white.ensures.number c.put_white.ensures.free c.put_white.ensures.made)
+
+pub returns-clause-stands : goal.returns-clause-stands
+returns-clause-stands g c =
+    let before = c.args.device.now in
+    let can = can-hold (world before.forest) before.book.book c.args.screen before.kept c.requires.screen in
+    white-placed c.put_white.result (world before.forest) (world c.put_white.new.forest) before.book.book (next_number (numbers before.forest)) c.args.screen c.args.place _ can.image c.put_white.ensures.number c.put_white.ensures.free c.put_white.ensures.made

@@ -1,4 +1,4 @@
-use Rattle.std.proofs.Common.{◌≡◌, List, Err, sym, ap, subst, ◌∙◌}
+use Rattle.std.proofs.Common.{◌≡◌, List, Err, sym, ap, subst, ◌∙◌, arith}
 use Rattle.std.specs.List.{fold}
 use Rattle.model_images.specs.declared.Thing.{Thing}
 use Rattle.model_images.specs.Release.{Freed, free_id}
@@ -15,6 +15,8 @@ use Rattle.model_images.proofs.Spare.{free_id-gives}
 use Rattle.r9_device.proofs.Spare.{spare-freed}
 use Rattle.model_images.proofs.Ties.{HasTies-free_id}
 use Rattle.r9_orders.proofs.Managed.{free_id-display}
+use Rattle.model_cost.specs.Cost.{going_all}
+use Rattle.r9_orders.proofs.Costs.{window-gone}
 use Rattle.r9_orders.proofs.window.free_window.Goals as goal
 
 pub release-requires : goal.release-requires
@@ -74,3 +76,10 @@ returns-in-Err-Refused-clause-freed g c =
     let P : BookFault → Type 0 = λ f. IfRefused f (λ n. free_id w.book 0 c.args.window ≡ Err n) in
     (λ i. let next : World = record w { book = c.in-Err-Refused.ensures.kept i } in next)
     ∙ sym (image-unknown-world w c.args.window c.in-Err-Refused.field-0-0 (subst P c.in-Err-Refused.field-0-is c.in-Err-Refused.ensures.refused))
+
+pub returns-in-Ok-clause-steps : goal.returns-in-Ok-clause-steps
+returns-in-Ok-clause-steps g c =
+    let before = c.args.device.now in
+    let freed : Freed = record { book = c.free_id.new.self.book; gone = c.in-Ok.gone } in
+    let same = ap (λ (gone : List Thing). going_all (world before.forest) gone) c.as_slice.ensures in
+    omega (arith, same, window-gone (world before.forest) before.book.book c.args.window freed c.in-Ok.ensures.freed, c.release.ensures.steps)

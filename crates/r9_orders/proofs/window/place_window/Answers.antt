@@ -8,6 +8,7 @@ use Rattle.r9_layers.specs.Forest.{numbers, world}
 use Rattle.r9_device.specs.World.{world_of}
 use Rattle.r9_orders.proofs.Hosting.{changed, corner-near, kept-placed}
 use Rattle.r9_device.proofs.Rects.{point-wider}
+use Rattle.r9_geom.specs.Geometry.{area_of}
 use Rattle.r9_orders.proofs.window.place_window.Goals as goal
 
 pub origin-requires-clause-min : goal.origin-requires-clause-min
@@ -32,3 +33,8 @@ returns-clause-placed g c =
     let same : after_origin w.images i c.rect.result.min at ≡ after_origin w.images (image_shown w c.args.window) (at_number w (image_shown w c.args.window)).r.min at =
     ap (λ (p : Point). after_origin w.images i p at) (λ j. (c.rect.ensures.rect j).min) ∙ ap (λ (n : ℕ). after_origin w.images n (at_number w n).r.min at) c.image_shown-image.ensures.shown in
     changed c.origin.result w (world c.origin.new.self) _ _ (numbers c.origin.new.self) c.origin.ensures.moved same c.origin.ensures.numbers
+
+pub returns-clause-steps : goal.returns-clause-steps
+returns-clause-steps g c =
+    let same = ap (λ (n : ℕ). area_of (at_number (world_of c.args.device.now) n).r) c.image_shown-image.ensures.shown in
+    omega (arith, same, c.origin.ensures.steps)

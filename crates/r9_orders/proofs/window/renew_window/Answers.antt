@@ -19,6 +19,9 @@ use Rattle.r9_orders.proofs.Managed.{free_id-display}
 use Rattle.r9_orders.proofs.Pending.{can-release-next, kept-renewed}
 use Rattle.r9_orders.proofs.Renewing.{added-is, grows-renewed, id-given, id-left, kept-left, renewed-world, screen-left, spare-given}
 use Rattle.r9_device.proofs.Spare.{spare-freed}
+use Rattle.model_cost.specs.Cost.{going_all}
+use Rattle.r9_device.proofs.Kept.{can-release}
+use Rattle.r9_orders.proofs.Costs.{renewed-costs, window-gone}
 use Rattle.r9_orders.proofs.window.renew_window.Goals as goal
 
 pub release-requires : goal.release-requires
@@ -105,8 +108,8 @@ invariant_of-device-in-Ok-made-clause-ties g c =
     let given = id-given freed.book c.add_window.new.book.book window n c.args.screen (id-left before.book.book window freed other e) added in
     HasTies-add_id freed.book c.add_window.new.book.book 0 window n (Some c.args.screen) (HasTies-free_id before.book.book 0 window freed other before.ties e) given
 
-pub returns-in-Ok-made : goal.returns-in-Ok-made
-returns-in-Ok-made g c =
+pub returns-in-Ok-made-clause-renewed : goal.returns-in-Ok-made-clause-renewed
+returns-in-Ok-made-clause-renewed g c =
     let before = c.args.device.now in
     let window = c.args.window in
     let n = next_number (numbers before.forest) in
@@ -151,3 +154,20 @@ invariant_of-device-in-Err-made g c =
       room = omega (arith, space, more, most);
       manager = before.manager;
     }
+
+pub returns-in-Ok-made-clause-steps : goal.returns-in-Ok-made-clause-steps
+returns-in-Ok-made-clause-steps g c =
+    let before = c.args.device.now in
+    let images = world before.forest in
+    let book = before.book.book in
+    let window = c.args.window in
+    let n = next_number (numbers before.forest) in
+    let freed : Freed = record { book = c.free_id.new.self.book; gone = c.in-Ok.gone } in
+    let e = c.in-Ok.ensures.freed in
+    let is = c.free_id_frees.ensures.freed book 0 window freed before.kept.screens e in
+    let order = c.free_id_frees.ensures.order book 0 window freed e in
+    let o : Outcome Book = Ok freed.book in
+    let g = grows-renewed o (world_of before) (world c.next_window-made.new.forest) window n c.args.screen c.args.next.now before.kept c.keeps.ensures c.requires.next c.requires.ready c.in-Ok-made.ensures.free c.in-Ok-made.ensures.made in
+    let same = renewed-costs images (world c.next_window-made.new.forest) book n c.args.screen freed.gone g (can-release images book freed before.kept is order) in
+    let slice = ap (λ (gone : List Thing). going_all (world c.next_window-made.new.forest) gone) c.as_slice.ensures in
+    omega (arith, same, slice, window-gone images book window freed e, c.next_window-made.ensures.steps, c.release.ensures.steps)

@@ -10,8 +10,8 @@ same_fault : (first : Result (List Event) JournalFault) (last : Result Ended Jou
 same_fault first (Ok x) fault given was handed e = absurd handed
 same_fault first (Err x) fault given was handed e = let is : x ≡ given = cc in let same : fault ≡ given = sym handed ∙ is in rw (was, same) refl
 
-pub replayed-requires : goal.replayed-requires
-replayed-requires c = c.in_ok-left.ensures.found.legal
+pub replayed-requires-clause-legal : goal.replayed-requires-clause-legal
+replayed-requires-clause-legal c = c.in_ok-left.ensures.found.legal
 
 pub returns-clause-replies : goal.returns-clause-replies
 returns-clause-replies c = record { events = _; is_record = c.in_ok-left.ensures.found; one = c.in_ok-left.ensures.only; are_replies = c.in_ok-ended.ensures.replies; led = c.in_ok-ended.ensures.world }

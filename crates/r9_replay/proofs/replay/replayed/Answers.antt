@@ -8,14 +8,14 @@ use Rattle.r9_replay.proofs.Replaying.{first_next, first_whole, goes_on, may_sta
 use Rattle.r9_replay.proofs.replay.replayed.Goals as goal
 
 pub events-init : goal.events-init
-events-init c = record {
+events-init g c = record {
   replies = ap (λ (log : List Reply). log ++ replies_from (world_in c.in_ok-world.world) c.args.left) c.new-log.ensures ∙ ap (λ (w : World). replies_from w c.args.left) c.in_ok-world.ensures.first.world;
   world = ap (λ (w : World). world_from w c.args.left) c.in_ok-world.ensures.first.world;
-  may = may_start c.args.opening _ c.args.left c.in_ok-world.ensures.first c.requires;
+  may = may_start c.args.opening _ c.args.left c.in_ok-world.ensures.first c.requires.legal;
 }
 
 pub events-preserved : goal.events-preserved
-events-preserved c =
+events-preserved g c =
     let so_far = c.events.invariant in
     let ran = c.in_ok-run_event.ensures in
     let first = subst (λ (found : Option Event). IfSome found (λ event. c.events.left ≡ event ∷ c.pop_first.new.self)) c.in-Some.is c.in_ok-event.ensures.first in
@@ -26,14 +26,14 @@ events-preserved c =
     }
 
 pub run_event-requires-clause-whole : goal.run_event-requires-clause-whole
-run_event-requires-clause-whole c =
+run_event-requires-clause-whole g c =
     let first = subst (λ (found : Option Event). IfSome found (λ event. c.events.left ≡ event ∷ c.pop_first.new.self)) c.in-Some.is c.in_ok-event.ensures.first in
     first_whole _ _ _ _ first c.events.invariant.may
 
 pub run_event-requires-clause-next : goal.run_event-requires-clause-next
-run_event-requires-clause-next c =
+run_event-requires-clause-next g c =
     let first = subst (λ (found : Option Event). IfSome found (λ event. c.events.left ≡ event ∷ c.pop_first.new.self)) c.in-Some.is c.in_ok-event.ensures.first in
     first_next _ _ _ _ first c.events.invariant.may
 
 pub run_event-requires-clause-going : goal.run_event-requires-clause-going
-run_event-requires-clause-going c = c.events.invariant.may.going
+run_event-requires-clause-going g c = c.events.invariant.may.going

@@ -5,11 +5,11 @@ use Rattle.r9_replay.specs.Replayed.{MayRun}
 use Rattle.r9_replay.proofs.replay.replayed.Given as goal
 
 abbrev pub invariant-events : goal.invariant-events
-invariant-events l = record {
+invariant-events g l = record {
   replies : l.log ++ replies_from (world_in l.world) l.left ≡ replies l.fn.opening l.fn.left;
   world : world_from (world_in l.world) l.left ≡ replay l.fn.opening l.fn.left;
   may : MayRun l.world l.left;
 }
 
 abbrev pub decreases-events : goal.decreases-events
-decreases-events l = length l.left
+decreases-events g l = length l.left

@@ -2,6 +2,8 @@ use Rattle.r9_attend.specs.Calls.{told_ends}
 use Rattle.r9_workers.specs.Shifts.{told_doors}
 use Rattle.r9_service.specs.Serving.{side}
 use Rattle.r9_service.proofs.Whole.{not_started}
+use denote.Param.Send.{sendable}
+use Rattle.r9_service.proofs.Sending.{hall_send}
 use Rattle.r9_service.proofs.serving.serve.Goals as goal
 
 pub returns-in-Err : goal.returns-in-Err
@@ -24,3 +26,7 @@ serve_hall-requires-clause-opening g c κs within = c.in-Ok.ensures.opening
 
 pub returns-in-Ok : goal.returns-in-Ok
 returns-in-Ok g c = c.serve_hall.ensures
+
+-- the hall may go to another thread
+pub serve_hall-requires-send-H : goal.serve_hall-requires-send-H
+serve_hall-requires-send-H g c κs within = search (sendable, hall_send) depth 12

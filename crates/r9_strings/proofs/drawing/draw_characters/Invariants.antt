@@ -1,5 +1,6 @@
-use Rattle.std.proofs.Common.{◌≡◌, ◌≤◌, drop}
-use Rattle.std.specs.List.{fold}
+use Rattle.std.proofs.Common.{◌≡◌, ◌+◌, ◌≤◌, drop}
+use Rattle.std.specs.List.{fold, sum_by}
+use Rattle.model_cost.specs.Cost.{drawing_cost}
 use Rattle.model_forest.specs.Draw.{after_draw}
 use Rattle.r9_layers.specs.Forest.{numbers, room, world}
 use Rattle.r9_strings.specs.Drawings.{characters}
@@ -12,4 +13,5 @@ invariant-loop-piece g l = record {
   numbers : numbers l.forest ≡ numbers l.fn.forest;
   grown : room l.fn.forest ≤ room l.forest;
   rest : fold after_draw (world l.forest) (characters l.lettering (drop l.piece-index l.pieces)) ≡ fold after_draw (world l.fn.forest) (characters l.lettering l.pieces);
+  within : l.steps + sum_by (drawing_cost (world l.fn.forest)) (characters l.lettering (drop l.piece-index l.pieces)) ≤ l.fn.steps + sum_by (drawing_cost (world l.fn.forest)) (characters l.lettering l.pieces);
 }

@@ -5,7 +5,7 @@ use Rattle.model_draw.specs.Writing.{background_rect}
 use Rattle.r9_fonts.specs.View.{layout_of}
 use Rattle.r9_layers.specs.Forest.{room, world}
 use Rattle.r9_strings.specs.Ready.{Fits}
-use Rattle.r9_strings.proofs.Strings.{string_drawn, Alike, Alike-same, Alike-under, CanLetter-still, Fits-still}
+use Rattle.r9_strings.proofs.Strings.{string_drawn, string_within, Alike, Alike-same, Alike-under, CanLetter-still, Fits-still}
 use Rattle.r9_strings.proofs.drawing.draw_string.Goals as goal
 
 pub draw_characters-requires-clause-images : goal.draw_characters-requires-clause-images
@@ -32,3 +32,15 @@ returns-clause-drawn g c =
     (c.in_ok-room_for_characters.ensures.same.world ∙ c.in_ok-room_for_background.ensures.same.world)
     c.draw_background.ensures.drawn
     c.draw_characters.ensures.drawn
+
+pub returns-clause-steps : goal.returns-clause-steps
+returns-clause-steps g c =
+    let W = world c.args.forest.now in
+    string_within W _ _ c.args.font.now c.args.lettering.now c.args.indices.now (layout_of c.in_ok-laid.laid) c.background_rect-under.result _ _ _ _ c.requires.ready.dst c.in_ok-laid.ensures.laid
+    (c.background_rect-under.ensures.value
+    ∙ (λ j. background_rect c.args.lettering.now.p c.in_ok-laid.laid.end (c.ascent.ensures j) (c.info.ensures j).r))
+    c.as_slice-pieces.ensures
+    (c.in_ok-room_for_characters.ensures.same.world ∙ c.in_ok-room_for_background.ensures.same.world)
+    c.draw_background.ensures.drawn
+    c.draw_background.ensures.steps
+    c.draw_characters.ensures.steps

@@ -1,9 +1,10 @@
-use Rattle.std.proofs.Common.{◌≡◌, ℕ, List, [], sym, ap, subst, ◌∙◌}
+use Rattle.std.proofs.Common.{◌≡◌, ℕ, List, [], sym, ap, subst, ◌∙◌, arith}
+use Rattle.model_cost.specs.Cost.{going_all, leave_cost}
 use Rattle.std.specs.List.{fold}
 use Rattle.model_text.specs.Map.{lookup}
 use Rattle.model_images.specs.declared.Thing.{Thing}
 use Rattle.model_images.specs.Book.{image_id}
-use Rattle.model_images.specs.Release.{Freed, IsFreed, IsInOrder, KeepsRest}
+use Rattle.model_images.specs.Release.{Freed, IsFreed, IsInOrder, KeepsRest, leave}
 use Rattle.model_draw.specs.World.{Client, World}
 use Rattle.r9_layers.specs.Forest.{numbers, world}
 use Rattle.r9_device.specs.World.{world_of}
@@ -69,3 +70,11 @@ invariant_of-self-2-clause-ties g c =
     let before = c.args.self.now in
     subst (λ (f : Freed). HasTies f.book) c.in_ok-gone.ensures.left
     (HasTies-leave before.book.book c.args.client (not_manager before.clients.entries c.args.client c.requires before.manager) before.ties)
+
+pub returns-clause-steps : goal.returns-clause-steps
+unfolding leave_cost
+returns-clause-steps g c =
+    let images = world c.args.self.now.forest in
+    let gone : c.as_slice.result.now ≡ (leave c.args.self.now.book.book c.args.client).gone = c.as_slice.ensures ∙ sym (ap (λ (f : Freed). f.gone) c.in_ok-gone.ensures.left) in
+    let same = ap (λ (things : List Thing). going_all images things) gone in
+    omega (arith, same, c.release.ensures.steps)

@@ -1,4 +1,5 @@
 use Rattle.std.proofs.Common.{◌≡◌, ◌∙◌, ◌≤◌, ◌^◌, List, Some, drop, length, get_or, lit≤, refl, sym, subst, ap, arith}
+use Rattle.std.proofs.lemmas.Bool.{false≢true}
 use Rattle.std.proofs.lemmas.List.{take_all, take-append-le}
 use Rattle.std.specs.Prelude.{option_map, OnErr, OnOk}
 use Rattle.r9_geom.specs.declared.Rect.{Rect}
@@ -12,7 +13,7 @@ use Rattle.model_forest.specs.View.{view}
 use Rattle.model_forest.specs.World.{Image, World, image_at, parent_of, IsForest, IsLive}
 use Rattle.model_forest.proofs.Changes.{live-standing}
 use Rattle.model_forest.proofs.Steps.{IsForest-moved_to}
-use Rattle.model_kept.specs.Keeping.{with_kept}
+use Rattle.model_kept.specs.Keeping.{place_among, with_kept}
 use Rattle.r9_plane.specs.Pixels.{number_of}
 use Rattle.r9_locate.specs.Table.{shape}
 use Rattle.r9_pixels.specs.Kept.{kept_at, spare_in, wanted_in}
@@ -25,9 +26,10 @@ use Rattle.r9_forest.proofs.Going.{parent_is}
 use Rattle.r9_forest.proofs.Leftover.{hidden_top}
 use Rattle.r9_forest.proofs.Moves.{moved_relisting}
 use Rattle.r9_forest.proofs.Sounding.{sound_forest, sound_list, sound_same, sound_windows}
+use Rattle.r9_forest.proofs.Still.{is_rect_true, list-still, placed-still, true_is_rect}
 use Rattle.r9_forest.proofs.images.Images.move_window.Given.{Over}
 use Rattle.r9_forest.proofs.images.Images.move_window.Goals as goal
-use Rattle.r9_forest.proofs.images.Images.move_window.Goals.{After-carried_rect-place, After-get, After-reserve_move, In_ok-list, Start}
+use Rattle.r9_forest.proofs.images.Images.move_window.Goals.{After-carried_rect-place, After-get, After-place_among, After-reserve_move, In_ok-list, Start}
 
 parent : (g : Over) (c : Start g) → parent_of (shape c.args.self.now.lists) c.args.i ≡ Some c.args.standing.parent
 unfolding world
@@ -48,7 +50,7 @@ rect g c = ap (λ (image : Image). image.r) (sym c.get.ensures) ∙ (bare_canvas
 
 -- the list that was made, by the lists and by the world
 made : (g : Over) (c : In_ok-list g) → c.in_ok-list.list.items ≡ moved c.args.i c.carried_rect-place.result (image_at (shape c.args.self.now.lists) c.args.standing.parent).windows
-made g c = c.in_ok-list.ensures ∙ ap (moved c.args.i c.carried_rect-place.result) (c.deref.ensures.value ∙ sym (ap (λ (image : Image). image.windows) c.get-below.ensures))
+made g c = c.in_ok-list.ensures ∙ ap (moved c.args.i c.carried_rect-place.result) (c.deref-2.ensures.value ∙ sym (ap (λ (image : Image). image.windows) c.get-below.ensures))
 
 place_is : (g : Over) (c : After-carried_rect-place g) → c.get.result.now.r ≡ (image_at (world c.args.self.now) c.args.i).r → c.carried_rect-place.result ≡ carried_rect (image_at (world c.args.self.now) c.args.i).r (image_at (world c.args.self.now) c.args.i).r.min c.args.corner
 place_is g c is = c.carried_rect-place.ensures ∙ ap (λ (r : Rect). carried_rect r r.min c.args.corner) is
@@ -91,7 +93,7 @@ reserve_move-requires-clause-change g c =
     let at = goal.at.reserve_move-requires-clause-change g c in
     let was = c.args.self.now in
     let is = list_is g at.In_ok-list (place_is g at.After-carried_rect-place (rect g at.After-get)) in
-    subst (IsRelisting (shape was.lists) c.args.standing.parent c.args.i) (sym c.deref-2.ensures.value)
+    subst (IsRelisting (shape was.lists) c.args.standing.parent c.args.i) (sym c.deref-3.ensures.value)
     (moved_relisting (shape was.lists) c.args.standing.parent c.args.i c.in_ok-list.list.items (below g at.Start) (parent g at.Start) (c.carried_rect-place.result, made g at.In_ok-list)
     (sound_list was.lists (kept_at was.pixels) c.args.standing.parent c.in_ok-list.list.items (forest g at.In_ok-list (live_below g at.Start) is)))
 
@@ -152,7 +154,7 @@ move_listed-requires-clause-forest g c =
 
 pub move_listed-requires-clause-spare : goal.move_listed-requires-clause-spare
 move_listed-requires-clause-spare g c =
-    subst (λ (vs : List Window). wanted_in c.reserve_move.new.pixels (shape c.args.self.now.lists) c.args.standing.parent vs ≤ spare_in c.reserve_move.new.pixels) c.deref-2.ensures.value c.in_ok-reserve_move.ensures.spare
+    subst (λ (vs : List Window). wanted_in c.reserve_move.new.pixels (shape c.args.self.now.lists) c.args.standing.parent vs ≤ spare_in c.reserve_move.new.pixels) c.deref-3.ensures.value c.in_ok-reserve_move.ensures.spare
 
 pub returns-clause-world : goal.returns-clause-world
 unfolding world
@@ -179,3 +181,33 @@ unfolding world
 returns-clause-steps g c =
     let size = ap (λ (w : World). area_of (image_at w c.args.i).r) (same g (goal.at.returns-clause-steps g c).After-reserve_move) in
     omega (arith, size, c.move_listed.ensures.steps)
+
+-- ---- where it gets the place that it has
+
+-- the place that it has, by the world
+placed : (g : Over) (c : After-place_among g) → c.place_among.result ≡ place_among (image_at (world c.args.self.now) c.args.standing.parent).windows c.args.i
+unfolding world
+placed g c =
+    c.place_among.ensures
+    ∙ ap (λ (ws : List Window). place_among ws c.args.i)
+    (c.deref.ensures.value ∙ sym (ap (λ (image : Image). image.windows) c.get-below.ensures) ∙ sound_windows c.args.self.now.lists (kept_at c.args.self.now.pixels) c.args.standing.parent)
+
+pub returns-then-eq-clause-world : goal.returns-then-eq-clause-world
+unfolding world
+returns-then-eq-clause-world g c =
+    let at = goal.at.returns-then-eq-clause-world g c in
+    let now = c.args.self.now in
+    let was = world now in
+    let p = c.args.standing.parent in
+    let to = place_is g at.After-carried_rect-place (rect g at.After-get) in
+    let same = sym (placed g at.After-place_among) ∙ is_rect_true c.place_among.result c.carried_rect-place.result (sym c.eq.ensures ∙ c.if-eq.true) ∙ to in
+    sym
+    (ap (with_windows was p) (placed-still was c.args.i p _ now.sound.forest (live_below g at.Start) same)
+    ∙ list-still (shape now.lists) (kept_at now.pixels) p (live_below g at.Start))
+
+pub returns-clause-still : goal.returns-clause-still
+returns-clause-still g c has =
+    let at = goal.at.returns-clause-still g c in
+    let to = place_is g at.After-carried_rect-place (rect g at.After-get) in
+    let same = placed g at.After-place_among ∙ has ∙ sym to in
+    absurd (false≢true (sym c.if-eq.false ∙ c.eq.ensures ∙ true_is_rect c.place_among.result c.carried_rect-place.result same))

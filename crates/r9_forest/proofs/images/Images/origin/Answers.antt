@@ -1,10 +1,11 @@
-use Rattle.std.proofs.Common.{◌≡◌, ◌∙◌, Some, sym, subst, ap}
-use Rattle.std.specs.Prelude.{option_map}
+use Rattle.std.proofs.Common.{◌≡◌, ◌∙◌, Option, Some, sym, subst, ap}
+use Rattle.std.specs.Prelude.{IfSome, option_map}
 use Rattle.model_forest.specs.declared.Standing.{Standing}
 use Rattle.model_forest.specs.Stack.{moved}
 use Rattle.model_forest.specs.Steps.{carried_rect}
 use Rattle.model_forest.specs.World.{Image, World, image_at, IsLive}
 use Rattle.model_forest.proofs.Windows.{lives-with_windows}
+use Rattle.model_kept.specs.Keeping.{place_among}
 use Rattle.r9_locate.specs.Table.{shape}
 use Rattle.r9_pixels.specs.Kept.{kept_at}
 use Rattle.r9_forest.specs.Images.{world}
@@ -54,3 +55,11 @@ returns-in_default-clause-moved g c =
     (sym ((bare_canvas (shape c.args.self.now.lists) (kept_at c.args.self.now.pixels)).standing c.args.i)
     ∙ ap (λ (image : Image). image.standing) c.get.ensures ∙ c.in_default.is) in
     c.shift_own.ensures.world ∙ origin_root (world c.args.self.now) c.args.i c.args.min c.args.corner nowhere
+
+pub returns-clause-still : goal.returns-clause-still
+unfolding world
+returns-clause-still g c has =
+    let at = goal.at.returns-clause-still g c in
+    let r = (image_at (world c.args.self.now) c.args.i).r in
+    let place = carried_rect r r.min c.args.corner in
+    c.move_window.ensures.still (subst (λ (o : Option Standing). IfSome o (λ s. place_among (image_at (world c.args.self.now) s.parent).windows c.args.i ≡ place)) (stands g at.In-Some) has)

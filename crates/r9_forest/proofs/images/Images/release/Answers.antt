@@ -1,4 +1,4 @@
-use Rattle.std.proofs.Common.{◌∙◌, sym, ap}
+use Rattle.std.proofs.Common.{◌≡◌, ◌∙◌, ℕ, Some, None, sym, ap}
 use Rattle.std.specs.Prelude.{option_map}
 use Rattle.model_forest.specs.declared.Standing.{Standing}
 use Rattle.model_forest.specs.World.{Image}
@@ -24,3 +24,18 @@ take_root-requires-clause-nowhere g c =
     ap (option_map (λ (s : Standing). s.parent))
     (sym ((bare_canvas (shape c.args.self.now.lists) (kept_at c.args.self.now.pixels)).standing c.args.i)
     ∙ ap (λ (image : Image). image.standing) c.get.ensures ∙ c.in-None.is)
+
+no_parent : (p : ℕ) → Some p ≡ None → ⊥
+no_parent p e = cc
+
+-- a window stands somewhere
+pub returns-in-Some-clause-bare : goal.returns-in-Some-clause-bare
+unfolding world
+returns-in-Some-clause-bare g c nowhere =
+    absurd
+    (no_parent c.in-Some.standing.parent
+    (sym
+    (ap (option_map (λ (s : Standing). s.parent))
+    (sym ((bare_canvas (shape c.args.self.now.lists) (kept_at c.args.self.now.pixels)).standing c.args.i)
+    ∙ ap (λ (image : Image). image.standing) c.get.ensures ∙ c.in-Some.is))
+    ∙ nowhere))

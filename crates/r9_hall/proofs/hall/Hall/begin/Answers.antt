@@ -4,11 +4,11 @@ use Rattle.r9_event.specs.declared.ask.Answer.{Answer}
 use Rattle.r9_lock.specs.declared.chronicle.Acted.{Acted}
 use Rattle.r9_hall.specs.Acts.{IsAct}
 use Rattle.r9_hall.specs.HallView.{HallValue}
-use Rattle.r9_hall.proofs.Acting.{all_live_act, gave_up_act, refused}
+use Rattle.r9_hall.proofs.Acting.{all_live_act, gave_up_act, gave_up_counted, made_counted, refused}
 use Rattle.r9_hall.proofs.hall.Hall.begin.Goals as goal
 
 pub returns-then-not-can-clause-history : goal.returns-then-not-can-clause-history
-returns-then-not-can-clause-history c =
+returns-then-not-can-clause-history g c =
     let h = c.args.self.now in
     let whole : c.self.inside.broken ≡ false = ap (λ (v : HallValue). v.broken) c.self.view_is ∙ c.requires.whole in
     let begun : c.begun.result ≡ h.roll.begun = c.begun.ensures ∙ c.self.invariant.begun whole ∙ ap (λ (v : HallValue). v.roll.begun) c.self.view_is in
@@ -18,6 +18,14 @@ returns-then-not-can-clause-history c =
     (all_live_act h c.in-Some.session c.requires.going c.requires.whole session fits (refused c.can.result c.if-not-can.true c.can.ensures.1))
 
 pub returns-in_default-event-clause-history : goal.returns-in_default-event-clause-history
-returns-in_default-event-clause-history c =
+returns-in_default-event-clause-history g c =
     gave_up_act c.args.self.now c.event.new.self c.give_up.new.self ask.Begin c.give_up.result (λ before after given. given) c.give_up.ensures.answer c.requires.going
     c.in_default-event.ensures.err c.give_up.ensures.entered
+
+pub returns-in_default-event-clause-pixels : goal.returns-in_default-event-clause-pixels
+returns-in_default-event-clause-pixels g c =
+    gave_up_counted c.args.self.now c.event.new.self c.give_up.new.self c.give_up.result _ _ _ c.in_default-event.ensures.err c.give_up.ensures.entered c.in_default-event.ensures.uncounted c.give_up.ensures.silent
+
+pub returns-clause-pixels : goal.returns-clause-pixels
+returns-clause-pixels g c =
+    made_counted c.args.self.now c.event.new.self _ _ c.made.result _ _ (ap (λ (a : Acted Answer). a.entered) c.made.ensures) c.in-Ok.ensures.made c.requires.whole c.in-Ok.ensures.pixels

@@ -14,8 +14,8 @@ unfolding desktop_of
 returns-then-wrote-clause-written c =
     let d : LoneDesktop = parts_of c.args.self.now in
     let k = client 1 c.args.connection in
-    let is = first_written k c.in_ok-wrote.wrote.done (world_of c.args.self.now.device) (world_of c.write.new.self) c.args.bytes.now
+    let is = first_written k c.in_ok-wrote.wrote.done (world_of c.args.self.now.device) (world_of c.write.new.device) c.args.bytes.now
     (rw c.client.ensures at c.in_ok-wrote.ensures.short c.if-wrote.true) in
     ap (λ (short : Option ℕ). (with_device d (written_alone k d.device c.args.bytes.now (mark_after None short)).0, (written_alone k d.device c.args.bytes.now (mark_after None short)).1)) c.ended.ensures.short
     ∙ ap (λ (w : Written). (with_device d w.world, Some (unwrap_or w.refusal no_memory))) is
-    ∙ ap (λ (refusal : Option ℕ). (with_device d (world_of c.write.new.self), refusal)) (sym c.ended.ensures.refusal)
+    ∙ ap (λ (refusal : Option ℕ). (with_device d (world_of c.write.new.device), refusal)) (sym c.ended.ensures.refusal)

@@ -1,6 +1,6 @@
 use Rattle.r9_device.specs.World.{world_of}
 use Rattle.r9_draw.proofs.Messages.{listed-rows, same-rows}
-use Rattle.r9_draw.proofs.message.counted_message.Goals as goal
+use Rattle.r9_draw.proofs.message.one_message.Goals as goal
 
 pub returns-in-Some-clause-rows : goal.returns-in-Some-clause-rows
 returns-in-Some-clause-rows g c =

@@ -1,4 +1,4 @@
-use Rattle.std.proofs.Common.{◌≡◌, false, IfSome, IsSome, refl, sym, ap, subst, ◌∙◌}
+use Rattle.std.proofs.Common.{◌≡◌, ◌≤◌, false, IfSome, IsSome, refl, sym, ap, subst, ◌∙◌}
 use Rattle.model_alone.specs.Uses.{event_used}
 use Rattle.model_world.specs.Cut.{IsCutEvent, IsWantingEvent}
 use Rattle.model_world.specs.Links.{IsNext, begun_after}
@@ -6,7 +6,7 @@ use Rattle.model_world.specs.Replay.{marked, step}
 use Rattle.r9_hall.specs.StateView.{world_with}
 use Rattle.r9_hall.specs.WorldView.{WorldValue, world_in}
 use Rattle.r9_hall.proofs.Worlds.{turn_begun, turn_known, turn_linked, turn_quiet}
-use Rattle.r9_hall.proofs.world.World.step.Goals as goal
+use Rattle.r9_hall.proofs.world.World.make.Goals as goal
 
 pub step-requires-clause-linked : goal.step-requires-clause-linked
 step-requires-clause-linked c =
@@ -24,32 +24,33 @@ invariant_of-self-2 c =
     let next : IsNext c.self.inside.begun c.args.event.now = subst (λ (w : WorldValue). IsNext w.begun c.args.event.now) (sym c.self.view_is) c.requires.next in
     let linked = c.self.invariant.linked whole in
     let known = c.self.invariant.known whole in
-    let turn = c.in_ok-did.ensures.turn c.self.inside.opening in
+    let turn = c.in_ok-stepped.ensures.turn c.self.inside.opening in
     record {
-      linked = λ _. turn_linked c.self.inside.opening c.self.inside.sessions c.step.new.self c.self.inside.begun c.args.event.now c.in_ok-did.did.short _ next linked known turn;
-      known = λ _. turn_known c.self.inside.opening c.self.inside.sessions c.step.new.self c.self.inside.begun c.begun_after-self-inside.result c.args.event.now c.in_ok-did.did.short _ next linked known c.begun_after-self-inside.ensures turn;
+      linked = λ _. turn_linked c.self.inside.opening c.self.inside.sessions c.step.new.self c.self.inside.begun c.args.event.now c.in_ok-stepped.stepped.did.short _ next linked known turn;
+      known = λ _. turn_known c.self.inside.opening c.self.inside.sessions c.step.new.self c.self.inside.begun c.begun_after-self-inside.result c.args.event.now c.in_ok-stepped.stepped.did.short _ next linked known c.begun_after-self-inside.ensures turn;
       quiet = λ _. turn_quiet c.self.inside.opening c.self.inside.sessions c.step.new.self _ _ linked (c.self.invariant.quiet whole) turn;
     }
 
 pub returns : goal.returns
 returns c =
     let opening = c.self.inside.opening in
-    let event = marked c.args.event.now c.in_ok-did.did.short in
-    let turn = c.in_ok-did.ensures.turn opening in
+    let event = marked c.args.event.now c.in_ok-stepped.stepped.did.short in
+    let turn = c.in_ok-stepped.ensures.turn opening in
     record {
       opening = ap (λ (w : WorldValue). w.opening) c.self.view_is;
       world = record {
         world = sym turn.world ∙ ap (λ (w : WorldValue). (step (world_in w) event).world) c.self.view_is;
-        begun = turn_begun _ _ c.args.event.now c.in_ok-did.did.short (c.begun_after-self-inside.ensures ∙ ap (λ (w : WorldValue). begun_after w.begun c.args.event.now) c.self.view_is);
+        begun = turn_begun _ _ c.args.event.now c.in_ok-stepped.stepped.did.short (c.begun_after-self-inside.ensures ∙ ap (λ (w : WorldValue). begun_after w.begun c.args.event.now) c.self.view_is);
         going = refl;
       };
       replies = sym turn.replies_are ∙ ap (λ (w : WorldValue). (step (world_in w) event).replies) c.self.view_is;
       notes = sym turn.notes_are ∙ ap (λ (w : WorldValue). (step (world_in w) event).notes) c.self.view_is;
       watches = ap (λ (w : WorldValue). w.watches) c.self.view_is;
-      uses = λ watches. c.in_ok-did.ensures.uses (ap (λ (w : WorldValue). w.watches) c.self.view_is ∙ watches) opening
+      uses = λ watches. c.in_ok-stepped.ensures.uses (ap (λ (w : WorldValue). w.watches) c.self.view_is ∙ watches) opening
           ∙ (λ i. event_used (world_with opening c.self.inside.sessions) (sym turn.world i) event)
           ∙ ap (λ (w : WorldValue). event_used (world_in w) (step (world_in w) event).world event) c.self.view_is;
       closed = sym turn.closed_is ∙ ap (λ (w : WorldValue). (step (world_in w) event).closed) c.self.view_is;
-      short = subst (λ (w : WorldValue). IfSome c.in_ok-did.did.short (λ k. IsCutEvent (world_in w) c.args.event.now k)) c.self.view_is (c.in_ok-did.ensures.short opening);
-      told = subst (λ (w : WorldValue). IsWantingEvent (world_in w) event → IsSome c.in_ok-did.did.short) c.self.view_is (c.in_ok-did.ensures.told opening);
+      short = subst (λ (w : WorldValue). IfSome c.in_ok-stepped.stepped.did.short (λ k. IsCutEvent (world_in w) c.args.event.now k)) c.self.view_is (c.in_ok-stepped.ensures.short opening);
+      told = subst (λ (w : WorldValue). IsWantingEvent (world_in w) event → IsSome c.in_ok-stepped.stepped.did.short) c.self.view_is (c.in_ok-stepped.ensures.told opening);
+      pixels = subst (λ (w : WorldValue). c.in_ok-stepped.stepped.pixels ≤ (step (world_in w) event).cost) c.self.view_is (c.in_ok-stepped.ensures.pixels opening);
     }

@@ -1,0 +1,84 @@
+//! What a turn asks of the draw device, and how many pixels that writes.
+
+ghost use Rattle.std.specs.Prelude.{◌≡◌, ◌+◌, ◌≤◌};
+ghost use Rattle.model_cost.specs.Cost.{leave_cost, messages_cost, orders_cost};
+ghost use Rattle.r9_draw.specs.World.{world_of};
+
+use r9_draw::Draw;
+use r9_event::Orders;
+use r9_tally::{Asked, Tally};
+use std::snapshot::Snapshot;
+
+/// The messages that were done of a write, and the device as it was before.
+#[derive(Drop)]
+pub(crate) struct Messages<'a> {
+    pub(crate) device: Snapshot<Draw>,
+    pub(crate) client: u64,
+    pub(crate) bytes: &'a [u8],
+    pub(crate) done: u32,
+}
+
+impl Asked for Messages<'_> {
+    ghost cost = { λ asked. messages_cost asked.done asked.client (world_of asked.device.value) asked.bytes.now };
+}
+
+/// The end of a connection, and the device as it was before.
+#[derive(Drop)]
+pub(crate) struct Leave {
+    pub(crate) device: Snapshot<Draw>,
+    pub(crate) client: u64,
+}
+
+impl Asked for Leave {
+    ghost cost = { λ asked. leave_cost (world_of asked.device.value) asked.client };
+}
+
+/// Orders of the window manager, and the device as it was before.
+#[derive(Drop)]
+pub(crate) struct Ordered<'a> {
+    pub(crate) device: Snapshot<Draw>,
+    pub(crate) orders: &'a Orders,
+}
+
+impl Asked for Ordered<'_> {
+    ghost cost = { λ asked. orders_cost (world_of asked.device.value) asked.orders.now };
+}
+
+/// How many pixels were written in this turn, or 2^64 - 1 where there were more. They are at most what all that was asked in it
+/// costs.
+#[derive(Drop)]
+pub(crate) struct Spending {
+    pub(crate) pixels: u64,
+    pub(crate) asked: Tally,
+    ghost within: { pixels ≤ asked.sum },
+}
+
+impl Spending {
+    /// Nothing was asked yet.
+    pub(crate) fn none() -> Self
+        ensures { result.asked.sum ≡ 0 }
+    {
+        Spending {
+            pixels: 0,
+            asked: Tally::none(),
+        }
+    }
+
+    /// Adds what was asked, and how many pixels it wrote.
+    pub(crate) fn add<X: Asked>(&mut self, pixels: u64, asked: &X)
+        requires { pixels ≤ X.cost asked.now }
+        ensures { self.new.asked.sum ≡ self.old.asked.sum + X.cost asked.now }
+    {
+        *self = Spending {
+            pixels: self.pixels.saturating_add(pixels),
+            asked: self.asked.and(asked),
+        };
+    }
+
+    /// How many pixels were written, or 2^64 - 1 where there were more.
+    pub(crate) fn pixels(&self) -> u64
+        ensures { result ≤ self.now.asked.sum }
+    {
+        self.pixels
+    }
+}
