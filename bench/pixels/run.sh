@@ -10,11 +10,12 @@ room=$(mktemp -d)
 trap 'rm -rf "$room"' EXIT
 
 . "$here/../copy_crates.sh"
-copy_crates "$room" r9_geom model_pixel r9_memory r9_chan r9_plane r9_kern r9_mem
-echo 'pixel_calls staticlib: r9_geom r9_memory r9_chan r9_plane r9_kern r9_mem model_pixel' >> "$room/crates.txt"
+copy_crates "$room" r9_geom model_pixel r9_memory r9_chan r9_marks r9_steps r9_plane r9_kern r9_mem
+echo 'pixel_calls staticlib: r9_geom r9_memory r9_chan r9_plane r9_steps r9_kern r9_mem model_pixel' >> "$room/crates.txt"
 calls=$room/crates/pixel_calls
-mkdir -p "$calls/src" "$calls/proofs/pixels_load"
+mkdir -p "$calls/src" "$calls/proofs/load" "$calls/proofs/pixels_load"
 cp "$here/calls.rt.txt" "$calls/src/lib.rt"
+cp "$here/load.antt.txt" "$calls/proofs/load/Invariants.antt"
 cp "$here/pixels_load.antt.txt" "$calls/proofs/pixels_load/Invariants.antt"
 
 (cd "$calls" && rt lib > "$room/log" 2>&1) || { tail -40 "$room/log"; exit 1; }

@@ -19,3 +19,4 @@ pub mod Touching
 pub mod Passed
 pub mod Inner
 pub mod Sets
+pub mod Areas

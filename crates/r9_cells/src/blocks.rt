@@ -3,7 +3,7 @@
 
 ghost use Rattle.std.specs.Prelude.{◌≡◌, ◌≢◌, ◌+◌, ◌*◌, ◌-◌, ◌%◌, ◌^◌, ◌<◌, ◌≤◌, ◌≤ℤ◌, ◌+ℤ◌, ℕ, length, min, pos, slice_index, IsTrue, if◌then◌else◌};
 ghost use Rattle.r9_geom.specs.declared.Point.{Point as Spot};
-ghost use Rattle.r9_geom.specs.Geometry.{carried, distance as distance_of, height, holds, width as width_of, HasPoints, IsNear, IsOrdered, IsRectNear};
+ghost use Rattle.r9_geom.specs.Geometry.{area_of, carried, distance as distance_of, height, holds, width as width_of, HasPoints, IsNear, IsOrdered, IsRectNear};
 ghost use Rattle.model_pixel.specs.Channels.{depth};
 ghost use Rattle.r9_plane.specs.Blocks.{number_in, HasRows};
 ghost use Rattle.r9_plane.specs.Pixels.{chan_of, pixel_at, rect_of};
@@ -16,6 +16,8 @@ use super::hiding::cells_across;
 use super::table::Cells;
 use r9_geom::{Point, Rect, distance};
 use r9_plane::{Plane, copy_rows};
+use r9_steps::Steps;
+use std::sync::ledger::Ledger;
 
 // How many points there are from one on, of n, to the end of its cell.
 fn to_edge(from: i64, at: i64, n: u64) -> u64
@@ -210,7 +212,7 @@ impl Cells {
     }
 
     // Writes the hidden pixels of a rectangle of an image with rectangle r in one cell.
-    fn write_part(
+    fn write_part<L: Ledger>(
         &mut self,
         i: usize,
         r: &Rect,
@@ -218,6 +220,7 @@ impl Cells {
         raws: &[u32],
         first: usize,
         width: usize,
+        steps: &mut Steps<L>,
     )
         requires near { IsRectNear r.now }
         requires also { IsRectNear part.now }
@@ -230,13 +233,14 @@ impl Cells {
         ensures others { (place : CellPlace) → ((p : Spot) → IsTrue (holds part.now p) → place ≢ cell_place i r.now p) → place_pixel self.new place ≡ place_pixel self.old place }
         ensures rows { all_rows self.new ≡ all_rows self.old }
         ensures spare { spare (tiles_in self.new) ≡ spare (tiles_in self.old) }
+        ensures steps { steps.new ≡ steps.old + area_of part.now }
     {
         let at = part.at_min(inner(r, part.min));
-        self.put_block(i, cell_at(r, part.min), &at, raws, first, width);
+        self.put_block(i, cell_at(r, part.min), &at, raws, first, width, steps);
     }
 
     // The same in one row of cells.
-    fn write_band(
+    fn write_band<L: Ledger>(
         &mut self,
         i: usize,
         r: &Rect,
@@ -244,6 +248,7 @@ impl Cells {
         raws: &[u32],
         first: usize,
         width: usize,
+        steps: &mut Steps<L>,
     )
         requires near { IsRectNear r.now }
         requires also { IsRectNear band.now }
@@ -256,18 +261,19 @@ impl Cells {
         ensures others { (place : CellPlace) → ((p : Spot) → IsTrue (holds band.now p) → place ≢ cell_place i r.now p) → place_pixel self.new place ≡ place_pixel self.old place }
         ensures rows { all_rows self.new ≡ all_rows self.old }
         ensures spare { spare (tiles_in self.new) ≡ spare (tiles_in self.old) }
+        ensures steps { steps.new ≡ steps.old + area_of band.now }
     {
         let mut column = 0;
         while column < band.width() {
             let part = part_of(r, band, column);
             let start = first + column as usize;
-            self.write_part(i, r, &part, raws, start, width);
+            self.write_part(i, r, &part, raws, start, width, steps);
             column += part.width();
         }
     }
 
-    /// Writes the hidden pixels of a rectangle, of an image with rectangle r, which stand among rows of so many.
-    pub fn write_block(
+    /// Writes the hidden pixels of a rectangle, of an image with rectangle r, which stand among rows of so many, a step for each.
+    pub fn write_block<L: Ledger>(
         &mut self,
         i: usize,
         r: &Rect,
@@ -275,6 +281,7 @@ impl Cells {
         raws: &[u32],
         first: usize,
         width: usize,
+        steps: &mut Steps<L>,
     )
         requires near { IsRectNear r.now }
         requires also { IsRectNear block.now }
@@ -286,18 +293,26 @@ impl Cells {
         ensures others { (place : CellPlace) → ((p : Spot) → IsTrue (holds block.now p) → place ≢ cell_place i r.now p) → place_pixel self.new place ≡ place_pixel self.old place }
         ensures rows { all_rows self.new ≡ all_rows self.old }
         ensures spare { spare (tiles_in self.new) ≡ spare (tiles_in self.old) }
+        ensures steps { steps.new ≡ steps.old + area_of block.now }
     {
         let mut row = 0;
         while row < block.height() {
             let band = band_of(r, block, row);
             let start = first + row as usize * width;
-            self.write_band(i, r, &band, raws, start, width);
+            self.write_band(i, r, &band, raws, start, width, steps);
             row += band.height();
         }
     }
 
     // Writes one raw pixel at all hidden points of a rectangle of an image with rectangle r in one cell.
-    fn fill_part(&mut self, i: usize, r: &Rect, part: &Rect, raw: u32)
+    fn fill_part<L: Ledger>(
+        &mut self,
+        i: usize,
+        r: &Rect,
+        part: &Rect,
+        raw: u32,
+        steps: &mut Steps<L>,
+    )
         requires near { IsRectNear r.now }
         requires also { IsRectNear part.now }
         requires ordered { IsOrdered part.now }
@@ -308,13 +323,21 @@ impl Cells {
         ensures others { (place : CellPlace) → ((p : Spot) → IsTrue (holds part.now p) → place ≢ cell_place i r.now p) → place_pixel self.new place ≡ place_pixel self.old place }
         ensures rows { all_rows self.new ≡ all_rows self.old }
         ensures spare { spare (tiles_in self.new) ≡ spare (tiles_in self.old) }
+        ensures steps { steps.new ≡ steps.old + area_of part.now }
     {
         let at = part.at_min(inner(r, part.min));
-        self.fill_in(i, cell_at(r, part.min), &at, raw);
+        self.fill_in(i, cell_at(r, part.min), &at, raw, steps);
     }
 
     // The same in one row of cells.
-    fn fill_band(&mut self, i: usize, r: &Rect, band: &Rect, raw: u32)
+    fn fill_band<L: Ledger>(
+        &mut self,
+        i: usize,
+        r: &Rect,
+        band: &Rect,
+        raw: u32,
+        steps: &mut Steps<L>,
+    )
         requires near { IsRectNear r.now }
         requires also { IsRectNear band.now }
         requires ordered { IsOrdered band.now }
@@ -325,17 +348,25 @@ impl Cells {
         ensures others { (place : CellPlace) → ((p : Spot) → IsTrue (holds band.now p) → place ≢ cell_place i r.now p) → place_pixel self.new place ≡ place_pixel self.old place }
         ensures rows { all_rows self.new ≡ all_rows self.old }
         ensures spare { spare (tiles_in self.new) ≡ spare (tiles_in self.old) }
+        ensures steps { steps.new ≡ steps.old + area_of band.now }
     {
         let mut column = 0;
         while column < band.width() {
             let part = part_of(r, band, column);
-            self.fill_part(i, r, &part, raw);
+            self.fill_part(i, r, &part, raw, steps);
             column += part.width();
         }
     }
 
-    /// Writes one raw pixel at all hidden points of a rectangle, of an image with rectangle r.
-    pub fn fill_block(&mut self, i: usize, r: &Rect, block: &Rect, raw: u32)
+    /// Writes one raw pixel at all hidden points of a rectangle, of an image with rectangle r, a step for each.
+    pub fn fill_block<L: Ledger>(
+        &mut self,
+        i: usize,
+        r: &Rect,
+        block: &Rect,
+        raw: u32,
+        steps: &mut Steps<L>,
+    )
         requires near { IsRectNear r.now }
         requires also { IsRectNear block.now }
         requires ordered { IsOrdered block.now }
@@ -345,17 +376,26 @@ impl Cells {
         ensures others { (place : CellPlace) → ((p : Spot) → IsTrue (holds block.now p) → place ≢ cell_place i r.now p) → place_pixel self.new place ≡ place_pixel self.old place }
         ensures rows { all_rows self.new ≡ all_rows self.old }
         ensures spare { spare (tiles_in self.new) ≡ spare (tiles_in self.old) }
+        ensures steps { steps.new ≡ steps.old + area_of block.now }
     {
         let mut row = 0;
         while row < block.height() {
             let band = band_of(r, block, row);
-            self.fill_band(i, r, &band, raw);
+            self.fill_band(i, r, &band, raw, steps);
             row += band.height();
         }
     }
 
     // Takes the hidden pixels of a rectangle of an image with rectangle r from a plane in one cell.
-    fn hide_part(&mut self, i: usize, r: &Rect, part: &Rect, plane: &Plane, from: Point)
+    fn hide_part<L: Ledger>(
+        &mut self,
+        i: usize,
+        r: &Rect,
+        part: &Rect,
+        plane: &Plane,
+        from: Point,
+        steps: &mut Steps<L>,
+    )
         requires near { IsRectNear r.now }
         requires also { IsRectNear part.now }
         requires ordered { IsOrdered part.now }
@@ -369,13 +409,29 @@ impl Cells {
         ensures others { (place : CellPlace) → ((p : Spot) → IsTrue (holds part.now p) → place ≢ cell_place i r.now p) → place_pixel self.new place ≡ place_pixel self.old place }
         ensures rows { all_rows self.new ≡ all_rows self.old }
         ensures spare { spare (tiles_in self.new) ≡ spare (tiles_in self.old) }
+        ensures steps { steps.new ≡ steps.old + area_of part.now }
     {
         let at = inner(r, part.min);
-        self.copy_block(i, cell_at(r, part.min), at, plane, &part.at_min(from));
+        self.copy_block(
+            i,
+            cell_at(r, part.min),
+            at,
+            plane,
+            &part.at_min(from),
+            steps,
+        );
     }
 
     // The same in one row of cells.
-    fn hide_band(&mut self, i: usize, r: &Rect, band: &Rect, plane: &Plane, from: Point)
+    fn hide_band<L: Ledger>(
+        &mut self,
+        i: usize,
+        r: &Rect,
+        band: &Rect,
+        plane: &Plane,
+        from: Point,
+        steps: &mut Steps<L>,
+    )
         requires near { IsRectNear r.now }
         requires also { IsRectNear band.now }
         requires ordered { IsOrdered band.now }
@@ -389,19 +445,28 @@ impl Cells {
         ensures others { (place : CellPlace) → ((p : Spot) → IsTrue (holds band.now p) → place ≢ cell_place i r.now p) → place_pixel self.new place ≡ place_pixel self.old place }
         ensures rows { all_rows self.new ≡ all_rows self.old }
         ensures spare { spare (tiles_in self.new) ≡ spare (tiles_in self.old) }
+        ensures steps { steps.new ≡ steps.old + area_of band.now }
     {
         let mut column = 0;
         while column < band.width() {
             let part = part_of(r, band, column);
             let there = right(from, column);
-            self.hide_part(i, r, &part, plane, there);
+            self.hide_part(i, r, &part, plane, there, steps);
             column += part.width();
         }
     }
 
-    /// Takes the hidden pixels of a rectangle, of an image with rectangle r, from a plane, where it stands from another point on.
-    /// They have no more bits than the plane's channels tell.
-    pub fn hide_block(&mut self, i: usize, r: &Rect, block: &Rect, plane: &Plane, from: Point)
+    /// Takes the hidden pixels of a rectangle, of an image with rectangle r, from a plane, where it stands from another point on, a
+    /// step for each. They have no more bits than the plane's channels tell.
+    pub fn hide_block<L: Ledger>(
+        &mut self,
+        i: usize,
+        r: &Rect,
+        block: &Rect,
+        plane: &Plane,
+        from: Point,
+        steps: &mut Steps<L>,
+    )
         requires near { IsRectNear r.now }
         requires also { IsRectNear block.now }
         requires ordered { IsOrdered block.now }
@@ -414,18 +479,27 @@ impl Cells {
         ensures others { (place : CellPlace) → ((p : Spot) → IsTrue (holds block.now p) → place ≢ cell_place i r.now p) → place_pixel self.new place ≡ place_pixel self.old place }
         ensures rows { all_rows self.new ≡ all_rows self.old }
         ensures spare { spare (tiles_in self.new) ≡ spare (tiles_in self.old) }
+        ensures steps { steps.new ≡ steps.old + area_of block.now }
     {
         let mut row = 0;
         while row < block.height() {
             let band = band_of(r, block, row);
             let there = down(from, row);
-            self.hide_band(i, r, &band, plane, there);
+            self.hide_band(i, r, &band, plane, there, steps);
             row += band.height();
         }
     }
 
     // Puts the hidden pixels of a rectangle of an image with rectangle r into a plane in one cell.
-    fn show_part(&self, i: usize, r: &Rect, part: &Rect, plane: &mut Plane, to: Point)
+    fn show_part<L: Ledger>(
+        &self,
+        i: usize,
+        r: &Rect,
+        part: &Rect,
+        plane: &mut Plane,
+        to: Point,
+        steps: &mut Steps<L>,
+    )
         requires near { IsRectNear r.now }
         requires also { IsRectNear part.now }
         requires ordered { IsOrdered part.now }
@@ -438,14 +512,23 @@ impl Cells {
         ensures rect { rect_of plane.new ≡ rect_of plane.old }
         ensures chan { chan_of plane.new ≡ chan_of plane.old }
         ensures pixels { (q : Spot) → pixel_at plane.new q ≡ (if holds part.now (carried q to part.now.min) then place_pixel self.now (cell_place i r.now (carried q to part.now.min)) else pixel_at plane.old q) }
+        ensures steps { steps.new ≡ steps.old + area_of part.now }
     {
         let tile = self.tile(i, cell_at(r, part.min));
         let pixels = self.store().tile(tile);
-        plane.put_block(&part.at_min(to), pixels, place_at(r, part.min), 32);
+        plane.put_block(&part.at_min(to), pixels, place_at(r, part.min), 32, steps);
     }
 
     // The same in one row of cells.
-    fn show_band(&self, i: usize, r: &Rect, band: &Rect, plane: &mut Plane, to: Point)
+    fn show_band<L: Ledger>(
+        &self,
+        i: usize,
+        r: &Rect,
+        band: &Rect,
+        plane: &mut Plane,
+        to: Point,
+        steps: &mut Steps<L>,
+    )
         requires near { IsRectNear r.now }
         requires also { IsRectNear band.now }
         requires ordered { IsOrdered band.now }
@@ -458,18 +541,28 @@ impl Cells {
         ensures rect { rect_of plane.new ≡ rect_of plane.old }
         ensures chan { chan_of plane.new ≡ chan_of plane.old }
         ensures pixels { (q : Spot) → pixel_at plane.new q ≡ (if holds band.now (carried q to band.now.min) then place_pixel self.now (cell_place i r.now (carried q to band.now.min)) else pixel_at plane.old q) }
+        ensures steps { steps.new ≡ steps.old + area_of band.now }
     {
         let mut column = 0;
         while column < band.width() {
             let part = part_of(r, band, column);
             let there = right(to, column);
-            self.show_part(i, r, &part, plane, there);
+            self.show_part(i, r, &part, plane, there, steps);
             column += part.width();
         }
     }
 
-    /// Puts the hidden pixels of a rectangle, of an image with rectangle r, into a plane, where it stands from another point on.
-    pub fn show_block(&self, i: usize, r: &Rect, block: &Rect, plane: &mut Plane, to: Point)
+    /// Puts the hidden pixels of a rectangle, of an image with rectangle r, into a plane, where it stands from another point on, a
+    /// step for each.
+    pub fn show_block<L: Ledger>(
+        &self,
+        i: usize,
+        r: &Rect,
+        block: &Rect,
+        plane: &mut Plane,
+        to: Point,
+        steps: &mut Steps<L>,
+    )
         requires near { IsRectNear r.now }
         requires also { IsRectNear block.now }
         requires ordered { IsOrdered block.now }
@@ -481,12 +574,13 @@ impl Cells {
         ensures rect { rect_of plane.new ≡ rect_of plane.old }
         ensures chan { chan_of plane.new ≡ chan_of plane.old }
         ensures pixels { (q : Spot) → pixel_at plane.new q ≡ (if holds block.now (carried q to block.now.min) then place_pixel self.now (cell_place i r.now (carried q to block.now.min)) else pixel_at plane.old q) }
+        ensures steps { steps.new ≡ steps.old + area_of block.now }
     {
         let mut row = 0;
         while row < block.height() {
             let band = band_of(r, block, row);
             let there = down(to, row);
-            self.show_band(i, r, &band, plane, there);
+            self.show_band(i, r, &band, plane, there, steps);
             row += band.height();
         }
     }

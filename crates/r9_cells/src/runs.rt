@@ -1,6 +1,6 @@
 //! Hidden pixels side by side, through the cells that they lie in.
 
-ghost use Rattle.std.specs.Prelude.{◌≡◌, ◌≢◌, ◌^◌, ◌<◌, ◌≤◌, ℕ, Some, true, length, slice_index, IsTrue, if◌then◌else◌};
+ghost use Rattle.std.specs.Prelude.{◌≡◌, ◌≢◌, ◌+◌, ◌^◌, ◌<◌, ◌≤◌, ℕ, Some, true, length, slice_index, IsTrue, if◌then◌else◌};
 ghost use Rattle.r9_geom.specs.declared.Point.{Point as Spot};
 ghost use Rattle.r9_geom.specs.Geometry.{carried, holds, strip, IsRectNear};
 ghost use Rattle.model_pixel.specs.Channels.{depth};
@@ -14,7 +14,9 @@ use super::table::Cells;
 use r9_geom::{Point, Rect, distance};
 use r9_locate::along;
 use r9_plane::Plane;
+use r9_steps::Steps;
 use r9_store::TileNo;
+use std::sync::ledger::Ledger;
 
 /// A point of a tile, counted from its corner.
 #[derive(Clone, Copy)]
@@ -90,26 +92,43 @@ impl Cells {
         }
     }
 
-    /// Writes hidden pixels side by side, of an image with that rectangle, from a point to the right.
-    pub fn write(&mut self, i: usize, r: &Rect, at: Point, raws: &[u32])
+    /// Writes hidden pixels side by side, of an image with that rectangle, from a point to the right, a step for each.
+    pub fn write<L: Ledger>(
+        &mut self,
+        i: usize,
+        r: &Rect,
+        at: Point,
+        raws: &[u32],
+        steps: &mut Steps<L>,
+    )
         requires near { IsRectNear r.now }
         requires has { (k : ℕ) → k < length raws.now → IsTrue (has_tile (all_rows self.old) i r.now (along at k)) }
         ensures at { (k : ℕ) → k < length raws.now → place_pixel self.new (cell_place i r.now (along at k)) ≡ slice_index raws.now k }
         ensures others { (place : CellPlace) → ((k : ℕ) → k < length raws.now → place ≢ cell_place i r.now (along at k)) → place_pixel self.new place ≡ place_pixel self.old place }
         ensures rows { all_rows self.new ≡ all_rows self.old }
         ensures spare { spare (tiles_in self.new) ≡ spare (tiles_in self.old) }
+        ensures steps { steps.new ≡ steps.old + length raws.now }
     {
         let mut done = 0;
         while done < raws.len() {
             let run = run_of(r, along(at, done), raws.len() - done);
-            self.put_row(i, run.cell, run.at, &raws[done..done + run.len]);
+            self.put_row(i, run.cell, run.at, &raws[done..done + run.len], steps);
             done += run.len;
         }
     }
 
-    /// Takes hidden pixels side by side, of an image with that rectangle, from a plane, from a point of each to the right. They
-    /// have no more bits than the plane's channels tell.
-    pub fn hide(&mut self, i: usize, r: &Rect, at: Point, n: usize, plane: &Plane, from: Point)
+    /// Takes hidden pixels side by side, of an image with that rectangle, from a plane, from a point of each to the right, a step
+    /// for each. They have no more bits than the plane's channels tell.
+    pub fn hide<L: Ledger>(
+        &mut self,
+        i: usize,
+        r: &Rect,
+        at: Point,
+        n: usize,
+        plane: &Plane,
+        from: Point,
+        steps: &mut Steps<L>,
+    )
         requires near { IsRectNear r.now }
         requires has { (k : ℕ) → k < n → IsTrue (has_tile (all_rows self.old) i r.now (along at k)) }
         requires inside { (k : ℕ) → k < n → IsTrue (holds (rect_of plane.now) (along from k)) }
@@ -118,18 +137,29 @@ impl Cells {
         ensures others { (place : CellPlace) → ((k : ℕ) → k < n → place ≢ cell_place i r.now (along at k)) → place_pixel self.new place ≡ place_pixel self.old place }
         ensures rows { all_rows self.new ≡ all_rows self.old }
         ensures spare { spare (tiles_in self.new) ≡ spare (tiles_in self.old) }
+        ensures steps { steps.new ≡ steps.old + n }
     {
         let mut done = 0;
         while done < n {
             let run = run_of(r, along(at, done), n - done);
             let there = along(from, done);
-            self.copy_row(i, run.cell, run.at, run.len, plane, there);
+            self.copy_row(i, run.cell, run.at, run.len, plane, there, steps);
             done += run.len;
         }
     }
 
-    /// Puts hidden pixels side by side, of an image with that rectangle, into a plane, from a point of each to the right.
-    pub fn show(&self, i: usize, r: &Rect, from: Point, n: usize, plane: &mut Plane, at: Point)
+    /// Puts hidden pixels side by side, of an image with that rectangle, into a plane, from a point of each to the right, a step for
+    /// each.
+    pub fn show<L: Ledger>(
+        &self,
+        i: usize,
+        r: &Rect,
+        from: Point,
+        n: usize,
+        plane: &mut Plane,
+        at: Point,
+        steps: &mut Steps<L>,
+    )
         requires near { IsRectNear r.now }
         requires has { (k : ℕ) → k < n → IsTrue (has_tile (all_rows self.now) i r.now (along from k)) }
         requires inside { (k : ℕ) → k < n → IsTrue (holds (rect_of plane.old) (along at k)) }
@@ -137,12 +167,13 @@ impl Cells {
         ensures rect { rect_of plane.new ≡ rect_of plane.old }
         ensures chan { chan_of plane.new ≡ chan_of plane.old }
         ensures pixels { (q : Spot) → pixel_at plane.new q ≡ (if holds (strip at n) q then place_pixel self.now (cell_place i r.now (carried q at from)) else pixel_at plane.old q) }
+        ensures steps { steps.new ≡ steps.old + n }
     {
         let mut done = 0;
         while done < n {
             let run = run_of(r, along(from, done), n - done);
             let there = along(at, done);
-            plane.put_row(there, self.row(i, run.cell, run.at, run.len));
+            plane.put_row(there, self.row(i, run.cell, run.at, run.len), steps);
             done += run.len;
         }
     }

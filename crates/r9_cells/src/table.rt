@@ -2,7 +2,7 @@
 
 ghost use Rattle.std.specs.Prelude.{◌≡◌, ◌≢◌, ◌+◌, ◌^◌, ◌<◌, ◌==◌, ◌&&◌, ◌||◌, ℕ, Some, None, false, not, length, is_some, max, replicate, slice_index, slice_index_or, slice_set, [], ◌∷◌, ◌++◌, IsTrue, OnErr, OnOk, if◌then◌else◌};
 ghost use Rattle.r9_geom.specs.declared.Point.{Point as Spot};
-ghost use Rattle.r9_geom.specs.Geometry.{carried, holds, strip, HasPoints, IsRectNear};
+ghost use Rattle.r9_geom.specs.Geometry.{area_of, carried, holds, strip, HasPoints, IsRectNear};
 ghost use Rattle.model_pixel.specs.Channels.{depth};
 ghost use Rattle.r9_plane.specs.Blocks.{number_in, HasRows};
 ghost use Rattle.r9_plane.specs.Pixels.{along, chan_of, pixel_at, rect_of};
@@ -12,8 +12,10 @@ ghost use Rattle.r9_cells.specs.Rows.{cell_at, row_at, rows_of, tiles_of, CellPl
 use r9_geom::{Point, Rect};
 use r9_memory::Memory;
 use r9_plane::Plane;
+use r9_steps::Steps;
 use r9_store::{Store, TileNo};
 use std::alloc::Global;
+use std::sync::ledger::Ledger;
 
 /// The tiles of the cells of an image.
 #[derive(Drop)]
@@ -179,22 +181,30 @@ impl Cells {
         self.store.get_row(self.tile(i, k), at, raws);
     }
 
-    /// Puts pixels side by side into the tile of a cell, from a point of it to the right, and changes nothing else.
-    pub fn put_row(&mut self, i: usize, k: usize, at: Point, raws: &[u32])
+    /// Puts pixels side by side into the tile of a cell, from a point of it to the right, a step for each, and changes nothing else.
+    pub fn put_row<L: Ledger>(
+        &mut self,
+        i: usize,
+        k: usize,
+        at: Point,
+        raws: &[u32],
+        steps: &mut Steps<L>,
+    )
         requires tile { IsTrue (is_some (cell_at (all_rows self.old) i k)) }
         requires inside { (p : Spot) → IsTrue (holds (strip at (length raws.now)) p) → IsTrue (holds cell p) }
         ensures at { (n : ℕ) → n < length raws.now → cell_pixel self.new i k (along at n) ≡ slice_index raws.now n }
         ensures others { (place : CellPlace) → ((n : ℕ) → n < length raws.now → place ≢ record { image = i; cell = k; at = along at n }) → place_pixel self.new place ≡ place_pixel self.old place }
         ensures rows { all_rows self.new ≡ all_rows self.old }
         ensures spare { spare (tiles_in self.new) ≡ spare (tiles_in self.old) }
+        ensures steps { steps.new ≡ steps.old + length raws.now }
     {
         let tile = self.tile(i, k);
-        self.store.put_row(tile, at, raws);
+        self.store.put_row(tile, at, raws, steps);
     }
 
-    /// Puts pixels of a plane side by side into the tile of a cell, from a point of each to the right, and changes nothing else.
-    /// They have no more bits than the plane's channels tell.
-    pub fn copy_row(
+    /// Puts pixels of a plane side by side into the tile of a cell, from a point of each to the right, a step for each, and changes
+    /// nothing else. They have no more bits than the plane's channels tell.
+    pub fn copy_row<L: Ledger>(
         &mut self,
         i: usize,
         k: usize,
@@ -202,6 +212,7 @@ impl Cells {
         len: usize,
         plane: &Plane,
         from: Point,
+        steps: &mut Steps<L>,
     )
         requires tile { IsTrue (is_some (cell_at (all_rows self.old) i k)) }
         requires inside { (p : Spot) → IsTrue (holds (strip at len) p) → IsTrue (holds cell p) }
@@ -211,13 +222,15 @@ impl Cells {
         ensures others { (place : CellPlace) → ((n : ℕ) → n < len → place ≢ record { image = i; cell = k; at = along at n }) → place_pixel self.new place ≡ place_pixel self.old place }
         ensures rows { all_rows self.new ≡ all_rows self.old }
         ensures spare { spare (tiles_in self.new) ≡ spare (tiles_in self.old) }
+        ensures steps { steps.new ≡ steps.old + len }
     {
         let tile = self.tile(i, k);
-        self.store.copy_row(tile, at, len, plane, from);
+        self.store.copy_row(tile, at, len, plane, from, steps);
     }
 
-    /// Puts pixels into a rectangle of the tile of a cell, which stand among rows of so many, and changes nothing else.
-    pub fn put_block(
+    /// Puts pixels into a rectangle of the tile of a cell, which stand among rows of so many, a step for each, and changes nothing
+    /// else.
+    pub fn put_block<L: Ledger>(
         &mut self,
         i: usize,
         k: usize,
@@ -225,6 +238,7 @@ impl Cells {
         raws: &[u32],
         first: usize,
         width: usize,
+        steps: &mut Steps<L>,
     )
         requires tile { IsTrue (is_some (cell_at (all_rows self.old) i k)) }
         requires some { HasPoints r.now }
@@ -234,13 +248,21 @@ impl Cells {
         ensures others { (place : CellPlace) → ((p : Spot) → IsTrue (holds r.now p) → place ≢ record { image = i; cell = k; at = p }) → place_pixel self.new place ≡ place_pixel self.old place }
         ensures rows { all_rows self.new ≡ all_rows self.old }
         ensures spare { spare (tiles_in self.new) ≡ spare (tiles_in self.old) }
+        ensures steps { steps.new ≡ steps.old + area_of r.now }
     {
         let tile = self.tile(i, k);
-        self.store.put_block(tile, r, raws, first, width);
+        self.store.put_block(tile, r, raws, first, width, steps);
     }
 
-    /// Puts one pixel at all points of a rectangle of the tile of a cell, and changes nothing else.
-    pub fn fill_in(&mut self, i: usize, k: usize, r: &Rect, raw: u32)
+    /// Puts one pixel at all points of a rectangle of the tile of a cell, a step for each, and changes nothing else.
+    pub fn fill_in<L: Ledger>(
+        &mut self,
+        i: usize,
+        k: usize,
+        r: &Rect,
+        raw: u32,
+        steps: &mut Steps<L>,
+    )
         requires tile { IsTrue (is_some (cell_at (all_rows self.old) i k)) }
         requires some { HasPoints r.now }
         requires inside { (p : Spot) → IsTrue (holds r.now p) → IsTrue (holds cell p) }
@@ -248,14 +270,23 @@ impl Cells {
         ensures others { (place : CellPlace) → ((p : Spot) → IsTrue (holds r.now p) → place ≢ record { image = i; cell = k; at = p }) → place_pixel self.new place ≡ place_pixel self.old place }
         ensures rows { all_rows self.new ≡ all_rows self.old }
         ensures spare { spare (tiles_in self.new) ≡ spare (tiles_in self.old) }
+        ensures steps { steps.new ≡ steps.old + area_of r.now }
     {
         let tile = self.tile(i, k);
-        self.store.fill_block(tile, r, raw);
+        self.store.fill_block(tile, r, raw, steps);
     }
 
-    /// Puts the pixels of a rectangle of a plane into the tile of a cell, from a point of that on, and changes nothing else. They
-    /// have no more bits than the plane's channels tell.
-    pub fn copy_block(&mut self, i: usize, k: usize, at: Point, plane: &Plane, from: &Rect)
+    /// Puts the pixels of a rectangle of a plane into the tile of a cell, from a point of that on, a step for each, and changes
+    /// nothing else. They have no more bits than the plane's channels tell.
+    pub fn copy_block<L: Ledger>(
+        &mut self,
+        i: usize,
+        k: usize,
+        at: Point,
+        plane: &Plane,
+        from: &Rect,
+        steps: &mut Steps<L>,
+    )
         requires tile { IsTrue (is_some (cell_at (all_rows self.old) i k)) }
         requires some { HasPoints from.now }
         requires near { IsRectNear from.now }
@@ -266,8 +297,9 @@ impl Cells {
         ensures others { (place : CellPlace) → ((p : Spot) → IsTrue (holds from.now p) → place ≢ record { image = i; cell = k; at = carried p from.now.min at }) → place_pixel self.new place ≡ place_pixel self.old place }
         ensures rows { all_rows self.new ≡ all_rows self.old }
         ensures spare { spare (tiles_in self.new) ≡ spare (tiles_in self.old) }
+        ensures steps { steps.new ≡ steps.old + area_of from.now }
     {
         let tile = self.tile(i, k);
-        self.store.copy_block(tile, at, plane, from);
+        self.store.copy_block(tile, at, plane, from, steps);
     }
 }

@@ -15,6 +15,7 @@ use Rattle.model_forest.specs.declared.Standing.{Standing}
 use Rattle.model_forest.specs.declared.Window.{Window}
 use Rattle.model_forest.specs.Stack.{moved, seen, with_windows}
 use Rattle.model_forest.specs.Steps.{after_list, after_replace, after_replace_on, carried_rect, outside, put_above}
+use Rattle.model_exchanged.specs.Exchanged.{after_put_on, after_put_over}
 use Rattle.model_forest.specs.View.{view}
 use Rattle.model_forest.specs.World.{Image, World, image_at, no_image, no_rect, parent_of, with_image, IsForest, IsLive, SameSize}
 use Rattle.model_forest.proofs.Changes.{live-standing, with_image-free}
@@ -237,25 +238,36 @@ listed_at : (world : World) (i : ℕ) (s : Standing) (change : List Window → L
 listed_at world i s change stands =
     ap (λ (o : Option ℕ). option_map_or (λ parent. with_windows world parent (change (image_at world parent).windows)) o world) (stands_at world i s stands)
 
-pub replace_world : (world : World) (i old : ℕ) (left : Standing) (r : Rect) (corner : Point) (raw : ℕ) (keep : Bool) → IsForest world → IsReplacing world i old left left (Some old) r corner raw keep → moved_out (replaced world i old left (Some old) r corner raw keep) left.parent old (image_at world old).r ≡ after_replace world i old r corner raw keep
-unfolding after_replace
-replace_world world i old left r corner raw keep ok is =
+-- a window that comes directly above another, which stays
+pub put_over_world : (world : World) (i old : ℕ) (left : Standing) (r : Rect) (corner : Point) (raw : ℕ) (keep : Bool) → IsForest world → IsReplacing world i old left left (Some old) r corner raw keep → replaced world i old left (Some old) r corner raw keep ≡ after_put_over world i old r corner raw keep
+unfolding after_put_over
+put_over_world world i old left r corner raw keep ok is =
     let p = left.parent in
     let first : Window = record { image = i; place = carried_rect r r.min corner } in
-    let change = moved old (carried_rect (image_at world old).r (image_at world old).r.min outside) in
     let image = replacement_is world old left r raw keep ok is.left_at in
     let live = old_live world i old left left (Some old) r corner raw keep ok is in
     let below = left_live world i old left left (Some old) r corner raw keep ok is in
     let one = with_image world i (Some (replacement world old r raw keep)) in
     let stands_one : (image_at one old).standing ≡ Some left = ap (λ (o : Option Image). (unwrap_or o no_image).standing) (with_image-free world i old (Some (replacement world old r raw keep)) is.free live) ∙ is.left_at in
     let at_p : (image_at one p).windows ≡ (image_at world p).windows = ap (λ (o : Option Image). (unwrap_or o no_image).windows) (with_image-free world i p (Some (replacement world old r raw keep)) is.free below) in
-    let two : after_list one old (put_above first old) ≡ replaced world i old left (Some old) r corner raw keep =
-    listed_at one old left (put_above first old) stands_one
-    ∙ ap (λ (us : List Window). with_windows one p (put_above first old us)) at_p
-    ∙ ap (λ (im : Image). with_windows (with_image world i (Some im)) p (put_above first old (image_at world p).windows)) image in
     sym
-    (ap (λ (v : World). after_list v old change) two
+    (listed_at one old left (put_above first old) stands_one
+    ∙ ap (λ (us : List Window). with_windows one p (put_above first old us)) at_p
+    ∙ ap (λ (im : Image). with_windows (with_image world i (Some im)) p (put_above first old (image_at world p).windows)) image)
+
+-- and once it moves far outside
+pub replace_world : (world : World) (i old : ℕ) (left : Standing) (r : Rect) (corner : Point) (raw : ℕ) (keep : Bool) → IsForest world → IsReplacing world i old left left (Some old) r corner raw keep → moved_out (replaced world i old left (Some old) r corner raw keep) left.parent old (image_at world old).r ≡ after_replace world i old r corner raw keep
+unfolding after_put_over after_replace
+replace_world world i old left r corner raw keep ok is =
+    let change = moved old (carried_rect (image_at world old).r (image_at world old).r.min outside) in
+    sym
+    (ap (λ (v : World). after_list v old change) (sym (put_over_world world i old left r corner raw keep ok is))
     ∙ listed_at (replaced world i old left (Some old) r corner raw keep) old left change (old_stands world i old left left (Some old) r corner raw keep ok is))
+
+-- the same topmost on another image
+pub put_on_world : (world : World) (i old : ℕ) (left standing : Standing) (r : Rect) (corner : Point) (raw : ℕ) (keep : Bool) → IsForest world → IsReplacing world i old left standing None r corner raw keep → replaced world i old standing None r corner raw keep ≡ after_put_on world i old standing.parent standing.fill r corner raw keep
+unfolding after_put_on
+put_on_world world i old left standing r corner raw keep ok is = refl
 
 pub replace_on_world : (world : World) (i old : ℕ) (left standing : Standing) (r : Rect) (corner : Point) (raw : ℕ) (keep : Bool) → IsForest world → IsReplacing world i old left standing None r corner raw keep → moved_out (replaced world i old standing None r corner raw keep) left.parent old (image_at world old).r ≡ after_replace_on world i old standing.parent standing.fill r corner raw keep
 unfolding after_replace_on

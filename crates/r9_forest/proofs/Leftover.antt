@@ -26,7 +26,7 @@ use Rattle.r9_cells.proofs.Walks.{cell_in}
 use Rattle.r9_cells.proofs.Windowed.{cell_met}
 use Rattle.r9_relist.proofs.Without.{place-without}
 use Rattle.r9_arrive.specs.Arriving.{IsLeft, IsLeftOf}
-use Rattle.r9_forest.proofs.Moves.{without-moved}
+use Rattle.model_exchanged.proofs.InPlace.{without-moved}
 
 -- ---- two rectangles
 

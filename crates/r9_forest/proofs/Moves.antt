@@ -15,6 +15,7 @@ use Rattle.model_forest.proofs.Listed.{parent-apart}
 use Rattle.model_forest.proofs.Placed.{height-carried, width-carried, IsForest-shifted}
 use Rattle.model_forest.proofs.Uncovers.{Uncovers, Uncovers-moved}
 use Rattle.model_forest.proofs.Windows.{with_windows-other}
+use Rattle.model_exchanged.proofs.InPlace.{without-moved}
 use Rattle.model_kept.specs.Cells.{cell_of, cell_part, hides_on}
 use Rattle.model_kept.specs.Keeping.{keeping, with_kept, Place}
 use Rattle.model_kept.specs.Restack.{shifted_shape, with_list}
@@ -38,21 +39,6 @@ use Rattle.r9_forest.proofs.Going.{fill_left}
 use Rattle.r9_forest.proofs.Numbers.{stay_numbered}
 use Rattle.r9_forest.proofs.Roomy.{fills_put}
 use Rattle.r9_forest.proofs.Sounding.{sound_live}
-
--- the others stay as they are
-pub without-moved : (i : ℕ) (place : Rect) (ws : List Window) → without i (moved i place ws) ≡ without i ws
-without-moved i place [] = refl
-without-moved i place (w ∷ ws) = by_image (w.image == i) refl (without-moved i place ws)
-  where
-    there : Window
-    there = record { image = i; place = place }
-
-    taken : Bool → Window → List Window → List Window
-    taken b v vs = cond (not b) (v ∷ without i vs) (without i vs)
-
-    by_image : (b : Bool) → (w.image == i) ≡ b → without i (moved i place ws) ≡ without i ws → taken ((if b then there else w).image == i) (if b then there else w) (moved i place ws) ≡ taken (w.image == i) w ws
-    by_image true e rest = ap (λ b. taken b there (moved i place ws)) (eq-eqb i i refl) ∙ rest ∙ sym (ap (λ b. taken b w ws) e)
-    by_image false e rest = ap (λ b. taken b w (moved i place ws)) e ∙ ap (λ (vs : List Window). w ∷ vs) rest ∙ sym (ap (λ b. taken b w ws) e)
 
 pub moved_relisting : (shape : World) (p i : ℕ) (list : List Window) → IsLive shape p → parent_of shape i ≡ Some p → IsMoved shape p i list → IsForest (with_list shape p list) → IsRelisting shape p i list
 moved_relisting shape p i list live stands is ok = record {

@@ -19,7 +19,10 @@ use r9_locate::{along, read_view};
 use r9_memory::Memory;
 use r9_plane::{Plane, row_bytes};
 use r9_shown::read_area;
+use r9_steps::Steps;
 use r9_text::Bytes;
+use std::marker::Brand;
+use std::sync::ledger::{Blank, Ledger};
 
 // How many columns a rectangle has from a point of it on.
 fn columns_left(p: Point, r: &Rect) -> usize
@@ -165,8 +168,11 @@ impl Images {
         self.pixels.plane(i)
     }
 
-    // What an image shows in a rectangle of it, as a plane.
-    fn shown(&self, i: u32, r: Rect) -> Result<Plane, Memory>
+    // What an image shows in a rectangle of it, as a plane. Its pixels are no image's: they have a count of their own.
+    fn shown<L: Ledger>(&self, i: u32, r: Rect, blank: Blank) -> Result<Plane, Memory>
+        requires name { blank.name ≡ L.name }
+        requires parts { blank.parts ≡ L.parts }
+        requires some { 0 < L.parts }
         requires live { IsLive (world self.now) i }
         requires near { IsRectNearBy (2 ^ 36) r }
         requires ordered { IsOrdered r }
@@ -175,12 +181,13 @@ impl Images {
         ensures chan { IfOk result (λ plane. chan_of plane ≡ (image_at (world self.now) i).chan) }
         ensures pixels { IfOk result (λ plane. (p : Spot) → IsTrue (holds r p) → pixel_at plane p ≡ model.view (world self.now) i p) }
     {
+        let mut steps = Steps::<L>::new(blank);
         let mut plane = Plane::new(self.alloc, r, self.lists.get(i).chan, 0)?;
         let mut raws = vec![in self.alloc; 0; r.width() as usize]?;
         for row in 0..r.height() {
             let at = r.point_at(0, row);
             self.read_view(i, at, &mut raws);
-            plane.put_row(at, &raws);
+            plane.put_row(at, &raws, &mut steps);
         }
         Ok(plane)
     }
@@ -197,7 +204,7 @@ impl Images {
         if self.lists.get(i).standing.is_none() {
             self.plane(i).unload(r, rows);
         } else {
-            self.shown(i, r)?.unload(r, rows);
+            self.shown::<Brand>(i, r, Blank::new(1))?.unload(r, rows);
         }
         Ok(())
     }

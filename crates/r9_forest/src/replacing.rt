@@ -8,6 +8,7 @@ ghost use Rattle.model_pixel.specs.Channels as channels;
 ghost use Rattle.model_forest.specs.Numbers.{next_number, taken};
 ghost use Rattle.model_forest.specs.Steps as steps;
 ghost use Rattle.model_forest.specs.Steps.{after_replace, after_replace_on};
+ghost use Rattle.model_exchanged.specs.Exchanged.{after_put_on, after_put_over, LeavesUnseen};
 ghost use Rattle.model_forest.specs.View as model;
 ghost use Rattle.model_forest.specs.World.{image_at, parent_of, IsLive, SameSize};
 ghost use Rattle.r9_locate.specs.Table.{shape};
@@ -32,6 +33,12 @@ const OUTSIDE: Point = Point {
     x: 1 << 20,
     y: 1 << 20,
 };
+
+// What a new window takes before it comes: its place in a list, and that list.
+struct Coming {
+    window: Window,
+    list: Vec<Window>,
+}
 
 // What a replacement takes before anything changes: the new window, the list with it, the list in which the other then moves,
 // and room for what fills where that stood, where it shows still.
@@ -132,6 +139,138 @@ impl Images {
         self.exchange(old, left, standing, None, r, corner, raw, keep, steps)
     }
 
+    /// Makes a window directly above another as `replace` does, but leaves the other where it stands. At most two pixels are
+    /// written for each point of r.
+    pub fn put_over<L: Ledger>(
+        &mut self,
+        old: u32,
+        r: Rect,
+        corner: Point,
+        raw: u32,
+        keep: bool,
+        steps: &mut Steps<L>,
+    ) -> Result<u32, Memory>
+        requires window { IsSome (parent_of (world self.old) old) }
+        requires near { IsRectNearBy (2 ^ 34) r }
+        requires ordered { IsOrdered r }
+        requires corner { IsNearBy (2 ^ 34) corner }
+        requires raw { raw < 2 ^ channels.depth (image_at (world self.old) old).chan }
+        requires size { keep ≡ true → SameSize r (image_at (world self.old) old).r }
+        ensures number { IfOk result (λ i. i ≡ next_number (numbers self.old)) }
+        ensures free { IfOk result (λ i. world self.old i ≡ None) }
+        ensures made { IfOk result (λ i. world self.new ≡ after_put_over (world self.old) i old r corner raw keep) }
+        ensures taken { OnOk result (numbers self.new ≡ taken (numbers self.old)) }
+        ensures err { OnErr result (IsUnchanged self.old self.new) }
+        ensures steps { steps.new ≤ steps.old + 2 * area_of r }
+        ensures uncounted { OnErr result (steps.new ≡ steps.old) }
+    {
+        let Some(left) = self.lists.get(old).standing else {
+            return Err(Memory);
+        };
+        self.put(old, left, left, Some(old), r, corner, raw, keep, steps)
+    }
+
+    /// Makes a window topmost on any image as `replace_on` does, but leaves the other where it stands. At most two pixels are
+    /// written for each point of r.
+    pub fn put_on<L: Ledger>(
+        &mut self,
+        old: u32,
+        parent: u32,
+        fill: u32,
+        r: Rect,
+        corner: Point,
+        raw: u32,
+        keep: bool,
+        steps: &mut Steps<L>,
+    ) -> Result<u32, Memory>
+        requires window { IsSome (parent_of (world self.old) old) }
+        requires parent { IsLive (world self.old) parent }
+        requires fill { IsLive (world self.old) fill }
+        requires near { IsRectNearBy (2 ^ 34) r }
+        requires ordered { IsOrdered r }
+        requires corner { IsNearBy (2 ^ 34) corner }
+        requires raw { raw < 2 ^ channels.depth (image_at (world self.old) parent).chan }
+        requires size { keep ≡ true → SameSize r (image_at (world self.old) old).r }
+        requires chan { keep ≡ true → (image_at (world self.old) parent).chan ≡ (image_at (world self.old) old).chan }
+        ensures number { IfOk result (λ i. i ≡ next_number (numbers self.old)) }
+        ensures free { IfOk result (λ i. world self.old i ≡ None) }
+        ensures made { IfOk result (λ i. world self.new ≡ after_put_on (world self.old) i old parent fill r corner raw keep) }
+        ensures taken { OnOk result (numbers self.new ≡ taken (numbers self.old)) }
+        ensures err { OnErr result (IsUnchanged self.old self.new) }
+        ensures steps { steps.new ≤ steps.old + 2 * area_of r }
+        ensures uncounted { OnErr result (steps.new ≡ steps.old) }
+    {
+        let Some(left) = self.lists.get(old).standing else {
+            return Err(Memory);
+        };
+        let standing = Standing { parent, fill };
+        self.put(old, left, standing, None, r, corner, raw, keep, steps)
+    }
+
+    /// Whether a window goes as well from where it stands as from far outside, also once another came on image p.
+    pub fn leaves_unseen(&self, old: u32, p: u32) -> bool
+        requires { IsSome (parent_of (world self.now) old) }
+        ensures { result ≡ true → LeavesUnseen (world self.now) old p }
+    {
+        let Some(standing) = self.lists.get(old).standing else {
+            return false;
+        };
+        if standing.fill == p || !self.lists.get(standing.fill).windows.is_empty() {
+            return false;
+        }
+        self.is_far_off(old, standing.parent)
+    }
+
+    // Whether image q has no point where its window stands far outside.
+    fn is_far_off(&self, old: u32, q: u32) -> bool
+        requires { parent_of (world self.now) old ≡ Some q }
+        ensures { result ≡ true → IsFarOff (shape self.now.lists) old q }
+    {
+        let own = self.lists.get(old).r;
+        let far = carried_rect(&own, own.min, OUTSIDE);
+        far.meet(&self.lists.get(q).r).is_empty()
+    }
+
+    // Makes a window with what another shows, or one raw pixel. All memory is taken before the first pixel is written.
+    fn put<L: Ledger>(
+        &mut self,
+        old: u32,
+        left: Standing,
+        standing: Standing,
+        over: Option<u32>,
+        r: Rect,
+        corner: Point,
+        raw: u32,
+        keep: bool,
+        steps: &mut Steps<L>,
+    ) -> Result<u32, Memory>
+        requires left { (image_at (world self.old) old).standing ≡ Some left }
+        requires beside { (n : ℕ) → over ≡ Some n → (n ≡ old) × (standing ≡ left) }
+        requires parent { IsLive (world self.old) standing.parent }
+        requires fill { IsLive (world self.old) standing.fill }
+        requires near { IsRectNearBy (2 ^ 34) r }
+        requires ordered { IsOrdered r }
+        requires corner { IsNearBy (2 ^ 34) corner }
+        requires raw { raw < 2 ^ channels.depth (image_at (world self.old) standing.parent).chan }
+        requires size { keep ≡ true → SameSize r (image_at (world self.old) old).r }
+        requires chan { keep ≡ true → (image_at (world self.old) standing.parent).chan ≡ (image_at (world self.old) old).chan }
+        ensures needs { IfOk result (λ i. IsReplacing (world self.old) i old left standing over r corner raw keep) }
+        ensures number { IfOk result (λ i. i ≡ next_number (numbers self.old)) }
+        ensures made { IfOk result (λ i. world self.new ≡ replaced (world self.old) i old standing over r corner raw keep) }
+        ensures taken { OnOk result (numbers self.new ≡ taken (numbers self.old)) }
+        ensures err { OnErr result (IsUnchanged self.old self.new) }
+        ensures steps { steps.new ≤ steps.old + 2 * area_of r }
+        ensures uncounted { OnErr result (steps.new ≡ steps.old) }
+    {
+        self.reserve_window(&r)?;
+        let coming = self.first(standing.parent, over, &r, corner)?;
+        let Coming { window, list } = coming;
+        let given = self.given(old, keep, raw);
+        let parent = standing.parent;
+        self.come(window, standing, r, list, given, parent, &[], &[], steps)?;
+        Ok(window.image)
+    }
+
     // Makes a window with what another shows, or one raw pixel, and moves the other far outside. All memory is taken before
     // the first pixel is written.
     fn exchange<L: Ledger>(
@@ -211,15 +350,8 @@ impl Images {
         ensures hidden { IfOk result (λ exchange. exchange.rows ≡ None → IsFarOff (shape self.now.lists) old left.parent) }
         ensures enough { IfOk result (λ exchange. IfSome exchange.rows (λ rows. area_of (image_at (shape self.now.lists) old).r ≤ vec_len rows)) }
     {
-        let below = self.lists.get(parent);
-        if is_full(below) {
-            return Err(Memory);
-        }
-        let made = self.lists.len();
-        let image = peek_number(made, &self.spare);
-        let place = carried_rect(r, r.min, corner);
-        let window = Window { image, place };
-        let list = with_window(self.alloc, &below.windows, window, over)?;
+        let coming = self.first(parent, over, r, corner)?;
+        let Coming { window, list } = coming;
         let later = self.later(old, left.parent, parent, &list)?;
         let rows = self.room_left(old, left.parent)?;
         Ok(Exchange {
@@ -230,17 +362,44 @@ impl Images {
         })
     }
 
+    // What a new window takes, where more can stand on the image on which it comes.
+    fn first(
+        &self,
+        parent: u32,
+        over: Option<u32>,
+        r: &Rect,
+        corner: Point,
+    ) -> Result<Coming, Memory>
+        requires parent { IsLive (world self.now) parent }
+        requires near { IsRectNearBy (2 ^ 34) r.now }
+        requires corner { IsNearBy (2 ^ 34) corner }
+        ensures number { IfOk result (λ coming. coming.window.image ≡ next_number (numbers self.now)) }
+        ensures place { IfOk result (λ coming. coming.window.place ≡ steps.carried_rect r.now r.now.min corner) }
+        ensures few { OnOk result (((image_at (shape self.now.lists) parent).depth + 1 < 2 ^ 32) × (length (image_at (shape self.now.lists) parent).windows + 1 < 2 ^ 32)) }
+        ensures list { IfOk result (λ coming. coming.list.items ≡ put_in over coming.window (image_at (shape self.now.lists) parent).windows) }
+    {
+        let below = self.lists.get(parent);
+        if is_full(below) {
+            return Err(Memory);
+        }
+        let made = self.lists.len();
+        let image = peek_number(made, &self.spare);
+        let place = carried_rect(r, r.min, corner);
+        let window = Window { image, place };
+        let list = with_window(self.alloc, &below.windows, window, over)?;
+        Ok(Coming { window, list })
+    }
+
     // Room for what fills where a window of image q stood, where it shows still once it moves far outside.
     fn room_left(&self, old: u32, q: u32) -> Result<Option<Vec<u32>>, Memory>
         requires { parent_of (world self.now) old ≡ Some q }
         ensures hidden { IfOk result (λ rows. rows ≡ None → IsFarOff (shape self.now.lists) old q) }
         ensures enough { IfOk result (λ rows. IfSome rows (λ room. area_of (image_at (shape self.now.lists) old).r ≤ vec_len room)) }
     {
-        let own = self.lists.get(old).r;
-        let far = carried_rect(&own, own.min, OUTSIDE);
-        if far.meet(&self.lists.get(q).r).is_empty() {
+        if self.is_far_off(old, q) {
             return Ok(None);
         }
+        let own = self.lists.get(old).r;
         let count = (own.width() * own.height()) as usize;
         Ok(Some(zeros(self.alloc, count)?))
     }

@@ -14,6 +14,7 @@ ghost use Rattle.model_forest.specs.Cost as cost;
 ghost use Rattle.model_forest.specs.Paint.{paint};
 ghost use Rattle.model_forest.specs.View as model;
 ghost use Rattle.model_forest.specs.World.{image_at, parent_of, CanGo, IsForest, IsLive, SameSize};
+ghost use Rattle.model_exchanged.specs.Exchanged.{after_put_on, after_put_over, LeavesUnseen};
 ghost use Rattle.model_resize.specs.Resize.{after_resize, CanResize};
 ghost use Rattle.model_kept.specs.Cells.{cell_of, cells_below, in_cell};
 ghost use Rattle.model_kept.specs.Keeping.{is_hidden, is_shown, outward, place_among};
@@ -264,6 +265,79 @@ impl Forest {
             .images
             .replace_on(old.0, parent.0, fill.0, r, corner, raw, keep, steps)?;
         Ok(ImageNo(number))
+    }
+
+    /// Makes a window directly above another as `replace` does, but leaves the other where it stands, for where that goes next.
+    pub fn put_over<L: Ledger>(
+        &mut self,
+        old: ImageNo,
+        r: Rect,
+        corner: Point,
+        raw: u32,
+        keep: bool,
+        steps: &mut Steps<L>,
+    ) -> Result<ImageNo, Memory>
+        requires window { IsSome (parent_of (world self.old) old.0) }
+        requires near { IsRectNearBy (2 ^ 34) r }
+        requires ordered { IsOrdered r }
+        requires corner { IsNearBy (2 ^ 34) corner }
+        requires raw { raw < 2 ^ channels.depth (image_at (world self.old) old.0).chan }
+        requires size { keep ≡ true → SameSize r (image_at (world self.old) old.0).r }
+        ensures number { IfOk result (λ i. i.0 ≡ next_number (numbers self.old)) }
+        ensures free { IfOk result (λ i. world self.old i.0 ≡ None) }
+        ensures made { IfOk result (λ i. world self.new ≡ after_put_over (world self.old) i.0 old.0 r corner raw keep) }
+        ensures taken { OnOk result (numbers self.new ≡ taken (numbers self.old)) }
+        ensures room { room self.old ≤ room self.new }
+        ensures err { OnErr result (IsUnchanged self.old self.new) }
+        ensures steps { steps.new ≤ steps.old + 2 * area_of r }
+        ensures uncounted { OnErr result (steps.new ≡ steps.old) }
+    {
+        let number = self.images.put_over(old.0, r, corner, raw, keep, steps)?;
+        Ok(ImageNo(number))
+    }
+
+    /// Makes a window topmost on any image as `replace_on` does, but leaves the other where it stands, for where that goes next.
+    pub fn put_on<L: Ledger>(
+        &mut self,
+        old: ImageNo,
+        parent: ImageNo,
+        fill: ImageNo,
+        r: Rect,
+        corner: Point,
+        raw: u32,
+        keep: bool,
+        steps: &mut Steps<L>,
+    ) -> Result<ImageNo, Memory>
+        requires window { IsSome (parent_of (world self.old) old.0) }
+        requires parent { IsLive (world self.old) parent.0 }
+        requires fill { IsLive (world self.old) fill.0 }
+        requires near { IsRectNearBy (2 ^ 34) r }
+        requires ordered { IsOrdered r }
+        requires corner { IsNearBy (2 ^ 34) corner }
+        requires raw { raw < 2 ^ channels.depth (image_at (world self.old) parent.0).chan }
+        requires size { keep ≡ true → SameSize r (image_at (world self.old) old.0).r }
+        requires chan { keep ≡ true → (image_at (world self.old) parent.0).chan ≡ (image_at (world self.old) old.0).chan }
+        ensures number { IfOk result (λ i. i.0 ≡ next_number (numbers self.old)) }
+        ensures free { IfOk result (λ i. world self.old i.0 ≡ None) }
+        ensures made { IfOk result (λ i. world self.new ≡ after_put_on (world self.old) i.0 old.0 parent.0 fill.0 r corner raw keep) }
+        ensures taken { OnOk result (numbers self.new ≡ taken (numbers self.old)) }
+        ensures room { room self.old ≤ room self.new }
+        ensures err { OnErr result (IsUnchanged self.old self.new) }
+        ensures steps { steps.new ≤ steps.old + 2 * area_of r }
+        ensures uncounted { OnErr result (steps.new ≡ steps.old) }
+    {
+        let number = self
+            .images
+            .put_on(old.0, parent.0, fill.0, r, corner, raw, keep, steps)?;
+        Ok(ImageNo(number))
+    }
+
+    /// Whether a window goes as well from where it stands as from far outside, also once another came on image p.
+    pub fn leaves_unseen(&self, old: ImageNo, p: ImageNo) -> bool
+        requires { IsSome (parent_of (world self.now) old.0) }
+        ensures { result ≡ true → LeavesUnseen (world self.now) old.0 p.0 }
+    {
+        self.images.leaves_unseen(old.0, p.0)
     }
 
     /// Takes an image away on which nothing stands and which fills for no window: first from the list that it stands in,

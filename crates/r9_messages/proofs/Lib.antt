@@ -6,3 +6,4 @@ pub mod Group
 pub mod Strings
 pub mod Restacking
 pub mod Freeing
+pub mod Planned

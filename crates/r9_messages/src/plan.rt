@@ -130,7 +130,7 @@ impl Plan {
 }
 
 /// What a message without a list asks for, with the bytes behind it, or its first refusal.
-#[tactic(auto, unfolding(model_draw::specs::Act::act, model_draw::specs::Act::behind, model_draw::specs::Drawing::set_operator, model_cost::specs::Cost::message_cost))]
+#[tactic(auto, unfolding(model_draw::specs::Act::act, model_draw::specs::Act::behind, model_cost::specs::Cost::message_cost))]
 pub fn plan_message(device: &Device, client: u64, message: &Dmsg, rest: &[u8]) -> Result<Plan, u8>
     requires live { IsSome (lookup (world_of device.now).clients client) }
     requires near { IsNearMessage message.now }

@@ -1,6 +1,6 @@
 //! The viewer.
 
-ghost use Rattle.std.specs.Prelude.{◌≡◌, ℕ, Ok, Err, Some, None, Option, IfSome, IfOk, MatchResult, is_some, if◌then◌else◌};
+ghost use Rattle.std.specs.Prelude.{◌≡◌, ◌<◌, ℕ, Ok, Err, Some, None, Option, IfSome, IfOk, MatchResult, is_some, if◌then◌else◌};
 ghost use Rattle.std.specs.Option.{option_map};
 ghost use Rattle.std.proofs.Props.{props};
 ghost use Rattle.r9_plane.specs.Pixels.{rect_of};
@@ -18,7 +18,10 @@ use r9_chan::Chan;
 use r9_geom::{Point, Rect};
 use r9_memory::Memory;
 use r9_plane::Plane;
+use r9_steps::Steps;
 use std::alloc::Global;
+use std::marker::Brand;
+use std::sync::ledger::{Blank, Ledger};
 
 /// The picture that the frames of a mirror make, none before the first of them.
 #[derive(Drop)]
@@ -73,7 +76,7 @@ fn check(chan: Chan, size: Option<Size>, text: &[u8]) -> Result<Option<Size>, us
 }
 
 // A frame begins on a plane, with a picture of zero bits or the one before.
-fn begin(plane: &mut Plane, blank: Option<Size>)
+fn begin<L: Ledger>(plane: &mut Plane, blank: Option<Size>, steps: &mut Steps<L>)
     ensures shown { shown plane.new ≡ (if is_some blank then blank_of (size_of (shown plane.old)) else shown plane.old) }
     ensures rect { rect_of plane.new ≡ rect_of plane.old }
     ensures chan { planes.chan_of plane.new ≡ planes.chan_of plane.old }
@@ -81,11 +84,11 @@ fn begin(plane: &mut Plane, blank: Option<Size>)
     if blank.is_none() {
         return;
     }
-    plane.fill(plane.rect(), 0);
+    plane.fill(plane.rect(), 0, steps);
 }
 
 // Shows a step on a plane of the size that the picture has after it.
-fn show(plane: &mut Plane, step: Step<'_>)
+fn show<L: Ledger>(plane: &mut Plane, step: Step<'_>, steps: &mut Steps<L>)
     requires screen { IsScreen (planes.chan_of plane.old) plane.old }
     requires keeps { (before : Option Size) × Keeps (planes.chan_of plane.old) before (Some (size_of (shown plane.old))) step }
     ensures shown { (before : Option Size) → (picture : Option Picture) → Keeps (planes.chan_of plane.old) before (Some (size_of (shown plane.old))) step.entry
@@ -94,14 +97,17 @@ fn show(plane: &mut Plane, step: Step<'_>)
     ensures chan { planes.chan_of plane.new ≡ planes.chan_of plane.old }
 {
     match step {
-        Step::Frame { blank } => begin(plane, blank),
-        Step::Cell { r, rows } => plane.load(r, rows),
+        Step::Frame { blank } => begin(plane, blank, steps),
+        Step::Cell { r, rows } => plane.load(r, rows, steps),
     }
 }
 
 // Puts frames that fit on a plane of the size that the picture has after them. The plane has the picture before them where
-// that has the same size.
-fn put(plane: &mut Plane, size: Option<Size>, text: &[u8])
+// that has the same size. Nobody asks how many pixels it writes.
+fn put<L: Ledger>(plane: &mut Plane, size: Option<Size>, text: &[u8], blank: Blank)
+    requires name { blank.name ≡ L.name }
+    requires parts { blank.parts ≡ L.parts }
+    requires some { 0 < L.parts }
     requires screen { IsScreen (planes.chan_of plane.old) plane.old }
     requires size { IfSome size IsLawful }
     ensures shown { (before after : Option Picture) → option_map size_of before ≡ size → (size ≡ Some (size_of (shown plane.old)) → before ≡ Some (shown plane.old))
@@ -112,10 +118,11 @@ fn put(plane: &mut Plane, size: Option<Size>, text: &[u8])
     let own = Some(size_of(plane));
     let chan = plane.chan();
     let mut place = Place::new(size);
+    let mut written = Steps::<L>::new(blank);
     'steps: while let Some((step, next)) = place.step(chan, text).unwrap_or(None) {
         place = next;
         if is_same(place.size, own) {
-            show(plane, step);
+            show(plane, step, &mut written);
         }
     }
 }
@@ -188,7 +195,7 @@ impl Viewer {
         };
         self.resize(last)?;
         if let Some(plane) = &mut self.plane {
-            put(plane, size, text);
+            put::<Brand>(plane, size, text, Blank::new(1));
         }
         Ok(())
     }

@@ -5,6 +5,7 @@ pub mod Bordering
 pub mod Fitting
 pub mod Hosting
 pub mod Renewing
+pub mod Unseen
 pub mod Windows
 pub mod Freed
 pub mod Sizing

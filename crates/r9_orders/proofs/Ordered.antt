@@ -13,8 +13,9 @@ use Rattle.model_forest.specs.declared.Window.{Window}
 use Rattle.model_forest.specs.World.{Image, IsForest, World, image_at, no_image, parent_of, with_image}
 use Rattle.model_forest.specs.Draw.{after_fill, with_canvas}
 use Rattle.model_forest.specs.View.{is_bare, view}
-use Rattle.model_forest.specs.Stack.{after_window, moved, new_window, seen, with_windows}
+use Rattle.model_forest.specs.Stack.{after_window, moved, new_window, seen}
 use Rattle.model_forest.specs.Steps.{after_origin, after_replace, after_replace_on, carried_rect, outside, put_above}
+use Rattle.model_exchanged.specs.Exchanged.{after_put_on, after_put_over}
 use Rattle.r9_info.specs.declared.ImageNo.{ImageNo}
 use Rattle.model_forest.proofs.Releasing.{SameFrame, origin-at, Stays, changed-at, changed-other, relisted, relisted-stays, stays-after, stays-same, windows-stay}
 use Rattle.model_images.specs.declared.ImageId.{ImageId}
@@ -27,7 +28,7 @@ use Rattle.model_draw.specs.World.{World as Drawn}
 use Rattle.model_draw.specs.Orders.{bordered, corner, stands_on, white, with_window_id, with_window_name}
 use Rattle.r9_orders.specs.declared.next.Next.{Next}
 use Rattle.r9_device.specs.Kept.{IsKept, standing_on}
-use Rattle.r9_orders.specs.Ordering.{CanReplace, IsNext, images_renewed, images_replaced}
+use Rattle.r9_orders.specs.Ordering.{CanReplace, IsNext, images_come, images_next}
 use Rattle.r9_device.specs.Live.{CanHold}
 use Rattle.r9_device.specs.Spare.{AreSpare}
 use Rattle.r9_device.proofs.Adding.{add_id-fresh, live_apart}
@@ -148,10 +149,14 @@ list-stays images world old n change parents lives same = relisted-stays world c
 parent-stays : (a b : World) (n : ℕ) → Stays a b n → parent_of b n ≡ parent_of a n
 parent-stays a b n stays = ap (λ (o : Option Standing). option_map (λ (s : Standing). s.parent) o) stays.frame.standing
 
-pub new-replace : (images : World) (i old : ℕ) (r : Rect) (corner : Point) (raw : ℕ) (keep : Bool) → images i ≡ None → is_some (images old) ≡ true
-    → ((p : ℕ) → parent_of images old ≡ Some p → is_some (images p) ≡ true) → IsNew images (after_replace images i old r corner raw keep) i r (image_at images old).standing
-unfolding after_replace
-new-replace images i old r corner raw keep free live parents =
+-- what lives lives beside a new image
+new-lives : (images next : World) (i n : ℕ) (r : Rect) (standing : Option Standing) → IsNew images next i r standing → is_some (images n) ≡ true → is_some (next n) ≡ true
+new-lives images next i n r standing new live = (new.others n (live_apart images n i live new.free)).live ∙ live
+
+pub new-put_over : (images : World) (i old : ℕ) (r : Rect) (corner : Point) (raw : ℕ) (keep : Bool) → images i ≡ None → is_some (images old) ≡ true
+    → ((p : ℕ) → parent_of images old ≡ Some p → is_some (images p) ≡ true) → IsNew images (after_put_over images i old r corner raw keep) i r (image_at images old).standing
+unfolding after_put_over
+new-put_over images i old r corner raw keep free live parents =
     let image = image_at images old in
     let x : Image = record {
       r = r;
@@ -164,22 +169,13 @@ new-replace images i old r corner raw keep free live parents =
       windows = [];
     } in
     let put : World = with_image images i (Some x) in
-    let apart = live_apart images old i live free in
-    let first : Window = record { image = i; place = carried_rect r r.min corner } in
-    let above : List Window → List Window = put_above first old in
-    let away : List Window → List Window = moved old (carried_rect image.r image.r.min outside) in
-    let replaced : World = relisted put above (parent_of put old) in
-    let one : (n : ℕ) → Stays put replaced n = λ n. list-stays images put old n above parents (λ m h. still-live images i m x h) (parent-still images i old x apart) in
-    let two : (n : ℕ) → Stays replaced (relisted replaced away (parent_of replaced old)) n = λ n.
-    list-stays images replaced old n away parents (λ m h. (one m).live ∙ still-live images i m x h) (parent-stays put replaced old (one old) ∙ parent-still images i old x apart) in
-    new-put images _ i x refl free (λ n. stays-after put replaced _ n (one n) (two n))
+    let above : List Window → List Window = put_above (record { image = i; place = carried_rect r r.min corner }) old in
+    new-put images _ i x refl free (λ n. list-stays images put old n above parents (λ m h. still-live images i m x h) (parent-still images i old x (live_apart images old i live free)))
 
-pub new-replace_on : (images : World) (i old parent fill : ℕ) (r : Rect) (corner : Point) (raw : ℕ) (keep : Bool) → images i ≡ None → is_some (images old) ≡ true → is_some (images parent) ≡ true
-    → ((p : ℕ) → parent_of images old ≡ Some p → is_some (images p) ≡ true)
-    → IsNew images (after_replace_on images i old parent fill r corner raw keep) i r (Some (record { parent = parent; fill = fill }))
-unfolding after_replace_on
-new-replace_on images i old parent fill r corner raw keep free live there parents =
-    let image = image_at images old in
+pub new-put_on : (images : World) (i old parent fill : ℕ) (r : Rect) (corner : Point) (raw : ℕ) (keep : Bool) → images i ≡ None → is_some (images parent) ≡ true
+    → IsNew images (after_put_on images i old parent fill r corner raw keep) i r (Some (record { parent = parent; fill = fill }))
+unfolding after_put_on
+new-put_on images i old parent fill r corner raw keep free there =
     let x : Image = record {
       r = r;
       clipr = r;
@@ -187,51 +183,84 @@ new-replace_on images i old parent fill r corner raw keep free live there parent
       chan = (image_at images parent).chan;
       standing = Some (record { parent = parent; fill = fill });
       depth = (image_at images parent).depth + 1;
-      canvas = seen r [] (λ p. if keep then view images old (carried p r.min image.r.min) else raw);
+      canvas = seen r [] (λ p. if keep then view images old (carried p r.min (image_at images old).r.min) else raw);
       windows = [];
     } in
-    let put : World = with_image images i (Some x) in
-    let apart = live_apart images old i live free in
     let first : Window = record { image = i; place = carried_rect r r.min corner } in
-    let away : List Window → List Window = moved old (carried_rect image.r image.r.min outside) in
-    let placed : World = with_windows put parent (first ∷ (image_at images parent).windows) in
-    let one : (n : ℕ) → Stays put placed n = λ n. windows-stay put parent n (first ∷ (image_at images parent).windows) (still-live images i parent x there) in
-    let two : (n : ℕ) → Stays placed (relisted placed away (parent_of placed old)) n = λ n.
-    list-stays images placed old n away parents (λ m h. (one m).live ∙ still-live images i m x h) (parent-stays put placed old (one old) ∙ parent-still images i old x apart) in
-    new-put images _ i x refl free (λ n. stays-after put placed _ n (one n) (two n))
+    new-put images _ i x refl free (λ n. windows-stay (with_image images i (Some x)) parent n (first ∷ (image_at images parent).windows) (still-live images i parent x there))
+
+-- the other moves far outside then
+new-away : (images put : World) (i old n : ℕ) (r place : Rect) (standing : Option Standing) → is_some (images old) ≡ true → ((p : ℕ) → parent_of images old ≡ Some p → is_some (images p) ≡ true)
+    → IsNew images put i r standing → Stays put (relisted put (moved old place) (parent_of put old)) n
+new-away images put i old n r place standing live parents new =
+    list-stays images put old n (moved old place) parents (λ m h. new-lives images put i m r standing new h) (parent-stays images put old (new.others old (live_apart images old i live new.free)))
+
+pub new-replace : (images : World) (i old : ℕ) (r : Rect) (corner : Point) (raw : ℕ) (keep : Bool) → images i ≡ None → is_some (images old) ≡ true
+    → ((p : ℕ) → parent_of images old ≡ Some p → is_some (images p) ≡ true) → IsNew images (after_replace images i old r corner raw keep) i r (image_at images old).standing
+unfolding after_put_over after_replace
+new-replace images i old r corner raw keep free live parents =
+    let put : World = after_put_over images i old r corner raw keep in
+    let new : IsNew images put i r (image_at images old).standing = new-put_over images i old r corner raw keep free live parents in
+    new-stays images put _ i r _ new (λ n. new-away images put i old n r _ _ live parents new)
+
+pub new-replace_on : (images : World) (i old parent fill : ℕ) (r : Rect) (corner : Point) (raw : ℕ) (keep : Bool) → images i ≡ None → is_some (images old) ≡ true → is_some (images parent) ≡ true
+    → ((p : ℕ) → parent_of images old ≡ Some p → is_some (images p) ≡ true)
+    → IsNew images (after_replace_on images i old parent fill r corner raw keep) i r (Some (record { parent = parent; fill = fill }))
+unfolding after_put_on after_replace_on
+new-replace_on images i old parent fill r corner raw keep free live there parents =
+    let put : World = after_put_on images i old parent fill r corner raw keep in
+    let new : IsNew images put i r (Some (record { parent = parent; fill = fill })) = new-put_on images i old parent fill r corner raw keep free there in
+    new-stays images put _ i r _ new (λ n. new-away images put i old n r _ _ live parents new)
 
 -- where the next image of a window stands
 abbrev pub next_standing : World → Next → Option Standing
 next_standing images next = if next.above then (image_at images next.old.0).standing else Some (record { parent = next.parent.0; fill = next.fill.0 })
 
-pub new-next : (images : World) (i : ℕ) (next : Next) → images i ≡ None → CanReplace images next → IsForest images → IsNew images (images_replaced images i next) i next.r (next_standing images next)
-new-next images i next free can forest = by next.above
+pub new-next : (images : World) (i : ℕ) (next : Next) (stays : Bool) → images i ≡ None → CanReplace images next → IsForest images → IsNew images (images_next images i next stays) i next.r (next_standing images next)
+new-next images i next stays free can forest = by stays next.above
   where
-    parents : (p : ℕ) → parent_of images next.old.0 ≡ Some p → is_some (images p) ≡ true
-    parents p e = forest.parents next.old.0 p can.old e
+    old : ℕ
+    old = next.old.0
 
-    above : World
-    above = after_replace images i next.old.0 next.r (corner next.r next.hidden) (white (image_at images next.old.0).chan) next.keep
+    on : Option Standing
+    on = Some (record { parent = next.parent.0; fill = next.fill.0 })
 
-    on : World
-    on = after_replace_on images i next.old.0 next.parent.0 next.fill.0 next.r (corner next.r next.hidden) (white (image_at images next.parent.0).chan) next.keep
+    parents : (p : ℕ) → parent_of images old ≡ Some p → is_some (images p) ≡ true
+    parents p e = forest.parents old p can.old e
 
-    by : (b : Bool) → IsNew images (if b then above else on) i next.r (if b then (image_at images next.old.0).standing else Some (record { parent = next.parent.0; fill = next.fill.0 }))
-    by true = new-replace images i next.old.0 next.r _ _ next.keep free can.old parents
-    by false = new-replace_on images i next.old.0 next.parent.0 next.fill.0 next.r _ _ next.keep free can.old can.parent parents
+    to : Point
+    to = corner next.r next.hidden
 
-pub new-renewed : (images : World) (i : ℕ) (next : Next) → images i ≡ None → CanReplace images next → IsForest images → IsNew images (images_renewed images i next) i next.r (next_standing images next)
-new-renewed images i next free can forest = by next.keep
+    raw_over : ℕ
+    raw_over = white (image_at images old).chan
+
+    raw_on : ℕ
+    raw_on = white (image_at images next.parent.0).chan
+
+    by : (b above : Bool) → IsNew images
+        (if b then (if above then after_put_over images i old next.r to raw_over next.keep else after_put_on images i old next.parent.0 next.fill.0 next.r to raw_on next.keep)
+        else (if above then after_replace images i old next.r to raw_over next.keep else after_replace_on images i old next.parent.0 next.fill.0 next.r to raw_on next.keep))
+        i next.r (if above then (image_at images old).standing else on)
+    by true true = new-put_over images i old next.r to raw_over next.keep free can.old parents
+    by true false = new-put_on images i old next.parent.0 next.fill.0 next.r to raw_on next.keep free can.parent
+    by false true = new-replace images i old next.r to raw_over next.keep free can.old parents
+    by false false = new-replace_on images i old next.parent.0 next.fill.0 next.r to raw_on next.keep free can.old can.parent parents
+
+pub new-come : (images : World) (i : ℕ) (next : Next) (stays : Bool) → images i ≡ None → CanReplace images next → IsForest images → IsNew images (images_come images i next stays) i next.r (next_standing images next)
+new-come images i next stays free can forest = by next.keep
   where
-    new : IsNew images (images_replaced images i next) i next.r (next_standing images next)
-    new = new-next images i next free can forest
+    came : World
+    came = images_next images i next stays
 
-    by : (b : Bool) → IsNew images (if b then images_replaced images i next else bordered (images_replaced images i next) i) i next.r (next_standing images next)
+    new : IsNew images came i next.r (next_standing images next)
+    new = new-next images i next stays free can forest
+
+    by : (b : Bool) → IsNew images (if b then came else bordered came i) i next.r (next_standing images next)
     by true = new
-    by false = new-stays images _ _ i next.r _ new (λ n. border-stays (images_replaced images i next) i n new.live)
+    by false = new-stays images _ _ i next.r _ new (λ n. border-stays came i n new.live)
 
-pub next-comes : (images next : World) (i : ℕ) (nx : Next) → images i ≡ None → CanReplace images nx → IsForest images → next ≡ images_replaced images i nx → IsNew images next i nx.r (next_standing images nx)
-next-comes images next i nx free can forest made = subst (λ (w : World). IsNew images w i nx.r (next_standing images nx)) (sym made) (new-next images i nx free can forest)
+pub next-comes : (images next : World) (i : ℕ) (nx : Next) (stays : Bool) → images i ≡ None → CanReplace images nx → IsForest images → next ≡ images_next images i nx stays → IsNew images next i nx.r (next_standing images nx)
+next-comes images next i nx stays free can forest made = subst (λ (w : World). IsNew images w i nx.r (next_standing images nx)) (sym made) (new-next images i nx stays free can forest)
 
 -- which is where its screen has it
 pub next-stands : (w : Drawn) (window s : ℕ) (next : Next) → IsKept w.images w.book → IsNext w window s next → next_standing w.images next ≡ Some (standing_on w.book s)

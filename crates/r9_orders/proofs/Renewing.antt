@@ -14,11 +14,11 @@ use Rattle.model_draw.specs.Orders.{with_window_id}
 use Rattle.r9_orders.specs.declared.next.Next.{Next}
 use Rattle.r9_device.specs.Gone.{images_without, numbers_without}
 use Rattle.r9_device.specs.Kept.{IsKept}
-use Rattle.r9_orders.specs.Ordering.{CanReplace, IsNext, images_renewed, is_used_by_id, renewed}
+use Rattle.r9_orders.specs.Ordering.{CanReplace, IsNext, images_come, images_renewed, is_used_by_id, renewed}
 use Rattle.r9_device.proofs.Kept.{Grows}
 use Rattle.r9_device.proofs.Lookups.{first_true}
 use Rattle.r9_orders.proofs.Managed.{free_id-screen_ids, free_id-unknown}
-use Rattle.r9_orders.proofs.Ordered.{grows-new, new-renewed, next-stands, next_standing, window-added}
+use Rattle.r9_orders.proofs.Ordered.{grows-new, new-come, next-stands, next_standing, window-added}
 use Rattle.model_images.proofs.Complete.{LeavesNone}
 use Rattle.r9_device.specs.Spare.{AreSpare}
 use Rattle.r9_device.proofs.Spare.{spare-added}
@@ -41,12 +41,12 @@ id-left book window freed other e = by (window == 0) other
     by true h = absurd cc
     by false h = none
 
-pub grows-renewed : {A E : Type 0} (o : Result A E) (w : World) (next : Images) (window i s : ℕ) (nx : Next) → IsKept w.images w.book → IsForest w.images → IsNext w window s nx → CanReplace w.images nx
-    → OnOk o (w.images i ≡ None) → OnOk o (next ≡ images_renewed w.images i nx) → OnOk o (Grows w.images next w.book i (Some s))
-grows-renewed (Ok x) w next window i s nx kept forest is can free made =
+pub grows-renewed : {A E : Type 0} (o : Result A E) (w : World) (next : Images) (window i s : ℕ) (nx : Next) (stays : Bool) → IsKept w.images w.book → IsForest w.images → IsNext w window s nx → CanReplace w.images nx
+    → OnOk o (w.images i ≡ None) → OnOk o (next ≡ images_come w.images i nx stays) → OnOk o (Grows w.images next w.book i (Some s))
+grows-renewed (Ok x) w next window i s nx stays kept forest is can free made =
     subst (λ (images : Images). Grows w.images images w.book i (Some s)) (sym made)
-    (grows-new w.images (images_renewed w.images i nx) w.book i s nx.r (next_standing w.images nx) (new-renewed w.images i nx free can forest) (next-stands w window s nx kept is) can.points can.near)
-grows-renewed (Err x) w next window i s nx kept forest is can free made = tt
+    (grows-new w.images (images_come w.images i nx stays) w.book i s nx.r (next_standing w.images nx) (new-come w.images i nx stays free can forest) (next-stands w window s nx kept is) can.points can.near)
+grows-renewed (Err x) w next window i s nx stays kept forest is can free made = tt
 
 pub renewed-world : (w : World) (window s : ℕ) (nx : Next) (f : Freed) (images : Images) (numbers : Numbers) (book : Book) → free_id w.book 0 window ≡ Ok f
     → images ≡ fold images_without (images_renewed w.images (next_image w) nx) f.gone → numbers ≡ fold numbers_without (taken w.numbers) f.gone → book ≡ with_window_id f.book window (next_image w) s

@@ -1,5 +1,5 @@
 -- What the steps of the window manager's orders need, and what they leave.
-use Rattle.std.specs.Prelude.{◌≡◌, ℕ, Bool, true, false, ◌+◌, ◌==◌, ◌^◌, is_some, IfSome, IsSome, IsTrue, if◌then◌else◌}
+use Rattle.std.specs.Prelude.{◌≡◌, ℕ, Bool, true, false, ◌+◌, ◌==◌, ◌^◌, List, [], ◌∷◌, is_some, IfSome, IsSome, IsTrue, if◌then◌else◌}
 use Rattle.std.specs.List.{list_any}
 use Rattle.std.specs.Result.{result_unwrap_or}
 use Rattle.r9_geom.specs.declared.Point.{Point}
@@ -8,8 +8,11 @@ use Rattle.r9_geom.specs.Geometry.{HasPoints, IsOrdered, IsRectNearBy, area_of, 
 use Rattle.model_forest.specs.World.{SameSize, World as Images, image_at, parent_of}
 use Rattle.model_forest.specs.Stack.{after_window}
 use Rattle.model_forest.specs.Steps.{after_replace, after_replace_on}
+use Rattle.model_exchanged.specs.Exchanged.{LeavesUnseen, after_put_on, after_put_over}
 use Rattle.model_kept.specs.Keeping.{place_among}
 use Rattle.model_cost.specs.Cost.{border, coming, moving}
+use Rattle.model_images.specs.declared.Thing.{Thing}
+use Rattle.model_images.specs.declared.Thing.TheVariants.{Image, Screen}
 use Rattle.model_images.specs.Book.{Book, fill_of, image_of, new_screen}
 use Rattle.model_draw.specs.World.{World, after_freed, at_number, next_image, with_book}
 use Rattle.model_draw.specs.Making.{with_made}
@@ -68,18 +71,45 @@ images_replaced images i next =
     after_replace_on images i next.old.0 next.parent.0 next.fill.0 next.r (corner next.r next.hidden)
     (white (image_at images next.parent.0).chan) next.keep
 
--- the same with its border
+-- the same, and the other stays where it stands
+abbrev pub images_put : Images → ℕ → Next → Images
+images_put images i next =
+    if next.above then
+    after_put_over images i next.old.0 next.r (corner next.r next.hidden) (white (image_at images next.old.0).chan) next.keep
+    else
+    after_put_on images i next.old.0 next.parent.0 next.fill.0 next.r (corner next.r next.hidden)
+    (white (image_at images next.parent.0).chan) next.keep
+
+-- the one or the other
+abbrev pub images_next : Images → ℕ → Next → (stays : Bool) → Images
+images_next images i next stays = if stays then images_put images i next else images_replaced images i next
+
+-- with its border, where it does not keep the contents
+abbrev pub images_come : Images → ℕ → Next → (stays : Bool) → Images
+images_come images i next stays =
+    if next.keep then images_next images i next stays else bordered (images_next images i next stays) i
+
 abbrev pub images_renewed : Images → ℕ → Next → Images
-images_renewed images i next =
-    if next.keep then images_replaced images i next else bordered (images_replaced images i next) i
+images_renewed images i next = images_come images i next false
 
 -- what the image in place of another costs, and with its border
-abbrev pub replacing : Images → Next → ℕ
-replacing images next =
+abbrev pub replacing_images : Images → Next → ℕ
+replacing_images images next =
     coming next.r + (if next.above then 0 else area_of next.r) + moving (image_at images next.old.0).r
 
 abbrev pub renewing : Images → Next → ℕ
-renewing images next = replacing images next + (if next.keep then 0 else border next.r)
+renewing images next = replacing_images images next + (if next.keep then 0 else border next.r)
+
+-- an image is the first of these things
+abbrev pub is_first : List Thing → (i : ℕ) → Bool
+is_first [] i = false
+is_first (Image n ∷ things) i = n == i
+is_first (Screen s ∷ things) i = false
+
+-- the other image goes first of these things, from where it stands as from far outside
+pub record GoesUnseen (images : Images) (next : Next) (gone : List Thing) : Type 0 where
+  pub first : is_first gone next.old.0 ≡ true
+  pub unseen : LeavesUnseen images next.old.0 next.parent.0
 
 -- the device once a window has the image
 unfoldable pub renewed : World → (window screen : ℕ) → Next → World

@@ -1,15 +1,17 @@
 //! The image that a window gets in place of another.
 
+ghost use Rattle.model_cost.specs.Cost.{coming};
 ghost use Rattle.model_draw.specs.Orders.{corner, white};
 ghost use Rattle.model_forest.specs.Numbers.{next_number, taken};
-ghost use Rattle.r9_orders.specs.Ordering.{CanReplace, images_renewed, images_replaced, renewing, replacing};
+ghost use Rattle.model_forest.specs.World.{parent_of};
+ghost use Rattle.r9_orders.specs.Ordering.{CanReplace, GoesUnseen, images_come, images_next, images_put, images_replaced, is_first, renewing, replacing_images};
 ghost use Rattle.r9_layers.specs.Forest.{numbers, room, world};
-ghost use Rattle.std.specs.Prelude.{IfOk, None, OnErr, OnOk, ◌+◌, ◌<◌, ◌≡◌, ◌≤◌};
+ghost use Rattle.std.specs.Prelude.{IfOk, IsSome, None, OnErr, OnOk, true, ◌+◌, ◌<◌, ◌≡◌, ◌≤◌};
 
 use crate::image::{add_border, white};
 use crate::rects::corner;
 use r9_geom::Rect;
-use r9_images::Book;
+use r9_images::{Book, Thing};
 use r9_layers::{Forest, ImageNo};
 use r9_memory::Memory;
 use r9_steps::Steps;
@@ -27,8 +29,60 @@ pub(crate) struct Next {
     pub hidden: bool,
 }
 
-// A white image in place of another, or one of the same contents.
-fn next_white<L: Ledger>(
+// Whether the first of these things is the image.
+fn is_first(gone: &[Thing], image: ImageNo) -> bool
+    ensures { result ≡ is_first gone.now image.0 }
+{
+    match gone.first() {
+        Some(Thing::Image(i)) => *i == image.0,
+        _ => false,
+    }
+}
+
+// Whether the old image may stay where it stands: it is the first that goes, and that is not seen.
+pub(crate) fn goes_unseen(forest: &Forest, next: &Next, gone: &[Thing]) -> bool
+    requires { IsSome (parent_of (world forest.now) next.now.old.0) }
+    ensures { result ≡ true → GoesUnseen (world forest.now) next.now gone.now }
+{
+    is_first(gone, next.old) && forest.leaves_unseen(next.old, next.parent)
+}
+
+// A white image that comes with another, which stays where it stands, or one of the same contents.
+fn put_next<L: Ledger>(
+    forest: &mut Forest,
+    next: &Next,
+    steps: &mut Steps<L>,
+) -> Result<ImageNo, Memory>
+    requires next { CanReplace (world forest.old) next.now }
+    ensures number { IfOk result (λ i. i.0 ≡ next_number (numbers forest.old)) }
+    ensures free { IfOk result (λ i. world forest.old i.0 ≡ None) }
+    ensures made { IfOk result (λ i. world forest.new ≡ images_put (world forest.old) i.0 next.now) }
+    ensures taken { OnOk result (numbers forest.new ≡ taken (numbers forest.old)) }
+    ensures room { room forest.old ≤ room forest.new }
+    ensures kept_images { OnErr result (world forest.new ≡ world forest.old) }
+    ensures kept_numbers { OnErr result (numbers forest.new ≡ numbers forest.old) }
+    ensures steps { steps.new ≤ steps.old + coming next.now.r }
+{
+    let corner = corner(&next.r, next.hidden);
+    if next.above {
+        let raw = white(forest.info(next.old).chan);
+        return forest.put_over(next.old, next.r, corner, raw, next.keep, steps);
+    }
+    let raw = white(forest.info(next.parent).chan);
+    forest.put_on(
+        next.old,
+        next.parent,
+        next.fill,
+        next.r,
+        corner,
+        raw,
+        next.keep,
+        steps,
+    )
+}
+
+// A white image in place of another, which moves far outside, or one of the same contents.
+fn replace_next<L: Ledger>(
     forest: &mut Forest,
     next: &Next,
     steps: &mut Steps<L>,
@@ -41,7 +95,7 @@ fn next_white<L: Ledger>(
     ensures room { room forest.old ≤ room forest.new }
     ensures kept_images { OnErr result (world forest.new ≡ world forest.old) }
     ensures kept_numbers { OnErr result (numbers forest.new ≡ numbers forest.old) }
-    ensures steps { steps.new ≤ steps.old + replacing (world forest.old) next.now }
+    ensures steps { steps.new ≤ steps.old + replacing_images (world forest.old) next.now }
 {
     let corner = corner(&next.r, next.hidden);
     if next.above {
@@ -61,17 +115,42 @@ fn next_white<L: Ledger>(
     )
 }
 
-// The same with its border, where it does not keep the contents. There is room in the book for its id first.
+// The one or the other.
+fn next_white<L: Ledger>(
+    forest: &mut Forest,
+    next: &Next,
+    stays: bool,
+    steps: &mut Steps<L>,
+) -> Result<ImageNo, Memory>
+    requires next { CanReplace (world forest.old) next.now }
+    ensures number { IfOk result (λ i. i.0 ≡ next_number (numbers forest.old)) }
+    ensures free { IfOk result (λ i. world forest.old i.0 ≡ None) }
+    ensures made { IfOk result (λ i. world forest.new ≡ images_next (world forest.old) i.0 next.now stays) }
+    ensures taken { OnOk result (numbers forest.new ≡ taken (numbers forest.old)) }
+    ensures room { room forest.old ≤ room forest.new }
+    ensures kept_images { OnErr result (world forest.new ≡ world forest.old) }
+    ensures kept_numbers { OnErr result (numbers forest.new ≡ numbers forest.old) }
+    ensures steps { steps.new ≤ steps.old + replacing_images (world forest.old) next.now }
+{
+    if stays {
+        put_next(forest, next, steps)
+    } else {
+        replace_next(forest, next, steps)
+    }
+}
+
+// With its border, where it does not keep the contents. There is room in the book for its id first.
 pub(crate) fn next_window<L: Ledger>(
     forest: &mut Forest,
     book: &mut Book,
     next: &Next,
+    stays: bool,
     steps: &mut Steps<L>,
 ) -> Result<ImageNo, Memory>
     requires next { CanReplace (world forest.old) next.now }
     ensures number { IfOk result (λ i. i.0 ≡ next_number (numbers forest.old)) }
     ensures free { OnOk result (world forest.old (next_number (numbers forest.old)) ≡ None) }
-    ensures made { OnOk result (world forest.new ≡ images_renewed (world forest.old) (next_number (numbers forest.old)) next.now) }
+    ensures made { OnOk result (world forest.new ≡ images_come (world forest.old) (next_number (numbers forest.old)) next.now stays) }
     ensures taken { OnOk result (numbers forest.new ≡ taken (numbers forest.old)) }
     ensures room { room forest.old ≤ room forest.new }
     ensures kept_images { OnErr result (world forest.new ≡ world forest.old) }
@@ -82,7 +161,7 @@ pub(crate) fn next_window<L: Ledger>(
 {
     forest.keeps();
     book.reserve()?;
-    let image = next_white(forest, next, steps)?;
+    let image = next_white(forest, next, stays, steps)?;
     if !next.keep {
         add_border(forest, image, steps);
     }

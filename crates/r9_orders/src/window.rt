@@ -16,7 +16,7 @@ ghost use Rattle.r9_geom.specs.Geometry.{HasPoints, IsRectNearBy, at_min};
 ghost use Rattle.std.specs.Prelude.{IfOk, OnErr, OnOk, [], false, is_none, true, ◌+◌, ◌<◌, ◌==◌, ◌^◌, ◌≡◌, ◌≤◌, ◌∷◌};
 
 use crate::image::{add_border, add_window, put_white, stands_on, tie_window};
-use crate::next::{Next, next_window};
+use crate::next::{Next, goes_unseen, next_window};
 use crate::rects::OUTSIDE;
 use crate::rio::close_rio;
 use crate::there::rio_screen;
@@ -263,7 +263,8 @@ pub(crate) fn next_of(
 }
 
 // A window has another image. The id of the old one goes first, and what nothing refers to any more goes when the new one
-// is there, so that after Memory each image has an id or has gone.
+// is there, so that after Memory each image has an id or has gone. Where the old one goes at once and unseen, nothing of
+// it is saved first.
 fn renew_window<L: Ledger>(
     device: &mut Device,
     window: u32,
@@ -284,7 +285,8 @@ fn renew_window<L: Ledger>(
         Ok(gone) => gone,
         Err(_) => return Err(Memory),
     };
-    let made = next_window(&mut device.forest, &mut device.book, next, steps);
+    let stays = goes_unseen(&device.forest, next, gone.as_slice());
+    let made = next_window(&mut device.forest, &mut device.book, next, stays, steps);
     device.forest.keeps();
     release(&mut device.forest, gone.as_slice(), steps);
     match made {

@@ -1,14 +1,14 @@
 -- Pixels of a rectangle in the tiles of a window, as they are read and written.
-use Rattle.std.proofs.Common.{◌≡◌, ◌≢◌, ◌∙◌, ℕ, ◌+◌, ◌*◌, ◌/◌, ◌%◌, ◌^◌, ◌<◌, ◌≤◌, Bool, true, false, List, Option, Some, None, pos, ◌+ℤ◌, ◌-ℤ◌, ⊎_elim, mul_comm, refl, subst, sym, ap, arith}
+use Rattle.std.proofs.Common.{◌≡◌, ◌≢◌, ◌∙◌, ℕ, ◌+◌, ◌*◌, ◌/◌, ◌%◌, ◌^◌, ◌<◌, ◌≤◌, Bool, true, false, List, Option, Some, None, pos, ◌+ℤ◌, ◌-ℤ◌, ◌≤ℤ◌, ℤ, ⊎_elim, mul_comm, refl, subst, sym, ap, arith}
 use Rattle.std.specs.Prelude.{◌||◌, int_le, if◌then◌else◌}
 use Rattle.std.specs.Option.{option_map_or}
-use Rattle.std.proofs.lemmas.Bool.{cases_Bool, cases_lt, false≢true, or_parts}
+use Rattle.std.proofs.lemmas.Bool.{cases_Bool, cases_lt, false≢true, or_cases, or_parts}
 use Rattle.std.proofs.lemmas.Int.{ints}
 use Rattle.std.proofs.lemmas.Nat.{div_below, div-mul-add, mod_below, mod-mul-add, mul-add-lt}
 use Rattle.r9_geom.specs.declared.Point.{Point}
 use Rattle.r9_geom.specs.declared.Rect.{Rect}
-use Rattle.r9_geom.specs.Geometry.{at_min, carried, distance, height, holds, is_empty, point_at, width, HasPoints, IsOrdered, IsRectNear}
-use Rattle.r9_geom.proofs.GeometryLemmas.{bounds_of, cell_of, corner, holds_from, int_le_false, point_holds, same_point}
+use Rattle.r9_geom.specs.Geometry.{area_of, at_min, carried, distance, height, holds, is_empty, point_at, width, HasPoints, IsOrdered, IsRectNear}
+use Rattle.r9_geom.proofs.GeometryLemmas.{bounds_of, cell_of, corner, distance_is, holds_from, int_le_false, point_holds, same_point}
 use Rattle.model_pixel.specs.Channels.{depth}
 use Rattle.model_kept.specs.Keeping.{own, Place}
 use Rattle.r9_cells.specs.Cells.{all_rows, cell_pixel, place_pixel}
@@ -26,6 +26,17 @@ pub solid_corner : (r : Rect) → is_empty r ≡ false → holds r r.min ≡ tru
 solid_corner r some =
     let parts = or_parts (int_le r.max.x r.min.x) (int_le r.max.y r.min.y) some in
     corner r (int_le_false r.max.x r.min.x parts.0) (int_le_false r.max.y r.min.y parts.1)
+
+-- and an empty one has no points
+no_distance : (a b : ℤ) → a ≤ℤ b → int_le b a ≡ true → distance a b ≡ 0
+no_distance a b ordered h = let d = distance_is a b ordered in let le : b ≤ℤ a = grind (arith, ints) in omega (arith, ints, d, le)
+
+pub empty_area : (r : Rect) → IsOrdered r → is_empty r ≡ true → area_of r ≡ 0
+empty_area r ordered none =
+    ⊎_elim
+    (λ (h : int_le r.max.x r.min.x ≡ true). ap (λ n. n * height r) (no_distance r.min.x r.max.x ordered.across h) ∙ omega arith)
+    (λ (h : int_le r.max.y r.min.y ≡ true). ap (λ n. width r * n) (no_distance r.min.y r.max.y ordered.down h) ∙ omega arith)
+    (or_cases (int_le r.max.x r.min.x) (int_le r.max.y r.min.y) none)
 
 -- one point of a rectangle passes a test, or none
 pub by_points : {C : Type 0} (r : Rect) (test : Point → Bool) → ((p : Point) → holds r p ≡ true → test p ≡ true → C) → (((p : Point) → holds r p ≡ true → test p ≡ false) → C) → C

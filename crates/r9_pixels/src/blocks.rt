@@ -1,8 +1,8 @@
 //! Rectangles of pixels where they are kept.
 
-ghost use Rattle.std.specs.Prelude.{◌≡◌, ◌≢◌, ◌^◌, ◌<◌, ◌≤◌, ◌+ℤ◌, ℕ, pos, Some, false, true, length, option_map, slice_index, vec_len, IsTrue};
+ghost use Rattle.std.specs.Prelude.{◌≡◌, ◌≢◌, ◌^◌, ◌<◌, ◌≤◌, ◌+◌, ◌+ℤ◌, ℕ, pos, Some, false, true, length, option_map, slice_index, vec_len, IsTrue};
 ghost use Rattle.r9_geom.specs.declared.Point.{Point as Spot};
-ghost use Rattle.r9_geom.specs.Geometry.{holds, HasPoints, IsNear, IsOrdered, IsRectNear};
+ghost use Rattle.r9_geom.specs.Geometry.{area_of, holds, HasPoints, IsNear, IsOrdered, IsRectNear};
 ghost use Rattle.r9_plane.specs.Blocks.{number_in, HasRows};
 ghost use Rattle.model_kept.specs.Keeping.{own, Place};
 ghost use Rattle.r9_locate.specs.Forms.{bits_in};
@@ -13,6 +13,8 @@ ghost use Rattle.r9_pixels.specs.Owns.{own_at};
 use super::keeping::KeptPixels;
 use super::own::{Extent, Own};
 use r9_geom::{Point, Rect};
+use r9_steps::Steps;
+use std::sync::ledger::Ledger;
 
 // The point so many rows down.
 fn down(p: Point, rows: u64) -> Point
@@ -76,7 +78,15 @@ impl KeptPixels {
     }
 
     // Writes the pixels of a rectangle in the plane of an image.
-    fn write_plane(&mut self, i: u32, r: &Rect, raws: &[u32], first: usize, width: usize)
+    fn write_plane<L: Ledger>(
+        &mut self,
+        i: u32,
+        r: &Rect,
+        raws: &[u32],
+        first: usize,
+        width: usize,
+        steps: &mut Steps<L>,
+    )
         requires live { i < vec_len self.old.owns }
         requires whole { (extent : Size) → own_at self.old.owns.items i ≢ Some (Hidden extent) }
         requires near { IsRectNear r.now }
@@ -90,14 +100,15 @@ impl KeptPixels {
         ensures has { has_place self.new ≡ has_place self.old }
         ensures forms { form_at self.new ≡ form_at self.old }
         ensures spare { spare_in self.new ≡ spare_in self.old }
+        ensures steps { steps.new ≡ steps.old + area_of r.now }
     {
         if let Some(Own::Whole(plane)) = &mut self.owns[i as usize] {
-            plane.put_block(r, raws, first, width);
+            plane.put_block(r, raws, first, width, steps);
         }
     }
 
     // Writes the pixels of a rectangle in the tiles of a window.
-    fn write_tiles(
+    fn write_tiles<L: Ledger>(
         &mut self,
         i: u32,
         extent: &Extent,
@@ -105,6 +116,7 @@ impl KeptPixels {
         raws: &[u32],
         first: usize,
         width: usize,
+        steps: &mut Steps<L>,
     )
         requires hidden { own_at self.old.owns.items i ≡ Some (Hidden extent.now) }
         requires near { IsRectNear r.now }
@@ -118,13 +130,22 @@ impl KeptPixels {
         ensures has { has_place self.new ≡ has_place self.old }
         ensures forms { form_at self.new ≡ form_at self.old }
         ensures spare { spare_in self.new ≡ spare_in self.old }
+        ensures steps { steps.new ≡ steps.old + area_of r.now }
     {
         self.cells
-            .write_block(i as usize, &extent.r, r, raws, first, width);
+            .write_block(i as usize, &extent.r, r, raws, first, width, steps);
     }
 
     /// Writes the pixels of a rectangle where an image keeps them, which stand among rows of so many.
-    pub(crate) fn put_block(&mut self, i: u32, r: &Rect, raws: &[u32], first: usize, width: usize)
+    pub(crate) fn put_block<L: Ledger>(
+        &mut self,
+        i: u32,
+        r: &Rect,
+        raws: &[u32],
+        first: usize,
+        width: usize,
+        steps: &mut Steps<L>,
+    )
         requires live { i < vec_len self.old.owns }
         requires near { IsRectNear r.now }
         requires ordered { IsOrdered r.now }
@@ -137,15 +158,16 @@ impl KeptPixels {
         ensures has { has_place self.new ≡ has_place self.old }
         ensures forms { form_at self.new ≡ form_at self.old }
         ensures spare { spare_in self.new ≡ spare_in self.old }
+        ensures steps { steps.new ≡ steps.old + area_of r.now }
     {
         match self.extent(i) {
-            Some(extent) => self.write_tiles(i, &extent, r, raws, first, width),
-            None => self.write_plane(i, r, raws, first, width),
+            Some(extent) => self.write_tiles(i, &extent, r, raws, first, width, steps),
+            None => self.write_plane(i, r, raws, first, width, steps),
         }
     }
 
     // Writes one raw pixel at all points of a rectangle in the plane of an image.
-    fn paint_plane(&mut self, i: u32, r: &Rect, raw: u32)
+    fn paint_plane<L: Ledger>(&mut self, i: u32, r: &Rect, raw: u32, steps: &mut Steps<L>)
         requires live { i < vec_len self.old.owns }
         requires whole { (extent : Size) → own_at self.old.owns.items i ≢ Some (Hidden extent) }
         requires near { IsRectNear r.now }
@@ -158,14 +180,22 @@ impl KeptPixels {
         ensures has { has_place self.new ≡ has_place self.old }
         ensures forms { form_at self.new ≡ form_at self.old }
         ensures spare { spare_in self.new ≡ spare_in self.old }
+        ensures steps { steps.new ≡ steps.old + area_of r.now }
     {
         if let Some(Own::Whole(plane)) = &mut self.owns[i as usize] {
-            plane.fill(*r, raw);
+            plane.fill(*r, raw, steps);
         }
     }
 
     // Writes one raw pixel at all points of a rectangle in the tiles of a window.
-    fn paint_tiles(&mut self, i: u32, extent: &Extent, r: &Rect, raw: u32)
+    fn paint_tiles<L: Ledger>(
+        &mut self,
+        i: u32,
+        extent: &Extent,
+        r: &Rect,
+        raw: u32,
+        steps: &mut Steps<L>,
+    )
         requires hidden { own_at self.old.owns.items i ≡ Some (Hidden extent.now) }
         requires near { IsRectNear r.now }
         requires ordered { IsOrdered r.now }
@@ -177,12 +207,19 @@ impl KeptPixels {
         ensures has { has_place self.new ≡ has_place self.old }
         ensures forms { form_at self.new ≡ form_at self.old }
         ensures spare { spare_in self.new ≡ spare_in self.old }
+        ensures steps { steps.new ≡ steps.old + area_of r.now }
     {
-        self.cells.fill_block(i as usize, &extent.r, r, raw);
+        self.cells.fill_block(i as usize, &extent.r, r, raw, steps);
     }
 
     /// Writes one raw pixel at all points of a rectangle where an image keeps them.
-    pub(crate) fn paint_block(&mut self, i: u32, r: &Rect, raw: u32)
+    pub(crate) fn paint_block<L: Ledger>(
+        &mut self,
+        i: u32,
+        r: &Rect,
+        raw: u32,
+        steps: &mut Steps<L>,
+    )
         requires live { i < vec_len self.old.owns }
         requires near { IsRectNear r.now }
         requires ordered { IsOrdered r.now }
@@ -194,15 +231,24 @@ impl KeptPixels {
         ensures has { has_place self.new ≡ has_place self.old }
         ensures forms { form_at self.new ≡ form_at self.old }
         ensures spare { spare_in self.new ≡ spare_in self.old }
+        ensures steps { steps.new ≡ steps.old + area_of r.now }
     {
         match self.extent(i) {
-            Some(extent) => self.paint_tiles(i, &extent, r, raw),
-            None => self.paint_plane(i, r, raw),
+            Some(extent) => self.paint_tiles(i, &extent, r, raw, steps),
+            None => self.paint_plane(i, r, raw, steps),
         }
     }
 
     // Copies the pixels of a rectangle from the plane of an image to the tiles of a window.
-    fn hide_block(&mut self, from: u32, r: &Rect, to: u32, extent: &Extent, p: Point)
+    fn hide_block<L: Ledger>(
+        &mut self,
+        from: u32,
+        r: &Rect,
+        to: u32,
+        extent: &Extent,
+        p: Point,
+        steps: &mut Steps<L>,
+    )
         requires whole { option_map (λ form. form.is_window) (form_at self.old from) ≡ Some false }
         requires hidden { own_at self.old.owns.items to ≡ Some (Hidden extent.now) }
         requires near { IsRectNear r.now }
@@ -210,13 +256,14 @@ impl KeptPixels {
         requires some { HasPoints r.now }
         requires point { IsNear p }
         requires can { CanCarryBlock self.old from r.now to p }
-        ensures { IsCarriedBlock self.old self.new from r.now to p }
+        ensures carried { IsCarriedBlock self.old self.new from r.now to p }
+        ensures steps { steps.new ≡ steps.old + area_of r.now }
     {
         match &self.owns[from as usize] {
             Some(keeper) => match keeper {
                 Own::Whole(plane) => {
                     self.cells
-                        .hide_block(to as usize, &extent.r, &r.at_min(p), plane, r.min);
+                        .hide_block(to as usize, &extent.r, &r.at_min(p), plane, r.min, steps);
                 }
                 Own::Hidden(_) => unreachable!(),
             },
@@ -225,7 +272,15 @@ impl KeptPixels {
     }
 
     // Copies the pixels of a rectangle from the tiles of a window to the plane of an image.
-    fn show_block(&mut self, from: u32, r: &Rect, extent: &Extent, to: u32, p: Point)
+    fn show_block<L: Ledger>(
+        &mut self,
+        from: u32,
+        r: &Rect,
+        extent: &Extent,
+        to: u32,
+        p: Point,
+        steps: &mut Steps<L>,
+    )
         requires whole { option_map (λ form. form.is_window) (form_at self.old to) ≡ Some false }
         requires hidden { own_at self.old.owns.items from ≡ Some (Hidden extent.now) }
         requires near { IsRectNear r.now }
@@ -233,75 +288,103 @@ impl KeptPixels {
         requires some { HasPoints r.now }
         requires point { IsNear p }
         requires can { CanCarryBlock self.old from r.now to p }
-        ensures { IsCarriedBlock self.old self.new from r.now to p }
+        ensures carried { IsCarriedBlock self.old self.new from r.now to p }
+        ensures steps { steps.new ≡ steps.old + area_of r.now }
     {
         match &mut self.owns[to as usize] {
             Some(Own::Whole(plane)) => {
-                self.cells.show_block(from as usize, &extent.r, r, plane, p);
+                self.cells
+                    .show_block(from as usize, &extent.r, r, plane, p, steps);
             }
             _ => unreachable!(),
         }
     }
 
     // Copies the pixels of a rectangle row by row.
-    fn copy_rows(&mut self, from: u32, r: &Rect, to: u32, p: Point)
+    fn copy_rows<L: Ledger>(&mut self, from: u32, r: &Rect, to: u32, p: Point, steps: &mut Steps<L>)
         requires near { IsRectNear r.now }
         requires ordered { IsOrdered r.now }
         requires some { HasPoints r.now }
         requires point { IsNear p }
         requires can { CanCarryBlock self.old from r.now to p }
-        ensures { IsCarriedBlock self.old self.new from r.now to p }
+        ensures carried { IsCarriedBlock self.old self.new from r.now to p }
+        ensures steps { steps.new ≡ steps.old + area_of r.now }
     {
         let columns = r.width() as usize;
         for row in 0..r.height() {
-            self.copy(from, r.point_at(0, row), to, down(p, row), columns);
+            self.copy(from, r.point_at(0, row), to, down(p, row), columns, steps);
         }
     }
 
     // Copies the pixels of a rectangle to the tiles of a window.
-    fn block_to_tiles(&mut self, from: u32, r: &Rect, to: u32, extent: &Extent, p: Point)
+    fn block_to_tiles<L: Ledger>(
+        &mut self,
+        from: u32,
+        r: &Rect,
+        to: u32,
+        extent: &Extent,
+        p: Point,
+        steps: &mut Steps<L>,
+    )
         requires hidden { own_at self.old.owns.items to ≡ Some (Hidden extent.now) }
         requires near { IsRectNear r.now }
         requires ordered { IsOrdered r.now }
         requires some { HasPoints r.now }
         requires point { IsNear p }
         requires can { CanCarryBlock self.old from r.now to p }
-        ensures { IsCarriedBlock self.old self.new from r.now to p }
+        ensures carried { IsCarriedBlock self.old self.new from r.now to p }
+        ensures steps { steps.new ≡ steps.old + area_of r.now }
     {
         match self.extent(from) {
-            Some(_) => self.copy_rows(from, r, to, p),
-            None => self.hide_block(from, r, to, extent, p),
+            Some(_) => self.copy_rows(from, r, to, p, steps),
+            None => self.hide_block(from, r, to, extent, p, steps),
         }
     }
 
     // Copies the pixels of a rectangle to the plane of an image.
-    fn block_to_plane(&mut self, from: u32, r: &Rect, to: u32, p: Point)
+    fn block_to_plane<L: Ledger>(
+        &mut self,
+        from: u32,
+        r: &Rect,
+        to: u32,
+        p: Point,
+        steps: &mut Steps<L>,
+    )
         requires whole { (size : Size) → own_at self.old.owns.items to ≢ Some (Hidden size) }
         requires near { IsRectNear r.now }
         requires ordered { IsOrdered r.now }
         requires some { HasPoints r.now }
         requires point { IsNear p }
         requires can { CanCarryBlock self.old from r.now to p }
-        ensures { IsCarriedBlock self.old self.new from r.now to p }
+        ensures carried { IsCarriedBlock self.old self.new from r.now to p }
+        ensures steps { steps.new ≡ steps.old + area_of r.now }
     {
         match self.extent(from) {
-            Some(extent) => self.show_block(from, r, &extent, to, p),
-            None => self.copy_rows(from, r, to, p),
+            Some(extent) => self.show_block(from, r, &extent, to, p, steps),
+            None => self.copy_rows(from, r, to, p, steps),
         }
     }
 
     /// Copies the pixels of a rectangle from where one image keeps them to where another one does.
-    pub(crate) fn copy_block(&mut self, from: u32, r: &Rect, to: u32, p: Point)
+    pub(crate) fn copy_block<L: Ledger>(
+        &mut self,
+        from: u32,
+        r: &Rect,
+        to: u32,
+        p: Point,
+        steps: &mut Steps<L>,
+    )
         requires near { IsRectNear r.now }
         requires ordered { IsOrdered r.now }
         requires some { HasPoints r.now }
         requires point { IsNear p }
         requires can { CanCarryBlock self.old from r.now to p }
-        ensures { IsCarriedBlock self.old self.new from r.now to p }
+        ensures carried { IsCarriedBlock self.old self.new from r.now to p }
+        ensures steps { steps.new ≡ steps.old + area_of r.now }
     {
         match self.extent(to) {
-            Some(extent) => self.block_to_tiles(from, r, to, &extent, p),
-            None => self.block_to_plane(from, r, to, p),
+            Some(extent) => self.block_to_tiles(from, r, to, &extent, p, steps),
+            None => self.block_to_plane(from, r, to, p, steps),
         }
     }
 }

@@ -1,6 +1,6 @@
 //! Rows of pixels where they are kept.
 
-ghost use Rattle.std.specs.Prelude.{◌≡◌, ◌≢◌, ◌^◌, ◌<◌, ℕ, true, false, Some, None, length, slice_index, vec_len};
+ghost use Rattle.std.specs.Prelude.{◌≡◌, ◌≢◌, ◌+◌, ◌^◌, ◌<◌, ℕ, true, false, Some, None, length, slice_index, vec_len};
 ghost use Rattle.r9_plane.specs.Pixels.{along};
 ghost use Rattle.model_kept.specs.Keeping.{own, Place};
 ghost use Rattle.r9_pixels.specs.declared.own.Extent.{Extent as Size};
@@ -10,7 +10,6 @@ ghost use Rattle.r9_cells.specs.Cells.{all_rows};
 ghost use Rattle.r9_pixels.specs.Owns.{own_at, IsTabled, IsWithinBits};
 
 use super::own::{Extent, Own};
-use super::whole::count_points;
 use r9_cells::Cells;
 use r9_geom::{Point, Rect};
 use r9_locate::Pixels;
@@ -68,7 +67,7 @@ impl KeptPixels {
     }
 
     // Writes pixels side by side in the plane of an image.
-    fn put_whole(&mut self, i: u32, at: Point, raws: &[u32])
+    fn put_whole<L: Ledger>(&mut self, i: u32, at: Point, raws: &[u32], steps: &mut Steps<L>)
         requires live { i < vec_len self.old.owns }
         requires whole { (extent : Size) → own_at self.old.owns.items i ≢ Some (Hidden extent) }
         requires has { (k : ℕ) → k < length raws.now → has_place self.old (own i (along at k)) ≡ true }
@@ -78,14 +77,22 @@ impl KeptPixels {
         ensures has { has_place self.new ≡ has_place self.old }
         ensures forms { form_at self.new ≡ form_at self.old }
         ensures spare { spare_in self.new ≡ spare_in self.old }
+        ensures steps { steps.new ≡ steps.old + length raws.now }
     {
         if let Some(Own::Whole(plane)) = &mut self.owns[i as usize] {
-            plane.put_row(at, raws);
+            plane.put_row(at, raws, steps);
         }
     }
 
     // Writes pixels side by side in the tiles of a window.
-    fn put_hidden(&mut self, i: u32, extent: Extent, at: Point, raws: &[u32])
+    fn put_hidden<L: Ledger>(
+        &mut self,
+        i: u32,
+        extent: Extent,
+        at: Point,
+        raws: &[u32],
+        steps: &mut Steps<L>,
+    )
         requires hidden { own_at self.old.owns.items i ≡ Some (Hidden extent) }
         requires has { (k : ℕ) → k < length raws.now → has_place self.old (own i (along at k)) ≡ true }
         requires below { (k : ℕ) → k < length raws.now → slice_index raws.now k < 2 ^ bits_in (form_at self.old) i }
@@ -94,12 +101,13 @@ impl KeptPixels {
         ensures has { has_place self.new ≡ has_place self.old }
         ensures forms { form_at self.new ≡ form_at self.old }
         ensures spare { spare_in self.new ≡ spare_in self.old }
+        ensures steps { steps.new ≡ steps.old + length raws.now }
     {
-        self.cells.write(i as usize, &extent.r, at, raws);
+        self.cells.write(i as usize, &extent.r, at, raws, steps);
     }
 
     /// Writes pixels side by side where an image keeps them.
-    pub(crate) fn put(&mut self, i: u32, at: Point, raws: &[u32])
+    pub(crate) fn put<L: Ledger>(&mut self, i: u32, at: Point, raws: &[u32], steps: &mut Steps<L>)
         requires live { i < vec_len self.old.owns }
         requires has { (k : ℕ) → k < length raws.now → has_place self.old (own i (along at k)) ≡ true }
         requires below { (k : ℕ) → k < length raws.now → slice_index raws.now k < 2 ^ bits_in (form_at self.old) i }
@@ -108,10 +116,11 @@ impl KeptPixels {
         ensures has { has_place self.new ≡ has_place self.old }
         ensures forms { form_at self.new ≡ form_at self.old }
         ensures spare { spare_in self.new ≡ spare_in self.old }
+        ensures steps { steps.new ≡ steps.old + length raws.now }
     {
         match self.extent(i) {
-            Some(extent) => self.put_hidden(i, extent, at, raws),
-            None => self.put_whole(i, at, raws),
+            Some(extent) => self.put_hidden(i, extent, at, raws, steps),
+            None => self.put_whole(i, at, raws, steps),
         }
     }
 }
@@ -152,9 +161,8 @@ impl Pixels for KeptPixels {
 
     fn write<L: Ledger>(&mut self, i: u32, at: Point, raws: &[u32], steps: &mut Steps<L>) {
         if !raws.is_empty() {
-            self.put(i, at, raws);
+            self.put(i, at, raws, steps);
         }
-        steps.add(raws.len() as u64);
     }
 
     fn carry<L: Ledger>(
@@ -166,8 +174,7 @@ impl Pixels for KeptPixels {
         n: usize,
         steps: &mut Steps<L>,
     ) {
-        self.copy(from, at, to, p, n);
-        steps.add(n as u64);
+        self.copy(from, at, to, p, n, steps);
     }
 
     fn read_block(&self, i: u32, r: &Rect, raws: &mut [u32], first: usize, width: usize) {
@@ -186,16 +193,14 @@ impl Pixels for KeptPixels {
         steps: &mut Steps<L>,
     ) {
         if !r.is_empty() {
-            self.put_block(i, r, raws, first, width);
+            self.put_block(i, r, raws, first, width, steps);
         }
-        count_points(r, steps);
     }
 
     fn fill_block<L: Ledger>(&mut self, i: u32, r: &Rect, raw: u32, steps: &mut Steps<L>) {
         if !r.is_empty() {
-            self.paint_block(i, r, raw);
+            self.paint_block(i, r, raw, steps);
         }
-        count_points(r, steps);
     }
 
     fn carry_block<L: Ledger>(
@@ -207,8 +212,7 @@ impl Pixels for KeptPixels {
         steps: &mut Steps<L>,
     ) {
         if !r.is_empty() {
-            self.copy_block(from, r, to, p);
+            self.copy_block(from, r, to, p, steps);
         }
-        count_points(r, steps);
     }
 }

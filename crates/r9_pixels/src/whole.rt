@@ -8,9 +8,7 @@ ghost use Rattle.r9_plane.specs.Pixels.{chan_of, pixel_at, rect_of};
 ghost use Rattle.model_kept.specs.Keeping.{own, Place};
 ghost use Rattle.model_kept.specs.Restack.{with_own};
 ghost use Rattle.r9_locate.specs.Forms.{bits_in};
-ghost use Rattle.r9_pixels.specs.declared.own.Extent.{Extent as Size};
-ghost use Rattle.r9_pixels.specs.declared.own.Own.TheVariants.{Hidden};
-ghost use Rattle.r9_pixels.specs.Owns.{own_at, plane_form};
+ghost use Rattle.r9_pixels.specs.Owns.{plane_form};
 ghost use Rattle.r9_pixels.specs.Places.{with_form, with_places};
 
 use super::keeping::KeptPixels;
@@ -20,18 +18,6 @@ use r9_plane::Plane;
 use r9_steps::Steps;
 use std::mem;
 use std::sync::ledger::Ledger;
-
-/// Takes a step for each point of a rectangle.
-pub(crate) fn count_points<L: Ledger>(r: &Rect, steps: &mut Steps<L>)
-    requires near { IsRectNear r.now }
-    requires ordered { IsOrdered r.now }
-    ensures { steps.new ≡ steps.old + area_of r.now }
-{
-    let width = r.width();
-    for _row in 0..r.height() {
-        steps.add(width);
-    }
-}
 
 impl KeptPixels {
     ghost use Rattle.r9_pixels.specs.Kept.{form_at, has_place, kept_at, spare_in};
@@ -48,24 +34,6 @@ impl KeptPixels {
         }
     }
 
-    // Takes the pixels of a rectangle of the plane of an image from its rows.
-    fn load_plane(&mut self, i: u32, r: Rect, rows: &[u8])
-        requires live { i < vec_len self.old.owns }
-        requires whole { (extent : Size) → own_at self.old.owns.items i ≢ Some (Hidden extent) }
-        requires near { IsRectNear r }
-        requires ordered { IsOrdered r }
-        requires has { (p : Spot) → IsTrue (holds r p) → has_place self.old (own i p) ≡ true }
-        requires rows { length rows.now ≡ row_bytes r (bits_in (form_at self.old) i) * height r }
-        ensures at { (p : Spot) → IsTrue (holds r p) → kept_at self.new (own i p) ≡ row_pixel r (bits_in (form_at self.old) i) rows.now p }
-        ensures others { (place : Place) → ((p : Spot) → IsTrue (holds r p) → place ≢ own i p) → kept_at self.new place ≡ kept_at self.old place }
-        ensures has { has_place self.new ≡ has_place self.old }
-        ensures forms { form_at self.new ≡ form_at self.old }
-    {
-        if let Some(Own::Whole(plane)) = &mut self.owns[i as usize] {
-            plane.load(r, rows);
-        }
-    }
-
     /// Takes the pixels of a rectangle of an image that stands nowhere from its rows (image(6)), a step for each.
     pub fn load_whole<L: Ledger>(&mut self, i: u32, r: Rect, rows: &[u8], steps: &mut Steps<L>)
         requires whole { option_map (λ form. form.is_window) (form_at self.old i) ≡ Some false }
@@ -79,8 +47,10 @@ impl KeptPixels {
         ensures forms { form_at self.new ≡ form_at self.old }
         ensures steps { steps.new ≡ steps.old + area_of r }
     {
-        self.load_plane(i, r, rows);
-        count_points(&r, steps);
+        match &mut self.owns[i as usize] {
+            Some(Own::Whole(plane)) => plane.load(r, rows, steps),
+            _ => unreachable!(),
+        }
     }
 
     /// Gives an image that stands nowhere another plane, for the one that it had. It takes no memory.
@@ -99,25 +69,6 @@ impl KeptPixels {
         }
     }
 
-    // Takes the pixels of a rectangle of the plane of an image from another plane.
-    fn copy_plane(&mut self, i: u32, r: Rect, other: &Plane)
-        requires live { i < vec_len self.old.owns }
-        requires whole { (extent : Size) → own_at self.old.owns.items i ≢ Some (Hidden extent) }
-        requires near { IsRectNear r }
-        requires ordered { IsOrdered r }
-        requires has { (p : Spot) → IsTrue (holds r p) → has_place self.old (own i p) ≡ true }
-        requires other { (p : Spot) → IsTrue (holds r p) → IsTrue (holds (rect_of other.now) p) }
-        requires chan { option_map (λ form. form.chan) (form_at self.old i) ≡ Some (chan_of other.now) }
-        ensures at { (p : Spot) → IsTrue (holds r p) → kept_at self.new (own i p) ≡ pixel_at other.now p }
-        ensures others { (place : Place) → ((p : Spot) → IsTrue (holds r p) → place ≢ own i p) → kept_at self.new place ≡ kept_at self.old place }
-        ensures has { has_place self.new ≡ has_place self.old }
-        ensures forms { form_at self.new ≡ form_at self.old }
-    {
-        if let Some(Own::Whole(plane)) = &mut self.owns[i as usize] {
-            plane.copy(r, other, r.min);
-        }
-    }
-
     /// Takes the pixels of a rectangle of an image that stands nowhere from those of another plane at the same points, a step for
     /// each.
     pub fn copy_whole<L: Ledger>(&mut self, i: u32, r: Rect, other: &Plane, steps: &mut Steps<L>)
@@ -133,7 +84,9 @@ impl KeptPixels {
         ensures forms { form_at self.new ≡ form_at self.old }
         ensures steps { steps.new ≡ steps.old + area_of r }
     {
-        self.copy_plane(i, r, other);
-        count_points(&r, steps);
+        match &mut self.owns[i as usize] {
+            Some(Own::Whole(plane)) => plane.copy(r, other, r.min, steps),
+            _ => unreachable!(),
+        }
     }
 }

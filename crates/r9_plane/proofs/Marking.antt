@@ -3,7 +3,9 @@ use Rattle.std.proofs.Common.{◌≡◌, ◌∙◌, ℕ, ◌+◌, ◌*◌, ◌�
 use Rattle.std.specs.Prelude.{ℤ, ◌&&◌, ◌-ℤ◌, ◌<ℤ◌, ◌≤ℤ◌, int_le}
 use Rattle.std.proofs.lemmas.Int.{ints}
 use Rattle.std.proofs.lemmas.Bool.{or_cases, or_parts}
+use Rattle.std.proofs.lemmas.Nat.{mul-le}
 use Rattle.std.proofs.Math.Bool.{and-false}
+use Rattle.std.proofs.Math.Nat.{mul_comm}
 use Rattle.r9_geom.specs.declared.Point.{Point}
 use Rattle.r9_geom.specs.declared.Rect.{Rect}
 use Rattle.r9_geom.specs.Geometry.{area_of, distance, height, holds, is_empty, strip, width, IsOrdered}
@@ -51,7 +53,25 @@ rows_fit r part is =
     let all = distance_is r.min.y r.max.y (omega (arith, ints, is.top, is.down, is.bottom)) in
     omega (arith, ints, before, own, all, is.bottom)
 
--- a part without a point touches no cell
+-- it has no more points
+pub area_fits : (r part : Rect) → IsInner r part → area_of part ≤ height r * width r
+area_fits r part is =
+    let narrow : width part ≤ width r = omega (arith, columns_fit r part is) in
+    let low : height part ≤ height r = omega (arith, rows_fit r part is) in
+    omega (arith, mul-le (width part) (height part) (width r) (height r) narrow low, mul_comm (width r) (height r))
+
+nothing : (low high : ℤ) → low ≤ℤ high → int_le high low ≡ true → distance low high ≡ 0
+nothing low high ordered le = let far = distance_is low high ordered in grind (arith, ints, far)
+
+-- a part without a point has no area
+pub no_area : (part : Rect) → IsOrdered part → is_empty part ≡ true → area_of part ≡ 0
+no_area part ordered none =
+    ⊎_elim
+    (λ (h : int_le part.max.x part.min.x ≡ true). omega (arith, ap (λ n. n * height part) (nothing part.min.x part.max.x ordered.across h)))
+    (λ (h : int_le part.max.y part.min.y ≡ true). omega (arith, ap (λ n. width part * n) (nothing part.min.y part.max.y ordered.down h)))
+    (or_cases _ _ none)
+
+-- and touches no cell
 pub untouched : (r part : Rect) → IsOrdered part → is_empty part ≡ true → (column row : ℕ) → touched r part column row ≡ false
 untouched r part ordered none column row =
     let first = distance r.min.x part.min.x in
@@ -64,9 +84,6 @@ untouched r part ordered none column row =
     ap (λ n. touches first (width part) column && touches top n row) (nothing part.min.y part.max.y ordered.down h)
     ∙ and-false (touches first (width part) column))
     (or_cases _ _ none)
-  where
-    nothing : (low high : ℤ) → low ≤ℤ high → int_le high low ≡ true → distance low high ≡ 0
-    nothing low high ordered le = let far = distance_is low high ordered in grind (arith, ints, far)
 
 -- a row of points
 pub strip_ordered : (at : Point) (n : ℕ) → IsOrdered (strip at n)

@@ -2,6 +2,7 @@
 #![tactic(auto)]
 
 mod blocks;
+mod counting;
 mod moves;
 mod packed;
 mod plane;
@@ -9,5 +10,6 @@ mod rows;
 mod runs;
 
 pub use blocks::{copy_rows, fill_rows};
+pub use counting::count_points;
 pub use plane::Plane;
 pub use rows::{read_rows, row_bytes};

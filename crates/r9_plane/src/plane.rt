@@ -8,6 +8,7 @@ ghost use Rattle.model_pixel.specs.Rows.{byte_at, raw_at, row_bytes, row_pixel, 
 mod blocks;
 mod moving;
 
+use super::counting::count_points;
 use super::packed;
 use super::rows::{columns_before, row_bytes, rows_above, skip, strip};
 use super::runs::{self, MOST_PIXELS};
@@ -15,7 +16,9 @@ use r9_chan::Chan;
 use r9_geom::{Point, Rect, distance};
 use r9_marks::{Marks, cells_over};
 use r9_memory::Memory;
+use r9_steps::Steps;
 use std::alloc::Global;
+use std::sync::ledger::Ledger;
 
 /// Packed pixels of a rectangle, row by row with no gap, and a mark for each cell of 32 by 32 of them, counted from its min.
 #[derive(Drop)]
@@ -63,8 +66,8 @@ impl Plane {
         packed::read(&self.bytes, self.depth, self.number(p))
     }
 
-    /// Writes the raw pixel at a point.
-    pub fn put(&mut self, p: Point, raw: u32)
+    /// Writes the raw pixel at a point, a step.
+    pub fn put<L: Ledger>(&mut self, p: Point, raw: u32, steps: &mut Steps<L>)
         requires inside { IsTrue (holds (rect_of self.old) p) }
         requires raw { raw < 2 ^ channels.depth (chan_of self.old) }
         ensures rect { rect_of self.new ≡ rect_of self.old }
@@ -72,14 +75,15 @@ impl Plane {
         ensures pixels { (q : Point) → pixel_at self.new q ≡ (if is_point q p then raw else pixel_at self.old q) }
         ensures marks { (column row : ℕ) → marked_at self.new column row ≡ (touched (rect_of self.old) (strip p 1) column row || marked_at self.old column row) }
         ensures few { mark_count self.new ≤ mark_count self.old + 1 }
+        ensures steps { steps.new ≡ steps.old + 1 }
     {
         let number = self.number(p);
         packed::write(&mut self.bytes, self.depth, number, raw);
-        self.mark(&strip(p, 1));
+        self.mark(&strip(p, 1), steps);
     }
 
-    // Marks the cells of the points of a rectangle.
-    fn mark(&mut self, r: &Rect)
+    // Marks the cells of the points of a rectangle, which are written, and takes a step for each point.
+    fn mark<L: Ledger>(&mut self, r: &Rect, steps: &mut Steps<L>)
         requires ordered { IsOrdered r.now }
         requires inside { (p : Point) → IsTrue (holds r.now p) → IsTrue (holds (rect_of self.old) p) }
         ensures rect { rect_of self.new ≡ rect_of self.old }
@@ -87,10 +91,12 @@ impl Plane {
         ensures pixels { pixel_at self.new ≡ pixel_at self.old }
         ensures marks { (column row : ℕ) → marked_at self.new column row ≡ (touched (rect_of self.old) r.now column row || marked_at self.old column row) }
         ensures few { mark_count self.new ≤ mark_count self.old + area_of r.now }
+        ensures steps { steps.new ≡ steps.old + area_of r.now }
     {
         if r.is_empty() {
             return;
         }
+        count_points(r, steps);
         let column = columns_before(&self.r, r.min);
         let row = rows_above(&self.r, r.min);
         let width = r.width() as usize;
@@ -176,8 +182,8 @@ impl Plane {
         runs::read_run(&self.bytes, self.depth, first, raws);
     }
 
-    /// Writes raw pixels side by side, from a point to the right.
-    pub fn put_row(&mut self, at: Point, raws: &[u32])
+    /// Writes raw pixels side by side, from a point to the right, a step for each.
+    pub fn put_row<L: Ledger>(&mut self, at: Point, raws: &[u32], steps: &mut Steps<L>)
         requires inside { (p : Point) → IsTrue (holds (strip at (length raws.now)) p) → IsTrue (holds (rect_of self.old) p) }
         requires raws { (i : ℕ) → i < length raws.now → slice_index raws.now i < 2 ^ channels.depth (chan_of self.old) }
         ensures rect { rect_of self.new ≡ rect_of self.old }
@@ -185,17 +191,18 @@ impl Plane {
         ensures pixels { (q : Point) → pixel_at self.new q ≡ (if holds (strip at (length raws.now)) q then slice_index raws.now (distance at.x q.x) else pixel_at self.old q) }
         ensures marks { (column row : ℕ) → marked_at self.new column row ≡ (touched (rect_of self.old) (strip at (length raws.now)) column row || marked_at self.old column row) }
         ensures few { mark_count self.new ≤ mark_count self.old + length raws.now }
+        ensures steps { steps.new ≡ steps.old + length raws.now }
     {
         if raws.is_empty() {
             return;
         }
         let first = self.number(at);
         runs::write_run(&mut self.bytes, self.depth, first, raws);
-        self.mark(&strip(at, raws.len()));
+        self.mark(&strip(at, raws.len()), steps);
     }
 
-    /// Writes one raw pixel at all points of a rectangle.
-    pub fn fill(&mut self, r: Rect, raw: u32)
+    /// Writes one raw pixel at all points of a rectangle, a step for each.
+    pub fn fill<L: Ledger>(&mut self, r: Rect, raw: u32, steps: &mut Steps<L>)
         requires near { IsRectNear r }
         requires ordered { IsOrdered r }
         requires inside { (p : Point) → IsTrue (holds r p) → IsTrue (holds (rect_of self.old) p) }
@@ -205,9 +212,10 @@ impl Plane {
         ensures pixels { (q : Point) → pixel_at self.new q ≡ (if holds r q then raw else pixel_at self.old q) }
         ensures marks { (column row : ℕ) → marked_at self.new column row ≡ (touched (rect_of self.old) r column row || marked_at self.old column row) }
         ensures few { mark_count self.new ≤ mark_count self.old + area_of r }
+        ensures steps { steps.new ≡ steps.old + area_of r }
     {
         self.fill_block(&r, raw);
-        self.mark(&r);
+        self.mark(&r, steps);
     }
 
     // Takes pixels side by side from another plane of the same channels, there from `from` and here from `at` to the right.
@@ -235,8 +243,8 @@ impl Plane {
         );
     }
 
-    /// Takes the pixels of a rectangle from another plane of the same channels, where its min stands at `from`.
-    pub fn copy(&mut self, r: Rect, other: &Plane, from: Point)
+    /// Takes the pixels of a rectangle from another plane of the same channels, where its min stands at `from`, a step for each.
+    pub fn copy<L: Ledger>(&mut self, r: Rect, other: &Plane, from: Point, steps: &mut Steps<L>)
         requires near { IsRectNear r }
         requires ordered { IsOrdered r }
         requires near_from { IsNear from }
@@ -248,13 +256,14 @@ impl Plane {
         ensures pixels { (q : Point) → pixel_at self.new q ≡ (if holds r q then pixel_at other.now (carried q r.min from) else pixel_at self.old q) }
         ensures marks { (column row : ℕ) → marked_at self.new column row ≡ (touched (rect_of self.old) r column row || marked_at self.old column row) }
         ensures few { mark_count self.new ≤ mark_count self.old + area_of r }
+        ensures steps { steps.new ≡ steps.old + area_of r }
     {
         let width = r.width() as usize;
         for row in 0..r.height() {
             let at = r.point_at(0, row);
             self.copy_row(at, width, other, at.carried(r.min, from));
         }
-        self.mark(&r);
+        self.mark(&r, steps);
     }
 
     /// Gives the rectangle another min. Each pixel stays where it is in it, so that none is moved.
@@ -286,8 +295,8 @@ impl Plane {
         runs::copy_run(&mut self.bytes, self.depth, first, width, line, skip);
     }
 
-    /// Takes the pixels of a rectangle from its rows. Bits outside it are not looked at.
-    pub fn load(&mut self, r: Rect, rows: &[u8])
+    /// Takes the pixels of a rectangle from its rows, a step for each. Bits outside it are not looked at.
+    pub fn load<L: Ledger>(&mut self, r: Rect, rows: &[u8], steps: &mut Steps<L>)
         requires near { IsRectNear r }
         requires ordered { IsOrdered r }
         requires inside { (p : Point) → IsTrue (holds r p) → IsTrue (holds (rect_of self.old) p) }
@@ -297,6 +306,7 @@ impl Plane {
         ensures pixels { (q : Point) → pixel_at self.new q ≡ (if holds r q then row_pixel r (channels.depth (chan_of self.old)) rows.now q else pixel_at self.old q) }
         ensures marks { (column row : ℕ) → marked_at self.new column row ≡ (touched (rect_of self.old) r column row || marked_at self.old column row) }
         ensures few { mark_count self.new ≤ mark_count self.old + area_of r }
+        ensures steps { steps.new ≡ steps.old + area_of r }
     {
         let line_len = row_bytes(r, self.depth) as usize;
         let skip = skip(r, self.depth) as usize;
@@ -306,7 +316,7 @@ impl Plane {
             self.load_row(at, width, skip, &rows[row as usize * line_len..]);
             at.y += 1;
         }
-        self.mark(&r);
+        self.mark(&r, steps);
     }
 
     // One row of whole pixels, which leave no byte out.

@@ -1,13 +1,14 @@
 -- Pixels of a rectangle of a tile.
-use Rattle.std.proofs.Common.{◌≡◌, ◌≢◌, ◌∙◌, ℕ, ◌+◌, ◌-◌, ◌*◌, ◌<◌, pos, ◌+ℤ◌, Bool, true, false, ◌&&◌, List, set, get_or, Option, Some, None, ⊎_elim, arith, refl, ap, sym}
+use Rattle.std.proofs.Common.{◌≡◌, ◌≢◌, ◌∙◌, ℕ, ◌+◌, ◌-◌, ◌*◌, ◌<◌, ◌≤◌, ◌^◌, pos, ◌+ℤ◌, Bool, true, false, ◌&&◌, List, set, get_or, Option, Some, None, ⊎_elim, arith, refl, ap, sym}
 use Rattle.std.specs.Prelude.{if◌then◌else◌, ◌==◌, slice_index}
-use Rattle.std.proofs.lemmas.Bool.{cases_Bool, both_ways}
+use Rattle.std.proofs.lemmas.Bool.{cases_Bool, cases_lt, both_ways}
 use Rattle.std.proofs.lemmas.Bool.Decides.{Decides-eqb}
 use Rattle.std.proofs.lemmas.Int.{ints}
 use Rattle.std.proofs.lemmas.List.{get_or-set_other, get_or-set_same}
+use Rattle.std.proofs.lemmas.Nat.{mul-le}
 use Rattle.r9_geom.specs.declared.Point.{Point}
 use Rattle.r9_geom.specs.declared.Rect.{Rect}
-use Rattle.r9_geom.specs.Geometry.{carried, distance, height, holds, point_at, width, HasPoints, IsOrdered}
+use Rattle.r9_geom.specs.Geometry.{area_of, carried, distance, height, holds, point_at, width, HasPoints, IsOrdered}
 use Rattle.r9_geom.proofs.GeometryLemmas.{bounds_of, cell_of, corner, distance_is, holds_from, point_holds, same_point, strip_distance, Cell}
 use Rattle.r9_plane.specs.Blocks.{number_in, HasRows}
 use Rattle.r9_store.specs.Tiles.{cell, place_of}
@@ -98,6 +99,16 @@ rows_fit r points lies = record {
 
     wide_in : (row : ℕ) → row < height r → distance (pos 0) r.min.x + (width r - 1) ≡ distance (pos 0) (point_at r (width r - 1) row).x
     wide_in row below = let end = at_end row below in omega (arith, ints, first.left, end.left)
+
+-- such a rectangle has few points
+pub few_points : (r : Rect) (place : ℕ) → HasRows r place 32 1024 → area_of r < 2 ^ 64
+few_points r place rows =
+    let low : height r ≤ 33 =
+    ⊎_elim
+    (λ (some : 0 < height r). omega (arith, rows.fits (height r - 1) (omega (arith, some))))
+    (λ (none : height r ≤ 0). omega arith)
+    (cases_lt 0 (height r)) in
+    omega (arith, mul-le (width r) (height r) 32 33 rows.narrow low)
 
 -- a rectangle that is carried so that its min stands at a point of a tile
 pub carried_back : (p a b : Point) → carried (carried p a b) b a ≡ p

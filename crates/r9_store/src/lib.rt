@@ -3,7 +3,7 @@
 
 ghost use Rattle.std.specs.Prelude.{◌≡◌, ◌≢◌, ◌+◌, ◌<◌, ◌≤◌, ◌==◌, ◌&&◌, ◌||◌, ◌^◌, ℕ, false, if◌then◌else◌, length, max, not, replicate, slice_index, slice_set, vec_capacity, vec_len, ◌++◌, ◌∷◌, [], IsTrue, OnErr, OnOk};
 ghost use Rattle.r9_geom.specs.declared.Point.{Point as Spot};
-ghost use Rattle.r9_geom.specs.Geometry.{carried, distance, holds, is_point, strip, HasPoints, IsOrdered, IsRectNear};
+ghost use Rattle.r9_geom.specs.Geometry.{area_of, carried, distance, holds, is_point, strip, HasPoints, IsOrdered, IsRectNear};
 ghost use Rattle.model_pixel.specs.Channels.{depth};
 ghost use Rattle.r9_plane.specs.Blocks.{number_in, HasRows};
 ghost use Rattle.r9_plane.specs.Pixels.{along, chan_of, pixel_at, rect_of};
@@ -11,9 +11,11 @@ ghost use Rattle.r9_store.specs.Tiles.{cell, held, is_held, pixel, place_of, spa
 
 use r9_geom::{Point, Rect, distance};
 use r9_memory::Memory;
-use r9_plane::{Plane, copy_rows, fill_rows};
+use r9_plane::{Plane, copy_rows, count_points, fill_rows};
+use r9_steps::Steps;
 use std::alloc::Global;
 use std::marker::Model;
+use std::sync::ledger::Ledger;
 
 /// The number of a tile.
 #[derive(Clone, Copy, Debug, PartialEq, Eq)]
@@ -140,16 +142,18 @@ impl Store {
         self.tiles[t.0][place_of(p)]
     }
 
-    /// Puts a raw pixel into a tile at a point, counted from its upper left corner, and changes nothing else.
-    pub fn put(&mut self, t: TileNo, p: Point, raw: u32)
+    /// Puts a raw pixel into a tile at a point, counted from its upper left corner, a step, and changes nothing else.
+    pub fn put<L: Ledger>(&mut self, t: TileNo, p: Point, raw: u32, steps: &mut Steps<L>)
         requires held { IsTrue (is_held self.old t) }
         requires inside { IsTrue (holds cell p) }
         ensures pixels { (u : ℕ) (q : Spot) → pixel self.new u q ≡ (if (u == t) && is_point q p then raw else pixel self.old u q) }
         ensures same { (u : ℕ) → is_held self.new u ≡ is_held self.old u }
         ensures held { held self.new ≡ held self.old }
         ensures spare { spare self.new ≡ spare self.old }
+        ensures steps { steps.new ≡ steps.old + 1 }
     {
         put_at(&mut self.tiles[t.0], place_of(p), raw);
+        steps.add(1);
     }
 
     /// The raw pixels side by side in a tile, from a point to the right: so many of them, as they are kept.
@@ -175,25 +179,35 @@ impl Store {
         raws.copy_from_slice(row);
     }
 
-    /// Puts raw pixels side by side into a tile, from a point to the right, and changes nothing else.
-    pub fn put_row(&mut self, t: TileNo, at: Point, raws: &[u32])
+    /// Puts raw pixels side by side into a tile, from a point to the right, a step for each, and changes nothing else.
+    pub fn put_row<L: Ledger>(&mut self, t: TileNo, at: Point, raws: &[u32], steps: &mut Steps<L>)
         requires held { IsTrue (is_held self.old t) }
         requires inside { (p : Spot) → IsTrue (holds (strip at (length raws.now)) p) → IsTrue (holds cell p) }
         ensures pixels { (u : ℕ) (q : Spot) → pixel self.new u q ≡ (if (u == t) && holds (strip at (length raws.now)) q then slice_index raws.now (distance at.x q.x) else pixel self.old u q) }
         ensures same { (u : ℕ) → is_held self.new u ≡ is_held self.old u }
         ensures held { held self.new ≡ held self.old }
         ensures spare { spare self.new ≡ spare self.old }
+        ensures steps { steps.new ≡ steps.old + length raws.now }
     {
         if raws.is_empty() {
             return;
         }
         let first = place_of(at);
         put_run(&mut self.tiles[t.0], first, raws);
+        steps.add(raws.len() as u64);
     }
 
-    /// Puts the raw pixels of a plane side by side into a tile, from a point of each to the right: so many of them. They have no
-    /// more bits than the plane's channels tell. Nothing else changes.
-    pub fn copy_row(&mut self, t: TileNo, at: Point, len: usize, plane: &Plane, from: Point)
+    /// Puts the raw pixels of a plane side by side into a tile, from a point of each to the right: so many of them, a step for
+    /// each. They have no more bits than the plane's channels tell. Nothing else changes.
+    pub fn copy_row<L: Ledger>(
+        &mut self,
+        t: TileNo,
+        at: Point,
+        len: usize,
+        plane: &Plane,
+        from: Point,
+        steps: &mut Steps<L>,
+    )
         requires held { IsTrue (is_held self.old t) }
         requires inside { (p : Spot) → IsTrue (holds (strip at len) p) → IsTrue (holds cell p) }
         requires inside_plane { (p : Spot) → IsTrue (holds (strip from len) p) → IsTrue (holds (rect_of plane.now) p) }
@@ -202,12 +216,14 @@ impl Store {
         ensures same { (u : ℕ) → is_held self.new u ≡ is_held self.old u }
         ensures held { held self.new ≡ held self.old }
         ensures spare { spare self.new ≡ spare self.old }
+        ensures steps { steps.new ≡ steps.old + len }
     {
         if len == 0 {
             return;
         }
         let first = place_of(at);
         copy_run(&mut self.tiles[t.0], first, len, plane, from);
+        steps.add(len as u64);
     }
 
     /// All raw pixels of a tile, row by row.
@@ -219,8 +235,16 @@ impl Store {
         &self.tiles[t.0]
     }
 
-    /// Puts raw pixels into a rectangle of a tile, which stand among rows of so many, and changes nothing else.
-    pub fn put_block(&mut self, t: TileNo, r: &Rect, raws: &[u32], first: usize, width: usize)
+    /// Puts raw pixels into a rectangle of a tile, which stand among rows of so many, a step for each, and changes nothing else.
+    pub fn put_block<L: Ledger>(
+        &mut self,
+        t: TileNo,
+        r: &Rect,
+        raws: &[u32],
+        first: usize,
+        width: usize,
+        steps: &mut Steps<L>,
+    )
         requires held { IsTrue (is_held self.old t) }
         requires some { HasPoints r.now }
         requires inside { (p : Spot) → IsTrue (holds r.now p) → IsTrue (holds cell p) }
@@ -229,13 +253,15 @@ impl Store {
         ensures same { (u : ℕ) → is_held self.new u ≡ is_held self.old u }
         ensures held { held self.new ≡ held self.old }
         ensures spare { spare self.new ≡ spare self.old }
+        ensures steps { steps.new ≡ steps.old + area_of r.now }
     {
         let place = place_of(r.min);
         put_part(&mut self.tiles[t.0], place, r, raws, first, width);
+        count_points(r, steps);
     }
 
-    /// Puts one raw pixel at all points of a rectangle of a tile, and changes nothing else.
-    pub fn fill_block(&mut self, t: TileNo, r: &Rect, raw: u32)
+    /// Puts one raw pixel at all points of a rectangle of a tile, a step for each, and changes nothing else.
+    pub fn fill_block<L: Ledger>(&mut self, t: TileNo, r: &Rect, raw: u32, steps: &mut Steps<L>)
         requires held { IsTrue (is_held self.old t) }
         requires some { HasPoints r.now }
         requires inside { (p : Spot) → IsTrue (holds r.now p) → IsTrue (holds cell p) }
@@ -243,14 +269,23 @@ impl Store {
         ensures same { (u : ℕ) → is_held self.new u ≡ is_held self.old u }
         ensures held { held self.new ≡ held self.old }
         ensures spare { spare self.new ≡ spare self.old }
+        ensures steps { steps.new ≡ steps.old + area_of r.now }
     {
         let place = place_of(r.min);
         fill_part(&mut self.tiles[t.0], place, r, raw);
+        count_points(r, steps);
     }
 
-    /// Puts the raw pixels of a rectangle of a plane into a tile, from a point of that on, and changes nothing else. They have no
-    /// more bits than the plane's channels tell.
-    pub fn copy_block(&mut self, t: TileNo, at: Point, plane: &Plane, from: &Rect)
+    /// Puts the raw pixels of a rectangle of a plane into a tile, from a point of that on, a step for each, and changes nothing
+    /// else. They have no more bits than the plane's channels tell.
+    pub fn copy_block<L: Ledger>(
+        &mut self,
+        t: TileNo,
+        at: Point,
+        plane: &Plane,
+        from: &Rect,
+        steps: &mut Steps<L>,
+    )
         requires held { IsTrue (is_held self.old t) }
         requires near { IsRectNear from.now }
         requires some { HasPoints from.now }
@@ -261,9 +296,11 @@ impl Store {
         ensures same { (u : ℕ) → is_held self.new u ≡ is_held self.old u }
         ensures held { held self.new ≡ held self.old }
         ensures spare { spare self.new ≡ spare self.old }
+        ensures steps { steps.new ≡ steps.old + area_of from.now }
     {
         let place = place_of(at);
         copy_part(&mut self.tiles[t.0], place, plane, from);
+        count_points(from, steps);
     }
 
     /// How many tiles are held.

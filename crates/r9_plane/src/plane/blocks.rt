@@ -7,6 +7,8 @@ ghost use Rattle.model_pixel.specs.Channels as channels;
 use super::Plane;
 use crate::blocks::{fill_packed, read_packed, write_packed};
 use r9_geom::Rect;
+use r9_steps::Steps;
+use std::sync::ledger::Ledger;
 
 impl Plane {
     ghost use Rattle.r9_geom.specs.declared.Point.{Point};
@@ -85,8 +87,15 @@ impl Plane {
         fill_packed(&mut self.bytes, self.depth, first, self.columns, r, raw);
     }
 
-    /// Writes the raw pixels of a rectangle, which stand among rows of so many: its first one is number `first`.
-    pub fn put_block(&mut self, r: &Rect, raws: &[u32], first: usize, width: usize)
+    /// Writes the raw pixels of a rectangle, a step for each, which stand among rows of so many: its first one is number `first`.
+    pub fn put_block<L: Ledger>(
+        &mut self,
+        r: &Rect,
+        raws: &[u32],
+        first: usize,
+        width: usize,
+        steps: &mut Steps<L>,
+    )
         requires near { IsRectNear r.now }
         requires ordered { IsOrdered r.now }
         requires inside { (p : Point) → IsTrue (holds r.now p) → IsTrue (holds (rect_of self.old) p) }
@@ -97,8 +106,9 @@ impl Plane {
         ensures pixels { (q : Point) → pixel_at self.new q ≡ (if holds r.now q then slice_index raws.now (number_in r.now first width q) else pixel_at self.old q) }
         ensures marks { (column row : ℕ) → marked_at self.new column row ≡ (touched (rect_of self.old) r.now column row || marked_at self.old column row) }
         ensures few { mark_count self.new ≤ mark_count self.old + area_of r.now }
+        ensures steps { steps.new ≡ steps.old + area_of r.now }
     {
         self.write_block(r, raws, first, width);
-        self.mark(r);
+        self.mark(r, steps);
     }
 }

@@ -6,6 +6,8 @@ ghost use Rattle.r9_geom.specs.Geometry.{IsNear, IsOrdered, IsRectNear};
 use super::Plane;
 use crate::moves::{ROOM_BYTES, move_run};
 use r9_geom::{Point, Rect};
+use r9_steps::Steps;
+use std::sync::ledger::Ledger;
 
 impl Plane {
     ghost use Rattle.r9_geom.specs.declared.Point.{Point};
@@ -95,8 +97,8 @@ impl Plane {
     }
 
     /// Moves pixels within the plane: a rectangle takes those, as they were, of the one of its size whose min stands at
-    /// `from`. It takes no memory.
-    pub fn move_within(&mut self, r: Rect, from: Point)
+    /// `from`, a step for each. It takes no memory.
+    pub fn move_within<L: Ledger>(&mut self, r: Rect, from: Point, steps: &mut Steps<L>)
         requires near { IsRectNear r }
         requires ordered { IsOrdered r }
         requires near_from { IsNear from }
@@ -107,8 +109,9 @@ impl Plane {
         ensures pixels { (q : Point) → pixel_at self.new q ≡ (if holds r q then pixel_at self.old (carried q r.min from) else pixel_at self.old q) }
         ensures marks { (column row : ℕ) → marked_at self.new column row ≡ (touched (rect_of self.old) r column row || marked_at self.old column row) }
         ensures few { mark_count self.new ≤ mark_count self.old + area_of r }
+        ensures steps { steps.new ≡ steps.old + area_of r }
     {
-        self.mark(&r);
+        self.mark(&r, steps);
         self.move_rows(r, from);
     }
 }

@@ -10,12 +10,12 @@ use Rattle.r9_mirror.proofs.Screens.{shown_blank}
 use Rattle.r9_mirror.proofs.viewer.begin.Goals as goal
 
 pub returns-then-is_none-clause-shown : goal.returns-then-is_none-clause-shown
-returns-then-is_none-clause-shown c =
+returns-then-is_none-clause-shown g c =
     let before = shown c.args.plane.now in
     sym (cond-false (is_some c.args.blank) (blank_of (size_of before)) before (c.is_none.ensures ∙ ap not c.if-is_none.true))
 
 pub returns-clause-shown : goal.returns-clause-shown
-returns-clause-shown c =
+returns-clause-shown g c =
     let plane = c.args.plane.now in
     let before = shown plane in
     sym

@@ -16,7 +16,7 @@ use Rattle.r9_mirror.proofs.Screens.{further_on, same_size, starts, told_on}
 use Rattle.r9_mirror.proofs.viewer.put.Goals as goal
 
 pub steps-init : goal.steps-init
-steps-init c =
+steps-init g c =
     let chan = c.chan-chan.result in
     let text = c.args.text.now in
     record {
@@ -32,7 +32,7 @@ steps-init c =
     }
 
 pub show-requires-clause-keeps : goal.show-requires-clause-keeps
-show-requires-clause-keeps c =
+show-requires-clause-keeps g c =
     let chan = c.chan-chan.result in
     let text = c.args.text.now in
     let inv = c.steps.invariant in
@@ -46,7 +46,7 @@ show-requires-clause-keeps c =
     )
 
 pub steps-preserved-then-is_same : goal.steps-preserved-then-is_same
-steps-preserved-then-is_same c =
+steps-preserved-then-is_same g c =
     let chan = c.chan-chan.result in
     let text = c.args.text.now in
     let inv = c.steps.invariant in
@@ -71,7 +71,7 @@ steps-preserved-then-is_same c =
     }
 
 pub steps-preserved : goal.steps-preserved
-steps-preserved c =
+steps-preserved g c =
     let chan = c.chan-chan.result in
     let text = c.args.text.now in
     let inv = c.steps.invariant in
@@ -89,7 +89,7 @@ steps-preserved c =
     }
 
 pub returns-clause-shown : goal.returns-clause-shown
-returns-clause-shown c = λ before after same as_before fits sized.
+returns-clause-shown g c = λ before after same as_before fits sized.
     let chan = c.chan-chan.result in
     let text = c.args.text.now in
     let own = λ (e : c.args.size ≡ Some c.size_of.result). as_before (e ∙ ap (λ (size : Size). Some size) c.size_of.ensures) in

@@ -10,7 +10,7 @@ use Rattle.r9_mirror.specs.Shown.{shown}
 use Rattle.r9_mirror.proofs.viewer.put.Given as goal
 
 abbrev pub invariant-steps : goal.invariant-steps
-invariant-steps l = record {
+invariant-steps g l = record {
   place : IsPlace l.text l.place;
   rect : rect_of l.plane ≡ rect_of l.fn.plane;
   channels : chan_of l.plane ≡ chan_of l.fn.plane;
@@ -20,4 +20,4 @@ invariant-steps l = record {
 }
 
 abbrev pub decreases-steps : goal.decreases-steps
-decreases-steps l = length l.text - l.place.at
+decreases-steps g l = length l.text - l.place.at

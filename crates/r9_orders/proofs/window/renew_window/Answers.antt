@@ -18,6 +18,8 @@ use Rattle.r9_orders.proofs.Fitting.{window-some}
 use Rattle.r9_orders.proofs.Managed.{free_id-display}
 use Rattle.r9_orders.proofs.Pending.{can-release-next, kept-renewed}
 use Rattle.r9_orders.proofs.Renewing.{added-is, grows-renewed, id-given, id-left, kept-left, renewed-world, screen-left, spare-given}
+use Rattle.r9_orders.proofs.Unseen.{come-gone}
+use Rattle.r9_orders.specs.Ordering.{GoesUnseen}
 use Rattle.r9_device.proofs.Spare.{spare-freed}
 use Rattle.model_cost.specs.Cost.{going_all}
 use Rattle.r9_device.proofs.Kept.{can-release}
@@ -36,9 +38,9 @@ release-requires g c =
     let is = c.free_id_frees.ensures.freed before.book.book 0 window freed before.kept.screens e in
     let order = c.free_id_frees.ensures.order before.book.book 0 window freed e in
     let rest = c.free_id_frees.ensures.rest before.book.book 0 window freed e in
-    let g = grows-renewed c.next_window-made.result (world_of before) (world c.next_window-made.new.forest) window n c.args.screen c.args.next.now before.kept c.keeps.ensures c.requires.next c.requires.ready c.next_window-made.ensures.free c.next_window-made.ensures.made in
+    let g = grows-renewed c.next_window-made.result (world_of before) (world c.next_window-made.new.forest) window n c.args.screen c.args.next.now c.goes_unseen-stays.result before.kept c.keeps.ensures c.requires.next c.requires.ready c.next_window-made.ensures.free c.next_window-made.ensures.made in
     let can = can-release-next c.next_window-made.result (world before.forest) (world c.next_window-made.new.forest) before.book.book freed n c.args.screen before.kept g c.next_window-made.ensures.kept_images used is order in
-    (can.0, subst (λ (gone : List Thing). CanRelease (world c.next_window-made.new.forest) can.0 gone) (sym c.as_slice.ensures) can.1)
+    (can.0, subst (λ (gone : List Thing). CanRelease (world c.next_window-made.new.forest) can.0 gone) (sym c.as_slice-2.ensures) can.1)
 
 pub add_window-requires-clause-fresh : goal.add_window-requires-clause-fresh
 add_window-requires-clause-fresh g c =
@@ -69,11 +71,11 @@ invariant_of-device-in-Ok-made-clause-kept g c =
     let none : LeavesNone before.book.book freed = (c.free_id_frees.ensures.complete before.book.book 0 window freed before.kept.finds e, c.free_id_frees.ensures.finds before.book.book 0 window freed before.kept.finds e) in
     let display = free_id-display before.book.book window freed other e in
     let o : Outcome Book = Ok freed.book in
-    let g = grows-renewed o (world_of before) (world c.next_window-made.new.forest) window n c.args.screen c.args.next.now before.kept c.keeps.ensures c.requires.next c.requires.ready c.in-Ok-made.ensures.free c.in-Ok-made.ensures.made in
+    let g = grows-renewed o (world_of before) (world c.next_window-made.new.forest) window n c.args.screen c.args.next.now c.goes_unseen-stays.result before.kept c.keeps.ensures c.requires.next c.requires.ready c.in-Ok-made.ensures.free c.in-Ok-made.ensures.made in
     let added = added-is freed.book c.next_window-made.new.book.book c.add_window.new.book.book window c.in-Ok-made.image.0 n c.args.screen c.next_window-made.ensures.book c.in-Ok-made.ensures.number c.add_window.ensures in
     let given = id-given freed.book c.add_window.new.book.book window n c.args.screen (id-left before.book.book window freed other e) added in
     kept-renewed (world before.forest) (world c.next_window-made.new.forest) (world c.release.new.forest) before.book.book c.add_window.new.book.book freed window n c.args.screen before.kept c.keeps.ensures.parents c.keeps-2.ensures.parents g used is none order rest display
-    (c.release.ensures.world ∙ ap (λ (gone : List Thing). fold images_without (world c.next_window-made.new.forest) gone) c.as_slice.ensures) given other
+    (c.release.ensures.world ∙ ap (λ (gone : List Thing). fold images_without (world c.next_window-made.new.forest) gone) c.as_slice-2.ensures) given other
 
 pub invariant_of-device-in-Ok-made-clause-spare : goal.invariant_of-device-in-Ok-made-clause-spare
 invariant_of-device-in-Ok-made-clause-spare g c =
@@ -123,8 +125,10 @@ returns-in-Ok-made-clause-renewed g c =
     let added = added-is freed.book c.next_window-made.new.book.book c.add_window.new.book.book window c.in-Ok-made.image.0 n c.args.screen c.next_window-made.ensures.book c.in-Ok-made.ensures.number c.add_window.ensures in
     let given = id-given freed.book c.add_window.new.book.book window n c.args.screen (id-left before.book.book window freed other e) added in
     renewed-world (world_of before) window c.args.screen c.args.next.now freed (world c.release.new.forest) (numbers c.release.new.forest) c.add_window.new.book.book e
-    ((c.release.ensures.world ∙ ap (λ (gone : List Thing). fold images_without (world c.next_window-made.new.forest) gone) c.as_slice.ensures) ∙ ap (λ (w : Images). fold images_without w freed.gone) c.in-Ok-made.ensures.made)
-    (c.release.ensures.numbers ∙ ap (λ (gone : List Thing). fold numbers_without (numbers c.next_window-made.new.forest) gone) c.as_slice.ensures ∙ ap (λ (ns : Numbers). fold numbers_without ns freed.gone) c.in-Ok-made.ensures.taken)
+    ((c.release.ensures.world ∙ ap (λ (gone : List Thing). fold images_without (world c.next_window-made.new.forest) gone) c.as_slice-2.ensures) ∙ ap (λ (w : Images). fold images_without w freed.gone) c.in-Ok-made.ensures.made
+    ∙ come-gone (world before.forest) n c.args.next.now c.keeps.ensures c.in-Ok-made.ensures.free c.requires.ready c.goes_unseen-stays.result freed.gone
+    (λ is. subst (λ (gone : List Thing). GoesUnseen (world before.forest) c.args.next.now gone) c.as_slice.ensures (c.goes_unseen-stays.ensures is)))
+    (c.release.ensures.numbers ∙ ap (λ (gone : List Thing). fold numbers_without (numbers c.next_window-made.new.forest) gone) c.as_slice-2.ensures ∙ ap (λ (ns : Numbers). fold numbers_without ns freed.gone) c.in-Ok-made.ensures.taken)
     added
 
 pub invariant_of-device-in-Err-made : goal.invariant_of-device-in-Err-made
@@ -148,7 +152,7 @@ invariant_of-device-in-Err-made g c =
     record {
       kept =
           kept-left (world before.forest) (world c.next_window-made.new.forest) (world c.release.new.forest) before.book.book c.next_window-made.new.book.book freed before.kept c.keeps.ensures is none order rest display c.in-Err-made.ensures.kept_images
-          (c.release.ensures.world ∙ ap (λ (gone : List Thing). fold images_without (world c.next_window-made.new.forest) gone) c.as_slice.ensures) c.next_window-made.ensures.book;
+          (c.release.ensures.world ∙ ap (λ (gone : List Thing). fold images_without (world c.next_window-made.new.forest) gone) c.as_slice-2.ensures) c.next_window-made.ensures.book;
       spare = subst AreSpare (sym c.next_window-made.ensures.book) spare;
       ties = subst HasTies (sym c.next_window-made.ensures.book) (HasTies-free_id before.book.book 0 window freed other before.ties e);
       room = omega (arith, space, more, most);
@@ -167,7 +171,7 @@ returns-in-Ok-made-clause-steps g c =
     let is = c.free_id_frees.ensures.freed book 0 window freed before.kept.screens e in
     let order = c.free_id_frees.ensures.order book 0 window freed e in
     let o : Outcome Book = Ok freed.book in
-    let g = grows-renewed o (world_of before) (world c.next_window-made.new.forest) window n c.args.screen c.args.next.now before.kept c.keeps.ensures c.requires.next c.requires.ready c.in-Ok-made.ensures.free c.in-Ok-made.ensures.made in
+    let g = grows-renewed o (world_of before) (world c.next_window-made.new.forest) window n c.args.screen c.args.next.now c.goes_unseen-stays.result before.kept c.keeps.ensures c.requires.next c.requires.ready c.in-Ok-made.ensures.free c.in-Ok-made.ensures.made in
     let same = renewed-costs images (world c.next_window-made.new.forest) book n c.args.screen freed.gone g (can-release images book freed before.kept is order) in
-    let slice = ap (λ (gone : List Thing). going_all (world c.next_window-made.new.forest) gone) c.as_slice.ensures in
+    let slice = ap (λ (gone : List Thing). going_all (world c.next_window-made.new.forest) gone) c.as_slice-2.ensures in
     omega (arith, same, slice, window-gone images book window freed e, c.next_window-made.ensures.steps, c.release.ensures.steps)

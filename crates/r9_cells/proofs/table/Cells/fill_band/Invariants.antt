@@ -1,5 +1,5 @@
-use Rattle.std.proofs.Common.{◌≡◌, ◌-◌, ◌≤◌}
-use Rattle.r9_geom.specs.Geometry.{width}
+use Rattle.std.proofs.Common.{◌≡◌, ◌*◌, ◌+◌, ◌-◌, ◌≤◌}
+use Rattle.r9_geom.specs.Geometry.{height, width}
 use Rattle.r9_store.specs.Tiles.{spare}
 use Rattle.r9_cells.specs.Cells.{all_rows, place_pixel, tiles_in}
 use Rattle.r9_cells.specs.Rows.{cell_place, CellPlace}
@@ -8,12 +8,13 @@ use Rattle.r9_cells.proofs.Sets.{IsSet}
 use Rattle.r9_cells.proofs.table.Cells.fill_band.Given as goal
 
 abbrev pub invariant-loop-column : goal.invariant-loop-column
-invariant-loop-column l = record {
+invariant-loop-column g l = record {
   within : l.column ≤ width l.band;
   set : IsSet CellPlace (side l.band l.column) (cell_place l.i l.r) (λ p. l.raw) (place_pixel l.fn.self) (place_pixel l.self);
   rows : all_rows l.self ≡ all_rows l.fn.self;
   spare : spare (tiles_in l.self) ≡ spare (tiles_in l.fn.self);
+  steps : l.steps ≡ l.fn.steps + l.column * height l.band;
 }
 
 abbrev pub decreases-loop-column : goal.decreases-loop-column
-decreases-loop-column l = width l.band - l.column
+decreases-loop-column g l = width l.band - l.column

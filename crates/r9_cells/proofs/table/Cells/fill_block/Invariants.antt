@@ -1,5 +1,5 @@
-use Rattle.std.proofs.Common.{◌≡◌, ◌-◌, ◌≤◌}
-use Rattle.r9_geom.specs.Geometry.{height}
+use Rattle.std.proofs.Common.{◌≡◌, ◌*◌, ◌+◌, ◌-◌, ◌≤◌}
+use Rattle.r9_geom.specs.Geometry.{height, width}
 use Rattle.r9_geom.proofs.GeometryLemmas.{band}
 use Rattle.r9_store.specs.Tiles.{spare}
 use Rattle.r9_cells.specs.Cells.{all_rows, place_pixel, tiles_in}
@@ -8,12 +8,13 @@ use Rattle.r9_cells.proofs.Sets.{IsSet}
 use Rattle.r9_cells.proofs.table.Cells.fill_block.Given as goal
 
 abbrev pub invariant-loop-row : goal.invariant-loop-row
-invariant-loop-row l = record {
+invariant-loop-row g l = record {
   within : l.row ≤ height l.block;
   set : IsSet CellPlace (band l.block l.row) (cell_place l.i l.r) (λ p. l.raw) (place_pixel l.fn.self) (place_pixel l.self);
   rows : all_rows l.self ≡ all_rows l.fn.self;
   spare : spare (tiles_in l.self) ≡ spare (tiles_in l.fn.self);
+  steps : l.steps ≡ l.fn.steps + width l.block * l.row;
 }
 
 abbrev pub decreases-loop-row : goal.decreases-loop-row
-decreases-loop-row l = height l.block - l.row
+decreases-loop-row g l = height l.block - l.row

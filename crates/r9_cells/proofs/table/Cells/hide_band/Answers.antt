@@ -8,6 +8,7 @@ use Rattle.model_pixel.specs.Channels.{depth}
 use Rattle.r9_plane.specs.Pixels.{chan_of, pixel_at, rect_of}
 use Rattle.r9_cells.specs.Cells.{all_rows, place_pixel}
 use Rattle.r9_cells.specs.Rows.{cell_place, has_tile, CellPlace}
+use Rattle.r9_cells.proofs.Areas.{every_column, more_columns}
 use Rattle.r9_cells.proofs.Bands.{first_point, part_carried, part_cell, part_lies, part_next, part_points, part_tells, side, side_none, side_whole, side_within}
 use Rattle.r9_cells.proofs.Inner.{has_lies}
 use Rattle.r9_cells.proofs.Places.{place_injective, tile_parts}
@@ -15,23 +16,23 @@ use Rattle.r9_cells.proofs.Sets.{set_more, set_none, IsSet}
 use Rattle.r9_cells.proofs.table.Cells.hide_band.Goals as goal
 
 pub loop-column-init : goal.loop-column-init
-loop-column-init c =
-    record { within = omega arith; set = set_none CellPlace (side c.args.band.now 0) (cell_place c.args.i c.args.r.now) (λ p. pixel_at c.args.plane.now (carried p c.args.band.now.min c.args.from)) (place_pixel c.args.self.now) (side_none c.args.band.now); below = λ p h. absurd (both_ways _ (side_none c.args.band.now p) h); rows = refl; spare = refl }
+loop-column-init g c =
+    record { within = omega arith; set = set_none CellPlace (side c.args.band.now 0) (cell_place c.args.i c.args.r.now) (λ p. pixel_at c.args.plane.now (carried p c.args.band.now.min c.args.from)) (place_pixel c.args.self.now) (side_none c.args.band.now); below = λ p h. absurd (both_ways _ (side_none c.args.band.now p) h); rows = refl; spare = refl; steps = omega arith }
 
 pub part_of-part-requires-clause-column : goal.part_of-part-requires-clause-column
-part_of-part-requires-clause-column c =
+part_of-part-requires-clause-column g c =
     omega (arith, c.loop-column-test.true, c.width.ensures)
 
 pub part_of-part-requires-clause-inside : goal.part_of-part-requires-clause-inside
-part_of-part-requires-clause-inside c p h =
+part_of-part-requires-clause-inside g c p h =
     (tile_parts (all_rows c.args.self.now) c.args.i c.args.r.now p (c.requires.has p h)).0
 
 pub right-there-requires-clause-columns : goal.right-there-requires-clause-columns
-right-there-requires-clause-columns c =
+right-there-requires-clause-columns g c =
     omega (arith, c.loop-column-test.true, c.width.ensures, width_most c.args.band.now c.requires.also c.requires.ordered)
 
 pub hide_part-requires-clause-also : goal.hide_part-requires-clause-also
-hide_part-requires-clause-also c =
+hide_part-requires-clause-also g c =
     let r = c.args.r.now in
     let whole = c.args.band.now in
     let at = c.loop-column.column in
@@ -42,7 +43,7 @@ hide_part-requires-clause-also c =
     here.near
 
 pub hide_part-requires-clause-ordered : goal.hide_part-requires-clause-ordered
-hide_part-requires-clause-ordered c =
+hide_part-requires-clause-ordered g c =
     let r = c.args.r.now in
     let whole = c.args.band.now in
     let at = c.loop-column.column in
@@ -53,7 +54,7 @@ hide_part-requires-clause-ordered c =
     here.ordered
 
 pub hide_part-requires-clause-some : goal.hide_part-requires-clause-some
-hide_part-requires-clause-some c =
+hide_part-requires-clause-some g c =
     let r = c.args.r.now in
     let whole = c.args.band.now in
     let at = c.loop-column.column in
@@ -64,7 +65,7 @@ hide_part-requires-clause-some c =
     here.some
 
 pub hide_part-requires-clause-part : goal.hide_part-requires-clause-part
-hide_part-requires-clause-part c =
+hide_part-requires-clause-part g c =
     let r = c.args.r.now in
     let whole = c.args.band.now in
     let at = c.loop-column.column in
@@ -75,7 +76,7 @@ hide_part-requires-clause-part c =
     part_cell r whole piece at is lies c.requires.band
 
 pub hide_part-requires-clause-has : goal.hide_part-requires-clause-has
-hide_part-requires-clause-has c p h =
+hide_part-requires-clause-has g c p h =
     let r = c.args.r.now in
     let whole = c.args.band.now in
     let at = c.loop-column.column in
@@ -86,7 +87,7 @@ hide_part-requires-clause-has c p h =
     ap (λ (rows : List (List (Option ℕ))). has_tile rows c.args.i r p) c.loop-column.invariant.rows ∙ c.requires.has p (part_points r whole piece at is lies.ordered p h)
 
 pub hide_part-requires-clause-inside : goal.hide_part-requires-clause-inside
-hide_part-requires-clause-inside c p h =
+hide_part-requires-clause-inside g c p h =
     let r = c.args.r.now in
     let whole = c.args.band.now in
     let at = c.loop-column.column in
@@ -97,7 +98,7 @@ hide_part-requires-clause-inside c p h =
     ap (holds (rect_of c.args.plane.now)) (ap (carried p piece.min) c.right-there.ensures ∙ part_carried r whole piece at p c.args.from is) ∙ c.requires.inside p (part_points r whole piece at is lies.ordered p h)
 
 pub hide_part-requires-clause-from : goal.hide_part-requires-clause-from
-hide_part-requires-clause-from c =
+hide_part-requires-clause-from g c =
     let r = c.args.r.now in
     let whole = c.args.band.now in
     let at = c.loop-column.column in
@@ -111,7 +112,7 @@ hide_part-requires-clause-from c =
     near_point (2 ^ 40) (rect_of c.args.plane.now) c.right-there.result c.args.plane.now.near (ap (holds (rect_of c.args.plane.now)) (sym self ∙ there) ∙ c.requires.inside piece.min (part_points r whole piece at is lies.ordered piece.min first))
 
 pub width-column-requires : goal.width-column-requires
-width-column-requires c =
+width-column-requires g c =
     let r = c.args.r.now in
     let whole = c.args.band.now in
     let at = c.loop-column.column in
@@ -122,7 +123,7 @@ width-column-requires c =
     here.ordered
 
 pub overflow_add-column : goal.overflow_add-column
-overflow_add-column c =
+overflow_add-column g c =
     let r = c.args.r.now in
     let whole = c.args.band.now in
     let at = c.loop-column.column in
@@ -133,7 +134,7 @@ overflow_add-column c =
     omega (arith, is.fits, c.width-column.ensures, width_most whole c.requires.also c.requires.ordered)
 
 pub loop-column-smaller : goal.loop-column-smaller
-loop-column-smaller c =
+loop-column-smaller g c =
     let r = c.args.r.now in
     let whole = c.args.band.now in
     let at = c.loop-column.column in
@@ -144,7 +145,7 @@ loop-column-smaller c =
     omega (arith, is.some, is.fits, c.width-column.ensures, c.loop-column.invariant.within)
 
 pub loop-column-preserved : goal.loop-column-preserved
-loop-column-preserved c =
+loop-column-preserved g c =
     let r = c.args.r.now in
     let whole = c.args.band.now in
     let at = c.loop-column.column in
@@ -165,16 +166,21 @@ loop-column-preserved c =
           (or_cases (holds piece p) (holds (side whole at) p) (sym ((part_next r whole piece at is).split p) ∙ ap (λ n. holds (side whole (at + n)) p) (sym c.width-column.ensures) ∙ h));
       rows = c.hide_part.ensures.rows ∙ c.loop-column.invariant.rows;
       spare = c.hide_part.ensures.spare ∙ c.loop-column.invariant.spare;
+      steps = more_columns r whole piece at c.width-column.result c.args.steps.now c.loop-column.steps c.hide_part.new.steps is c.width-column.ensures c.loop-column.invariant.steps c.hide_part.ensures.steps;
     }
 
 pub returns-clause-at : goal.returns-clause-at
-returns-clause-at c p h =
+returns-clause-at g c p h =
     c.loop-column.invariant.set.written p (ap (λ (s : Rect). holds s p) (side_whole c.args.band.now c.loop-column.column c.requires.ordered c.loop-column.invariant.within (omega (arith, c.loop-column-test.false, c.width.ensures))) ∙ h)
 
 pub returns-clause-others : goal.returns-clause-others
-returns-clause-others c place apart =
+returns-clause-others g c place apart =
     c.loop-column.invariant.set.others place (λ p h. apart p (sym (ap (λ (s : Rect). holds s p) (side_whole c.args.band.now c.loop-column.column c.requires.ordered c.loop-column.invariant.within (omega (arith, c.loop-column-test.false, c.width.ensures)))) ∙ h))
 
 pub returns-clause-below : goal.returns-clause-below
-returns-clause-below c p h =
+returns-clause-below g c p h =
     c.loop-column.invariant.below p (ap (λ (s : Rect). holds s p) (side_whole c.args.band.now c.loop-column.column c.requires.ordered c.loop-column.invariant.within (omega (arith, c.loop-column-test.false, c.width.ensures))) ∙ h)
+
+pub returns-clause-steps : goal.returns-clause-steps
+returns-clause-steps g c =
+    every_column c.args.band.now c.loop-column.column c.args.steps.now c.loop-column.steps c.loop-column.invariant.within (omega (arith, c.loop-column-test.false, c.width.ensures)) c.loop-column.invariant.steps

@@ -8,6 +8,7 @@ use Rattle.model_pixel.specs.Channels.{depth}
 use Rattle.r9_plane.specs.Pixels.{chan_of, pixel_at, rect_of}
 use Rattle.r9_cells.specs.Cells.{all_rows, place_pixel}
 use Rattle.r9_cells.specs.Rows.{cell_place, has_tile, CellPlace}
+use Rattle.r9_cells.proofs.Areas.{every_row, more_rows}
 use Rattle.r9_cells.proofs.Bands.{first_point, band_carried, band_lies, band_next, band_points, band_row, band_tells, band_whole, band_within}
 use Rattle.r9_cells.proofs.Inner.{has_lies}
 use Rattle.r9_cells.proofs.Places.{place_injective, tile_parts}
@@ -15,23 +16,23 @@ use Rattle.r9_cells.proofs.Sets.{set_more, set_none, IsSet}
 use Rattle.r9_cells.proofs.table.Cells.hide_block.Goals as goal
 
 pub loop-row-init : goal.loop-row-init
-loop-row-init c =
-    record { within = omega arith; set = set_none CellPlace (band c.args.block.now 0) (cell_place c.args.i c.args.r.now) (λ p. pixel_at c.args.plane.now (carried p c.args.block.now.min c.args.from)) (place_pixel c.args.self.now) (band_none c.args.block.now); below = λ p h. absurd (both_ways _ (band_none c.args.block.now p) h); rows = refl; spare = refl }
+loop-row-init g c =
+    record { within = omega arith; set = set_none CellPlace (band c.args.block.now 0) (cell_place c.args.i c.args.r.now) (λ p. pixel_at c.args.plane.now (carried p c.args.block.now.min c.args.from)) (place_pixel c.args.self.now) (band_none c.args.block.now); below = λ p h. absurd (both_ways _ (band_none c.args.block.now p) h); rows = refl; spare = refl; steps = omega arith }
 
 pub band_of-band-requires-clause-row : goal.band_of-band-requires-clause-row
-band_of-band-requires-clause-row c =
+band_of-band-requires-clause-row g c =
     omega (arith, c.loop-row-test.true, c.height.ensures)
 
 pub band_of-band-requires-clause-inside : goal.band_of-band-requires-clause-inside
-band_of-band-requires-clause-inside c p h =
+band_of-band-requires-clause-inside g c p h =
     (tile_parts (all_rows c.args.self.now) c.args.i c.args.r.now p (c.requires.has p h)).0
 
 pub down-there-requires-clause-rows : goal.down-there-requires-clause-rows
-down-there-requires-clause-rows c =
+down-there-requires-clause-rows g c =
     omega (arith, c.loop-row-test.true, c.height.ensures, height_most c.args.block.now c.requires.also c.requires.ordered)
 
 pub hide_band-requires-clause-also : goal.hide_band-requires-clause-also
-hide_band-requires-clause-also c =
+hide_band-requires-clause-also g c =
     let r = c.args.r.now in
     let whole = c.args.block.now in
     let at = c.loop-row.row in
@@ -42,7 +43,7 @@ hide_band-requires-clause-also c =
     here.near
 
 pub hide_band-requires-clause-ordered : goal.hide_band-requires-clause-ordered
-hide_band-requires-clause-ordered c =
+hide_band-requires-clause-ordered g c =
     let r = c.args.r.now in
     let whole = c.args.block.now in
     let at = c.loop-row.row in
@@ -53,7 +54,7 @@ hide_band-requires-clause-ordered c =
     here.ordered
 
 pub hide_band-requires-clause-some : goal.hide_band-requires-clause-some
-hide_band-requires-clause-some c =
+hide_band-requires-clause-some g c =
     let r = c.args.r.now in
     let whole = c.args.block.now in
     let at = c.loop-row.row in
@@ -64,7 +65,7 @@ hide_band-requires-clause-some c =
     here.some
 
 pub hide_band-requires-clause-band : goal.hide_band-requires-clause-band
-hide_band-requires-clause-band c =
+hide_band-requires-clause-band g c =
     let r = c.args.r.now in
     let whole = c.args.block.now in
     let at = c.loop-row.row in
@@ -75,7 +76,7 @@ hide_band-requires-clause-band c =
     band_row r whole piece at is lies
 
 pub hide_band-requires-clause-has : goal.hide_band-requires-clause-has
-hide_band-requires-clause-has c p h =
+hide_band-requires-clause-has g c p h =
     let r = c.args.r.now in
     let whole = c.args.block.now in
     let at = c.loop-row.row in
@@ -86,7 +87,7 @@ hide_band-requires-clause-has c p h =
     ap (λ (rows : List (List (Option ℕ))). has_tile rows c.args.i r p) c.loop-row.invariant.rows ∙ c.requires.has p (band_points r whole piece at is lies.ordered p h)
 
 pub hide_band-requires-clause-inside : goal.hide_band-requires-clause-inside
-hide_band-requires-clause-inside c p h =
+hide_band-requires-clause-inside g c p h =
     let r = c.args.r.now in
     let whole = c.args.block.now in
     let at = c.loop-row.row in
@@ -97,7 +98,7 @@ hide_band-requires-clause-inside c p h =
     ap (holds (rect_of c.args.plane.now)) (ap (carried p piece.min) c.down-there.ensures ∙ band_carried r whole piece at p c.args.from is) ∙ c.requires.inside p (band_points r whole piece at is lies.ordered p h)
 
 pub hide_band-requires-clause-from : goal.hide_band-requires-clause-from
-hide_band-requires-clause-from c =
+hide_band-requires-clause-from g c =
     let r = c.args.r.now in
     let whole = c.args.block.now in
     let at = c.loop-row.row in
@@ -111,7 +112,7 @@ hide_band-requires-clause-from c =
     near_point (2 ^ 40) (rect_of c.args.plane.now) c.down-there.result c.args.plane.now.near (ap (holds (rect_of c.args.plane.now)) (sym self ∙ there) ∙ c.requires.inside piece.min (band_points r whole piece at is lies.ordered piece.min first))
 
 pub height-row-requires : goal.height-row-requires
-height-row-requires c =
+height-row-requires g c =
     let r = c.args.r.now in
     let whole = c.args.block.now in
     let at = c.loop-row.row in
@@ -122,7 +123,7 @@ height-row-requires c =
     here.ordered
 
 pub overflow_add-row : goal.overflow_add-row
-overflow_add-row c =
+overflow_add-row g c =
     let r = c.args.r.now in
     let whole = c.args.block.now in
     let at = c.loop-row.row in
@@ -133,7 +134,7 @@ overflow_add-row c =
     omega (arith, is.fits, c.height-row.ensures, height_most whole c.requires.also c.requires.ordered)
 
 pub loop-row-smaller : goal.loop-row-smaller
-loop-row-smaller c =
+loop-row-smaller g c =
     let r = c.args.r.now in
     let whole = c.args.block.now in
     let at = c.loop-row.row in
@@ -144,7 +145,7 @@ loop-row-smaller c =
     omega (arith, is.some, is.fits, c.height-row.ensures, c.loop-row.invariant.within)
 
 pub loop-row-preserved : goal.loop-row-preserved
-loop-row-preserved c =
+loop-row-preserved g c =
     let r = c.args.r.now in
     let whole = c.args.block.now in
     let at = c.loop-row.row in
@@ -165,16 +166,21 @@ loop-row-preserved c =
           (or_cases (holds piece p) (holds (band whole at) p) (sym ((band_next r whole piece at is).split p) ∙ ap (λ n. holds (band whole (at + n)) p) (sym c.height-row.ensures) ∙ h));
       rows = c.hide_band.ensures.rows ∙ c.loop-row.invariant.rows;
       spare = c.hide_band.ensures.spare ∙ c.loop-row.invariant.spare;
+      steps = more_rows r whole piece at c.height-row.result c.args.steps.now c.loop-row.steps c.hide_band.new.steps is c.height-row.ensures c.loop-row.invariant.steps c.hide_band.ensures.steps;
     }
 
 pub returns-clause-at : goal.returns-clause-at
-returns-clause-at c p h =
+returns-clause-at g c p h =
     c.loop-row.invariant.set.written p (ap (λ (s : Rect). holds s p) (band_whole c.args.block.now c.loop-row.row c.requires.ordered c.loop-row.invariant.within (omega (arith, c.loop-row-test.false, c.height.ensures))) ∙ h)
 
 pub returns-clause-others : goal.returns-clause-others
-returns-clause-others c place apart =
+returns-clause-others g c place apart =
     c.loop-row.invariant.set.others place (λ p h. apart p (sym (ap (λ (s : Rect). holds s p) (band_whole c.args.block.now c.loop-row.row c.requires.ordered c.loop-row.invariant.within (omega (arith, c.loop-row-test.false, c.height.ensures)))) ∙ h))
 
 pub returns-clause-below : goal.returns-clause-below
-returns-clause-below c p h =
+returns-clause-below g c p h =
     c.loop-row.invariant.below p (ap (λ (s : Rect). holds s p) (band_whole c.args.block.now c.loop-row.row c.requires.ordered c.loop-row.invariant.within (omega (arith, c.loop-row-test.false, c.height.ensures))) ∙ h)
+
+pub returns-clause-steps : goal.returns-clause-steps
+returns-clause-steps g c =
+    every_row c.args.block.now c.loop-row.row c.args.steps.now c.loop-row.steps c.loop-row.invariant.within (omega (arith, c.loop-row-test.false, c.height.ensures)) c.loop-row.invariant.steps

@@ -7,9 +7,9 @@ use Rattle.r9_cells.proofs.Rows.{put_at_place, put_others}
 use Rattle.r9_cells.proofs.table.Cells.put_block.Goals as goal
 
 pub returns-clause-at : goal.returns-clause-at
-returns-clause-at c =
+returns-clause-at g c =
     put_at_place (all_rows c.args.self.now) c.args.self.now.store c.put_block.new.self c.args.i c.args.k c.tile-tile.result (holds c.args.r.now) (λ (q : Point). slice_index c.args.raws.now (number_in c.args.r.now c.args.first c.args.width q)) c.tile-tile.ensures c.put_block.ensures.pixels
 
 pub returns-clause-others : goal.returns-clause-others
-returns-clause-others c =
+returns-clause-others g c =
     put_others (all_rows c.args.self.now) c.args.self.now.store c.put_block.new.self c.args.i c.args.k c.tile-tile.result (holds c.args.r.now) (λ (q : Point). slice_index c.args.raws.now (number_in c.args.r.now c.args.first c.args.width q)) c.tile-tile.ensures c.put_block.ensures.pixels c.args.self.now.kept

@@ -13,79 +13,80 @@ use Rattle.r9_cells.proofs.Carried.{carried_along, grown}
 use Rattle.r9_cells.proofs.Places.{row_near, row_small, run_places, tile_parts}
 use Rattle.r9_cells.proofs.Changed.{cell_inside}
 use Rattle.r9_cells.proofs.table.Cells.show.Goals as goal
+use Rattle.r9_cells.proofs.table.Cells.show.Given.{Over}
 use Rattle.r9_cells.proofs.table.Cells.show.Goals.{After-row}
 
 pub along-requires-clause-near : goal.along-requires-clause-near
-along-requires-clause-near c =
+along-requires-clause-near g c =
     let first = tile_parts (all_rows c.args.self.now) c.args.i c.args.r.now (along c.args.from 0) (c.requires.has 0 (omega (arith, c.loop-done-test.true))) in
     near_wider (2 ^ 40) (2 ^ 42) c.args.from (lit≤ tt) (row_near c.args.r.now c.args.from 0 c.requires.near first.0 first.0).0
 
 pub along-requires-clause-columns : goal.along-requires-clause-columns
-along-requires-clause-columns c =
+along-requires-clause-columns g c =
     let first = tile_parts (all_rows c.args.self.now) c.args.i c.args.r.now (along c.args.from 0) (c.requires.has 0 (omega (arith, c.loop-done-test.true))) in
     let here = tile_parts (all_rows c.args.self.now) c.args.i c.args.r.now (along c.args.from c.loop-done.done) (c.requires.has c.loop-done.done c.loop-done-test.true) in
     omega (arith, (row_near c.args.r.now c.args.from c.loop-done.done c.requires.near first.0 here.0).1)
 
 pub along-there-requires-clause-near : goal.along-there-requires-clause-near
-along-there-requires-clause-near c =
+along-there-requires-clause-near g c =
     let first = c.requires.inside 0 (omega (arith, c.loop-done-test.true)) in
     near_wider (2 ^ 40) (2 ^ 42) c.args.at (lit≤ tt) (row_near (rect_of c.args.plane.now) c.args.at 0 c.args.plane.now.near first first).0
 
 pub along-there-requires-clause-columns : goal.along-there-requires-clause-columns
-along-there-requires-clause-columns c =
+along-there-requires-clause-columns g c =
     let first = c.requires.inside 0 (omega (arith, c.loop-done-test.true)) in
     let here = c.requires.inside c.loop-done.done c.loop-done-test.true in
     omega (arith, (row_near (rect_of c.args.plane.now) c.args.at c.loop-done.done c.args.plane.now.near first here).1)
 
 pub run_of-run-requires-clause-inside : goal.run_of-run-requires-clause-inside
-run_of-run-requires-clause-inside c =
+run_of-run-requires-clause-inside g c =
     let here = tile_parts (all_rows c.args.self.now) c.args.i c.args.r.now (along c.args.from c.loop-done.done) (c.requires.has c.loop-done.done c.loop-done-test.true) in
     ap (holds c.args.r.now) c.along.ensures ∙ here.0
 
 pub run_of-run-requires-clause-small : goal.run_of-run-requires-clause-small
-run_of-run-requires-clause-small c =
+run_of-run-requires-clause-small g c =
     let rows = c.args.self.now.rows.items in
     let here = tile_parts (rows_of rows) c.args.i c.args.r.now (along c.args.from c.loop-done.done) (c.requires.has c.loop-done.done c.loop-done-test.true) in
     let small = row_small rows c.args.i (cell_of c.args.r.now (along c.args.from c.loop-done.done)) (cell_inside (rows_of rows) c.args.i (cell_of c.args.r.now (along c.args.from c.loop-done.done)) here.1).1 in
     omega (arith, ap (cell_of c.args.r.now) c.along.ensures, small)
 
 pub row-requires-clause-tile : goal.row-requires-clause-tile
-row-requires-clause-tile c =
+row-requires-clause-tile g c =
     let here = tile_parts (all_rows c.args.self.now) c.args.i c.args.r.now (along c.args.from c.loop-done.done) (c.requires.has c.loop-done.done c.loop-done-test.true) in
     let first : cell_of c.args.r.now (along c.args.from c.loop-done.done) ≡ c.run_of-run.result.cell =
     ap (cell_of c.args.r.now) (sym c.along.ensures ∙ sym (along_none c.along.result)) ∙ c.run_of-run.ensures.cell 0 c.run_of-run.ensures.some in
     ap (λ k. is_some (cell_at (all_rows c.args.self.now) c.args.i k)) (sym first) ∙ here.1
 
 -- the pixels of the run as they are kept
-kept : (c : After-row) (k : ℕ) → k < c.run_of-run.result.len → slice_index c.row.result.now k ≡ place_pixel c.args.self.now (cell_place c.args.i c.args.r.now (along c.args.from (c.loop-done.done + k)))
-kept c k below =
+kept : (g : Over) (c : After-row g) (k : ℕ) → k < c.run_of-run.result.len → slice_index c.row.result.now k ≡ place_pixel c.args.self.now (cell_place c.args.i c.args.r.now (along c.args.from (c.loop-done.done + k)))
+kept g c k below =
     let run = c.run_of-run.result in
     c.row.ensures.pixels k below
     ∙ ap (place_pixel c.args.self.now) (sym (run_places c.args.i run.cell c.args.r.now c.args.from c.along.result run.at c.loop-done.done run.len c.along.ensures c.run_of-run.ensures.cell c.run_of-run.ensures.at k below))
 
 -- and where they are put
-next : (c : After-row) (k : ℕ) → along c.along-there.result k ≡ along c.args.at (c.loop-done.done + k)
-next c k = ap (λ q. along q k) c.along-there.ensures ∙ along-along c.args.at c.loop-done.done k
+next : (g : Over) (c : After-row g) (k : ℕ) → along c.along-there.result k ≡ along c.args.at (c.loop-done.done + k)
+next g c k = ap (λ q. along q k) c.along-there.ensures ∙ along-along c.args.at c.loop-done.done k
 
 pub put_row-requires-clause-inside : goal.put_row-requires-clause-inside
-put_row-requires-clause-inside c p h =
-    let now = (goal.at.put_row-requires-clause-inside c).After-row in
+put_row-requires-clause-inside g c p h =
+    let now = (goal.at.put_row-requires-clause-inside g c).After-row in
     let found = strip_at c.along-there.result p (length c.row.result.now) h in
     ap (λ r. holds r p) c.loop-done.invariant.rect
-    ∙ ap (holds (rect_of c.args.plane.now)) (found.2 ∙ next now found.0)
+    ∙ ap (holds (rect_of c.args.plane.now)) (found.2 ∙ next g now found.0)
     ∙ c.requires.inside (c.loop-done.done + found.0) (omega (arith, found.1, c.row.ensures.len, c.run_of-run.ensures.most, c.loop-done.invariant.within))
 
 pub put_row-requires-clause-raws : goal.put_row-requires-clause-raws
-put_row-requires-clause-raws c k below =
-    let now = (goal.at.put_row-requires-clause-raws c).After-row in
+put_row-requires-clause-raws g c k below =
+    let now = (goal.at.put_row-requires-clause-raws g c).After-row in
     let short : k < c.run_of-run.result.len = omega (arith, below, c.row.ensures.len) in
     let small = c.requires.below (c.loop-done.done + k) (omega (arith, short, c.run_of-run.ensures.most, c.loop-done.invariant.within)) in
     let bits = ap (λ chan. 2 ^ depth chan) c.loop-done.invariant.chan in
-    omega (arith, kept now k short, small, bits)
+    omega (arith, kept g now k short, small, bits)
 
 pub loop-done-preserved : goal.loop-done-preserved
-loop-done-preserved c =
-    let now = (goal.at.loop-done-preserved c).After-row in
+loop-done-preserved g c =
+    let now = (goal.at.loop-done-preserved g c).After-row in
     let at = c.args.at in
     let done = c.loop-done.done in
     let len = c.run_of-run.result.len in
@@ -106,9 +107,10 @@ loop-done-preserved c =
           c.put_row.ensures.pixels q
           ∙ ap (λ b. if b then slice_index raws (distance there.x q.x) else pixel_at c.loop-done.plane q) (strips q ∙ h)
           ∙ ap (slice_index raws) (strip_distance there q found.0 (ap (λ (p : Point). p.x) is))
-          ∙ kept now found.0 found.1
+          ∙ kept g now found.0 found.1
           ∙ ap (λ p. place_pixel c.args.self.now (cell_place c.args.i c.args.r.now p)) (sym (ap (λ p. carried p at c.args.from) place ∙ carried_along at c.args.from (done + found.0))))
           (λ q none.
           c.put_row.ensures.pixels q
           ∙ ap (λ b. if b then slice_index raws (distance there.x q.x) else pixel_at c.loop-done.plane q) (strips q ∙ none));
+      steps = omega (arith, c.put_row.ensures.steps, c.loop-done.invariant.steps, c.row.ensures.len);
     }

@@ -9,6 +9,7 @@ use Rattle.model_pixel.specs.Channels.{depth}
 use Rattle.r9_plane.specs.Pixels.{pixel_at, rect_of}
 use Rattle.r9_cells.specs.Cells.{all_rows, place_pixel}
 use Rattle.r9_cells.specs.Rows.{cell_place}
+use Rattle.r9_cells.proofs.Areas.{every_column, more_columns}
 use Rattle.r9_cells.proofs.Bands.{first_point, part_back, part_carried, part_cell, part_lies, part_next, part_points, part_tells, side, side_none, side_whole}
 use Rattle.r9_cells.proofs.Inner.{has_lies}
 use Rattle.r9_cells.proofs.Places.{tile_parts}
@@ -16,23 +17,23 @@ use Rattle.r9_cells.proofs.Sets.{shown_more}
 use Rattle.r9_cells.proofs.table.Cells.show_band.Goals as goal
 
 pub loop-column-init : goal.loop-column-init
-loop-column-init c =
-    record { within = omega arith; rect = refl; chan = refl; shown = λ q. sym (ap (λ b. if b then place_pixel c.args.self.now (cell_place c.args.i c.args.r.now (carried q c.args.to c.args.band.now.min)) else pixel_at c.args.plane.now q) (side_none c.args.band.now (carried q c.args.to c.args.band.now.min))) }
+loop-column-init g c =
+    record { within = omega arith; rect = refl; chan = refl; shown = λ q. sym (ap (λ b. if b then place_pixel c.args.self.now (cell_place c.args.i c.args.r.now (carried q c.args.to c.args.band.now.min)) else pixel_at c.args.plane.now q) (side_none c.args.band.now (carried q c.args.to c.args.band.now.min))); steps = omega arith }
 
 pub part_of-part-requires-clause-column : goal.part_of-part-requires-clause-column
-part_of-part-requires-clause-column c =
+part_of-part-requires-clause-column g c =
     omega (arith, c.loop-column-test.true, c.width.ensures)
 
 pub part_of-part-requires-clause-inside : goal.part_of-part-requires-clause-inside
-part_of-part-requires-clause-inside c p h =
+part_of-part-requires-clause-inside g c p h =
     (tile_parts (all_rows c.args.self.now) c.args.i c.args.r.now p (c.requires.has p h)).0
 
 pub right-there-requires-clause-columns : goal.right-there-requires-clause-columns
-right-there-requires-clause-columns c =
+right-there-requires-clause-columns g c =
     omega (arith, c.loop-column-test.true, c.width.ensures, width_most c.args.band.now c.requires.also c.requires.ordered)
 
 pub show_part-requires-clause-also : goal.show_part-requires-clause-also
-show_part-requires-clause-also c =
+show_part-requires-clause-also g c =
     let r = c.args.r.now in
     let whole = c.args.band.now in
     let at = c.loop-column.column in
@@ -43,7 +44,7 @@ show_part-requires-clause-also c =
     here.near
 
 pub show_part-requires-clause-ordered : goal.show_part-requires-clause-ordered
-show_part-requires-clause-ordered c =
+show_part-requires-clause-ordered g c =
     let r = c.args.r.now in
     let whole = c.args.band.now in
     let at = c.loop-column.column in
@@ -54,7 +55,7 @@ show_part-requires-clause-ordered c =
     here.ordered
 
 pub show_part-requires-clause-some : goal.show_part-requires-clause-some
-show_part-requires-clause-some c =
+show_part-requires-clause-some g c =
     let r = c.args.r.now in
     let whole = c.args.band.now in
     let at = c.loop-column.column in
@@ -65,7 +66,7 @@ show_part-requires-clause-some c =
     here.some
 
 pub show_part-requires-clause-part : goal.show_part-requires-clause-part
-show_part-requires-clause-part c =
+show_part-requires-clause-part g c =
     let r = c.args.r.now in
     let whole = c.args.band.now in
     let at = c.loop-column.column in
@@ -76,7 +77,7 @@ show_part-requires-clause-part c =
     part_cell r whole piece at is lies c.requires.band
 
 pub show_part-requires-clause-has : goal.show_part-requires-clause-has
-show_part-requires-clause-has c p h =
+show_part-requires-clause-has g c p h =
     let r = c.args.r.now in
     let whole = c.args.band.now in
     let at = c.loop-column.column in
@@ -87,7 +88,7 @@ show_part-requires-clause-has c p h =
     c.requires.has p (part_points r whole piece at is lies.ordered p h)
 
 pub show_part-requires-clause-inside : goal.show_part-requires-clause-inside
-show_part-requires-clause-inside c p h =
+show_part-requires-clause-inside g c p h =
     let r = c.args.r.now in
     let whole = c.args.band.now in
     let at = c.loop-column.column in
@@ -98,7 +99,7 @@ show_part-requires-clause-inside c p h =
     ap (λ (s : Rect). holds s (carried p piece.min c.right-there.result)) c.loop-column.invariant.rect ∙ ap (holds (rect_of c.args.plane.now)) (ap (carried p piece.min) c.right-there.ensures ∙ part_carried r whole piece at p c.args.to is) ∙ c.requires.inside p (part_points r whole piece at is lies.ordered p h)
 
 pub show_part-requires-clause-to : goal.show_part-requires-clause-to
-show_part-requires-clause-to c =
+show_part-requires-clause-to g c =
     let r = c.args.r.now in
     let whole = c.args.band.now in
     let at = c.loop-column.column in
@@ -112,7 +113,7 @@ show_part-requires-clause-to c =
     near_point (2 ^ 40) (rect_of c.args.plane.now) c.right-there.result c.args.plane.now.near (ap (holds (rect_of c.args.plane.now)) (sym self ∙ there) ∙ c.requires.inside piece.min (part_points r whole piece at is lies.ordered piece.min first))
 
 pub show_part-requires-clause-below : goal.show_part-requires-clause-below
-show_part-requires-clause-below c p h =
+show_part-requires-clause-below g c p h =
     let r = c.args.r.now in
     let whole = c.args.band.now in
     let at = c.loop-column.column in
@@ -123,7 +124,7 @@ show_part-requires-clause-below c p h =
     subst (λ (m : ℕ). place_pixel c.args.self.now (cell_place c.args.i r p) < 2 ^ depth m) (sym c.loop-column.invariant.chan) (c.requires.below p (part_points r whole piece at is lies.ordered p h))
 
 pub width-column-requires : goal.width-column-requires
-width-column-requires c =
+width-column-requires g c =
     let r = c.args.r.now in
     let whole = c.args.band.now in
     let at = c.loop-column.column in
@@ -134,7 +135,7 @@ width-column-requires c =
     here.ordered
 
 pub overflow_add-column : goal.overflow_add-column
-overflow_add-column c =
+overflow_add-column g c =
     let r = c.args.r.now in
     let whole = c.args.band.now in
     let at = c.loop-column.column in
@@ -145,7 +146,7 @@ overflow_add-column c =
     omega (arith, is.fits, c.width-column.ensures, width_most whole c.requires.also c.requires.ordered)
 
 pub loop-column-smaller : goal.loop-column-smaller
-loop-column-smaller c =
+loop-column-smaller g c =
     let r = c.args.r.now in
     let whole = c.args.band.now in
     let at = c.loop-column.column in
@@ -156,7 +157,7 @@ loop-column-smaller c =
     omega (arith, is.some, is.fits, c.width-column.ensures, c.loop-column.invariant.within)
 
 pub loop-column-preserved : goal.loop-column-preserved
-loop-column-preserved c =
+loop-column-preserved g c =
     let r = c.args.r.now in
     let whole = c.args.band.now in
     let at = c.loop-column.column in
@@ -172,8 +173,13 @@ loop-column-preserved c =
           shown_more (side whole at) piece (side whole (at + width piece)) (carried q c.args.to whole.min) (pixel_at c.args.plane.now q) (pixel_at c.loop-column.plane q) (pixel_at c.show_part.new.plane q) (place_pixel c.args.self.now (cell_place c.args.i r (carried q c.args.to whole.min))) (part_next r whole piece at is) (c.loop-column.invariant.shown q)
           (c.show_part.ensures.pixels q ∙ ap (λ (p : Point). if holds piece p then place_pixel c.args.self.now (cell_place c.args.i r p) else pixel_at c.loop-column.plane q) (ap (λ (t : Point). carried q t piece.min) c.right-there.ensures ∙ part_back r whole piece at q c.args.to is))
           ∙ ap (λ n. if holds (side whole (at + n)) (carried q c.args.to whole.min) then (place_pixel c.args.self.now (cell_place c.args.i r (carried q c.args.to whole.min))) else pixel_at c.args.plane.now q) (sym c.width-column.ensures);
+      steps = more_columns r whole piece at c.width-column.result c.args.steps.now c.loop-column.steps c.show_part.new.steps is c.width-column.ensures c.loop-column.invariant.steps c.show_part.ensures.steps;
     }
 
 pub returns-clause-pixels : goal.returns-clause-pixels
-returns-clause-pixels c q =
+returns-clause-pixels g c q =
     c.loop-column.invariant.shown q ∙ ap (λ (s : Rect). if holds s (carried q c.args.to c.args.band.now.min) then place_pixel c.args.self.now (cell_place c.args.i c.args.r.now (carried q c.args.to c.args.band.now.min)) else pixel_at c.args.plane.now q) (side_whole c.args.band.now c.loop-column.column c.requires.ordered c.loop-column.invariant.within (omega (arith, c.loop-column-test.false, c.width.ensures)))
+
+pub returns-clause-steps : goal.returns-clause-steps
+returns-clause-steps g c =
+    every_column c.args.band.now c.loop-column.column c.args.steps.now c.loop-column.steps c.loop-column.invariant.within (omega (arith, c.loop-column-test.false, c.width.ensures)) c.loop-column.invariant.steps

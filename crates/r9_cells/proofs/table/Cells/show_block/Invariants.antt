@@ -1,7 +1,7 @@
-use Rattle.std.proofs.Common.{◌≡◌, ◌-◌, ◌≤◌}
+use Rattle.std.proofs.Common.{◌≡◌, ◌*◌, ◌+◌, ◌-◌, ◌≤◌}
 use Rattle.std.specs.Prelude.{if◌then◌else◌}
 use Rattle.r9_geom.specs.declared.Point.{Point}
-use Rattle.r9_geom.specs.Geometry.{carried, height, holds}
+use Rattle.r9_geom.specs.Geometry.{carried, height, holds, width}
 use Rattle.r9_geom.proofs.GeometryLemmas.{band}
 use Rattle.r9_plane.specs.Pixels.{chan_of, pixel_at, rect_of}
 use Rattle.r9_cells.specs.Cells.{place_pixel}
@@ -9,12 +9,13 @@ use Rattle.r9_cells.specs.Rows.{cell_place}
 use Rattle.r9_cells.proofs.table.Cells.show_block.Given as goal
 
 abbrev pub invariant-loop-row : goal.invariant-loop-row
-invariant-loop-row l = record {
+invariant-loop-row g l = record {
   within : l.row ≤ height l.block;
   rect : rect_of l.plane ≡ rect_of l.fn.plane;
   chan : chan_of l.plane ≡ chan_of l.fn.plane;
   shown : (q : Point) → pixel_at l.plane q ≡ (if holds (band l.block l.row) (carried q l.to l.block.min) then place_pixel l.self (cell_place l.i l.r (carried q l.to l.block.min)) else pixel_at l.fn.plane q);
+  steps : l.steps ≡ l.fn.steps + width l.block * l.row;
 }
 
 abbrev pub decreases-loop-row : goal.decreases-loop-row
-decreases-loop-row l = height l.block - l.row
+decreases-loop-row g l = height l.block - l.row

@@ -14,37 +14,37 @@ use Rattle.r9_cells.proofs.Changed.{cell_inside}
 use Rattle.r9_cells.proofs.table.Cells.write.Goals as goal
 
 pub along-requires-clause-near : goal.along-requires-clause-near
-along-requires-clause-near c =
+along-requires-clause-near g c =
     let first = tile_parts (all_rows c.args.self.now) c.args.i c.args.r.now (along c.args.at 0) (c.requires.has 0 (omega (arith, c.loop-done-test.true))) in
     near_wider (2 ^ 40) (2 ^ 42) c.args.at (lit≤ tt) (row_near c.args.r.now c.args.at 0 c.requires.near first.0 first.0).0
 
 pub along-requires-clause-columns : goal.along-requires-clause-columns
-along-requires-clause-columns c =
+along-requires-clause-columns g c =
     let first = tile_parts (all_rows c.args.self.now) c.args.i c.args.r.now (along c.args.at 0) (c.requires.has 0 (omega (arith, c.loop-done-test.true))) in
     let here = tile_parts (all_rows c.args.self.now) c.args.i c.args.r.now (along c.args.at c.loop-done.done) (c.requires.has c.loop-done.done (c.loop-done-test.true)) in
     omega (arith, (row_near c.args.r.now c.args.at c.loop-done.done c.requires.near first.0 here.0).1)
 
 pub run_of-run-requires-clause-inside : goal.run_of-run-requires-clause-inside
-run_of-run-requires-clause-inside c =
+run_of-run-requires-clause-inside g c =
     let here = tile_parts (all_rows c.args.self.now) c.args.i c.args.r.now (along c.args.at c.loop-done.done) (c.requires.has c.loop-done.done (c.loop-done-test.true)) in
     ap (holds c.args.r.now) c.along.ensures ∙ here.0
 
 pub run_of-run-requires-clause-small : goal.run_of-run-requires-clause-small
-run_of-run-requires-clause-small c =
+run_of-run-requires-clause-small g c =
     let rows = c.args.self.now.rows.items in
     let here = tile_parts (rows_of rows) c.args.i c.args.r.now (along c.args.at c.loop-done.done) (c.requires.has c.loop-done.done (c.loop-done-test.true)) in
     let small = row_small rows c.args.i (cell_of c.args.r.now (along c.args.at c.loop-done.done)) (cell_inside (rows_of rows) c.args.i (cell_of c.args.r.now (along c.args.at c.loop-done.done)) here.1).1 in
     omega (arith, ap (cell_of c.args.r.now) c.along.ensures, small)
 
 pub put_row-requires-clause-tile : goal.put_row-requires-clause-tile
-put_row-requires-clause-tile c =
+put_row-requires-clause-tile g c =
     let here = tile_parts (all_rows c.args.self.now) c.args.i c.args.r.now (along c.args.at c.loop-done.done) (c.requires.has c.loop-done.done (c.loop-done-test.true)) in
     let first : cell_of c.args.r.now (along c.args.at c.loop-done.done) ≡ c.run_of-run.result.cell =
     ap (cell_of c.args.r.now) (sym c.along.ensures ∙ sym (along_none c.along.result)) ∙ c.run_of-run.ensures.cell 0 c.run_of-run.ensures.some in
     ap (λ k. is_some (cell_at (all_rows c.loop-done.self) c.args.i k)) (sym first) ∙ ap (λ (rows : List (List (Option ℕ))). is_some (cell_at rows c.args.i (cell_of c.args.r.now (along c.args.at c.loop-done.done)))) c.loop-done.invariant.rows ∙ here.1
 
 pub loop-done-preserved : goal.loop-done-preserved
-loop-done-preserved c =
+loop-done-preserved g c =
     let raws = c.args.raws.now in
     let done = c.loop-done.done in
     let run = c.run_of-run.result in
@@ -85,4 +85,5 @@ loop-done-preserved c =
           ∙ c.loop-done.invariant.others other (λ k lower. apart k (omega (arith, lower)));
       rows = c.put_row.ensures.rows ∙ c.loop-done.invariant.rows;
       spare = c.put_row.ensures.spare ∙ c.loop-done.invariant.spare;
+      steps = omega (arith, c.put_row.ensures.steps, c.loop-done.invariant.steps, long);
     }

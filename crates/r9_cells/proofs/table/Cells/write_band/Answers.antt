@@ -5,6 +5,7 @@ use Rattle.r9_geom.proofs.GeometryLemmas.{width_most}
 use Rattle.r9_plane.specs.Blocks.{number_in}
 use Rattle.r9_cells.specs.Cells.{all_rows, place_pixel}
 use Rattle.r9_cells.specs.Rows.{cell_place, has_tile, CellPlace}
+use Rattle.r9_cells.proofs.Areas.{every_column, more_columns}
 use Rattle.r9_cells.proofs.Bands.{part_cell, part_lies, part_next, part_number, part_points, part_rows, part_tells, side, side_none, side_whole, side_within, tall}
 use Rattle.r9_cells.proofs.Inner.{has_lies}
 use Rattle.r9_cells.proofs.Places.{place_injective, tile_parts}
@@ -12,23 +13,23 @@ use Rattle.r9_cells.proofs.Sets.{set_more, set_none, IsSet}
 use Rattle.r9_cells.proofs.table.Cells.write_band.Goals as goal
 
 pub loop-column-init : goal.loop-column-init
-loop-column-init c =
-    record { within = omega arith; set = set_none CellPlace (side c.args.band.now 0) (cell_place c.args.i c.args.r.now) (λ p. get_or c.args.raws.now (number_in c.args.band.now c.args.first c.args.width p) 0) (place_pixel c.args.self.now) (side_none c.args.band.now); rows = refl; spare = refl }
+loop-column-init g c =
+    record { within = omega arith; set = set_none CellPlace (side c.args.band.now 0) (cell_place c.args.i c.args.r.now) (λ p. get_or c.args.raws.now (number_in c.args.band.now c.args.first c.args.width p) 0) (place_pixel c.args.self.now) (side_none c.args.band.now); rows = refl; spare = refl; steps = omega arith }
 
 pub part_of-part-requires-clause-column : goal.part_of-part-requires-clause-column
-part_of-part-requires-clause-column c =
+part_of-part-requires-clause-column g c =
     omega (arith, c.loop-column-test.true, c.width.ensures)
 
 pub part_of-part-requires-clause-inside : goal.part_of-part-requires-clause-inside
-part_of-part-requires-clause-inside c p h =
+part_of-part-requires-clause-inside g c p h =
     (tile_parts (all_rows c.args.self.now) c.args.i c.args.r.now p (c.requires.has p h)).0
 
 pub overflow_add-start : goal.overflow_add-start
-overflow_add-start c =
+overflow_add-start g c =
     omega (arith, c.loop-column-test.true, c.width.ensures, c.requires.rows.fits 0 (tall c.args.band.now c.requires.some))
 
 pub write_part-requires-clause-also : goal.write_part-requires-clause-also
-write_part-requires-clause-also c =
+write_part-requires-clause-also g c =
     let r = c.args.r.now in
     let whole = c.args.band.now in
     let at = c.loop-column.column in
@@ -39,7 +40,7 @@ write_part-requires-clause-also c =
     here.near
 
 pub write_part-requires-clause-ordered : goal.write_part-requires-clause-ordered
-write_part-requires-clause-ordered c =
+write_part-requires-clause-ordered g c =
     let r = c.args.r.now in
     let whole = c.args.band.now in
     let at = c.loop-column.column in
@@ -50,7 +51,7 @@ write_part-requires-clause-ordered c =
     here.ordered
 
 pub write_part-requires-clause-some : goal.write_part-requires-clause-some
-write_part-requires-clause-some c =
+write_part-requires-clause-some g c =
     let r = c.args.r.now in
     let whole = c.args.band.now in
     let at = c.loop-column.column in
@@ -61,7 +62,7 @@ write_part-requires-clause-some c =
     here.some
 
 pub write_part-requires-clause-part : goal.write_part-requires-clause-part
-write_part-requires-clause-part c =
+write_part-requires-clause-part g c =
     let r = c.args.r.now in
     let whole = c.args.band.now in
     let at = c.loop-column.column in
@@ -72,7 +73,7 @@ write_part-requires-clause-part c =
     part_cell r whole piece at is lies c.requires.band
 
 pub write_part-requires-clause-has : goal.write_part-requires-clause-has
-write_part-requires-clause-has c p h =
+write_part-requires-clause-has g c p h =
     let r = c.args.r.now in
     let whole = c.args.band.now in
     let at = c.loop-column.column in
@@ -83,7 +84,7 @@ write_part-requires-clause-has c p h =
     ap (λ (rows : List (List (Option ℕ))). has_tile rows c.args.i r p) c.loop-column.invariant.rows ∙ c.requires.has p (part_points r whole piece at is lies.ordered p h)
 
 pub write_part-requires-clause-rows : goal.write_part-requires-clause-rows
-write_part-requires-clause-rows c =
+write_part-requires-clause-rows g c =
     let r = c.args.r.now in
     let whole = c.args.band.now in
     let at = c.loop-column.column in
@@ -94,7 +95,7 @@ write_part-requires-clause-rows c =
     part_rows r whole piece at c.args.first c.args.width (length c.args.raws.now) is c.requires.rows
 
 pub width-column-requires : goal.width-column-requires
-width-column-requires c =
+width-column-requires g c =
     let r = c.args.r.now in
     let whole = c.args.band.now in
     let at = c.loop-column.column in
@@ -105,7 +106,7 @@ width-column-requires c =
     here.ordered
 
 pub overflow_add-column : goal.overflow_add-column
-overflow_add-column c =
+overflow_add-column g c =
     let r = c.args.r.now in
     let whole = c.args.band.now in
     let at = c.loop-column.column in
@@ -116,7 +117,7 @@ overflow_add-column c =
     omega (arith, is.fits, c.width-column.ensures, width_most whole c.requires.also c.requires.ordered)
 
 pub loop-column-smaller : goal.loop-column-smaller
-loop-column-smaller c =
+loop-column-smaller g c =
     let r = c.args.r.now in
     let whole = c.args.band.now in
     let at = c.loop-column.column in
@@ -127,7 +128,7 @@ loop-column-smaller c =
     omega (arith, is.some, is.fits, c.width-column.ensures, c.loop-column.invariant.within)
 
 pub loop-column-preserved : goal.loop-column-preserved
-loop-column-preserved c =
+loop-column-preserved g c =
     let r = c.args.r.now in
     let whole = c.args.band.now in
     let at = c.loop-column.column in
@@ -143,12 +144,17 @@ loop-column-preserved c =
       set = subst (λ (n : ℕ). IsSet CellPlace (side whole (at + n)) (cell_place c.args.i r) (λ p. get_or c.args.raws.now (number_in whole c.args.first c.args.width p) 0) (place_pixel c.args.self.now) (place_pixel c.write_part.new.self)) (sym c.width-column.ensures) more;
       rows = c.write_part.ensures.rows ∙ c.loop-column.invariant.rows;
       spare = c.write_part.ensures.spare ∙ c.loop-column.invariant.spare;
+      steps = more_columns r whole piece at c.width-column.result c.args.steps.now c.loop-column.steps c.write_part.new.steps is c.width-column.ensures c.loop-column.invariant.steps c.write_part.ensures.steps;
     }
 
 pub returns-clause-at : goal.returns-clause-at
-returns-clause-at c p h =
+returns-clause-at g c p h =
     c.loop-column.invariant.set.written p (ap (λ (s : Rect). holds s p) (side_whole c.args.band.now c.loop-column.column c.requires.ordered c.loop-column.invariant.within (omega (arith, c.loop-column-test.false, c.width.ensures))) ∙ h)
 
 pub returns-clause-others : goal.returns-clause-others
-returns-clause-others c place apart =
+returns-clause-others g c place apart =
     c.loop-column.invariant.set.others place (λ p h. apart p (sym (ap (λ (s : Rect). holds s p) (side_whole c.args.band.now c.loop-column.column c.requires.ordered c.loop-column.invariant.within (omega (arith, c.loop-column-test.false, c.width.ensures)))) ∙ h))
+
+pub returns-clause-steps : goal.returns-clause-steps
+returns-clause-steps g c =
+    every_column c.args.band.now c.loop-column.column c.args.steps.now c.loop-column.steps c.loop-column.invariant.within (omega (arith, c.loop-column-test.false, c.width.ensures)) c.loop-column.invariant.steps

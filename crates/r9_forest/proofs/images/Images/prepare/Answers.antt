@@ -16,44 +16,12 @@ use Rattle.r9_forest.proofs.images.Images.prepare.Goals.{Start}
 stands : (c : Start) → parent_of (world c.args.self.now) c.args.old ≡ Some c.args.left.parent
 stands c = stands_at (world c.args.self.now) c.args.old c.args.left c.requires.left
 
-pub get-below-requires : goal.get-below-requires
-unfolding world
-get-below-requires c = sound_live c.args.self.now.lists (kept_at c.args.self.now.pixels) c.args.parent c.requires.parent
-
 pub room_left-requires : goal.room_left-requires
 room_left-requires c = stands (goal.at.room_left-requires c).Start
 
 pub later-requires : goal.later-requires
 later-requires c = stands (goal.at.later-requires c).Start
 
-pub peek_number-image-requires : goal.peek_number-image-requires
-peek_number-image-requires c = let few = c.args.self.now.sound.numbers.few in omega (arith, c.len-made.ensures.value, few)
-
-pub carried_rect-place-requires-clause-rect : goal.carried_rect-place-requires-clause-rect
-carried_rect-place-requires-clause-rect c = rect_near_wider (2 ^ 34) (2 ^ 40) c.args.r.now (lit≤ tt) c.requires.near
-
-pub carried_rect-place-requires-clause-from : goal.carried_rect-place-requires-clause-from
-carried_rect-place-requires-clause-from c = (rect_near_wider (2 ^ 34) (2 ^ 40) c.args.r.now (lit≤ tt) c.requires.near).min
-
-pub carried_rect-place-requires-clause-to : goal.carried_rect-place-requires-clause-to
-carried_rect-place-requires-clause-to c = near_wider (2 ^ 34) (2 ^ 40) c.args.corner (lit≤ tt) c.requires.corner
-
-pub returns-clause-number : goal.returns-clause-number
-unfolding numbers
-returns-clause-number c = c.peek_number-image.ensures ∙ (λ j. next_number (numbers_of (c.len-made.ensures.value j) (c.deref.ensures.value j)))
-
-pub returns-clause-few : goal.returns-clause-few
-returns-clause-few c =
-    let deep = ap (λ (im : Image). im.depth) c.get-below.ensures in
-    let long = ap (λ (im : Image). length im.windows) c.get-below.ensures in
-    let room = c.is_full.ensures c.if-is_full.false in
-    (omega (arith, deep, room.0), omega (arith, long, room.1))
-
-pub returns-clause-list : goal.returns-clause-list
-returns-clause-list c =
-    c.in_ok-list.ensures
-    ∙ ap (put_in c.args.over (record { image = c.peek_number-image.result; place = c.carried_rect-place.result })) (c.deref-2.ensures.value ∙ sym (ap (λ (im : Image). im.windows) c.get-below.ensures))
-
 pub returns-clause-later : goal.returns-clause-later
 returns-clause-later c =
-    subst (λ (ws : List Window). IsLater (shape c.args.self.now.lists) c.args.old c.args.left.parent c.args.parent ws c.in_ok-later.later.items) c.deref-3.ensures.value c.in_ok-later.ensures
+    subst (λ (ws : List Window). IsLater (shape c.args.self.now.lists) c.args.old c.args.left.parent c.args.parent ws c.in_ok-later.later.items) c.deref.ensures.value c.in_ok-later.ensures

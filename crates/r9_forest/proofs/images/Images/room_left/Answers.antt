@@ -16,12 +16,6 @@ get-requires c =
     let now = c.args.self.now in
     sound_live now.lists (kept_at now.pixels) c.args.old (live-standing (world now) c.args.old c.args.q c.requires)
 
-pub get-requires-2 : goal.get-requires-2
-unfolding world
-get-requires-2 c =
-    let now = c.args.self.now in
-    sound_live now.lists (kept_at now.pixels) c.args.q (now.sound.forest.parents c.args.old c.args.q (live-standing (world now) c.args.old c.args.q c.requires) c.requires)
-
 -- it is not larger than the room
 small : (c : After-get) → area_of c.get.result.now.r ≤ c.args.self.now.room.len
 unfolding world

@@ -18,21 +18,21 @@ use Rattle.r9_forest.proofs.images.Images.shown.Goals as goal
 
 pub get-requires : goal.get-requires
 unfolding world
-get-requires c = (bare_canvas (shape c.args.self.now.lists) (kept_at c.args.self.now.pixels)).live c.args.i ∙ c.requires.live
+get-requires g c = (bare_canvas (shape c.args.self.now.lists) (kept_at c.args.self.now.pixels)).live c.args.i ∙ c.requires.live
 
 pub new-requires-clause-near : goal.new-requires-clause-near
-new-requires-clause-near c = rect_near_wider (2 ^ 36) (2 ^ 40) c.args.r (lit≤ tt) c.requires.near
+new-requires-clause-near g c = rect_near_wider (2 ^ 36) (2 ^ 40) c.args.r (lit≤ tt) c.requires.near
 
 pub point_at-at-requires-clause-near : goal.point_at-at-requires-clause-near
-point_at-at-requires-clause-near c = rect_near_wider (2 ^ 36) (2 ^ 40) c.args.r (lit≤ tt) c.requires.near
+point_at-at-requires-clause-near g c = rect_near_wider (2 ^ 36) (2 ^ 40) c.args.r (lit≤ tt) c.requires.near
 
 pub point_at-at-requires-clause-row : goal.point_at-at-requires-clause-row
-point_at-at-requires-clause-row c =
+point_at-at-requires-clause-row g c =
     omega (arith, height_most c.args.r (rect_near_wider (2 ^ 36) (2 ^ 40) c.args.r (lit≤ tt) c.requires.near) c.requires.ordered, c.loop-row-test.true, c.height-row-end.ensures)
 
 pub loop-row-init : goal.loop-row-init
 unfolding world
-loop-row-init c = record {
+loop-row-init g c = record {
   rect = c.in_ok-plane.ensures.rect;
   chan = c.in_ok-plane.ensures.chan ∙ ap (λ (im : Image). im.chan) (sym c.get.ensures) ∙ (bare_canvas (shape c.args.self.now.lists) (kept_at c.args.self.now.pixels)).chan c.args.i;
   long = c.in_ok-raws.ensures.len ∙ c.width.ensures;
@@ -40,14 +40,14 @@ loop-row-init c = record {
 }
 
 pub read_view-requires-clause-inside : goal.read_view-requires-clause-inside
-read_view-requires-clause-inside c p h =
+read_view-requires-clause-inside g c p h =
     let r = c.args.r in
     let below : c.loop-row.row < height r = omega (arith, c.loop-row-test.true, c.height-row-end.ensures) in
     let is = begins_row r c.point_at-at.result c.loop-row.row c.point_at-at.ensures below in
     c.requires.inside p (row_lies r c.point_at-at.result p c.loop-row.row _ (c.deref_mut.ensures.len ∙ c.loop-row.invariant.long) c.requires.ordered is h)
 
 pub put_row-requires-clause-inside : goal.put_row-requires-clause-inside
-put_row-requires-clause-inside c p h =
+put_row-requires-clause-inside g c p h =
     let r = c.args.r in
     let below : c.loop-row.row < height r = omega (arith, c.loop-row-test.true, c.height-row-end.ensures) in
     let is = begins_row r c.point_at-at.result c.loop-row.row c.point_at-at.ensures below in
@@ -56,7 +56,7 @@ put_row-requires-clause-inside c p h =
 
 pub put_row-requires-clause-raws : goal.put_row-requires-clause-raws
 unfolding world
-put_row-requires-clause-raws c k below =
+put_row-requires-clause-raws g c k below =
     let here = world c.args.self.now in
     let i = c.args.i in
     let raws = c.read_view.new.raws in
@@ -67,7 +67,7 @@ put_row-requires-clause-raws c k below =
     (subst (λ n. n < 2 ^ depth (image_at here i).chan) (sym value) (view-below here c.args.self.now.sound.forest i (along c.point_at-at.result k) c.requires.live))
 
 pub loop-row-preserved : goal.loop-row-preserved
-loop-row-preserved c =
+loop-row-preserved g c =
     let here = world c.args.self.now in
     let r = c.args.r in
     let at = c.point_at-at.result in
@@ -86,13 +86,13 @@ loop-row-preserved c =
     }
 
 pub returns-clause-rect : goal.returns-clause-rect
-returns-clause-rect c = c.loop-row.invariant.rect
+returns-clause-rect g c = c.loop-row.invariant.rect
 
 pub returns-clause-chan : goal.returns-clause-chan
-returns-clause-chan c = c.loop-row.invariant.chan
+returns-clause-chan g c = c.loop-row.invariant.chan
 
 pub returns-clause-pixels : goal.returns-clause-pixels
-returns-clause-pixels c p inside =
+returns-clause-pixels g c p inside =
     let r = c.args.r in
     let end : c.loop-row.row ≡ height r = omega (arith, c.loop-row-test.false, c.loop-row.auto.row-end, c.height-row-end.ensures) in
     c.loop-row.invariant.pixels p (ap (λ n. holds (band r n) p) end ∙ band_all r p c.requires.ordered.down ∙ inside)

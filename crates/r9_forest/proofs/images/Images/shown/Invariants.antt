@@ -9,7 +9,7 @@ use Rattle.r9_forest.specs.Images.{world}
 use Rattle.r9_forest.proofs.images.Images.shown.Given as goal
 
 abbrev pub invariant-loop-row : goal.invariant-loop-row
-invariant-loop-row l = record {
+invariant-loop-row g l = record {
   rect : rect_of l.plane ≡ l.r;
   chan : chan_of l.plane ≡ (image_at (world l.self) l.i).chan;
   long : vec_len l.raws ≡ width l.r;

@@ -6,16 +6,16 @@ use Rattle.r9_pixels.proofs.Owning.{own_below}
 use Rattle.r9_pixels.proofs.keeping.KeptPixels.block_to_plane.Goals as goal
 
 pub extent-requires : goal.extent-requires
-extent-requires c =
+extent-requires g c =
     let self = c.args.self.now in
     let r = c.args.r.now in
     omega (arith, own_below self.owns.items self.cells c.args.from r.min (c.requires.can.had r.min (corner r c.requires.some.across c.requires.some.down)), self.owns.ok.0)
 
 pub show_block-requires-clause-whole : goal.show_block-requires-clause-whole
-show_block-requires-clause-whole c =
+show_block-requires-clause-whole g c =
     let self = c.args.self.now in
     let r = c.args.r.now in
     whole_place self.owns.items self.cells c.args.to (carried r.min r.min c.args.p) c.requires.whole (c.requires.can.has r.min (corner r c.requires.some.across c.requires.some.down))
 
 pub show_block-requires-clause-hidden : goal.show_block-requires-clause-hidden
-show_block-requires-clause-hidden c = c.extent.ensures.some c.in-Some.extent c.in-Some.is
+show_block-requires-clause-hidden g c = c.extent.ensures.some c.in-Some.extent c.in-Some.is

@@ -1,12 +1,13 @@
-use Rattle.std.proofs.Common.{◌≤◌, ◌-◌}
+use Rattle.std.proofs.Common.{◌≡◌, ◌≤◌, ◌+◌, ◌-◌}
 use Rattle.r9_pixels.specs.Carried.{IsCarried}
 use Rattle.r9_pixels.proofs.keeping.KeptPixels.copy_blocks.Given as goal
 
 abbrev pub invariant-loop-done : goal.invariant-loop-done
-invariant-loop-done l = record {
+invariant-loop-done g l = record {
   within : l.done ≤ l.n;
   carried : IsCarried l.fn.self l.self l.from l.at l.to l.p l.done;
+  steps : l.steps ≡ l.fn.steps + l.done;
 }
 
 abbrev pub decreases-loop-done : goal.decreases-loop-done
-decreases-loop-done l = l.n - l.done
+decreases-loop-done g l = l.n - l.done

@@ -13,39 +13,40 @@ use Rattle.r9_pixels.specs.declared.own.Own.{Own}
 use Rattle.r9_pixels.specs.declared.own.Own.TheVariants.{Whole, Hidden}
 use Rattle.r9_pixels.specs.Owns.{has_in, kept_in, own_at, IsTabled}
 use Rattle.r9_pixels.proofs.Owning.{by_search, extent_is, is_place, own_bits, own_is, own_there, place_true, true_place, whole_of}
+use Rattle.r9_pixels.proofs.keeping.KeptPixels.hide.Given.{Over}
 use Rattle.r9_pixels.proofs.keeping.KeptPixels.hide.Goals as goal
 use Rattle.r9_pixels.proofs.keeping.KeptPixels.hide.Goals.{Start}
 
-below : (c : Start) → c.args.from < length c.args.self.now.owns.items
-below c =
+below : (g : Over) (c : Start g) → c.args.from < length c.args.self.now.owns.items
+below g c =
     let owns = c.args.self.now.owns.items in
     let found = whole_of (own_at owns c.args.from) c.requires.whole in
     own_there owns c.args.from (Whole found.0) found.1
 
 -- there is a tile for each
-tiled : (c : Start) (k : ℕ) → k < c.args.n → has_tile (all_rows c.args.self.now.cells) c.args.to c.args.extent.r (along c.args.p k) ≡ true
-tiled c k lower = sym (ap (λ o. option_map_or (has_in c.args.self.now.cells c.args.to (along c.args.p k)) o false) c.requires.hidden) ∙ c.requires.can.has k lower
+tiled : (g : Over) (c : Start g) (k : ℕ) → k < c.args.n → has_tile (all_rows c.args.self.now.cells) c.args.to c.args.extent.r (along c.args.p k) ≡ true
+tiled g c k lower = sym (ap (λ o. option_map_or (has_in c.args.self.now.cells c.args.to (along c.args.p k)) o false) c.requires.hidden) ∙ c.requires.can.has k lower
 
 pub index-requires : goal.index-requires
-index-requires c = omega (arith, below (goal.at.index-requires c).Start, c.args.self.now.owns.ok.0)
+index-requires g c = omega (arith, below g (goal.at.index-requires g c).Start, c.args.self.now.owns.ok.0)
 
 pub hide-requires-clause-near : goal.hide-requires-clause-near
-hide-requires-clause-near c = (c.args.self.now.tabled.windows c.args.to c.args.extent c.requires.hidden).near
+hide-requires-clause-near g c = (c.args.self.now.tabled.windows c.args.to c.args.extent c.requires.hidden).near
 
 pub hide-requires-clause-has : goal.hide-requires-clause-has
-hide-requires-clause-has c k lower = tiled (goal.at.hide-requires-clause-has c).Start k lower
+hide-requires-clause-has g c k lower = tiled g (goal.at.hide-requires-clause-has g c).Start k lower
 
 pub hide-requires-clause-inside : goal.hide-requires-clause-inside
-hide-requires-clause-inside c k lower =
-    let at = goal.at.hide-requires-clause-inside c in
-    let there = below at.Start in
+hide-requires-clause-inside g c k lower =
+    let at = goal.at.hide-requires-clause-inside g c in
+    let there = below g at.Start in
     let was : own_at c.args.self.now.owns.items c.args.from ≡ Some (Whole c.in-Whole.plane) = own_is c.args.self.now.owns.items c.args.from c.index.result.now there c.index.ensures ∙ c.in-Some.is ∙ ap (λ o. Some o) c.in-Whole.is in
     sym (ap (λ o. option_map_or (has_in c.args.self.now.cells c.args.from (along c.args.at k)) o false) was) ∙ c.requires.can.had k lower
 
 pub invariant_of-self : goal.invariant_of-self
-invariant_of-self c =
-    let at = goal.at.invariant_of-self c in
-    let there = below at.Start in
+invariant_of-self g c =
+    let at = goal.at.invariant_of-self g c in
+    let there = below g at.Start in
     let was : own_at c.args.self.now.owns.items c.args.from ≡ Some (Whole c.in-Whole.plane) = own_is c.args.self.now.owns.items c.args.from c.index.result.now there c.index.ensures ∙ c.in-Some.is ∙ ap (λ o. Some o) c.in-Whole.is in
     let self = c.args.self.now in
     let plane = c.in-Whole.plane in
@@ -68,19 +69,19 @@ invariant_of-self c =
     }
 
 pub returns-clause-pixels : goal.returns-clause-pixels
-returns-clause-pixels c k lower =
-    let at = goal.at.returns-clause-pixels c in
-    let there = below at.Start in
+returns-clause-pixels g c k lower =
+    let at = goal.at.returns-clause-pixels g c in
+    let there = below g at.Start in
     let was : own_at c.args.self.now.owns.items c.args.from ≡ Some (Whole c.in-Whole.plane) = own_is c.args.self.now.owns.items c.args.from c.index.result.now there c.index.ensures ∙ c.in-Some.is ∙ ap (λ o. Some o) c.in-Whole.is in
     let self = c.args.self.now in
-    let inside = (tile_parts (all_rows self.cells) c.args.to c.args.extent.r (along c.args.p k) (tiled at.Start k lower)).0 in
+    let inside = (tile_parts (all_rows self.cells) c.args.to c.args.extent.r (along c.args.p k) (tiled g at.Start k lower)).0 in
     ap (λ o. option_map_or (kept_in c.hide.new.self c.args.to (along c.args.p k)) o 0) c.requires.hidden
     ∙ ap (λ b. if b then place_pixel c.hide.new.self (cell_place c.args.to c.args.extent.r (along c.args.p k)) else 0) inside
     ∙ c.hide.ensures.at k lower
     ∙ sym (ap (λ o. option_map_or (kept_in self.cells c.args.from (along c.args.at k)) o 0) was)
 
 pub returns-clause-others : goal.returns-clause-others
-returns-clause-others c place apart =
+returns-clause-others g c place apart =
     by_own (own_at c.args.self.now.owns.items place.image) refl
   where
     by_own : (o : Option Own) → own_at c.args.self.now.owns.items place.image ≡ o → option_map_or (kept_in c.hide.new.self place.image place.at) o 0 ≡ option_map_or (kept_in c.args.self.now.cells place.image place.at) o 0
@@ -94,7 +95,7 @@ returns-clause-others c place apart =
         (λ k lower same.
         let image : place.image ≡ c.args.to = ap (λ (p : CellPlace). p.image) same in
         let one : extent ≡ c.args.extent = extent_is extent c.args.extent (sym is ∙ ap (own_at c.args.self.now.owns.items) image ∙ c.requires.hidden) in
-        let there = (tile_parts (all_rows c.args.self.now.cells) c.args.to c.args.extent.r (along c.args.p k) (tiled (goal.at.returns-clause-others c).Start k lower)).0 in
+        let there = (tile_parts (all_rows c.args.self.now.cells) c.args.to c.args.extent.r (along c.args.p k) (tiled g (goal.at.returns-clause-others g c).Start k lower)).0 in
         let here : holds c.args.extent.r place.at ≡ true = ap (λ (e : Extent). holds e.r place.at) (sym one) ∙ inside in
         let both : cell_place c.args.to c.args.extent.r place.at ≡ cell_place c.args.to c.args.extent.r (along c.args.p k) = sym (λ j. cell_place (image j) (one j).r place.at) ∙ same in
         let at = place_injective c.args.to c.args.extent.r place.at (along c.args.p k) here there both in

@@ -1,17 +1,94 @@
-use Rattle.std.proofs.Common.{◌∙◌, sym, arith}
+use Rattle.std.proofs.Common.{◌≡◌, ◌∙◌, ℕ, ◌<◌, ◌*◌, false, length, Option, Some, refl, sym, subst, ap, arith}
+use Rattle.std.specs.Option.{option_map_or}
+use Rattle.r9_geom.specs.Geometry.{height, holds}
+use Rattle.model_pixel.specs.Channels.{depth}
+use Rattle.model_pixel.specs.Rows.{row_bytes, row_pixel}
+use Rattle.r9_plane.specs.Pixels.{chan_of}
+use Rattle.r9_cells.specs.Cells.{all_rows}
+use Rattle.r9_pixels.specs.declared.own.Own.{Own}
 use Rattle.r9_pixels.specs.declared.own.Own.TheVariants.{Whole}
-use Rattle.r9_pixels.specs.Owns.{own_at}
-use Rattle.r9_pixels.proofs.Owning.{no_window, own_there, whole_of}
+use Rattle.r9_pixels.specs.Owns.{has_in, own_at}
+use Rattle.r9_pixels.proofs.Owning.{hidden_set, no_window, own_bits, own_is, own_there, tabled_set, whole_of, IsNoWindow}
+use Rattle.r9_pixels.proofs.Wholes.{whole_at, whole_forms, whole_has, whole_others, IsPlaneWritten}
+use Rattle.r9_pixels.proofs.keeping.KeptPixels.load_whole.Given.{Over}
 use Rattle.r9_pixels.proofs.keeping.KeptPixels.load_whole.Goals as goal
+use Rattle.r9_pixels.proofs.keeping.KeptPixels.load_whole.Goals.{Start, In-Some-Whole}
 
-pub load_plane-requires-clause-live : goal.load_plane-requires-clause-live
-load_plane-requires-clause-live g c =
+below : (g : Over) (c : Start g) → c.args.i < length c.args.self.now.owns.items
+below g c =
     let owns = c.args.self.now.owns.items in
     let found = whole_of (own_at owns c.args.i) c.requires.whole in
-    let below = own_there owns c.args.i (Whole found.0) found.1 in
-    omega (arith, below, c.args.self.now.owns.ok.0)
+    own_there owns c.args.i (Whole found.0) found.1
 
-pub load_plane-requires-clause-whole : goal.load_plane-requires-clause-whole
-load_plane-requires-clause-whole g c extent is =
-    let found = whole_of (own_at c.args.self.now.owns.items c.args.i) c.requires.whole in
-    no_window found.0 extent (sym found.1 ∙ is)
+had : (g : Over) (c : In-Some-Whole g) → c.args.i < length c.args.self.now.owns.items → own_at c.args.self.now.owns.items c.args.i ≡ Some (Whole c.in-Some-Whole.plane)
+had g c there = own_is c.args.self.now.owns.items c.args.i c.index_mut.result.now there c.index_mut.ensures.value ∙ c.in-Some-Whole.is ∙ ap (λ o. Some o) c.in-Some-Whole.field-0-is
+
+pub index_mut-requires : goal.index_mut-requires
+index_mut-requires g c = omega (arith, below g (goal.at.index_mut-requires g c).Start, c.args.self.now.owns.ok.0)
+
+pub load-requires-clause-inside : goal.load-requires-clause-inside
+load-requires-clause-inside g c p h =
+    let owns = c.args.self.now.owns.items in
+    let at = goal.at.load-requires-clause-inside g c in
+    let below_owns = below g at.Start in
+    let was = had g at.In-Some-Whole below_owns in
+    sym (ap (λ o. option_map_or (has_in c.args.self.now.cells c.args.i p) o false) was) ∙ c.requires.has p h
+
+pub load-requires-clause-rows : goal.load-requires-clause-rows
+load-requires-clause-rows g c =
+    let owns = c.args.self.now.owns.items in
+    let at = goal.at.load-requires-clause-rows g c in
+    let below_owns = below g at.Start in
+    let was = had g at.In-Some-Whole below_owns in
+    c.requires.rows ∙ ap (λ n. row_bytes c.args.r n * height c.args.r) (ap own_bits was)
+
+pub invariant_of-self : goal.invariant_of-self
+invariant_of-self g c =
+    let owns = c.args.self.now.owns.items in
+    let at = goal.at.invariant_of-self g c in
+    let below_owns = below g at.Start in
+    let was = had g at.In-Some-Whole below_owns in
+    let rows = all_rows c.args.self.now.cells in
+    let new : Option Own = Some (Whole c.load.new.self) in
+    let old_none : IsNoWindow (own_at owns c.args.i) = subst IsNoWindow (sym was) (no_window c.in-Some-Whole.plane) in
+    record {
+      tabled = tabled_set owns c.args.i new rows below_owns old_none (no_window c.load.new.self) c.args.self.now.tabled;
+      bounded = λ j l q extent is. c.args.self.now.bounded j l q extent (hidden_set owns c.args.i j new extent below_owns (no_window c.load.new.self) is).1;
+    }
+
+pub returns-clause-at : goal.returns-clause-at
+returns-clause-at g c p h =
+    let owns = c.args.self.now.owns.items in
+    let at = goal.at.returns-clause-at g c in
+    let below_owns = below g at.Start in
+    let was = had g at.In-Some-Whole below_owns in
+    let written : IsPlaneWritten (holds c.args.r) (row_pixel c.args.r (depth (chan_of c.in-Some-Whole.plane)) c.args.rows.now) c.in-Some-Whole.plane c.load.new.self = record { rect = c.load.ensures.rect; chan = c.load.ensures.chan; pixels = c.load.ensures.pixels } in
+    whole_at owns c.args.self.now.cells c.args.i (holds c.args.r) (row_pixel c.args.r (depth (chan_of c.in-Some-Whole.plane)) c.args.rows.now) c.in-Some-Whole.plane c.load.new.self below_owns written p h
+    ∙ sym (ap (λ n. row_pixel c.args.r n c.args.rows.now p) (ap own_bits was))
+
+pub returns-clause-others : goal.returns-clause-others
+returns-clause-others g c place apart =
+    let owns = c.args.self.now.owns.items in
+    let at = goal.at.returns-clause-others g c in
+    let below_owns = below g at.Start in
+    let was = had g at.In-Some-Whole below_owns in
+    let written : IsPlaneWritten (holds c.args.r) (row_pixel c.args.r (depth (chan_of c.in-Some-Whole.plane)) c.args.rows.now) c.in-Some-Whole.plane c.load.new.self = record { rect = c.load.ensures.rect; chan = c.load.ensures.chan; pixels = c.load.ensures.pixels } in
+    whole_others owns c.args.self.now.cells c.args.i (holds c.args.r) (row_pixel c.args.r (depth (chan_of c.in-Some-Whole.plane)) c.args.rows.now) c.in-Some-Whole.plane c.load.new.self below_owns was written place apart
+
+pub returns-clause-has : goal.returns-clause-has
+returns-clause-has g c =
+    let owns = c.args.self.now.owns.items in
+    let at = goal.at.returns-clause-has g c in
+    let below_owns = below g at.Start in
+    let was = had g at.In-Some-Whole below_owns in
+    let written : IsPlaneWritten (holds c.args.r) (row_pixel c.args.r (depth (chan_of c.in-Some-Whole.plane)) c.args.rows.now) c.in-Some-Whole.plane c.load.new.self = record { rect = c.load.ensures.rect; chan = c.load.ensures.chan; pixels = c.load.ensures.pixels } in
+    λ j place. whole_has owns c.args.self.now.cells c.args.i (holds c.args.r) (row_pixel c.args.r (depth (chan_of c.in-Some-Whole.plane)) c.args.rows.now) c.in-Some-Whole.plane c.load.new.self below_owns was written place j
+
+pub returns-clause-forms : goal.returns-clause-forms
+returns-clause-forms g c =
+    let owns = c.args.self.now.owns.items in
+    let at = goal.at.returns-clause-forms g c in
+    let below_owns = below g at.Start in
+    let was = had g at.In-Some-Whole below_owns in
+    let written : IsPlaneWritten (holds c.args.r) (row_pixel c.args.r (depth (chan_of c.in-Some-Whole.plane)) c.args.rows.now) c.in-Some-Whole.plane c.load.new.self = record { rect = c.load.ensures.rect; chan = c.load.ensures.chan; pixels = c.load.ensures.pixels } in
+    λ j n. whole_forms owns c.args.i (holds c.args.r) (row_pixel c.args.r (depth (chan_of c.in-Some-Whole.plane)) c.args.rows.now) c.in-Some-Whole.plane c.load.new.self below_owns was written n j

@@ -10,13 +10,13 @@ use Rattle.r9_pixels.proofs.Owning.{own_bits}
 use Rattle.r9_pixels.proofs.keeping.KeptPixels.paint_tiles.Goals as goal
 
 pub fill_block-requires-clause-near : goal.fill_block-requires-clause-near
-fill_block-requires-clause-near c = (c.args.self.now.tabled.windows c.args.i c.args.extent.now c.requires.hidden).near
+fill_block-requires-clause-near g c = (c.args.self.now.tabled.windows c.args.i c.args.extent.now c.requires.hidden).near
 
 pub fill_block-requires-clause-has : goal.fill_block-requires-clause-has
-fill_block-requires-clause-has c p h = sym (ap (λ o. option_map_or (has_in c.args.self.now.cells c.args.i p) o false) c.requires.hidden) ∙ c.requires.has p h
+fill_block-requires-clause-has g c p h = sym (ap (λ o. option_map_or (has_in c.args.self.now.cells c.args.i p) o false) c.requires.hidden) ∙ c.requires.has p h
 
 pub invariant_of-self : goal.invariant_of-self
-invariant_of-self c =
+invariant_of-self g c =
     let self = c.args.self.now in
     let extent = c.args.extent.now in
     let value : Point → ℕ = λ q. c.args.raw in
@@ -30,13 +30,13 @@ invariant_of-self c =
     }
 
 pub returns-clause-at : goal.returns-clause-at
-returns-clause-at c p h =
+returns-clause-at g c p h =
     let self = c.args.self.now in
     let has : has_tile (all_rows self.cells) c.args.i c.args.extent.now.r p ≡ true = sym (ap (λ o. option_map_or (has_in self.cells c.args.i p) o false) c.requires.hidden) ∙ c.requires.has p h in
     tiles_kept self.owns.items self.cells c.fill_block.new.self c.args.i c.args.extent.now p c.requires.hidden has ∙ c.fill_block.ensures.at p h
 
 pub returns-clause-others : goal.returns-clause-others
-returns-clause-others c place apart =
+returns-clause-others g c place apart =
     let self = c.args.self.now in
     let extent = c.args.extent.now in
     let value : Point → ℕ = λ q. c.args.raw in
@@ -46,4 +46,4 @@ returns-clause-others c place apart =
     written place apart
 
 pub returns-clause-has : goal.returns-clause-has
-returns-clause-has c = λ j place. tiles_has c.args.self.now.owns.items c.args.self.now.cells c.fill_block.new.self c.fill_block.ensures.rows place j
+returns-clause-has g c = λ j place. tiles_has c.args.self.now.owns.items c.args.self.now.cells c.fill_block.new.self c.fill_block.ensures.rows place j

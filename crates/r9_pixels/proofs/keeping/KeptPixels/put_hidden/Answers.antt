@@ -15,20 +15,21 @@ use Rattle.r9_pixels.specs.declared.own.Own.TheVariants.{Whole, Hidden}
 use Rattle.r9_pixels.specs.Kept.{form_at}
 use Rattle.r9_pixels.specs.Owns.{has_in, kept_in, own_at, IsTabled}
 use Rattle.r9_pixels.proofs.Owning.{by_search, extent_is, is_place, own_bits, place_true, true_place}
+use Rattle.r9_pixels.proofs.keeping.KeptPixels.put_hidden.Given.{Over}
 use Rattle.r9_pixels.proofs.keeping.KeptPixels.put_hidden.Goals as goal
 use Rattle.r9_pixels.proofs.keeping.KeptPixels.put_hidden.Goals.{Start}
 
-tiled : (c : Start) (k : ℕ) → k < length c.args.raws.now → has_tile (all_rows c.args.self.now.cells) c.args.i c.args.extent.r (along c.args.at k) ≡ true
-tiled c k below = sym (ap (λ o. option_map_or (has_in c.args.self.now.cells c.args.i (along c.args.at k)) o false) c.requires.hidden) ∙ c.requires.has k below
+tiled : (g : Over) (c : Start g) (k : ℕ) → k < length c.args.raws.now → has_tile (all_rows c.args.self.now.cells) c.args.i c.args.extent.r (along c.args.at k) ≡ true
+tiled g c k below = sym (ap (λ o. option_map_or (has_in c.args.self.now.cells c.args.i (along c.args.at k)) o false) c.requires.hidden) ∙ c.requires.has k below
 
 pub write-requires-clause-near : goal.write-requires-clause-near
-write-requires-clause-near c = (c.args.self.now.tabled.windows c.args.i c.args.extent c.requires.hidden).near
+write-requires-clause-near g c = (c.args.self.now.tabled.windows c.args.i c.args.extent c.requires.hidden).near
 
 pub write-requires-clause-has : goal.write-requires-clause-has
-write-requires-clause-has c k below = sym (ap (λ o. option_map_or (has_in c.args.self.now.cells c.args.i (along c.args.at k)) o false) c.requires.hidden) ∙ c.requires.has k below
+write-requires-clause-has g c k below = sym (ap (λ o. option_map_or (has_in c.args.self.now.cells c.args.i (along c.args.at k)) o false) c.requires.hidden) ∙ c.requires.has k below
 
 pub invariant_of-self : goal.invariant_of-self
-invariant_of-self c = record {
+invariant_of-self g c = record {
   tabled = subst (IsTabled c.args.self.now.owns.items) (sym c.write.ensures.rows) c.args.self.now.tabled;
   bounded = λ j l q extent is.
       let place : CellPlace = record { image = j; cell = l; at = q } in
@@ -48,7 +49,7 @@ invariant_of-self c = record {
 }
 
 pub returns-clause-at : goal.returns-clause-at
-returns-clause-at c k below =
+returns-clause-at g c k below =
     let has = sym (ap (λ o. option_map_or (has_in c.args.self.now.cells c.args.i (along c.args.at k)) o false) c.requires.hidden) ∙ c.requires.has k below in
     let inside = (tile_parts (all_rows c.args.self.now.cells) c.args.i c.args.extent.r (along c.args.at k) has).0 in
     ap (λ o. option_map_or (kept_in c.write.new.self c.args.i (along c.args.at k)) o 0) c.requires.hidden
@@ -56,7 +57,7 @@ returns-clause-at c k below =
     ∙ c.write.ensures.at k below
 
 pub returns-clause-others : goal.returns-clause-others
-returns-clause-others c place apart =
+returns-clause-others g c place apart =
     by_own (own_at c.args.self.now.owns.items place.image) refl
   where
     old : Own → ℕ

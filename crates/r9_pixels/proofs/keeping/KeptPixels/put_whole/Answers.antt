@@ -17,7 +17,7 @@ use Rattle.r9_pixels.proofs.Wholes.{whole_at, whole_forms, whole_has, whole_othe
 use Rattle.r9_pixels.proofs.keeping.KeptPixels.put_whole.Goals as goal
 
 pub put_row-requires-clause-inside : goal.put_row-requires-clause-inside
-put_row-requires-clause-inside c p h =
+put_row-requires-clause-inside g c p h =
     let owns = c.args.self.now.owns.items in
     let below_owns : c.args.i < length owns = omega (arith, c.requires.live, c.args.self.now.owns.ok.0) in
     let was : own_at owns c.args.i ≡ Some (Whole c.in-Some-Whole.plane) = own_is owns c.args.i c.index_mut.result.now below_owns c.index_mut.ensures.value ∙ c.in-Some-Whole.is ∙ ap (λ o. Some o) c.in-Some-Whole.field-0-is in
@@ -26,7 +26,7 @@ put_row-requires-clause-inside c p h =
     ∙ sym (ap (λ o. option_map_or (has_in c.args.self.now.cells c.args.i (along c.args.at found.0)) o false) was) ∙ c.requires.has found.0 found.1
 
 pub invariant_of-self : goal.invariant_of-self
-invariant_of-self c =
+invariant_of-self g c =
     let owns = c.args.self.now.owns.items in
     let rows = all_rows c.args.self.now.cells in
     let below_owns : c.args.i < length owns = omega (arith, c.requires.live, c.args.self.now.owns.ok.0) in
@@ -39,7 +39,7 @@ invariant_of-self c =
     }
 
 pub invariant_of-self-in_default-2 : goal.invariant_of-self-in_default-2
-invariant_of-self-in_default-2 c =
+invariant_of-self-in_default-2 g c =
     let owns = c.args.self.now.owns.items in
     let rows = all_rows c.args.self.now.cells in
     let slot = c.index_mut.result.now in
@@ -51,7 +51,7 @@ invariant_of-self-in_default-2 c =
     }
 
 pub returns-in-Some-Whole-clause-at : goal.returns-in-Some-Whole-clause-at
-returns-in-Some-Whole-clause-at c k below =
+returns-in-Some-Whole-clause-at g c k below =
     let owns = c.args.self.now.owns.items in
     let below_owns : c.args.i < length owns = omega (arith, c.requires.live, c.args.self.now.owns.ok.0) in
     let at = c.args.at in
@@ -61,7 +61,7 @@ returns-in-Some-Whole-clause-at c k below =
     ∙ ap (slice_index raws) (strip_distance at (along at k) k refl)
 
 pub returns-in-Some-Whole-clause-others : goal.returns-in-Some-Whole-clause-others
-returns-in-Some-Whole-clause-others c place apart =
+returns-in-Some-Whole-clause-others g c place apart =
     let owns = c.args.self.now.owns.items in
     let below_owns : c.args.i < length owns = omega (arith, c.requires.live, c.args.self.now.owns.ok.0) in
     let was : own_at owns c.args.i ≡ Some (Whole c.in-Some-Whole.plane) = own_is owns c.args.i c.index_mut.result.now below_owns c.index_mut.ensures.value ∙ c.in-Some-Whole.is ∙ ap (λ o. Some o) c.in-Some-Whole.field-0-is in
@@ -70,7 +70,7 @@ returns-in-Some-Whole-clause-others c place apart =
     (λ p h is. let found = strip_at c.args.at p (length c.args.raws.now) h in apart found.0 found.1 (is ∙ ap (own c.args.i) found.2))
 
 pub returns-in-Some-Whole-clause-has : goal.returns-in-Some-Whole-clause-has
-returns-in-Some-Whole-clause-has c =
+returns-in-Some-Whole-clause-has g c =
     let owns = c.args.self.now.owns.items in
     let below_owns : c.args.i < length owns = omega (arith, c.requires.live, c.args.self.now.owns.ok.0) in
     let was : own_at owns c.args.i ≡ Some (Whole c.in-Some-Whole.plane) = own_is owns c.args.i c.index_mut.result.now below_owns c.index_mut.ensures.value ∙ c.in-Some-Whole.is ∙ ap (λ o. Some o) c.in-Some-Whole.field-0-is in
@@ -78,7 +78,7 @@ returns-in-Some-Whole-clause-has c =
     λ j place. whole_has owns c.args.self.now.cells c.args.i (holds (strip c.args.at (length c.args.raws.now))) (λ q. slice_index c.args.raws.now (distance c.args.at.x q.x)) c.in-Some-Whole.plane c.put_row.new.self below_owns was written place j
 
 pub returns-in-Some-Whole-clause-forms : goal.returns-in-Some-Whole-clause-forms
-returns-in-Some-Whole-clause-forms c =
+returns-in-Some-Whole-clause-forms g c =
     let owns = c.args.self.now.owns.items in
     let below_owns : c.args.i < length owns = omega (arith, c.requires.live, c.args.self.now.owns.ok.0) in
     let was : own_at owns c.args.i ≡ Some (Whole c.in-Some-Whole.plane) = own_is owns c.args.i c.index_mut.result.now below_owns c.index_mut.ensures.value ∙ c.in-Some-Whole.is ∙ ap (λ o. Some o) c.in-Some-Whole.field-0-is in

@@ -14,14 +14,14 @@ use Rattle.r9_pixels.proofs.Wholes.{whole_at, whole_forms, whole_has, whole_othe
 use Rattle.r9_pixels.proofs.keeping.KeptPixels.write_plane.Goals as goal
 
 pub put_block-requires-clause-inside : goal.put_block-requires-clause-inside
-put_block-requires-clause-inside c p h =
+put_block-requires-clause-inside g c p h =
     let owns = c.args.self.now.owns.items in
     let below_owns : c.args.i < length owns = omega (arith, c.requires.live, c.args.self.now.owns.ok.0) in
     let was : own_at owns c.args.i ≡ Some (Whole c.in-Some-Whole.plane) = own_is owns c.args.i c.index_mut.result.now below_owns c.index_mut.ensures.value ∙ c.in-Some-Whole.is ∙ ap (λ o. Some o) c.in-Some-Whole.field-0-is in
     sym (ap (λ o. option_map_or (has_in c.args.self.now.cells c.args.i p) o false) was) ∙ c.requires.has p h
 
 pub invariant_of-self : goal.invariant_of-self
-invariant_of-self c =
+invariant_of-self g c =
     let owns = c.args.self.now.owns.items in
     let rows = all_rows c.args.self.now.cells in
     let below_owns : c.args.i < length owns = omega (arith, c.requires.live, c.args.self.now.owns.ok.0) in
@@ -34,7 +34,7 @@ invariant_of-self c =
     }
 
 pub invariant_of-self-in_default-2 : goal.invariant_of-self-in_default-2
-invariant_of-self-in_default-2 c =
+invariant_of-self-in_default-2 g c =
     let owns = c.args.self.now.owns.items in
     let rows = all_rows c.args.self.now.cells in
     let slot = c.index_mut.result.now in
@@ -46,7 +46,7 @@ invariant_of-self-in_default-2 c =
     }
 
 pub returns-in-Some-Whole-clause-at : goal.returns-in-Some-Whole-clause-at
-returns-in-Some-Whole-clause-at c p h =
+returns-in-Some-Whole-clause-at g c p h =
     let owns = c.args.self.now.owns.items in
     let below_owns : c.args.i < length owns = omega (arith, c.requires.live, c.args.self.now.owns.ok.0) in
     let value : Point → ℕ = λ q. slice_index c.args.raws.now (number_in c.args.r.now c.args.first c.args.width q) in
@@ -54,7 +54,7 @@ returns-in-Some-Whole-clause-at c p h =
     whole_at owns c.args.self.now.cells c.args.i (holds c.args.r.now) value c.in-Some-Whole.plane c.put_block.new.self below_owns written p h
 
 pub returns-in-Some-Whole-clause-others : goal.returns-in-Some-Whole-clause-others
-returns-in-Some-Whole-clause-others c place apart =
+returns-in-Some-Whole-clause-others g c place apart =
     let owns = c.args.self.now.owns.items in
     let below_owns : c.args.i < length owns = omega (arith, c.requires.live, c.args.self.now.owns.ok.0) in
     let was : own_at owns c.args.i ≡ Some (Whole c.in-Some-Whole.plane) = own_is owns c.args.i c.index_mut.result.now below_owns c.index_mut.ensures.value ∙ c.in-Some-Whole.is ∙ ap (λ o. Some o) c.in-Some-Whole.field-0-is in
@@ -63,7 +63,7 @@ returns-in-Some-Whole-clause-others c place apart =
     (λ p h is. apart p h is)
 
 pub returns-in-Some-Whole-clause-has : goal.returns-in-Some-Whole-clause-has
-returns-in-Some-Whole-clause-has c =
+returns-in-Some-Whole-clause-has g c =
     let owns = c.args.self.now.owns.items in
     let below_owns : c.args.i < length owns = omega (arith, c.requires.live, c.args.self.now.owns.ok.0) in
     let was : own_at owns c.args.i ≡ Some (Whole c.in-Some-Whole.plane) = own_is owns c.args.i c.index_mut.result.now below_owns c.index_mut.ensures.value ∙ c.in-Some-Whole.is ∙ ap (λ o. Some o) c.in-Some-Whole.field-0-is in
@@ -71,7 +71,7 @@ returns-in-Some-Whole-clause-has c =
     λ j place. whole_has owns c.args.self.now.cells c.args.i (holds c.args.r.now) (λ (q : Point). slice_index c.args.raws.now (number_in c.args.r.now c.args.first c.args.width q)) c.in-Some-Whole.plane c.put_block.new.self below_owns was written place j
 
 pub returns-in-Some-Whole-clause-forms : goal.returns-in-Some-Whole-clause-forms
-returns-in-Some-Whole-clause-forms c =
+returns-in-Some-Whole-clause-forms g c =
     let owns = c.args.self.now.owns.items in
     let below_owns : c.args.i < length owns = omega (arith, c.requires.live, c.args.self.now.owns.ok.0) in
     let was : own_at owns c.args.i ≡ Some (Whole c.in-Some-Whole.plane) = own_is owns c.args.i c.index_mut.result.now below_owns c.index_mut.ensures.value ∙ c.in-Some-Whole.is ∙ ap (λ o. Some o) c.in-Some-Whole.field-0-is in

@@ -12,13 +12,13 @@ use Rattle.r9_pixels.proofs.Owning.{own_bits}
 use Rattle.r9_pixels.proofs.keeping.KeptPixels.write_tiles.Goals as goal
 
 pub write_block-requires-clause-near : goal.write_block-requires-clause-near
-write_block-requires-clause-near c = (c.args.self.now.tabled.windows c.args.i c.args.extent.now c.requires.hidden).near
+write_block-requires-clause-near g c = (c.args.self.now.tabled.windows c.args.i c.args.extent.now c.requires.hidden).near
 
 pub write_block-requires-clause-has : goal.write_block-requires-clause-has
-write_block-requires-clause-has c p h = sym (ap (λ o. option_map_or (has_in c.args.self.now.cells c.args.i p) o false) c.requires.hidden) ∙ c.requires.has p h
+write_block-requires-clause-has g c p h = sym (ap (λ o. option_map_or (has_in c.args.self.now.cells c.args.i p) o false) c.requires.hidden) ∙ c.requires.has p h
 
 pub invariant_of-self : goal.invariant_of-self
-invariant_of-self c =
+invariant_of-self g c =
     let self = c.args.self.now in
     let extent = c.args.extent.now in
     let value : Point → ℕ = λ q. slice_index c.args.raws.now (number_in c.args.r.now c.args.first c.args.width q) in
@@ -32,13 +32,13 @@ invariant_of-self c =
     }
 
 pub returns-clause-at : goal.returns-clause-at
-returns-clause-at c p h =
+returns-clause-at g c p h =
     let self = c.args.self.now in
     let has : has_tile (all_rows self.cells) c.args.i c.args.extent.now.r p ≡ true = sym (ap (λ o. option_map_or (has_in self.cells c.args.i p) o false) c.requires.hidden) ∙ c.requires.has p h in
     tiles_kept self.owns.items self.cells c.write_block.new.self c.args.i c.args.extent.now p c.requires.hidden has ∙ c.write_block.ensures.at p h
 
 pub returns-clause-others : goal.returns-clause-others
-returns-clause-others c place apart =
+returns-clause-others g c place apart =
     let self = c.args.self.now in
     let extent = c.args.extent.now in
     let value : Point → ℕ = λ q. slice_index c.args.raws.now (number_in c.args.r.now c.args.first c.args.width q) in
@@ -48,4 +48,4 @@ returns-clause-others c place apart =
     written place apart
 
 pub returns-clause-has : goal.returns-clause-has
-returns-clause-has c = λ j place. tiles_has c.args.self.now.owns.items c.args.self.now.cells c.write_block.new.self c.write_block.ensures.rows place j
+returns-clause-has g c = λ j place. tiles_has c.args.self.now.owns.items c.args.self.now.cells c.write_block.new.self c.write_block.ensures.rows place j

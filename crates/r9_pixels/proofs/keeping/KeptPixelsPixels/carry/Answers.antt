@@ -4,16 +4,16 @@ pub copy-requires : goal.copy-requires
 copy-requires g c = record { apart = c.requires.apart; had = c.requires.had; has = c.requires.has; bits = c.requires.bits }
 
 pub returns-clause-at : goal.returns-clause-at
-returns-clause-at g c = c.copy.ensures.pixels
+returns-clause-at g c = c.copy.ensures.carried.pixels
 
 pub returns-clause-others : goal.returns-clause-others
-returns-clause-others g c = c.copy.ensures.others
+returns-clause-others g c = c.copy.ensures.carried.others
 
 pub returns-clause-has : goal.returns-clause-has
-returns-clause-has g c = c.copy.ensures.has
+returns-clause-has g c = c.copy.ensures.carried.has
 
 pub returns-clause-forms : goal.returns-clause-forms
-returns-clause-forms g c = c.copy.ensures.forms
+returns-clause-forms g c = c.copy.ensures.carried.forms
 
 pub returns-clause-spare : goal.returns-clause-spare
-returns-clause-spare g c = c.copy.ensures.spare
+returns-clause-spare g c = c.copy.ensures.carried.spare

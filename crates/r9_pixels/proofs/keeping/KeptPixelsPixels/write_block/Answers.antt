@@ -1,12 +1,8 @@
-use Rattle.std.proofs.Common.{◌∙◌, ap}
-use Rattle.r9_pixels.specs.declared.keeping.KeptPixels.{KeptPixels}
-use Rattle.r9_pixels.specs.Kept.{kept_at}
+use Rattle.std.proofs.Common.{sym, arith}
+use Rattle.r9_pixels.proofs.Areas.{empty_area}
 use Rattle.r9_pixels.proofs.keeping.KeptPixelsPixels.write_block.Goals as goal
-use Rattle.r9_pixels.proofs.keeping.KeptPixelsPixels.write_block.Goals.{then-not-is_empty, else-not-is_empty}
 
-pub returns-clause-others : goal.returns-clause-others
-returns-clause-others g c place apart =
-    elim c.if-not-is_empty.branch [
-      | then-not-is_empty w ↦ ap (λ (pixels : KeptPixels). kept_at pixels place) w.self-is ∙ w.put_block.ensures.others place apart
-      | else-not-is_empty w ↦ ap (λ (pixels : KeptPixels). kept_at pixels place) w.self-is
-    ]
+pub returns-else-not-is_empty-clause-steps : goal.returns-else-not-is_empty-clause-steps
+returns-else-not-is_empty-clause-steps g c =
+    let none = empty_area c.args.r.now c.requires.ordered (sym c.if-not-is_empty.ensures.exact) in
+    omega (arith, none)

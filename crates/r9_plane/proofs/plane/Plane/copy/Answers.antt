@@ -11,7 +11,7 @@ use Rattle.r9_plane.proofs.PlaneLemmas.{band_begins, band_grows, carried_along, 
 use Rattle.r9_plane.proofs.plane.Plane.copy.Goals as goal
 
 pub loop-row-init : goal.loop-row-init
-loop-row-init c = record {
+loop-row-init g c = record {
   rect = refl;
   chan = refl;
   marks = refl;
@@ -19,10 +19,10 @@ loop-row-init c = record {
 }
 
 pub point_at-at-requires-clause-row : goal.point_at-at-requires-clause-row
-point_at-at-requires-clause-row c = omega (arith, height_most c.args.r c.requires.near c.requires.ordered, c.loop-row-test.true, c.height-row-end.ensures)
+point_at-at-requires-clause-row g c = omega (arith, height_most c.args.r c.requires.near c.requires.ordered, c.loop-row-test.true, c.height-row-end.ensures)
 
 pub carried-requires-clause-point : goal.carried-requires-clause-point
-carried-requires-clause-point c =
+carried-requires-clause-point g c =
     let r = c.args.r in
     let row = c.loop-row.row in
     let below : row < height r = omega (arith, c.loop-row-test.true, c.height-row-end.ensures) in
@@ -36,7 +36,7 @@ carried-requires-clause-point c =
     })
 
 pub copy_row-requires-clause-inside : goal.copy_row-requires-clause-inside
-copy_row-requires-clause-inside c p h =
+copy_row-requires-clause-inside g c p h =
     let r = c.args.r in
     let at = c.point_at-at.result in
     let row = c.loop-row.row in
@@ -47,7 +47,7 @@ copy_row-requires-clause-inside c p h =
     ∙ c.requires.inside p (row_inside r at p row c.requires.ordered (omega (arith, ints, x)) (ap (λ (q : Point). q.y) c.point_at-at.ensures) below in_row)
 
 pub copy_row-requires-clause-inside_from : goal.copy_row-requires-clause-inside_from
-copy_row-requires-clause-inside_from c p h =
+copy_row-requires-clause-inside_from g c p h =
     let r = c.args.r in
     let from = c.args.from in
     let wide = c.width-width.result in
@@ -62,7 +62,7 @@ copy_row-requires-clause-inside_from c p h =
     ap (holds c.args.other.now.r) (sym (carried_twice p from r.min)) ∙ c.requires.inside_from (carried p from r.min) inside
 
 pub loop-row-preserved : goal.loop-row-preserved
-loop-row-preserved c =
+loop-row-preserved g c =
     let plane = c.args.self.now in
     let other = c.args.other.now in
     let inv = c.loop-row.invariant in
@@ -85,7 +85,7 @@ loop-row-preserved c =
     }
 
 pub returns-clause-pixels : goal.returns-clause-pixels
-returns-clause-pixels c q =
+returns-clause-pixels g c q =
     let r = c.args.r in
     let value = pixel_at c.args.other.now (carried q r.min c.args.from) in
     let end : c.loop-row.row ≡ height r = omega (arith, c.height-row-end.ensures) in
@@ -95,12 +95,12 @@ returns-clause-pixels c q =
     ∙ ap (λ b. if b then value else pixel_at c.args.self.now q) (band_all r q c.requires.ordered.down)
 
 pub mark-requires-clause-inside : goal.mark-requires-clause-inside
-mark-requires-clause-inside c p h = ap (λ r. holds r p) c.loop-row.invariant.rect ∙ c.requires.inside p h
+mark-requires-clause-inside g c p h = ap (λ r. holds r p) c.loop-row.invariant.rect ∙ c.requires.inside p h
 
 pub returns-clause-marks : goal.returns-clause-marks
-returns-clause-marks c column row =
+returns-clause-marks g c column row =
     let inv = c.loop-row.invariant in
     c.mark.ensures.marks column row ∙ (λ i. touched (inv.rect i) c.args.r column row || marked (inv.marks i) column row)
 
 pub returns-clause-few : goal.returns-clause-few
-returns-clause-few c = omega (arith, c.mark.ensures.few, ap marked_count c.loop-row.invariant.marks)
+returns-clause-few g c = omega (arith, c.mark.ensures.few, ap marked_count c.loop-row.invariant.marks)

@@ -8,7 +8,7 @@ use Rattle.r9_plane.specs.Marks.{marks_of}
 use Rattle.r9_plane.proofs.plane.Plane.copy.Given as goal
 
 abbrev pub invariant-loop-row : goal.invariant-loop-row
-invariant-loop-row l = record {
+invariant-loop-row g l = record {
   rect : rect_of l.self ≡ rect_of l.fn.self;
   chan : chan_of l.self ≡ chan_of l.fn.self;
   marks : marks_of l.self ≡ marks_of l.fn.self;

@@ -13,7 +13,7 @@ use Rattle.r9_plane.proofs.RowLemmas.{row_fits}
 use Rattle.r9_plane.proofs.plane.Plane.load.Goals as goal
 
 pub loop-row-init : goal.loop-row-init
-loop-row-init c = record {
+loop-row-init g c = record {
   x = refl;
   y = omega (arith, ints);
   rect = refl;
@@ -23,7 +23,7 @@ loop-row-init c = record {
 }
 
 pub load_row-requires-clause-inside : goal.load_row-requires-clause-inside
-load_row-requires-clause-inside c p h =
+load_row-requires-clause-inside g c p h =
     let inv = c.loop-row.invariant in
     let r = c.args.r in
     let below : c.loop-row.row < height r = omega (arith, c.height-row-end.ensures) in
@@ -32,11 +32,11 @@ load_row-requires-clause-inside c p h =
     ∙ c.requires.inside p (row_inside r c.loop-row.at p c.loop-row.row c.requires.ordered inv.x inv.y below in_row)
 
 pub load_row-requires-clause-places : goal.load_row-requires-clause-places
-load_row-requires-clause-places c =
+load_row-requires-clause-places g c =
     omega (arith, c.width-width.ensures, c.skip-skip.ensures.range, width_most c.args.r c.requires.near c.requires.ordered)
 
 pub load_row-requires-clause-line : goal.load_row-requires-clause-line
-load_row-requires-clause-line c =
+load_row-requires-clause-line g c =
     let r = c.args.r in
     let plane = c.args.self.now in
     let bits = depth plane.chan in
@@ -53,14 +53,14 @@ load_row-requires-clause-line c =
     rw (rest_is rows (row * c.row_bytes-line_len.result), line, before, c.width-width.ensures, ap depth c.loop-row.invariant.chan) known
 
 pub overflow_add-at : goal.overflow_add-at
-overflow_add-at c =
+overflow_add-at g c =
     let inv = c.loop-row.invariant in
     let below : c.loop-row.row < height c.args.r = omega (arith, c.height-row-end.ensures) in
     let last = distance_below c.args.r.min.y c.args.r.max.y c.loop-row.row below in
     omega (arith, ints, inv.y, last, c.requires.near.min.top, c.requires.near.max.bottom)
 
 pub loop-row-preserved : goal.loop-row-preserved
-loop-row-preserved c =
+loop-row-preserved g c =
     let inv = c.loop-row.invariant in
     let r = c.args.r in
     let at = c.loop-row.at in
@@ -90,7 +90,7 @@ loop-row-preserved c =
     }
 
 pub returns-clause-pixels : goal.returns-clause-pixels
-returns-clause-pixels c q =
+returns-clause-pixels g c q =
     let r = c.args.r in
     let value = row_pixel r (depth c.args.self.now.chan) c.args.rows.now q in
     let end : c.loop-row.row ≡ height r = omega (arith, c.height-row-end.ensures) in
@@ -100,12 +100,12 @@ returns-clause-pixels c q =
     ∙ ap (λ b. if b then value else pixel_at c.args.self.now q) (band_all r q c.requires.ordered.down)
 
 pub mark-requires-clause-inside : goal.mark-requires-clause-inside
-mark-requires-clause-inside c p h = ap (λ r. holds r p) c.loop-row.invariant.rect ∙ c.requires.inside p h
+mark-requires-clause-inside g c p h = ap (λ r. holds r p) c.loop-row.invariant.rect ∙ c.requires.inside p h
 
 pub returns-clause-marks : goal.returns-clause-marks
-returns-clause-marks c column row =
+returns-clause-marks g c column row =
     let inv = c.loop-row.invariant in
     c.mark.ensures.marks column row ∙ (λ i. touched (inv.rect i) c.args.r column row || marked (inv.marks i) column row)
 
 pub returns-clause-few : goal.returns-clause-few
-returns-clause-few c = omega (arith, c.mark.ensures.few, ap marked_count c.loop-row.invariant.marks)
+returns-clause-few g c = omega (arith, c.mark.ensures.few, ap marked_count c.loop-row.invariant.marks)

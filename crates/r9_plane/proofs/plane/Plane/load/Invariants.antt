@@ -10,7 +10,7 @@ use Rattle.r9_plane.specs.Marks.{marks_of}
 use Rattle.r9_plane.proofs.plane.Plane.load.Given as goal
 
 abbrev pub invariant-loop-row : goal.invariant-loop-row
-invariant-loop-row l = record {
+invariant-loop-row g l = record {
   x : l.at.x ≡ l.fn.r.min.x;
   y : l.at.y ≡ l.fn.r.min.y +ℤ pos l.row;
   rect : rect_of l.self ≡ rect_of l.fn.self;

@@ -14,7 +14,7 @@ use Rattle.r9_plane.proofs.plane.Plane.put.Goals as goal
 
 pub returns-clause-pixels : goal.returns-clause-pixels
 unfolding pixel_at
-returns-clause-pixels c q =
+returns-clause-pixels g c q =
     let plane = c.args.self.now in
     let number = c.number-number.ensures.value in
     let bytes = c.write.new.bytes in
@@ -31,17 +31,20 @@ returns-clause-pixels c q =
     }) q
 
 pub strip-requires-clause-at : goal.strip-requires-clause-at
-strip-requires-clause-at c = near_point (2 ^ 40) c.args.self.now.r c.args.p c.args.self.now.near c.requires.inside
+strip-requires-clause-at g c = near_point (2 ^ 40) c.args.self.now.r c.args.p c.args.self.now.near c.requires.inside
 
 pub mark-requires-clause-ordered : goal.mark-requires-clause-ordered
-mark-requires-clause-ordered c = subst IsOrdered (sym c.strip.ensures) (strip_ordered c.args.p 1)
+mark-requires-clause-ordered g c = subst IsOrdered (sym c.strip.ensures) (strip_ordered c.args.p 1)
 
 pub mark-requires-clause-inside : goal.mark-requires-clause-inside
-mark-requires-clause-inside c = λ q h. let same = one_point c.args.p q (ap (λ (part : Rect). holds part q) (sym c.strip.ensures) ∙ h) in ap (holds c.args.self.now.r) same ∙ c.requires.inside
+mark-requires-clause-inside g c = λ q h. let same = one_point c.args.p q (ap (λ (part : Rect). holds part q) (sym c.strip.ensures) ∙ h) in ap (holds c.args.self.now.r) same ∙ c.requires.inside
 
 pub returns-clause-marks : goal.returns-clause-marks
-returns-clause-marks c column row =
+returns-clause-marks g c column row =
     c.mark.ensures.marks column row ∙ ap (λ (part : Rect). touched c.args.self.now.r part column row || marked c.args.self.now.marks column row) c.strip.ensures
 
 pub returns-clause-few : goal.returns-clause-few
-returns-clause-few c = omega (arith, c.mark.ensures.few, ap area_of c.strip.ensures, strip_area c.args.p 1)
+returns-clause-few g c = omega (arith, c.mark.ensures.few, ap area_of c.strip.ensures, strip_area c.args.p 1)
+
+pub returns-clause-steps : goal.returns-clause-steps
+returns-clause-steps g c = omega (arith, c.mark.ensures.steps, ap area_of c.strip.ensures, strip_area c.args.p 1)

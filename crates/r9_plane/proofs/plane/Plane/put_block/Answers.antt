@@ -6,14 +6,14 @@ use Rattle.r9_plane.specs.Marks.{touched}
 use Rattle.r9_plane.proofs.plane.Plane.put_block.Goals as goal
 
 pub mark-requires-clause-inside : goal.mark-requires-clause-inside
-mark-requires-clause-inside c p h = ap (λ r. holds r p) c.write_block.ensures.rect ∙ c.requires.inside p h
+mark-requires-clause-inside g c p h = ap (λ r. holds r p) c.write_block.ensures.rect ∙ c.requires.inside p h
 
 pub returns-clause-pixels : goal.returns-clause-pixels
-returns-clause-pixels c q = ap (λ pixels. pixels q) c.mark.ensures.pixels ∙ c.write_block.ensures.pixels q
+returns-clause-pixels g c q = ap (λ pixels. pixels q) c.mark.ensures.pixels ∙ c.write_block.ensures.pixels q
 
 pub returns-clause-marks : goal.returns-clause-marks
-returns-clause-marks c column row =
+returns-clause-marks g c column row =
     c.mark.ensures.marks column row ∙ (λ i. touched (c.write_block.ensures.rect i) c.args.r.now column row || marked (c.write_block.ensures.marks i) column row)
 
 pub returns-clause-few : goal.returns-clause-few
-returns-clause-few c = omega (arith, c.mark.ensures.few, ap marked_count c.write_block.ensures.marks)
+returns-clause-few g c = omega (arith, c.mark.ensures.few, ap marked_count c.write_block.ensures.marks)

@@ -13,22 +13,22 @@ use Rattle.r9_plane.proofs.Marking.{strip_area, strip_ordered}
 use Rattle.r9_plane.proofs.plane.Plane.put_row.Goals as goal
 
 pub number-first-requires : goal.number-first-requires
-number-first-requires c = start_in c.args.self.now.r c.args.at (length c.args.raws.now) (some_of (length c.args.raws.now) c.is_empty.ensures c.if-is_empty.false) c.requires.inside
+number-first-requires g c = start_in c.args.self.now.r c.args.at (length c.args.raws.now) (some_of (length c.args.raws.now) c.is_empty.ensures c.if-is_empty.false) c.requires.inside
 
 pub write_run-requires-clause-numbers : goal.write_run-requires-clause-numbers
-write_run-requires-clause-numbers c =
+write_run-requires-clause-numbers g c =
     let plane = c.args.self.now in
     omega (arith, run_below plane.r c.args.at (length c.args.raws.now) (some_of (length c.args.raws.now) c.is_empty.ensures c.if-is_empty.false) c.requires.inside, c.number-first.ensures.value, plane.countable)
 
 pub write_run-requires-clause-within : goal.write_run-requires-clause-within
-write_run-requires-clause-within c =
+write_run-requires-clause-within g c =
     let plane = c.args.self.now in
     let fits = run_fits plane.r c.args.at (length c.args.raws.now) c.number-first.result plane.depth plane.bytes.len (some_of (length c.args.raws.now) c.is_empty.ensures c.if-is_empty.false) c.requires.inside c.number-first.ensures.value plane.room in
     omega (arith, fits, c.deref_mut.ensures.len)
 
 pub returns-clause-pixels : goal.returns-clause-pixels
 unfolding pixel_at
-returns-clause-pixels c q =
+returns-clause-pixels g c q =
     let plane = c.args.self.now in
     let first = c.number-first.ensures.value in
     let bytes = c.write_run.new.bytes in
@@ -45,23 +45,26 @@ returns-clause-pixels c q =
     }) q
 
 pub strip-requires-clause-at : goal.strip-requires-clause-at
-strip-requires-clause-at c = near_point (2 ^ 40) c.args.self.now.r c.args.at c.args.self.now.near (start_in c.args.self.now.r c.args.at (length c.args.raws.now) (some_of (length c.args.raws.now) c.is_empty.ensures c.if-is_empty.false) c.requires.inside)
+strip-requires-clause-at g c = near_point (2 ^ 40) c.args.self.now.r c.args.at c.args.self.now.near (start_in c.args.self.now.r c.args.at (length c.args.raws.now) (some_of (length c.args.raws.now) c.is_empty.ensures c.if-is_empty.false) c.requires.inside)
 
 pub strip-requires-clause-len : goal.strip-requires-clause-len
-strip-requires-clause-len c =
+strip-requires-clause-len g c =
     let plane = c.args.self.now in
     let narrow = run_narrow plane.r c.args.at (length c.args.raws.now) (some_of (length c.args.raws.now) c.is_empty.ensures c.if-is_empty.false) c.requires.inside in
     omega (arith, narrow, width_most plane.r plane.near plane.ordered)
 
 pub mark-requires-clause-ordered : goal.mark-requires-clause-ordered
-mark-requires-clause-ordered c = subst IsOrdered (sym c.strip.ensures) (strip_ordered c.args.at (length c.args.raws.now))
+mark-requires-clause-ordered g c = subst IsOrdered (sym c.strip.ensures) (strip_ordered c.args.at (length c.args.raws.now))
 
 pub mark-requires-clause-inside : goal.mark-requires-clause-inside
-mark-requires-clause-inside c = λ q h. c.requires.inside q (ap (λ (part : Rect). holds part q) (sym c.strip.ensures) ∙ h)
+mark-requires-clause-inside g c = λ q h. c.requires.inside q (ap (λ (part : Rect). holds part q) (sym c.strip.ensures) ∙ h)
 
 pub returns-clause-marks : goal.returns-clause-marks
-returns-clause-marks c column row =
+returns-clause-marks g c column row =
     c.mark.ensures.marks column row ∙ ap (λ (part : Rect). touched c.args.self.now.r part column row || marked c.args.self.now.marks column row) c.strip.ensures
 
 pub returns-clause-few : goal.returns-clause-few
-returns-clause-few c = omega (arith, c.mark.ensures.few, ap area_of c.strip.ensures, strip_area c.args.at (length c.args.raws.now))
+returns-clause-few g c = omega (arith, c.mark.ensures.few, ap area_of c.strip.ensures, strip_area c.args.at (length c.args.raws.now))
+
+pub returns-clause-steps : goal.returns-clause-steps
+returns-clause-steps g c = omega (arith, c.mark.ensures.steps, ap area_of c.strip.ensures, strip_area c.args.at (length c.args.raws.now))

@@ -1,0 +1,104 @@
+// A draw device of which steps are asked, one after the other.
+ghost use Rattle.std.specs.Prelude.{◌≡◌, ◌<◌};
+
+use crate::step::{Step, push_step};
+use r9_chan::Chan;
+use r9_draw::Draw;
+use r9_event::{Order, Orders};
+use r9_geom::{Point, Rect};
+use r9_memory::Memory;
+use r9_steps::Steps;
+use r9_text::Bytes;
+use std::alloc::Global;
+use std::marker::Brand;
+use std::sync::ledger::{Blank, Ledger};
+use std::test::Fail;
+
+// The connection that asks.
+const CLIENT: u64 = 1;
+
+// A display of 64 by 48.
+fn start(alloc: Global, chan: Chan) -> Result<Draw, Memory> {
+    let r = Rect {
+        min: Point { x: 0, y: 0 },
+        max: Point { x: 64, y: 48 },
+    };
+    let mut draw = Draw::start(alloc, r, chan)?;
+    if !draw.is_live(CLIENT) {
+        draw.connect(CLIENT)?;
+    }
+    Ok(draw)
+}
+
+// Messages are done. Whether all were.
+fn write<L: Ledger>(
+    draw: &mut Draw,
+    messages: &[u8],
+    pixels: &mut Steps<L>,
+) -> Result<bool, Memory> {
+    if !draw.is_live(CLIENT) || messages.len() > 4096 {
+        return Ok(false);
+    }
+    let wrote = draw.write(CLIENT, messages, None, pixels)?;
+    Ok(wrote.refusal.is_none() && !wrote.short)
+}
+
+// The display gets a size.
+fn size<L: Ledger>(
+    alloc: Global,
+    draw: &mut Draw,
+    size: Order,
+    pixels: &mut Steps<L>,
+) -> Result<bool, Memory> {
+    let mut orders = Orders::new(alloc);
+    orders.push(size)?;
+    draw.orders(&orders, pixels)?;
+    Ok(true)
+}
+
+// A step is taken. Whether it was not refused.
+fn take<L: Ledger>(
+    alloc: Global,
+    draw: &mut Draw,
+    step: &Step,
+    pixels: &mut Steps<L>,
+) -> Result<bool, Memory> {
+    if let Step::Size(width, height) = *step {
+        return size(alloc, draw, Order::Size { width, height }, pixels);
+    }
+    let mut messages = Bytes::new(alloc);
+    push_step(&mut messages, step)?;
+    write(draw, messages.as_slice(), pixels)
+}
+
+// How many tiles are held after a step, or None where it is refused.
+fn held<L: Ledger>(
+    alloc: Global,
+    draw: &mut Draw,
+    step: &Step,
+    pixels: &mut Steps<L>,
+) -> Result<Option<usize>, Memory> {
+    let taken = take(alloc, draw, step, pixels)?;
+    Ok(taken.then_some(draw.tiles()))
+}
+
+fn counted<L: Ledger>(alloc: Global, steps: &[(Step, usize)], blank: Blank) -> Result<u64, Fail>
+    requires name { blank.name ≡ L.name }
+    requires parts { blank.parts ≡ L.parts }
+    requires some { 0 < L.parts }
+{
+    let mut pixels: Steps<L> = Steps::new(blank);
+    let mut draw = start(alloc, Chan::from_text("x8r8g8b8")?)?;
+    for (step, tiles) in steps {
+        let held = held(alloc, &mut draw, step, &mut pixels)?;
+        if held != Some(*tiles) {
+            return Err(Fail::from((held, *tiles)));
+        }
+    }
+    Ok(pixels.count())
+}
+
+// Takes steps, after each of which so many tiles are held, and gives how many pixels they wrote.
+pub fn leaves(alloc: Global, steps: &[(Step, usize)]) -> Result<u64, Fail> {
+    counted::<Brand>(alloc, steps, Blank::new(1))
+}
