@@ -1,6 +1,6 @@
 -- A window is put into the tables, and taken out again where there is no room for its tiles.
 use Rattle.std.proofs.Common.{◌≡◌, ◌≢◌, ◌∙◌, ℕ, true, false, All, Bool, List, Option, Some, None, Result, Ok, Err, sym, ap, subst, ⊎_elim, eq-eqb, arith}
-use Rattle.std.specs.Prelude.{◌==◌, ◌&&◌, option_map, unwrap_or, OnErr, if◌then◌else◌}
+use Rattle.std.specs.Prelude.{◌==◌, ◌&&◌, option_and_then, option_map, unwrap_or, OnErr, if◌then◌else◌}
 use Rattle.std.specs.Option.{option_map_or}
 use Rattle.std.specs.List.{list_any}
 use Rattle.std.proofs.lemmas.Bool.{cases_eq, ne_eqb}
@@ -17,13 +17,15 @@ use Rattle.model_kept.specs.Restack.{with_own, IsAlone}
 use Rattle.r9_locate.specs.Forms.{form_of, forms_of, Form}
 use Rattle.r9_cells.specs.Fitting.{hides_cell, meets, standing_cell}
 use Rattle.r9_pixels.specs.declared.keeping.KeptPixels.{KeptPixels}
-use Rattle.r9_pixels.specs.Kept.{form_at, has_place, kept_at}
-use Rattle.r9_pixels.specs.Owns.{has_in, kept_in, own_at}
+use Rattle.r9_pixels.specs.Kept.{form_at, has_place, kept_at, moment}
+use Rattle.r9_pixels.specs.Owns.{has_in, kept_in, moment_in, own_at}
 use Rattle.r9_pixels.specs.Places.{standing_at, with_form, with_places, HasCells, HasLaterTaken, StandsOn}
 use Rattle.r9_pixels.proofs.Owning.{form_none}
+use Rattle.r9_watched.specs.Moments.{with_moment}
 use Rattle.r9_relist.specs.Relisting.{IsRelisting}
 use Rattle.r9_relist.proofs.Covering.{cell_below}
 use Rattle.r9_relist.proofs.Front.{at_listed}
+use Rattle.r9_relist.proofs.Moments.{moment_same}
 use Rattle.r9_relist.proofs.Relisted.{relist_apart, relist_listed}
 use Rattle.r9_arrive.specs.Arriving.{IsLeft, IsLeftOf}
 
@@ -70,6 +72,10 @@ has_out pixels i free = λ j place. at place j
         ∙ sym (ap (λ o. option_map_or (has_in pixels.cells place.image place.at) o false) (form_none (own_at pixels.owns.items place.image) (ap (form_at pixels) here ∙ free))))
         (λ (other : place.image ≢ i). ap (λ b. if b then false else has_place pixels place) (ne_eqb place.image i other))
         (cases_eq place.image i)
+
+-- nor has it a moment
+pub moment_out : (pixels : KeptPixels) (i : ℕ) → form_at pixels i ≡ None → with_moment i None (moment pixels) ≡ moment pixels
+moment_out pixels i free = moment_same (moment pixels) i None (ap (option_and_then moment_in) (form_none (own_at pixels.owns.items i) free))
 
 -- what holds holds after an error
 pub on_err : {T E P : Type 0} (r : Result T E) → P → OnErr r P

@@ -11,7 +11,7 @@ ghost use Rattle.model_kept.specs.Restack.{IsAlone};
 ghost use Rattle.r9_locate.specs.Forms.{forms_of};
 ghost use Rattle.r9_locate.specs.Lists.{frame_image, IsNearby};
 ghost use Rattle.r9_locate.specs.Table.{made, shape, HasRoom};
-ghost use Rattle.r9_pixels.specs.Kept.{form_at, has_place, kept_at, later_in, room_of, spare_in, wanted_in, IsUnchanged};
+ghost use Rattle.r9_pixels.specs.Kept.{form_at, has_place, kept_at, later_in, moment, room_of, spare_in, wanted_in, writes, IsUnchanged};
 ghost use Rattle.r9_cells.specs.Fitting.{AreOne};
 ghost use Rattle.r9_pixels.specs.Places.{HasCells, StandsOn};
 ghost use Rattle.r9_restack.specs.Stacks.{IsFront};
@@ -92,6 +92,8 @@ fn enter(
     ensures kept { kept_at pixels.new ≡ kept_at pixels.old }
     ensures has { has_place pixels.new ≡ has_place pixels.old }
     ensures forms { form_at pixels.new ≡ forms_of (shape lists.new) }
+    ensures moment { moment pixels.new ≡ moment pixels.old }
+    ensures writes { writes pixels.new ≡ writes pixels.old }
 {
     let extent = Extent {
         r: frame.r,
@@ -160,6 +162,8 @@ pub fn arrive<S: Source, L: Ledger>(
     ensures err { OnErr result (IsUnchanged pixels.old pixels.new) }
     ensures steps { steps.new ≤ steps.old + 2 * area_of r }
     ensures uncounted { OnErr result (steps.new ≡ steps.old) }
+    ensures moment { moment pixels.new ≡ moment pixels.old }
+    ensures writes { writes pixels.new + steps.old ≡ writes pixels.old + steps.new }
 {
     let below = lists.get(standing.parent);
     let frame = window_frame(alloc, r, below.chan, standing, below.depth + 1);

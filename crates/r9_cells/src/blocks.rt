@@ -10,6 +10,7 @@ ghost use Rattle.r9_plane.specs.Pixels.{chan_of, pixel_at, rect_of};
 ghost use Rattle.r9_store.specs.Tiles.{cell, place_of, spare};
 ghost use Rattle.model_kept.specs.Cells.{cell_of, in_cell};
 ghost use Rattle.r9_cells.specs.Blocks.{band_from, part_from, IsInCell, IsInRow};
+ghost use Rattle.r9_watched.specs.Watched.{count_of, moment_of};
 ghost use Rattle.r9_cells.specs.Rows.{cell_place, has_tile, CellPlace};
 
 use super::hiding::cells_across;
@@ -17,6 +18,7 @@ use super::table::Cells;
 use r9_geom::{Point, Rect, distance};
 use r9_plane::{Plane, copy_rows};
 use r9_steps::Steps;
+use r9_watched::Watched;
 use std::sync::ledger::Ledger;
 
 // How many points there are from one on, of n, to the end of its cell.
@@ -496,7 +498,7 @@ impl Cells {
         i: usize,
         r: &Rect,
         part: &Rect,
-        plane: &mut Plane,
+        watched: &mut Watched,
         to: Point,
         steps: &mut Steps<L>,
     )
@@ -507,16 +509,18 @@ impl Cells {
         requires part { IsInCell r.now part.now }
         requires has { (p : Spot) → IsTrue (holds part.now p) → IsTrue (has_tile (all_rows self.now) i r.now p) }
         requires to { IsNear to }
-        requires inside { (p : Spot) → IsTrue (holds part.now p) → IsTrue (holds (rect_of plane.old) (carried p part.now.min to)) }
-        requires below { (p : Spot) → IsTrue (holds part.now p) → place_pixel self.now (cell_place i r.now p) < 2 ^ depth (chan_of plane.old) }
-        ensures rect { rect_of plane.new ≡ rect_of plane.old }
-        ensures chan { chan_of plane.new ≡ chan_of plane.old }
-        ensures pixels { (q : Spot) → pixel_at plane.new q ≡ (if holds part.now (carried q to part.now.min) then place_pixel self.now (cell_place i r.now (carried q to part.now.min)) else pixel_at plane.old q) }
+        requires inside { (p : Spot) → IsTrue (holds part.now p) → IsTrue (holds (rect_of watched.old.plane) (carried p part.now.min to)) }
+        requires below { (p : Spot) → IsTrue (holds part.now p) → place_pixel self.now (cell_place i r.now p) < 2 ^ depth (chan_of watched.old.plane) }
+        ensures rect { rect_of watched.new.plane ≡ rect_of watched.old.plane }
+        ensures chan { chan_of watched.new.plane ≡ chan_of watched.old.plane }
+        ensures pixels { (q : Spot) → pixel_at watched.new.plane q ≡ (if holds part.now (carried q to part.now.min) then place_pixel self.now (cell_place i r.now (carried q to part.now.min)) else pixel_at watched.old.plane q) }
+        ensures moment { moment_of watched.new ≡ moment_of watched.old }
+        ensures few { count_of watched.new ≤ count_of watched.old + area_of part.now }
         ensures steps { steps.new ≡ steps.old + area_of part.now }
     {
         let tile = self.tile(i, cell_at(r, part.min));
         let pixels = self.store().tile(tile);
-        plane.put_block(&part.at_min(to), pixels, place_at(r, part.min), 32, steps);
+        watched.put_block(&part.at_min(to), pixels, place_at(r, part.min), 32, steps);
     }
 
     // The same in one row of cells.
@@ -525,7 +529,7 @@ impl Cells {
         i: usize,
         r: &Rect,
         band: &Rect,
-        plane: &mut Plane,
+        watched: &mut Watched,
         to: Point,
         steps: &mut Steps<L>,
     )
@@ -536,18 +540,20 @@ impl Cells {
         requires band { IsInRow r.now band.now }
         requires has { (p : Spot) → IsTrue (holds band.now p) → IsTrue (has_tile (all_rows self.now) i r.now p) }
         requires to { IsNear to }
-        requires inside { (p : Spot) → IsTrue (holds band.now p) → IsTrue (holds (rect_of plane.old) (carried p band.now.min to)) }
-        requires below { (p : Spot) → IsTrue (holds band.now p) → place_pixel self.now (cell_place i r.now p) < 2 ^ depth (chan_of plane.old) }
-        ensures rect { rect_of plane.new ≡ rect_of plane.old }
-        ensures chan { chan_of plane.new ≡ chan_of plane.old }
-        ensures pixels { (q : Spot) → pixel_at plane.new q ≡ (if holds band.now (carried q to band.now.min) then place_pixel self.now (cell_place i r.now (carried q to band.now.min)) else pixel_at plane.old q) }
+        requires inside { (p : Spot) → IsTrue (holds band.now p) → IsTrue (holds (rect_of watched.old.plane) (carried p band.now.min to)) }
+        requires below { (p : Spot) → IsTrue (holds band.now p) → place_pixel self.now (cell_place i r.now p) < 2 ^ depth (chan_of watched.old.plane) }
+        ensures rect { rect_of watched.new.plane ≡ rect_of watched.old.plane }
+        ensures chan { chan_of watched.new.plane ≡ chan_of watched.old.plane }
+        ensures pixels { (q : Spot) → pixel_at watched.new.plane q ≡ (if holds band.now (carried q to band.now.min) then place_pixel self.now (cell_place i r.now (carried q to band.now.min)) else pixel_at watched.old.plane q) }
+        ensures moment { moment_of watched.new ≡ moment_of watched.old }
+        ensures few { count_of watched.new ≤ count_of watched.old + area_of band.now }
         ensures steps { steps.new ≡ steps.old + area_of band.now }
     {
         let mut column = 0;
         while column < band.width() {
             let part = part_of(r, band, column);
             let there = right(to, column);
-            self.show_part(i, r, &part, plane, there, steps);
+            self.show_part(i, r, &part, watched, there, steps);
             column += part.width();
         }
     }
@@ -559,7 +565,7 @@ impl Cells {
         i: usize,
         r: &Rect,
         block: &Rect,
-        plane: &mut Plane,
+        watched: &mut Watched,
         to: Point,
         steps: &mut Steps<L>,
     )
@@ -569,18 +575,20 @@ impl Cells {
         requires some { HasPoints block.now }
         requires has { (p : Spot) → IsTrue (holds block.now p) → IsTrue (has_tile (all_rows self.now) i r.now p) }
         requires to { IsNear to }
-        requires inside { (p : Spot) → IsTrue (holds block.now p) → IsTrue (holds (rect_of plane.old) (carried p block.now.min to)) }
-        requires below { (p : Spot) → IsTrue (holds block.now p) → place_pixel self.now (cell_place i r.now p) < 2 ^ depth (chan_of plane.old) }
-        ensures rect { rect_of plane.new ≡ rect_of plane.old }
-        ensures chan { chan_of plane.new ≡ chan_of plane.old }
-        ensures pixels { (q : Spot) → pixel_at plane.new q ≡ (if holds block.now (carried q to block.now.min) then place_pixel self.now (cell_place i r.now (carried q to block.now.min)) else pixel_at plane.old q) }
+        requires inside { (p : Spot) → IsTrue (holds block.now p) → IsTrue (holds (rect_of watched.old.plane) (carried p block.now.min to)) }
+        requires below { (p : Spot) → IsTrue (holds block.now p) → place_pixel self.now (cell_place i r.now p) < 2 ^ depth (chan_of watched.old.plane) }
+        ensures rect { rect_of watched.new.plane ≡ rect_of watched.old.plane }
+        ensures chan { chan_of watched.new.plane ≡ chan_of watched.old.plane }
+        ensures pixels { (q : Spot) → pixel_at watched.new.plane q ≡ (if holds block.now (carried q to block.now.min) then place_pixel self.now (cell_place i r.now (carried q to block.now.min)) else pixel_at watched.old.plane q) }
+        ensures moment { moment_of watched.new ≡ moment_of watched.old }
+        ensures few { count_of watched.new ≤ count_of watched.old + area_of block.now }
         ensures steps { steps.new ≡ steps.old + area_of block.now }
     {
         let mut row = 0;
         while row < block.height() {
             let band = band_of(r, block, row);
             let there = down(to, row);
-            self.show_band(i, r, &band, plane, there, steps);
+            self.show_band(i, r, &band, watched, there, steps);
             row += band.height();
         }
     }

@@ -7,6 +7,7 @@ ghost use Rattle.model_pixel.specs.Channels.{depth};
 ghost use Rattle.r9_plane.specs.Pixels.{along, chan_of, pixel_at, rect_of};
 ghost use Rattle.r9_store.specs.Tiles.{cell, is_held, pixel, spare};
 ghost use Rattle.model_kept.specs.Cells.{cell_of, in_cell};
+ghost use Rattle.r9_watched.specs.Watched.{count_of, moment_of};
 ghost use Rattle.r9_cells.specs.Rows.{cell_at, cell_place, has_tile, CellPlace};
 
 use super::hiding::cells_across;
@@ -16,6 +17,7 @@ use r9_locate::along;
 use r9_plane::Plane;
 use r9_steps::Steps;
 use r9_store::TileNo;
+use r9_watched::Watched;
 use std::sync::ledger::Ledger;
 
 /// A point of a tile, counted from its corner.
@@ -156,24 +158,26 @@ impl Cells {
         r: &Rect,
         from: Point,
         n: usize,
-        plane: &mut Plane,
+        watched: &mut Watched,
         at: Point,
         steps: &mut Steps<L>,
     )
         requires near { IsRectNear r.now }
         requires has { (k : ℕ) → k < n → IsTrue (has_tile (all_rows self.now) i r.now (along from k)) }
-        requires inside { (k : ℕ) → k < n → IsTrue (holds (rect_of plane.old) (along at k)) }
-        requires below { (k : ℕ) → k < n → place_pixel self.now (cell_place i r.now (along from k)) < 2 ^ depth (chan_of plane.old) }
-        ensures rect { rect_of plane.new ≡ rect_of plane.old }
-        ensures chan { chan_of plane.new ≡ chan_of plane.old }
-        ensures pixels { (q : Spot) → pixel_at plane.new q ≡ (if holds (strip at n) q then place_pixel self.now (cell_place i r.now (carried q at from)) else pixel_at plane.old q) }
+        requires inside { (k : ℕ) → k < n → IsTrue (holds (rect_of watched.old.plane) (along at k)) }
+        requires below { (k : ℕ) → k < n → place_pixel self.now (cell_place i r.now (along from k)) < 2 ^ depth (chan_of watched.old.plane) }
+        ensures rect { rect_of watched.new.plane ≡ rect_of watched.old.plane }
+        ensures chan { chan_of watched.new.plane ≡ chan_of watched.old.plane }
+        ensures pixels { (q : Spot) → pixel_at watched.new.plane q ≡ (if holds (strip at n) q then place_pixel self.now (cell_place i r.now (carried q at from)) else pixel_at watched.old.plane q) }
+        ensures moment { moment_of watched.new ≡ moment_of watched.old }
+        ensures few { count_of watched.new ≤ count_of watched.old + n }
         ensures steps { steps.new ≡ steps.old + n }
     {
         let mut done = 0;
         while done < n {
             let run = run_of(r, along(from, done), n - done);
             let there = along(at, done);
-            plane.put_row(there, self.row(i, run.cell, run.at, run.len), steps);
+            watched.put_row(there, self.row(i, run.cell, run.at, run.len), steps);
             done += run.len;
         }
     }

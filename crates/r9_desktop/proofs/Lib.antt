@@ -6,3 +6,4 @@ mod Viewed
 mod Display
 mod Panes
 mod Sides
+mod Marks

@@ -1,3 +1,4 @@
+pub mod Marks
 pub mod World
 pub mod Words
 pub mod Laws

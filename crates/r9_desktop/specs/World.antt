@@ -1,6 +1,7 @@
 -- A desktop as the definitions have it.
 use Rattle.r9_draw.specs.World.{world_of}
 use Rattle.model_world.specs.Desktop as model
+use Rattle.r9_desktop.specs.Marks.{Display, display_in}
 use Rattle.r9_desktop.specs.declared.desktop.Desktop.{Desktop}
 
 -- what a desktop has, part by part
@@ -19,3 +20,13 @@ parts_of d = record {
 -- The same as one value: crates above need not look into it.
 unfoldable pub desktop_of : Desktop → model.Desktop
 desktop_of d = parts_of d
+
+-- what the display shows with its marks, and as it was when the turn began
+unfoldable pub display_of : Desktop → Display
+display_of d = display_in d.device
+
+abbrev pub began_in : Desktop → Display
+began_in d = display_in d.spending.began.value
+
+unfoldable pub began_of : Desktop → Display
+began_of d = began_in d

@@ -7,7 +7,7 @@ ghost use Rattle.r9_wctl.specs.Values.{wctl_of};
 ghost use Rattle.r9_tree.specs.Attached.{attach_of_code};
 ghost use Rattle.r9_around.specs.Words.{IfRefused};
 ghost use Rattle.r9_desktop.specs.Words.{SameClients};
-ghost use Rattle.r9_desktop.specs.World.{desktop_of, parts_of};
+ghost use Rattle.r9_desktop.specs.World.{began_in, began_of, desktop_of, parts_of};
 
 use crate::desktop::Desktop;
 use crate::finding::{BAD_COMMAND, read_command};
@@ -30,6 +30,7 @@ impl Desktop {
         ensures refused { IfErr result (λ f. IfRefused f (λ n. made_by (parts_of self.old) rio (wctl_of what) ≡ Err n)) }
         ensures kept { IfErr result (λ f. IfRefused f (λ n. parts_of self.new ≡ parts_of self.old)) }
         ensures clients { OnOk result (SameClients (parts_of self.old) (parts_of self.new)) }
+        ensures began { began_in self.new ≡ began_in self.old }
     {
         match what {
             Wctl::New { options, hide } => self.step(Act::New { rio, options, hide }),
@@ -45,6 +46,7 @@ impl Desktop {
         ensures refused { IfErr result (λ f. IfRefused f (λ n. window_made (parts_of self.old) path.now text.now ≡ Err n)) }
         ensures kept { IfErr result (λ f. IfRefused f (λ n. parts_of self.new ≡ parts_of self.old)) }
         ensures clients { IfOk result (λ window. SameClients (parts_of self.old) (parts_of self.new)) }
+        ensures began { began_in self.new ≡ began_in self.old }
     {
         let rio = self.host_of(path, UNKNOWN_ATTACH)?;
         let command = read_command(self.alloc, text, false)?;
@@ -57,6 +59,7 @@ impl Desktop {
     fn leave_window(&mut self, session: u32, window: u32) -> Result<(), Memory>
         ensures left { OnOk result (parts_of self.new ≡ left_one session (parts_of self.old) window) }
         ensures clients { OnOk result (SameClients (parts_of self.old) (parts_of self.new)) }
+        ensures began { began_in self.new ≡ began_in self.old }
     {
         if !is_user(&self.users, window, session) {
             return Ok(());
@@ -72,6 +75,7 @@ impl Desktop {
     fn leave_windows(&mut self, session: u32, windows: &[u32]) -> Result<(), Memory>
         ensures left { OnOk result (parts_of self.new ≡ fold (left_one session) (parts_of self.old) windows.now) }
         ensures clients { OnOk result (SameClients (parts_of self.old) (parts_of self.new)) }
+        ensures began { began_in self.new ≡ began_in self.old }
     {
         for window in windows {
             self.leave_window(session, *window)?;
@@ -83,12 +87,13 @@ impl Desktop {
     /// tree. The session uses the window from then on. Refused by 41 exactly where the name is none, or its window or host is
     /// not there; else a new window by what its command is refused by. Where it is refused, all is as before; of Memory nothing
     /// is said.
-    #[tactic(auto, unfolding(crate::specs::World::desktop_of, model_world::specs::Whole::attached))]
+    #[tactic(auto, unfolding(crate::specs::World::desktop_of, crate::specs::World::began_of, model_world::specs::Whole::attached))]
     pub fn attach(&mut self, session: u32, name: &Attach) -> Result<u32, Fault>
         ensures attached { IfOk result (λ window. (desktop_for session).attached (desktop_of self.old) (attach_of_code name.now) ≡ Ok (desktop_of self.new, window)) }
         ensures refused { IfErr result (λ f. IfRefused f (λ n. (desktop_for session).attached (desktop_of self.old) (attach_of_code name.now) ≡ Err n)) }
         ensures kept { IfErr result (λ f. IfRefused f (λ n. desktop_of self.new ≡ desktop_of self.old)) }
         ensures clients { IfOk result (λ window. SameClients (desktop_of self.old) (desktop_of self.new)) }
+        ensures began { began_of self.new ≡ began_of self.old }
     {
         let window = match name {
             Attach::Device => return Ok(0),
@@ -102,10 +107,11 @@ impl Desktop {
 
     /// The session has no fid any more whose attach named one of these windows. A window that no session uses any more is
     /// deleted. Of Memory nothing is said.
-    #[tactic(auto, unfolding(crate::specs::World::desktop_of))]
+    #[tactic(auto, unfolding(crate::specs::World::desktop_of, crate::specs::World::began_of))]
     pub fn left(&mut self, session: u32, windows: &Numbers) -> Result<(), Memory>
         ensures left { OnOk result (desktop_of self.new ≡ (desktop_for session).left (desktop_of self.old) windows.now) }
         ensures clients { OnOk result (SameClients (desktop_of self.old) (desktop_of self.new)) }
+        ensures began { began_of self.new ≡ began_of self.old }
     {
         self.leave_windows(session, windows.as_slice())
     }

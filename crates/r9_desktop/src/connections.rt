@@ -8,7 +8,7 @@ ghost use Rattle.model_draw.specs.World.{client_of};
 ghost use Rattle.model_world.specs.Whole.{client, connection_left, desktop_for, written_data};
 ghost use Rattle.r9_around.specs.Words.{AreTold, IfRefused, mark_after};
 ghost use Rattle.r9_desktop.specs.Words.{AreDone, fault_of_draw, tells_for};
-ghost use Rattle.r9_desktop.specs.World.{desktop_of, parts_of};
+ghost use Rattle.r9_desktop.specs.World.{began_in, began_of, desktop_of, parts_of};
 
 use crate::desktop::Desktop;
 use crate::spending::{Leave, Messages};
@@ -44,12 +44,13 @@ fn fault_of(fault: DrawFault) -> Fault
 
 impl Desktop {
     /// A connection of a session begins. After Memory all is as before.
-    #[tactic(auto, unfolding(crate::specs::World::desktop_of))]
+    #[tactic(auto, unfolding(crate::specs::World::desktop_of, crate::specs::World::began_of))]
     pub fn connect(&mut self, session: u32, connection: u32) -> Result<(), Memory>
         requires some { 1 ≤ client session connection }
         requires fresh { lookup (desktop_of self.old).device.clients (client session connection) ≡ None }
         ensures made { OnOk result (desktop_of self.new ≡ (desktop_for session).connect (desktop_of self.old) connection) }
         ensures kept { OnErr result (desktop_of self.new ≡ desktop_of self.old) }
+        ensures began { began_of self.new ≡ began_of self.old }
     {
         self.device.connect(client(session, connection))
     }
@@ -62,6 +63,7 @@ impl Desktop {
         requires live { IsSome (lookup (parts_of self.old).device.clients client) }
         ensures left { OnOk result (parts_of self.new ≡ connection_left client (parts_of self.old)) }
         ensures kept { OnErr result (parts_of self.new ≡ parts_of self.old) }
+        ensures began { began_in self.new ≡ began_in self.old }
     {
         let mut pixels = Steps::<L>::new(blank);
         let device = Snapshot::of(&self.device);
@@ -72,11 +74,12 @@ impl Desktop {
 
     /// A connection of a session ends: its ids are freed, and what nothing refers to any more goes. After Memory all is as
     /// before.
-    #[tactic(auto, unfolding(crate::specs::World::desktop_of))]
+    #[tactic(auto, unfolding(crate::specs::World::desktop_of, crate::specs::World::began_of))]
     pub fn leave(&mut self, session: u32, connection: u32) -> Result<(), Memory>
         requires { IsSome (lookup (desktop_of self.old).device.clients (client session connection)) }
         ensures left { OnOk result (desktop_of self.new ≡ (desktop_for session).leave (desktop_of self.old) connection) }
         ensures kept { OnErr result (desktop_of self.new ≡ desktop_of self.old) }
+        ensures began { began_of self.new ≡ began_of self.old }
     {
         self.leave_counted::<Brand>(client(session, connection), Blank::new(1))
     }
@@ -100,6 +103,7 @@ impl Desktop {
         ensures refused { IfOk result (λ w. IsSome w.short ↔ (w.refusal ≡ Some no_memory)) }
         ensures told { IfOk result (λ w. AreTold w.told (AreDone client (parts_of self.old).device bytes.now (mark_after mark w.short))) }
         ensures kept { OnErr result (parts_of self.new ≡ parts_of self.old) }
+        ensures began { began_in self.new ≡ began_in self.old }
     {
         let mut pixels = Steps::<L>::new(blank);
         let device = Snapshot::of(&self.device);
@@ -133,7 +137,7 @@ impl Desktop {
     /// Does the messages that the bytes spell, until one is refused; those before it stand. It stops before a message that is
     /// not refused where its mark stands or memory runs out, which is the refusal 24. Memory where that is the first one; then
     /// all is as before.
-    #[tactic(auto, unfolding(crate::specs::World::desktop_of))]
+    #[tactic(auto, unfolding(crate::specs::World::desktop_of, crate::specs::World::began_of))]
     pub fn write_data(
         &mut self,
         session: u32,
@@ -148,19 +152,21 @@ impl Desktop {
         ensures refused { IfOk result (λ w. IsSome w.short ↔ (w.refusal ≡ Some no_memory)) }
         ensures told { IfOk result (λ w. AreTold w.told (tells_for session connection (desktop_of self.old) bytes.now (mark_after mark w.short))) }
         ensures kept { OnErr result (desktop_of self.new ≡ desktop_of self.old) }
+        ensures began { began_of self.new ≡ began_of self.old }
     {
         self.write_counted::<Brand>(client(session, connection), bytes, mark, Blank::new(1))
     }
 
     /// The pending bytes of a connection, which are then gone. Refused by 26 exactly where there are none, and by 25 exactly
     /// where they are more than the most that may be read. After an `Err` all is as before.
-    #[tactic(auto, unfolding(crate::specs::World::desktop_of, model_world::specs::Whole::data_read))]
+    #[tactic(auto, unfolding(crate::specs::World::desktop_of, crate::specs::World::began_of, model_world::specs::Whole::data_read))]
     pub fn read_data(&mut self, session: u32, connection: u32, most: u32) -> Result<Bytes, Fault>
         requires { IsSome (lookup (desktop_of self.old).device.clients (client session connection)) }
         ensures read { IfOk result (λ bytes. (desktop_for session).read_data (desktop_of self.old) connection most ≡ Ok (bytes, desktop_of self.new)) }
         ensures short { IfOk result (λ bytes. length bytes ≤ most) }
         ensures refused { IfErr result (λ f. IfRefused f (λ n. (desktop_for session).read_data (desktop_of self.old) connection most ≡ Err n)) }
         ensures kept { OnErr result (desktop_of self.new ≡ desktop_of self.old) }
+        ensures began { began_of self.new ≡ began_of self.old }
     {
         match self.device.read_data(client(session, connection), most) {
             Ok(bytes) => Ok(bytes),
@@ -196,12 +202,13 @@ impl Desktop {
 
     /// Chooses the image id that `ctl` describes from now on. Refused by 27 exactly where there are not four bytes, and by 4
     /// exactly where the connection does not know the id. After an `Err` all is as before.
-    #[tactic(auto, unfolding(crate::specs::World::desktop_of, model_world::specs::Whole::ctl_written))]
+    #[tactic(auto, unfolding(crate::specs::World::desktop_of, crate::specs::World::began_of, model_world::specs::Whole::ctl_written))]
     pub fn write_ctl(&mut self, session: u32, connection: u32, bytes: &[u8]) -> Result<(), Fault>
         requires { IsSome (lookup (desktop_of self.old).device.clients (client session connection)) }
         ensures chosen { OnOk result ((desktop_for session).write_ctl (desktop_of self.old) connection bytes.now ≡ Ok (desktop_of self.new)) }
         ensures refused { IfErr result (λ f. IfRefused f (λ n. (desktop_for session).write_ctl (desktop_of self.old) connection bytes.now ≡ Err n)) }
         ensures kept { OnErr result (desktop_of self.new ≡ desktop_of self.old) }
+        ensures began { began_of self.new ≡ began_of self.old }
     {
         match self.device.write_ctl(client(session, connection), bytes) {
             Ok(()) => Ok(()),

@@ -1,13 +1,14 @@
 //! The desktop as one value.
 
-ghost use Rattle.std.specs.Prelude.{◌≡◌, ◌≤◌, ◌^◌, ◌∷◌, ◌<ℤ◌, pos, [], map, IfOk};
-ghost use Rattle.r9_geom.specs.Geometry.{IsOrdered};
+ghost use Rattle.std.specs.Prelude.{◌≡◌, ◌≤◌, ◌<◌, ◌^◌, ◌∷◌, ◌<ℤ◌, pos, true, [], map, IfOk};
+ghost use Rattle.r9_geom.specs.Geometry.{height, width, IsOrdered};
+ghost use Rattle.r9_marks.specs.Cells.{cells_over};
 ghost use Rattle.model_cost.specs.Cells.{cells};
 ghost use Rattle.model_draw.specs.Files.{screen_file};
 ghost use Rattle.model_draw.specs.Orders.{picture_of};
 ghost use Rattle.model_rio.specs.Table.{window_of};
 ghost use Rattle.model_world.specs.Desktop.{first_desktop};
-ghost use Rattle.r9_desktop.specs.World.{desktop_of};
+ghost use Rattle.r9_desktop.specs.Marks.{AreCounted, IsBegun, IsCleared, IsMarked};
 
 use crate::spending::Spending;
 use crate::telling::{Panes, Snarfs, Users};
@@ -22,6 +23,7 @@ use r9_window::Window;
 use r9_wmgr::Manager;
 use std::alloc::Global;
 use std::collections::BTreeMap;
+use std::snapshot::Snapshot;
 
 /// What all sessions share: the draw device; the windows of all rios; whether the display has changed its size; by a window's
 /// serial what its files have, and which sessions have a fid whose attach named it, in ascending order; by the serial of its host
@@ -37,6 +39,9 @@ pub struct Desktop {
     pub(crate) snarfs: Snarfs,
     pub(crate) notes: Notes,
     pub(crate) spending: Spending,
+    // The moment of the display is the beginning of the turn, and what was written since then is counted.
+    ghost begun: { IsBegun spending.began.value device },
+    ghost counted: { AreCounted spending.began.value device spending.pixels },
 }
 
 /// What windows were told in a turn, each with the serial of its window, and how many pixels the turn wrote, or 2^64 - 1 where
@@ -48,6 +53,8 @@ pub struct Turn {
 }
 
 impl Desktop {
+    ghost use Rattle.r9_desktop.specs.World.{began_of, desktop_of, display_of};
+
     /// The desktop with which a server starts: a display with these channels, and no windows.
     #[tactic(auto, unfolding(crate::specs::World::desktop_of))]
     pub fn start(alloc: Global, r: Rect, chan: Chan) -> Result<Self, Memory>
@@ -58,7 +65,9 @@ impl Desktop {
         requires height { r.max.y <ℤ pos (2 ^ 32) }
         ensures { IfOk result (λ desktop. desktop_of desktop ≡ first_desktop (record { r = r; chan = chan })) }
     {
-        let device = Draw::start(alloc, r, chan)?;
+        let mut device = Draw::start(alloc, r, chan)?;
+        device.look();
+        let spending = Spending::begun(&device);
         let mut snarfs = BTreeMap::new(alloc);
         snarfs.insert(0, Bytes::new(alloc))?;
         Ok(Desktop {
@@ -70,7 +79,7 @@ impl Desktop {
             users: BTreeMap::new(alloc),
             snarfs,
             notes: Notes::new(alloc),
-            spending: Spending::none(),
+            spending,
         })
     }
 
@@ -84,18 +93,55 @@ impl Desktop {
 
     /// The turn ends, and another begins: what windows were told in it, and how many pixels it wrote, which is at most what all that
     /// it asked of the draw device costs.
-    #[tactic(auto, unfolding(crate::specs::World::desktop_of))]
+    #[tactic(auto, unfolding(crate::specs::World::desktop_of, crate::specs::World::display_of, crate::specs::World::began_of))]
     pub fn take_turn(&mut self) -> Turn
         ensures taken { result.notes ≡ (desktop_of self.old).notes }
         ensures pixels { result.pixels ≤ (desktop_of self.old).cost }
         ensures left { desktop_of self.new ≡ record (desktop_of self.old) { notes = []; cost = 0 } }
+        ensures display { display_of self.new ≡ display_of self.old }
+        // In the turn each cell of the display in which a pixel has changed was marked, none has lost its mark, and no more were marked
+        // than pixels were written.
+        ensures marks { (began_of self.old).nowhere ≡ true → IsMarked (began_of self.old) (display_of self.old) result.pixels }
     {
+        self.device.since();
+        self.device.look();
         let notes = std::mem::replace(&mut self.notes, Notes::new(self.alloc));
-        let spending = std::mem::replace(&mut self.spending, Spending::none());
+        let spending = std::mem::replace(&mut self.spending, Spending::begun(&self.device));
         Turn {
             notes,
             pixels: spending.pixels(),
         }
+    }
+
+    /// A turn begins. Nothing is done.
+    #[tactic(auto, unfolding(crate::specs::World::desktop_of, crate::specs::World::display_of, crate::specs::World::began_of))]
+    pub fn begin_turn(&mut self)
+        ensures same { desktop_of self.new ≡ desktop_of self.old }
+        ensures display { display_of self.new ≡ display_of self.old }
+        ensures began { began_of self.new ≡ display_of self.old }
+    {
+        self.device.look();
+        self.spending.began = Snapshot::of(&self.device);
+    }
+
+    /// Whether a cell of the display, of 32 by 32 pixels, is marked: whether a pixel of it was written since its marks were cleared.
+    #[tactic(auto, unfolding(crate::specs::World::display_of))]
+    pub fn marked(&self, column: u32, row: u32) -> bool
+        requires column { column < cells_over (width (display_of self.now).r) }
+        requires row { row < cells_over (height (display_of self.now).r) }
+        ensures { result ≡ (display_of self.now).marked column row }
+    {
+        self.device.marked(column, row)
+    }
+
+    /// Clears the marks of the display. A turn begins.
+    #[tactic(auto, unfolding(crate::specs::World::desktop_of, crate::specs::World::display_of, crate::specs::World::began_of))]
+    pub fn clear_marks(&mut self)
+        ensures same { desktop_of self.new ≡ desktop_of self.old }
+        ensures cleared { IsCleared (display_of self.old) (display_of self.new) }
+    {
+        self.device.clear_marks();
+        self.spending.began = Snapshot::of(&self.device);
     }
 
     /// What the files of windows have, by the windows' serials.

@@ -7,7 +7,7 @@ ghost use Rattle.model_imgfile.specs.ImageFile.{file_part};
 ghost use Rattle.model_draw.specs.Orders.{picture_of};
 ghost use Rattle.model_window.specs.Heard.{Labelled};
 ghost use Rattle.model_world.specs.Whole.{desktop_for};
-ghost use Rattle.r9_desktop.specs.World.{desktop_of};
+ghost use Rattle.r9_desktop.specs.World.{began_of, desktop_of};
 
 use crate::desktop::Desktop;
 use crate::telling::set_label;
@@ -26,10 +26,11 @@ impl Desktop {
     }
 
     /// Bytes are written to a window's `label`. After Memory all is as before.
-    #[tactic(auto, unfolding(crate::specs::World::desktop_of))]
+    #[tactic(auto, unfolding(crate::specs::World::desktop_of, crate::specs::World::began_of))]
     pub fn set_label(&mut self, window: u32, bytes: &[u8]) -> Result<(), Memory>
         ensures labelled { OnOk result (desktop_of self.new ≡ (desktop_for 0).hear (desktop_of self.old) window (Labelled bytes.now)) }
         ensures kept { OnErr result (desktop_of self.new ≡ desktop_of self.old) }
+        ensures began { began_of self.new ≡ began_of self.old }
     {
         set_label(&mut self.panes, window, bytes)
     }
@@ -57,9 +58,10 @@ impl Desktop {
     }
 
     /// Another text is the snarf of the rio of a host.
-    #[tactic(auto, unfolding(crate::specs::World::desktop_of))]
+    #[tactic(auto, unfolding(crate::specs::World::desktop_of, crate::specs::World::began_of))]
     pub fn set_snarf(&mut self, host: u32, contents: Bytes)
-        ensures { desktop_of self.new ≡ (desktop_for 0).with_snarf (desktop_of self.old) host contents }
+        ensures snarf { desktop_of self.new ≡ (desktop_for 0).with_snarf (desktop_of self.old) host contents }
+        ensures began { began_of self.new ≡ began_of self.old }
     {
         if let Some(held) = self.snarfs.get_mut(&host) {
             *held = contents;

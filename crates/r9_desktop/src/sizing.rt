@@ -8,7 +8,7 @@ ghost use Rattle.model_world.specs.Reading.{size_text};
 ghost use Rattle.model_world.specs.Whole.{resized, size_of};
 ghost use Rattle.r9_around.specs.Words.{IfRefused};
 ghost use Rattle.r9_desktop.specs.Words.{SameClients};
-ghost use Rattle.r9_desktop.specs.World.{desktop_of};
+ghost use Rattle.r9_desktop.specs.World.{began_of, desktop_of};
 
 use crate::desktop::Desktop;
 use model_words::Size;
@@ -75,12 +75,13 @@ impl Desktop {
 
     /// Gives the display another size; windows that have no point of it move to its corner. Refused by 47 exactly where a window
     /// in one that moves would come too far out, and then all is as before; of Memory nothing is said.
-    #[tactic(auto, unfolding(crate::specs::World::desktop_of, model_world::specs::Whole::resized))]
+    #[tactic(auto, unfolding(crate::specs::World::desktop_of, crate::specs::World::began_of, model_world::specs::Whole::resized))]
     pub fn resize(&mut self, size: Size) -> Result<(), Fault>
         ensures done { OnOk result (resized (desktop_of self.old) size ≡ Ok (desktop_of self.new)) }
         ensures refused { IfErr result (λ f. IfRefused f (λ n. resized (desktop_of self.old) size ≡ Err n)) }
         ensures kept { IfErr result (λ f. IfRefused f (λ n. desktop_of self.new ≡ desktop_of self.old)) }
         ensures clients { OnOk result (SameClients (desktop_of self.old) (desktop_of self.new)) }
+        ensures began { began_of self.new ≡ began_of self.old }
     {
         let Size { width, height } = size;
         self.step(Act::Size { width, height })

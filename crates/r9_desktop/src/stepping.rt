@@ -10,11 +10,11 @@ ghost use Rattle.model_world.specs.Whole.{with_cost};
 ghost use Rattle.r9_wmgr.specs.Acts.{act_of, AreKeys};
 ghost use Rattle.r9_around.specs.Words.{IfRefused};
 ghost use Rattle.r9_desktop.specs.Words.{SameClients};
-ghost use Rattle.r9_desktop.specs.World.{parts_of};
+ghost use Rattle.r9_desktop.specs.World.{began_in, parts_of};
 
 use crate::desktop::Desktop;
 use crate::sizing::is_as_large;
-use crate::spending::Ordered;
+use crate::spending::{Ordered, Wasted};
 use crate::telling::{order_snarfs, tell_panes, tell_users};
 use model_draw::orders_keep_connections;
 use model_rio::acts_end_no_connection;
@@ -34,20 +34,24 @@ impl Desktop {
         requires name { blank.name ≡ L.name }
         requires parts { blank.parts ≡ L.parts }
         requires some { 0 < L.parts }
-        ensures { OnOk result (parts_of self.new ≡ with_cost (parts_of self.old) (carried_out (parts_of self.old).device orders.now) (orders_cost (parts_of self.old).device orders.now)) }
+        ensures obeyed { OnOk result (parts_of self.new ≡ with_cost (parts_of self.old) (carried_out (parts_of self.old).device orders.now) (orders_cost (parts_of self.old).device orders.now)) }
+        ensures began { began_in self.new ≡ began_in self.old }
     {
         let mut pixels = Steps::<L>::new(blank);
         let device = Snapshot::of(&self.device);
-        self.device.orders(orders, &mut pixels)?;
-        self.spending
-            .add(pixels.count(), &Ordered { device, orders });
-        Ok(())
+        let done = self.device.orders(orders, &mut pixels);
+        let count = pixels.count();
+        match done {
+            Ok(()) => self.spending.add(count, &Ordered { device, orders }),
+            Err(Memory) => self.spending.add(count, &Wasted(count)),
+        }
+        done
     }
 
     /// Does what a step asks of the draw device, and tells windows and rios what happened. The table of windows is that of
     /// the step already.
     fn follow(&mut self, step: Step) -> Result<(), Memory>
-        ensures { OnOk result (parts_of self.new ≡ record {
+        ensures followed { OnOk result (parts_of self.new ≡ record {
           device = carried_out (parts_of self.old).device step.orders;
           table = (parts_of self.old).table;
           sized = (parts_of self.old).sized;
@@ -57,6 +61,7 @@ impl Desktop {
           notes = (parts_of self.old).notes ++ step.notes;
           cost = (parts_of self.old).cost + orders_cost (parts_of self.old).device step.orders;
         }) }
+        ensures began { began_in self.new ≡ began_in self.old }
     {
         let Step { orders, notes } = step;
         self.obey::<Brand>(&orders, Blank::new(1))?;
@@ -68,7 +73,8 @@ impl Desktop {
 
     /// Whether the display has changed its size, where it had this rectangle before.
     fn notice_size(&mut self, before: &Rect)
-        ensures { parts_of self.new ≡ record (parts_of self.old) { sized = (parts_of self.old).sized || not (is_as_large before.now (parts_of self.old).table.r) } }
+        ensures noticed { parts_of self.new ≡ record (parts_of self.old) { sized = (parts_of self.old).sized || not (is_as_large before.now (parts_of self.old).table.r) } }
+        ensures began { began_in self.new ≡ began_in self.old }
     {
         self.sized = self.sized || !is_as_large(before, &self.manager.rect());
     }
@@ -82,6 +88,7 @@ impl Desktop {
         ensures refused { IfErr result (λ f. IfRefused f (λ n. rio (parts_of self.old).table (act_of act) ≡ Err n)) }
         ensures kept { IfErr result (λ f. IfRefused f (λ n. parts_of self.new ≡ parts_of self.old)) }
         ensures clients { OnOk result (SameClients (parts_of self.old) (parts_of self.new)) }
+        ensures began { began_in self.new ≡ began_in self.old }
     {
         acts_end_no_connection();
         orders_keep_connections();
@@ -101,6 +108,7 @@ impl Desktop {
         requires keys { AreKeys act }
         ensures done { OnOk result (parts_of self.new ≡ stepped_if (parts_of self.old) (rio (parts_of self.old).table (act_of act))) }
         ensures clients { OnOk result (SameClients (parts_of self.old) (parts_of self.new)) }
+        ensures began { began_in self.new ≡ began_in self.old }
     {
         match self.step(act) {
             Ok(()) | Err(Fault::Refused(_)) => Ok(()),

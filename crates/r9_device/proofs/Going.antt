@@ -158,6 +158,10 @@ lives-other now i n false e h = e
 pub other-live : (book : Book) (now : World) (past rest : List Thing) (i n : ℕ) → IsGoing book now past (Shown i ∷ rest) → (n == i) ≡ false → is_some (after_release now i n) ≡ is_some (now n)
 other-live book now past rest i n g e = released-live now i n (λ p stands. g.parents i p (next-live book now past rest i g) stands) e
 
+-- what lives after an image has gone lived before
+pub lived : (book : Book) (now : World) (past rest : List Thing) (i n : ℕ) → IsGoing book now past (Shown i ∷ rest) → is_some (after_release now i n) ≡ true → is_some (now n) ≡ true
+lived book now past rest i n g h = sym (other-live book now past rest i n g (lives-other now i n (n == i) refl h)) ∙ h
+
 dead : (book : Book) (now : World) (past rest : List Thing) (i n : ℕ) → IsGoing book now past (Shown i ∷ rest) → (b : Bool) → (n == i) ≡ b → ((n == i) ≡ false → is_some (now n) ≡ false) → is_some (after_release now i n) ≡ false
 dead book now past rest i n g true e h = ap is_some (released-none now i n e)
 dead book now past rest i n g false e h = other-live book now past rest i n g e ∙ h e

@@ -4,6 +4,7 @@ use Rattle.std.specs.Prelude.{◌==◌, ◌||◌, ◌&&◌, find, option_map, is
 use Rattle.std.specs.List.{list_any}
 use Rattle.std.specs.Option.{option_map_or}
 use Rattle.std.proofs.lemmas.Bool.Decides.{nat_tests}
+use Rattle.model_forest.specs.World.{World}
 use Rattle.model_text.specs.Outcome.{◌>>=◌, refuse_if, value_or_refuse}
 use Rattle.model_images.specs.declared.ImageId.{ImageId}
 use Rattle.model_images.specs.declared.Screen.{Screen as Filled}
@@ -12,6 +13,7 @@ use Rattle.model_images.specs.declared.Thing.TheVariants.{Image, Screen}
 use Rattle.model_images.specs.Book.{Book, fill_of, image, image_id, image_of, is_stale, public, screen, screen_id, screen_numbered}
 use Rattle.model_images.specs.Release.{is_used, refers_to}
 use Rattle.model_images.proofs.Freed.{any-at}
+use Rattle.r9_device.specs.Kept.{IsKept}
 
 pub first_true : (a b : Bool) → a ≡ true → (a || b) ≡ true
 first_true true b h = refl
@@ -51,6 +53,10 @@ shown-used book k id i h = by (image_id book k id) refl h
     by (Some x) e h =
         let same : x.image ≡ i = cc in
         first_true _ _ (find-any _ (λ y. y.image == i) book.image_ids x e (grind (arith, nat_tests)))
+
+-- the display is there
+pub display-lives : (images : World) (book : Book) → IsKept images book → is_some (images 0) ≡ true
+display-lives images book kept = kept.live 0 (shown-used book 0 0 0 kept.display)
 
 pub screen-used : (book : Book) (k id s : ℕ) → screen book k id ≡ Ok s → is_used book (Screen s) ≡ true
 unfolding screen

@@ -2,7 +2,7 @@
 
 ghost use Rattle.std.specs.Prelude.{ℕ, ◌+◌, true, false, Ok, is_some, ◌≡◌, ◌≤◌, ◌<◌, ◌^◌, ◌<ℤ◌, pos, None, Some, IfOk, OnOk, OnErr, IsSome};
 ghost use Rattle.r9_geom.specs.Geometry.{area_of, IsOrdered};
-ghost use Rattle.r9_layers.specs.Forest.{numbers, room, world};
+ghost use Rattle.r9_layers.specs.Forest.{moment, numbers, room, world, writes};
 ghost use Rattle.std.specs.List.{fold};
 ghost use Rattle.model_text.specs.Map.{lookup};
 ghost use Rattle.model_draw.specs.Sound.{IsAllUsed};
@@ -10,6 +10,7 @@ ghost use Rattle.model_draw.specs.Orders.{dot, everywhere, with_root_rio};
 ghost use Rattle.model_draw.specs.World.{started, after_connect, after_leave};
 ghost use Rattle.model_cost.specs.Cost.{going_all, leave_cost};
 ghost use Rattle.model_forest.specs.Numbers.{next_number, taken};
+ghost use Rattle.model_forest.specs.World.{IsLive};
 ghost use Rattle.model_forest.specs.Steps.{after_image, after_set};
 ghost use Rattle.model_images.specs.Book.{add_id, empty_book, new_screen, Book as Ids};
 ghost use Rattle.model_pixel.specs.Channels as channels;
@@ -79,6 +80,8 @@ fn root_fill(forest: &mut Forest, chan: Chan, grey: u32) -> Result<ImageNo, Memo
     ensures made { IfOk result (λ i. world forest.new ≡ after_set (after_image (world forest.old) i.0 dot chan grey) i.0 true everywhere) }
     ensures taken { OnOk result (numbers forest.new ≡ taken (numbers forest.old)) }
     ensures room { room forest.old ≤ room forest.new }
+    ensures moment { (j : ℕ) → IsLive (world forest.old) j → moment forest.new j ≡ moment forest.old j }
+    ensures writes { writes forest.new ≡ writes forest.old }
 {
     let dot = Rect {
         min: Point { x: 0, y: 0 },
@@ -116,6 +119,8 @@ pub fn release<L: Ledger>(forest: &mut Forest, gone: &[Thing], steps: &mut Steps
     ensures numbers { numbers forest.new ≡ fold numbers_without (numbers forest.old) gone.now }
     ensures room { room forest.old ≤ room forest.new }
     ensures steps { steps.new ≤ steps.old + going_all (world forest.old) gone.now }
+    ensures moment { (j : ℕ) → IsLive (world forest.new) j → moment forest.new j ≡ moment forest.old j }
+    ensures writes { writes forest.new + steps.old ≡ writes forest.old + steps.new }
 {
     forest.keeps();
     for thing in gone {
@@ -127,7 +132,7 @@ pub fn release<L: Ledger>(forest: &mut Forest, gone: &[Thing], steps: &mut Steps
 }
 
 impl Device {
-    ghost use Rattle.r9_device.specs.World.{world_of};
+    ghost use Rattle.r9_device.specs.World.{moment_of, world_of, writes_of};
 
     /// A device with its display, all of it the grey of the background, and the root rio's screen on it.
     pub fn start(alloc: Global, r: Rect, chan: Chan) -> Result<Self, Memory>
@@ -174,6 +179,8 @@ impl Device {
         requires fresh { lookup (world_of self.old).clients client ≡ None }
         ensures made { OnOk result (world_of self.new ≡ after_connect (world_of self.old) client) }
         ensures kept { OnErr result (world_of self.new ≡ world_of self.old) }
+        ensures moment { moment_of self.new ≡ moment_of self.old }
+        ensures writes { writes_of self.new ≡ writes_of self.old }
     {
         let begun = Client::new(self.alloc);
         self.clients.insert(client, begun)?;
@@ -187,6 +194,8 @@ impl Device {
         ensures kept { OnErr result (world_of self.new ≡ world_of self.old) }
         ensures steps { steps.new ≤ steps.old + leave_cost (world_of self.old) client }
         ensures uncounted { OnErr result (steps.new ≡ steps.old) }
+        ensures moment { moment_of self.new ≡ moment_of self.old }
+        ensures writes { writes_of self.new + steps.old ≡ writes_of self.old + steps.new }
     {
         leave_frees();
         self.forest.keeps();

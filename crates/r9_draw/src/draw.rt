@@ -26,7 +26,7 @@ pub struct Draw {
 }
 
 impl Draw {
-    ghost use Rattle.r9_draw.specs.World.{world_of};
+    ghost use Rattle.r9_draw.specs.World.{moment_of, world_of, writes_of};
 
     /// A device with its display, all of it the grey of the background, and the root rio's screen on it.
     pub fn start(alloc: Global, r: Rect, chan: Chan) -> Result<Self, Memory>
@@ -62,6 +62,8 @@ impl Draw {
         requires fresh { lookup (world_of self.old).clients client ≡ None }
         ensures made { OnOk result (world_of self.new ≡ after_connect (world_of self.old) client) }
         ensures kept { OnErr result (world_of self.new ≡ world_of self.old) }
+        ensures moment { moment_of self.new ≡ moment_of self.old }
+        ensures writes { writes_of self.new ≡ writes_of self.old }
     {
         self.device.connect(client)
     }
@@ -74,6 +76,8 @@ impl Draw {
         ensures kept { OnErr result (world_of self.new ≡ world_of self.old) }
         ensures pixels { pixels.new ≤ pixels.old + leave_cost (world_of self.old) client }
         ensures uncounted { OnErr result (pixels.new ≡ pixels.old) }
+        ensures moment { moment_of self.new ≡ moment_of self.old }
+        ensures writes { writes_of self.new + pixels.old ≡ writes_of self.old + pixels.new }
     {
         self.device.leave(client, pixels)
     }
@@ -83,6 +87,8 @@ impl Draw {
     pub fn orders<L: Ledger>(&mut self, list: &Orders, pixels: &mut Steps<L>) -> Result<(), Memory>
         ensures done { OnOk result (world_of self.new ≡ carried_out (world_of self.old) list.now) }
         ensures pixels { OnOk result (pixels.new ≤ pixels.old + orders_cost (world_of self.old) list.now) }
+        ensures moment { moment_of self.new ≡ moment_of self.old }
+        ensures writes { writes_of self.new + pixels.old ≡ writes_of self.old + pixels.new }
     {
         carry_out(&mut self.device, list, pixels)
     }

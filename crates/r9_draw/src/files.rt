@@ -8,7 +8,7 @@ ghost use Rattle.r9_draw.specs.Described.{fields_of};
 ghost use Rattle.model_draw.specs.Files.{read_data, read_ctl, write_ctl};
 ghost use Rattle.model_draw.specs.World.{client_of};
 ghost use Rattle.r9_draw.specs.Refused.{IfRefused};
-ghost use Rattle.r9_draw.specs.World.{world_of};
+ghost use Rattle.r9_draw.specs.World.{moment_of, world_of, writes_of};
 
 use crate::draw::Draw;
 use crate::fault::DrawFault;
@@ -56,6 +56,8 @@ impl Draw {
         ensures short { IfOk result (λ bytes. length bytes ≤ most) }
         ensures refused { IfErr result (λ f. IfRefused f (λ n. read_data client (world_of self.old) most ≡ Err n)) }
         ensures kept { OnErr result (world_of self.new ≡ world_of self.old) }
+        ensures moment { moment_of self.new ≡ moment_of self.old }
+        ensures writes { writes_of self.new ≡ writes_of self.old }
     {
         let len = pending_len(&self.device.clients, client);
         if len == 0 {
@@ -105,6 +107,8 @@ impl Draw {
         ensures chosen { OnOk result (write_ctl client (world_of self.old) bytes.now ≡ Ok (world_of self.new)) }
         ensures refused { IfErr result (λ f. IfRefused f (λ n. write_ctl client (world_of self.old) bytes.now ≡ Err n)) }
         ensures kept { OnErr result (world_of self.new ≡ world_of self.old) }
+        ensures moment { moment_of self.new ≡ moment_of self.old }
+        ensures writes { writes_of self.new ≡ writes_of self.old }
     {
         let Some(id) = id_of(bytes) else {
             return Err(DrawFault::Refused(27));

@@ -5,6 +5,7 @@ mod draw;
 mod fault;
 mod files;
 mod listed;
+mod marks;
 mod message;
 mod shown;
 mod write;

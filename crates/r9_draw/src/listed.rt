@@ -1,11 +1,11 @@
 //! The messages that have lists. What they are refused for is found without memory.
 
-ghost use Rattle.std.specs.Prelude.{◌≡◌, ◌≤◌, Ok, Err, IsSome, length, drop};
+ghost use Rattle.std.specs.Prelude.{◌≡◌, ◌≤◌, Ok, Err, IsSome, length, drop, ◌+◌};
 ghost use Rattle.model_text.specs.Map.{lookup};
 ghost use Rattle.model_dmsg.specs.Reading.{IsMessage, first_message};
 ghost use Rattle.r9_dmsg.specs.Listed.{listed_len, listed_message, HasShortList, IsNearListed};
 ghost use Rattle.r9_draw.specs.Steps.{IsCounted, IsStep};
-ghost use Rattle.r9_device.specs.World.{world_of};
+ghost use Rattle.r9_device.specs.World.{moment_of, world_of, writes_of};
 
 use crate::message::Step;
 use r9_device::Device;
@@ -30,6 +30,8 @@ pub(crate) fn listed_message<L: Ledger>(
     requires within { listed_len asked.now ≤ length bytes.now }
     ensures step { IsStep client (world_of device.old) bytes.now marked result (world_of device.new) }
     ensures steps { IsCounted client (world_of device.old) bytes.now result steps.old steps.new }
+    ensures moment { moment_of device.new ≡ moment_of device.old }
+    ensures writes { writes_of device.new + steps.old ≡ writes_of device.old + steps.new }
 {
     if let Err(refusal) = look_listed(device, client, asked) {
         return Step::Refused(refusal);

@@ -8,7 +8,7 @@ ghost use Rattle.model_text.specs.Map.{lookup};
 ghost use Rattle.r9_dmsg.specs.Listed.{has_list};
 ghost use Rattle.r9_dmsg.specs.View.{message_of};
 ghost use Rattle.r9_draw.specs.Steps.{HasRows, IsCounted, IsStep, rows_by};
-ghost use Rattle.r9_device.specs.World.{world_of};
+ghost use Rattle.r9_device.specs.World.{moment_of, world_of, writes_of};
 ghost use Rattle.r9_messages.specs.Costs.{plan_cost};
 ghost use Rattle.r9_messages.specs.Plans.{IsReady, after, is_spare, rows_behind};
 ghost use Rattle.std.specs.Prelude.{IsSome, ◌+◌, List, OnErr, OnOk, drop, false, length, ℕ, ◌++◌, ◌<◌, ◌^◌, ◌≡◌, ◌≤◌};
@@ -75,6 +75,8 @@ fn do_plan<L: Ledger>(
     ensures memory { OnErr result (takes_no_memory client (world_of device.old) (message_of message.now) ≡ false) }
     ensures steps { steps.new ≤ steps.old + plan_cost client (world_of device.old) plan.now }
     ensures uncounted { OnErr result (steps.new ≡ steps.old) }
+    ensures moment { moment_of device.new ≡ moment_of device.old }
+    ensures writes { writes_of device.new + steps.old ≡ writes_of device.old + steps.new }
 {
     let known = rows.len();
     push_rows(rows, message, plan.rows_behind() as u32)?;
@@ -102,6 +104,8 @@ pub(crate) fn plain_message<L: Ledger>(
     ensures step { IsStep client (world_of device.old) bytes.now marked result (world_of device.new) }
     ensures rows { HasRows client (world_of device.old) bytes.now result rows.old rows.new }
     ensures steps { IsCounted client (world_of device.old) bytes.now result steps.old steps.new }
+    ensures moment { moment_of device.new ≡ moment_of device.old }
+    ensures writes { writes_of device.new + steps.old ≡ writes_of device.old + steps.new }
 {
     let message = match next_msg(device.alloc, bytes) {
         Ok(message) => message,
@@ -141,6 +145,8 @@ pub(crate) fn one_message<L: Ledger>(
     ensures step { IsStep client (world_of device.old) bytes.now marked result (world_of device.new) }
     ensures rows { HasRows client (world_of device.old) bytes.now result rows.old rows.new }
     ensures steps { IsCounted client (world_of device.old) bytes.now result steps.old steps.new }
+    ensures moment { moment_of device.new ≡ moment_of device.old }
+    ensures writes { writes_of device.new + steps.old ≡ writes_of device.old + steps.new }
 {
     match next_listed(bytes) {
         Some(asked) => listed_message(device, client, bytes, &asked, marked, steps),

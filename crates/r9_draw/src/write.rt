@@ -6,7 +6,7 @@ ghost use Rattle.model_cost.specs.Cost.{messages_cost};
 ghost use Rattle.model_draw.specs.Act.{is_marked, no_memory, written, written_within};
 ghost use Rattle.model_draw.specs.Memory.{MayRunOut};
 ghost use Rattle.model_looked.specs.Rows.{rows_within};
-ghost use Rattle.r9_draw.specs.World.{world_of};
+ghost use Rattle.r9_draw.specs.World.{moment_of, world_of, writes_of};
 
 use crate::draw::Draw;
 use crate::message::{Step, behind, one_message};
@@ -60,6 +60,8 @@ impl Draw {
         ensures memory { OnErr result ((world_of self.new ≡ world_of self.old) × ((n : ℕ) × MayRunOut client (world_of self.old) bytes.now n)) }
         ensures pixels { IfOk result (λ w. pixels.new ≤ pixels.old + messages_cost w.done client (world_of self.old) bytes.now) }
         ensures uncounted { OnErr result (pixels.new ≡ pixels.old) }
+        ensures moment { moment_of self.new ≡ moment_of self.old }
+        ensures writes { writes_of self.new + pixels.old ≡ writes_of self.old + pixels.new }
     {
         let mut rest = bytes;
         let mut done = 0;
@@ -116,6 +118,8 @@ impl Draw {
         ensures rows { result.rows ≡ rows_within result.done client (world_of self.old) bytes.now }
         ensures cause { result.short ≡ true → MayRunOut client (world_of self.old) bytes.now result.done }
         ensures pixels { pixels.new ≤ pixels.old + messages_cost result.done client (world_of self.old) bytes.now }
+        ensures moment { moment_of self.new ≡ moment_of self.old }
+        ensures writes { writes_of self.new + pixels.old ≡ writes_of self.old + pixels.new }
     {
         let mut rest = bytes;
         let mut done = 0;

@@ -5,6 +5,7 @@ pub mod Going
 pub mod Groups
 pub mod Keepers
 pub mod Leftover
+pub mod Looking
 pub mod Making
 pub mod Moves
 pub mod Numbers

@@ -2,6 +2,7 @@ pub mod Given
 pub mod Groups
 pub mod Images
 pub mod Keeping
+pub mod Marks
 pub mod Numbered
 pub mod Replaced
 pub mod Room

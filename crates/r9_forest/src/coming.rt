@@ -49,7 +49,7 @@ pub(crate) fn content(given: Given, r: Rect, room: &[u32]) -> Content<'_>
 }
 
 impl Images {
-    ghost use Rattle.r9_forest.specs.Images.{numbers, world, IsUnchanged};
+    ghost use Rattle.r9_forest.specs.Images.{moment, numbers, world, writes, IsUnchanged};
 
     /// Makes a window of one raw pixel on an image, topmost, with the channels of that image, all of r as its place and its
     /// clip rectangle, and an image that fills what it uncovers. At most two pixels are written for each point of r.
@@ -73,6 +73,8 @@ impl Images {
         ensures err { OnErr result (IsUnchanged self.old self.new) }
         ensures steps { steps.new ≤ steps.old + 2 * area_of r }
         ensures uncounted { OnErr result (steps.new ≡ steps.old) }
+        ensures moment { moment self.new ≡ moment self.old }
+        ensures writes { writes self.new + steps.old ≡ writes self.old + steps.new }
     {
         self.reserve_window(&r)?;
         let below = self.lists.get(parent);
@@ -138,6 +140,8 @@ impl Images {
         ensures err { OnErr result (IsUnchanged self.old self.new) }
         ensures steps { steps.new ≤ steps.old + 2 * area_of r }
         ensures uncounted { OnErr result (steps.new ≡ steps.old) }
+        ensures moment { moment self.new ≡ moment self.old }
+        ensures writes { writes self.new + steps.old ≡ writes self.old + steps.new }
     {
         let made = self.lists.len();
         // Nothing becomes bare.

@@ -4,7 +4,7 @@ ghost use Rattle.std.specs.Prelude.{◌≡◌, ◌^◌, ◌<◌, ◌≤◌, ℕ,
 ghost use Rattle.r9_geom.specs.Geometry.{area_of, IsOrdered, IsRectNearBy};
 ghost use Rattle.model_pixel.specs.Channels as channels;
 ghost use Rattle.model_forest.specs.Numbers.{next_number, no_numbers, taken};
-ghost use Rattle.model_forest.specs.World.{IsForest};
+ghost use Rattle.model_forest.specs.World.{IsForest, IsLive};
 ghost use Rattle.model_forest.specs.Steps.{after_image};
 ghost use Rattle.r9_locate.specs.Table.{made, shape, HasRoom};
 ghost use Rattle.r9_pixels.specs.Kept.{room_of};
@@ -40,7 +40,7 @@ pub struct Images {
 }
 
 impl Images {
-    ghost use Rattle.r9_forest.specs.Images.{numbers, world, IsUnchanged};
+    ghost use Rattle.r9_forest.specs.Images.{moment, numbers, world, writes, IsUnchanged};
 
     /// No image, and no number given out.
     pub fn new(alloc: Global) -> Self
@@ -67,6 +67,8 @@ impl Images {
         ensures pixels { OnOk result (made self.new.lists < room_of self.new.pixels) }
         ensures back { OnOk result (made self.new.lists < vec_capacity self.new.spare) }
         ensures kept { IsUnchanged self.old self.new }
+        ensures moment { moment self.new ≡ moment self.old }
+        ensures writes { writes self.new ≡ writes self.old }
     {
         let count = self.lists.len();
         self.lists.reserve()?;
@@ -83,6 +85,8 @@ impl Images {
         ensures back { OnOk result (made self.new.lists < vec_capacity self.new.spare) }
         ensures fills { OnOk result (area_of r.now ≤ vec_len self.new.room) }
         ensures kept { IsUnchanged self.old self.new }
+        ensures moment { moment self.new ≡ moment self.old }
+        ensures writes { writes self.new ≡ writes self.old }
     {
         self.reserve()?;
         let Some(count) = r.width().checked_mul(r.height()) else {
@@ -104,6 +108,8 @@ impl Images {
         ensures made { IfOk result (λ i. world self.new ≡ after_image (world self.old) i r chan raw) }
         ensures taken { OnOk result (numbers self.new ≡ taken (numbers self.old)) }
         ensures err { OnErr result (IsUnchanged self.old self.new) }
+        ensures moment { (j : ℕ) → IsLive (world self.old) j → moment self.new j ≡ moment self.old j }
+        ensures writes { writes self.new ≡ writes self.old }
     {
         // Its word is a descriptor, as those of all images are.
         let _ = chan.word();

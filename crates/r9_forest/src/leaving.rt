@@ -1,9 +1,9 @@
 //! Images that go.
 
-ghost use Rattle.std.specs.Prelude.{◌≡◌, ◌+◌, ◌*◌, ◌≤◌, None, Some};
+ghost use Rattle.std.specs.Prelude.{◌≡◌, ◌+◌, ◌*◌, ◌≤◌, ℕ, None, Some};
 ghost use Rattle.r9_geom.specs.Geometry.{area_of};
 ghost use Rattle.model_forest.specs.Numbers.{given_back};
-ghost use Rattle.model_forest.specs.World.{image_at, parent_of, CanGo};
+ghost use Rattle.model_forest.specs.World.{image_at, parent_of, CanGo, IsLive};
 ghost use Rattle.model_forest.specs.Steps.{after_release};
 
 use super::images::Images;
@@ -15,7 +15,7 @@ use r9_steps::Steps;
 use std::sync::ledger::Ledger;
 
 impl Images {
-    ghost use Rattle.r9_forest.specs.Images.{numbers, world};
+    ghost use Rattle.r9_forest.specs.Images.{moment, numbers, world, writes};
 
     /// Takes an image away on which nothing stands and which fills for no window: first from the list that it stands in,
     /// where the fill then shows, as it was before. It takes no memory. At most two pixels are written for each point of the
@@ -26,6 +26,8 @@ impl Images {
         ensures back { numbers self.new ≡ given_back (numbers self.old) i }
         ensures steps { steps.new ≤ steps.old + 2 * area_of (image_at (world self.old) i).r }
         ensures bare { parent_of (world self.old) i ≡ None → steps.new ≡ steps.old }
+        ensures moment { (j : ℕ) → IsLive (world self.new) j → moment self.new j ≡ moment self.old j }
+        ensures writes { writes self.new + steps.old ≡ writes self.old + steps.new }
     {
         match self.lists.get(i).standing {
             Some(standing) => self.take_out(i, standing, steps),
@@ -40,6 +42,8 @@ impl Images {
         ensures world { world self.new ≡ after_release (world self.old) i }
         ensures back { numbers self.new ≡ given_back (numbers self.old) i }
         ensures steps { steps.new ≤ steps.old + 2 * area_of (image_at (world self.old) i).r }
+        ensures moment { moment self.new ≡ moment self.old }
+        ensures writes { writes self.new + steps.old ≡ writes self.old + steps.new }
     {
         let below = self.lists.get(standing.parent);
         let chan = below.chan;
@@ -69,6 +73,8 @@ impl Images {
         requires nowhere { parent_of (world self.old) i ≡ None }
         ensures world { world self.new ≡ after_release (world self.old) i }
         ensures back { numbers self.new ≡ given_back (numbers self.old) i }
+        ensures moment { (j : ℕ) → IsLive (world self.new) j → moment self.new j ≡ moment self.old j }
+        ensures writes { writes self.new ≡ writes self.old }
     {
         take_whole(&mut self.lists, &mut self.pixels, i);
         let _ = self.spare.push(i);

@@ -6,6 +6,7 @@ mod filling;
 mod images;
 mod keeping;
 mod leaving;
+mod marking;
 mod moving;
 mod ordering;
 mod reading;

@@ -94,7 +94,7 @@ impl Filling {
 }
 
 impl Images {
-    ghost use Rattle.r9_forest.specs.Images.{numbers, world};
+    ghost use Rattle.r9_forest.specs.Images.{moment, numbers, world, writes};
 
     /// Gives an image another min in its own coordinates, where its pixels and its windows move along, and a window another
     /// corner on its parent, where its fill then shows. At most two pixels are written for each point where a window stood, and
@@ -115,6 +115,8 @@ impl Images {
         ensures steps { steps.new ≤ steps.old + 4 * area_of (image_at (world self.old) i).r }
         ensures uncounted { OnErr result (steps.new ≡ steps.old) }
         ensures still { IfSome (image_at (world self.old) i).standing (λ s. place_in (image_at (world self.old) s.parent).windows i ≡ carried_place (image_at (world self.old) i).r (image_at (world self.old) i).r.min corner) → steps.new ≡ steps.old }
+        ensures moment { moment self.new ≡ moment self.old }
+        ensures writes { writes self.new + steps.old ≡ writes self.old + steps.new }
     {
         let Some(standing) = self.lists.get(i).standing else {
             self.shift_own(i, min);
@@ -131,6 +133,8 @@ impl Images {
         requires min { IsNearBy (2 ^ 34) min }
         ensures world { world self.new ≡ with_image (world self.old) i (Some (shifted_image (image_at (world self.old) i) min)) }
         ensures numbers { numbers self.new ≡ numbers self.old }
+        ensures moment { moment self.new ≡ moment self.old }
+        ensures writes { writes self.new ≡ writes self.old }
     {
         shift(self.alloc, &mut self.lists, &mut self.pixels, i, min);
     }
@@ -151,6 +155,8 @@ impl Images {
         ensures steps { steps.new ≤ steps.old + 4 * area_of (image_at (world self.old) i).r }
         ensures uncounted { OnErr result (steps.new ≡ steps.old) }
         ensures still { place_in (image_at (world self.old) standing.parent).windows i ≡ carried_place (image_at (world self.old) i).r (image_at (world self.old) i).r.min corner → steps.new ≡ steps.old }
+        ensures moment { moment self.new ≡ moment self.old }
+        ensures writes { writes self.new + steps.old ≡ writes self.old + steps.new }
     {
         let r = self.lists.get(i).r;
         let place = carried_rect(&r, r.min, corner);
@@ -184,6 +190,8 @@ impl Images {
         ensures err { OnErr result (world self.new ≡ world self.old) }
         ensures steps { steps.new ≤ steps.old + 4 * area_of (image_at (world self.old) i).r }
         ensures uncounted { OnErr result (steps.new ≡ steps.old) }
+        ensures moment { moment self.new ≡ moment self.old }
+        ensures writes { writes self.new + steps.old ≡ writes self.old + steps.new }
     {
         if is_hidden {
             self.leave_place(i, standing, list, steps);
@@ -300,6 +308,8 @@ impl Images {
         ensures world { world self.new ≡ with_windows (world self.old) standing.parent list.items }
         ensures numbers { numbers self.new ≡ numbers self.old }
         ensures steps { steps.new ≤ steps.old + 4 * area_of (image_at (world self.old) i).r }
+        ensures moment { moment self.new ≡ moment self.old }
+        ensures writes { writes self.new + steps.old ≡ writes self.old + steps.new }
     {
         match rows {
             Some(rows) => self.move_shown(i, standing, rows, list, steps),
@@ -323,6 +333,8 @@ impl Images {
         ensures world { world self.new ≡ with_windows (world self.old) standing.parent list.items }
         ensures numbers { numbers self.new ≡ numbers self.old }
         ensures steps { steps.new ≤ steps.old + 2 * area_of (image_at (world self.old) i).r }
+        ensures moment { moment self.new ≡ moment self.old }
+        ensures writes { writes self.new + steps.old ≡ writes self.old + steps.new }
     {
         let left = self.place_of(i, &standing);
         let chan = self.lists.get(standing.parent).chan;
@@ -361,6 +373,8 @@ impl Images {
         ensures world { world self.new ≡ with_windows (world self.old) standing.parent list.items }
         ensures numbers { numbers self.new ≡ numbers self.old }
         ensures steps { steps.new ≤ steps.old + 4 * area_of (image_at (world self.old) i).r }
+        ensures moment { moment self.new ≡ moment self.old }
+        ensures writes { writes self.new + steps.old ≡ writes self.old + steps.new }
     {
         let fill = self.fill_rows(i, &standing, rows);
         self.take_place(i, standing, &fill, list, steps);
@@ -385,6 +399,8 @@ impl Images {
         ensures world { world self.new ≡ with_windows (world self.old) standing.parent list.items }
         ensures numbers { numbers self.new ≡ numbers self.old }
         ensures steps { steps.new ≤ steps.old + 4 * area_of (image_at (world self.old) i).r }
+        ensures moment { moment self.new ≡ moment self.old }
+        ensures writes { writes self.new + steps.old ≡ writes self.old + steps.new }
     {
         let left = self.place_of(i, &standing);
         self.read_shown(i);

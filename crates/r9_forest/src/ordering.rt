@@ -24,7 +24,7 @@ use r9_steps::Steps;
 use std::sync::ledger::Ledger;
 
 impl Images {
-    ghost use Rattle.r9_forest.specs.Images.{numbers, world};
+    ghost use Rattle.r9_forest.specs.Images.{moment, numbers, world, writes};
 
     /// Raises windows of one image above its others, in their order. At most two pixels are written for each point of
     /// these windows.
@@ -39,6 +39,8 @@ impl Images {
         ensures err { OnErr result (world self.new ≡ world self.old) }
         ensures steps { steps.new ≤ steps.old + 2 * group_area (world self.old) (map (λ i. i.0) group.now) }
         ensures uncounted { OnErr result (steps.new ≡ steps.old) }
+        ensures moment { moment self.new ≡ moment self.old }
+        ensures writes { writes self.new + steps.old ≡ writes self.old + steps.new }
     {
         let Some(parent) = self.parent_of_first(group) else {
             return Ok(());
@@ -61,6 +63,8 @@ impl Images {
         ensures err { OnErr result (world self.new ≡ world self.old) }
         ensures steps { steps.new ≤ steps.old + 2 * group_area (world self.old) (map (λ i. i.0) group.now) }
         ensures uncounted { OnErr result (steps.new ≡ steps.old) }
+        ensures moment { moment self.new ≡ moment self.old }
+        ensures writes { writes self.new + steps.old ≡ writes self.old + steps.new }
     {
         let Some(parent) = self.parent_of_first(group) else {
             return Ok(());
@@ -117,6 +121,8 @@ impl Images {
         ensures err { OnErr result (world self.new ≡ world self.old) }
         ensures steps { steps.new ≤ steps.old + 2 * sum_by area_of areas.now }
         ensures uncounted { OnErr result (steps.new ≡ steps.old) }
+        ensures moment { moment self.new ≡ moment self.old }
+        ensures writes { writes self.new + steps.old ≡ writes self.old + steps.new }
     {
         self.pixels
             .reserve_hidden(&self.lists, parent, &list, 0, areas)?;

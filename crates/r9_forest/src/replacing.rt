@@ -67,7 +67,7 @@ fn with_window(
 }
 
 impl Images {
-    ghost use Rattle.r9_forest.specs.Images.{numbers, world, IsUnchanged};
+    ghost use Rattle.r9_forest.specs.Images.{moment, numbers, world, writes, IsUnchanged};
 
     /// Makes a window directly above another, with its parent, its fill and its depth, at the place of r's size whose min is
     /// `corner`. It shows what the other shows, counted from both mins, or one raw pixel. The other moves far outside. At most
@@ -94,6 +94,8 @@ impl Images {
         ensures err { OnErr result (IsUnchanged self.old self.new) }
         ensures steps { steps.new ≤ steps.old + 2 * area_of r + 4 * area_of (image_at (world self.old) old).r }
         ensures uncounted { OnErr result (steps.new ≡ steps.old) }
+        ensures moment { moment self.new ≡ moment self.old }
+        ensures writes { writes self.new + steps.old ≡ writes self.old + steps.new }
     {
         let Some(left) = self.lists.get(old).standing else {
             return Err(Memory);
@@ -131,6 +133,8 @@ impl Images {
         ensures err { OnErr result (IsUnchanged self.old self.new) }
         ensures steps { steps.new ≤ steps.old + 2 * area_of r + 4 * area_of (image_at (world self.old) old).r }
         ensures uncounted { OnErr result (steps.new ≡ steps.old) }
+        ensures moment { moment self.new ≡ moment self.old }
+        ensures writes { writes self.new + steps.old ≡ writes self.old + steps.new }
     {
         let Some(left) = self.lists.get(old).standing else {
             return Err(Memory);
@@ -163,6 +167,8 @@ impl Images {
         ensures err { OnErr result (IsUnchanged self.old self.new) }
         ensures steps { steps.new ≤ steps.old + 2 * area_of r }
         ensures uncounted { OnErr result (steps.new ≡ steps.old) }
+        ensures moment { moment self.new ≡ moment self.old }
+        ensures writes { writes self.new + steps.old ≡ writes self.old + steps.new }
     {
         let Some(left) = self.lists.get(old).standing else {
             return Err(Memory);
@@ -199,6 +205,8 @@ impl Images {
         ensures err { OnErr result (IsUnchanged self.old self.new) }
         ensures steps { steps.new ≤ steps.old + 2 * area_of r }
         ensures uncounted { OnErr result (steps.new ≡ steps.old) }
+        ensures moment { moment self.new ≡ moment self.old }
+        ensures writes { writes self.new + steps.old ≡ writes self.old + steps.new }
     {
         let Some(left) = self.lists.get(old).standing else {
             return Err(Memory);
@@ -261,6 +269,8 @@ impl Images {
         ensures err { OnErr result (IsUnchanged self.old self.new) }
         ensures steps { steps.new ≤ steps.old + 2 * area_of r }
         ensures uncounted { OnErr result (steps.new ≡ steps.old) }
+        ensures moment { moment self.new ≡ moment self.old }
+        ensures writes { writes self.new + steps.old ≡ writes self.old + steps.new }
     {
         self.reserve_window(&r)?;
         let coming = self.first(standing.parent, over, &r, corner)?;
@@ -302,6 +312,8 @@ impl Images {
         ensures err { OnErr result (IsUnchanged self.old self.new) }
         ensures steps { steps.new ≤ steps.old + 2 * area_of r + 4 * area_of (image_at (world self.old) old).r }
         ensures uncounted { OnErr result (steps.new ≡ steps.old) }
+        ensures moment { moment self.new ≡ moment self.old }
+        ensures writes { writes self.new + steps.old ≡ writes self.old + steps.new }
     {
         self.reserve_window(&r)?;
         let exchange = self.prepare(old, left, standing.parent, over, &r, corner)?;

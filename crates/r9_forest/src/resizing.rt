@@ -13,11 +13,11 @@ use r9_steps::Steps;
 use std::sync::ledger::Ledger;
 
 impl Images {
-    ghost use Rattle.r9_forest.specs.Images.{numbers, world, IsUnchanged};
+    ghost use Rattle.r9_forest.specs.Images.{moment, numbers, world, writes, IsUnchanged};
 
     /// Gives an image that stands nowhere, such as the display, another size, and all of it as its clip rectangle. Its windows
     /// stay where they stand; points that it had keep their pixels, and each other one has a raw pixel. At most two pixels are
-    /// written for each point that it had, and one for each that it has then.
+    /// written for each point that it had, and two for each that it has then.
     pub fn resize<L: Ledger>(
         &mut self,
         i: u32,
@@ -31,8 +31,10 @@ impl Images {
         ensures resized { OnOk result (world self.new ≡ after_resize (world self.old) i width height raw) }
         ensures numbers { numbers self.new ≡ numbers self.old }
         ensures err { OnErr result (IsUnchanged self.old self.new) }
-        ensures steps { steps.new ≤ steps.old + 2 * area_of (image_at (world self.old) i).r + width * height }
+        ensures steps { steps.new ≤ steps.old + 2 * area_of (image_at (world self.old) i).r + 2 * (width * height) }
         ensures uncounted { OnErr result (steps.new ≡ steps.old) }
+        ensures moment { moment self.new ≡ moment self.old }
+        ensures writes { writes self.new + steps.old ≡ writes self.old + steps.new }
     {
         resize(
             self.alloc,

@@ -11,7 +11,7 @@ use r9_geom::Rect;
 use r9_info::{ImageNo, Info};
 
 impl Images {
-    ghost use Rattle.r9_forest.specs.Images.{numbers, world};
+    ghost use Rattle.r9_forest.specs.Images.{moment, numbers, world, writes};
 
     /// Makes an image repeat or not, and gives it another clip rectangle.
     pub fn set(&mut self, i: u32, repl: bool, clipr: Rect)
@@ -20,6 +20,8 @@ impl Images {
         requires near { IsRectNearBy (2 ^ 34) clipr }
         ensures world { world self.new ≡ after_set (world self.old) i repl clipr }
         ensures numbers { numbers self.new ≡ numbers self.old }
+        ensures moment { moment self.new ≡ moment self.old }
+        ensures writes { writes self.new ≡ writes self.old }
     {
         self.lists.set(i, repl, clipr);
     }

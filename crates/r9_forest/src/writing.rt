@@ -16,7 +16,7 @@ use r9_steps::Steps;
 use std::sync::ledger::Ledger;
 
 impl Images {
-    ghost use Rattle.r9_forest.specs.Images.{numbers, world};
+    ghost use Rattle.r9_forest.specs.Images.{moment, numbers, world, writes};
 
     /// Writes the pixels of a rectangle of an image, row by row. At most one is written for each.
     pub fn put_pixels<L: Ledger>(&mut self, i: u32, r: &Rect, pixels: &[u32], steps: &mut Steps<L>)
@@ -29,6 +29,8 @@ impl Images {
         ensures world { world self.new ≡ with_canvas (world self.old) i (holds r.now) (λ p. slice_index pixels.now (number_of r.now p)) }
         ensures numbers { numbers self.new ≡ numbers self.old }
         ensures steps { steps.new ≤ steps.old + area_of r.now }
+        ensures moment { moment self.new ≡ moment self.old }
+        ensures writes { writes self.new + steps.old ≡ writes self.old + steps.new }
     {
         put_rows(&self.lists, &mut self.pixels, i, r, pixels, steps);
     }
@@ -43,6 +45,8 @@ impl Images {
         ensures world { world self.new ≡ after_fill (world self.old) i r raw }
         ensures numbers { numbers self.new ≡ numbers self.old }
         ensures steps { steps.new ≤ steps.old + area_of r }
+        ensures moment { moment self.new ≡ moment self.old }
+        ensures writes { writes self.new + steps.old ≡ writes self.old + steps.new }
     {
         fill_area(&self.lists, &mut self.pixels, i, &r, raw, steps);
     }
@@ -57,6 +61,8 @@ impl Images {
         ensures world { world self.new ≡ after_load (world self.old) i r (row_pixel r (channels.depth (image_at (world self.old) i).chan) rows.now) }
         ensures numbers { numbers self.new ≡ numbers self.old }
         ensures steps { steps.new ≤ steps.old + area_of r }
+        ensures moment { moment self.new ≡ moment self.old }
+        ensures writes { writes self.new + steps.old ≡ writes self.old + steps.new }
     {
         load_area(&self.lists, &mut self.pixels, i, r, rows, steps);
     }

@@ -1,5 +1,5 @@
 -- What a session asks of a hall, as the server of its history may do it.
-use Rattle.std.proofs.Common.{◌≡◌, ◌≤◌, ◌<◌, ◌+◌, ◌^◌, inl, inr, ℕ, Bool, true, false, List, [], ◌∷◌, ◌++◌, Option, Some, None, length, refl, sym, ap, subst, ◌∙◌, arith, length-append}
+use Rattle.std.proofs.Common.{◌≡◌, ◌≤◌, ◌<◌, ◌+◌, ◌^◌, inl, inr, ℕ, Bool, true, false, List, [], ◌∷◌, ◌++◌, Option, Some, None, Result, Ok, Err, IfOk, IsOk, length, refl, sym, ap, subst, ◌∙◌, arith, length-append}
 use Rattle.std.specs.Prelude.{◌≢◌, IsFalse, IsSome, Contains, MatchBool, filter, not, ◌==◌, if◌then◌else◌}
 use Rattle.std.proofs.lemmas.Bool.{eqb-true}
 use Rattle.std.proofs.lemmas.List.{nil_from_length}
@@ -12,7 +12,7 @@ use Rattle.r9_event.specs.declared.event.Reply.{Reply}
 use Rattle.r9_event.specs.declared.ask.Ask.{Ask}
 use Rattle.r9_event.specs.declared.ask.Ask.TheVariants as ask
 use Rattle.r9_event.specs.declared.ask.Answer.{Answer}
-use Rattle.r9_event.specs.declared.ask.Answer.TheVariants.{Nothing, Over, Crowded, Memory, Taken}
+use Rattle.r9_event.specs.declared.ask.Answer.TheVariants.{Nothing, Over, Began, Ended, Crowded, Memory, Taken}
 use Rattle.r9_lock.specs.declared.chronicle.Acted.{Acted}
 use Rattle.model_text.specs.Map.{lookup}
 use Rattle.model_map.proofs.Keys.{not_key}
@@ -61,6 +61,24 @@ stays h before stands going = record { on = subst (λ (r : Roll). IsFalse r.stop
 -- an event that may not come next in a hall that goes on is not allowed
 not_allowed : (h : HallValue) (event : Event) (before : List Entry) → StandsFor h before → IsFalse h.roll.stopped → h.broken ≡ false → (AllowedNext h event → ⊥) → AllowedTo (roll_at before) event → ⊥
 not_allowed h event before stands going whole never allowed = never ((going, subst (λ (r : Roll). AllowedTo r event) (sym stands.roll) allowed), λ broken. unbroken h.broken whole broken)
+
+-- an event that stands in the history as it is, whatever memory there was
+entered_as : (h now : HallValue) (event : Event) (did : Did) → ((short : Option ℕ) → marked event short ≡ event) → IsMadeOf h event did now → (before : List Entry) → StandsFor h before
+    → (after : List Entry) × StandsFor now after × Enters event before after × ((entry : Entry) × (after ≡ before ++ entry ∷ []))
+entered_as h now event did same is before stands =
+    let entry : Entry = record { number = length before + 1; event = event } in
+    let more : StandsForMore h event now = subst (λ (e : Event). StandsForMore h e now) (same did.short) is.entered in
+    let allowed : Allowed h.roll event = subst (λ (e : Event). Allowed h.roll e) (same did.short) is.allowed.0 in
+    (before ++ entry ∷ [], more before stands, enters h event before stands allowed, (entry, refl))
+
+stop_marked : (short : Option ℕ) → marked Stop short ≡ Stop
+stop_marked None = refl
+stop_marked (Some k) = refl
+
+-- a Stop, which takes no memory
+pub stop_entered : {E : Type 0} (h now : HallValue) (result : Result Did E) → IsOk result → IfOk result (λ did. IsMadeOf h Stop did now) → StandsForMore h Stop now
+stop_entered h now (Err e) ok is = absurd (cc ok)
+stop_entered h now (Ok did) ok is = subst (λ (e : Event). StandsForMore h e now) (stop_marked did.short) is.entered
 
 -- ---- giving up
 
@@ -137,6 +155,22 @@ all_live_act h c going whole is fits never before stands =
     let few : length h.roll.live ≤ 1024 = subst (λ (r : Roll). length r.live ≤ 1024) (sym stands.roll) (few_live (events_of before) stands.legal) in
     let many : length h.roll.live < 1024 → ⊥ = λ less. never ((going, (is, fits, less)), λ broken. unbroken h.broken whole broken) in
     (before, stands, crowded h before stands going (inl (omega (arith, few, many))), refl)
+
+begin_marked : (c : ℕ) (short : Option ℕ) → marked (Begin c) short ≡ Begin c
+begin_marked c None = refl
+begin_marked c (Some k) = refl
+
+pub began_act : (h now : HallValue) (c : ℕ) (did : Did) → IsMadeOf h (Begin c) did now → IsAct h ask.Begin (made (Began c)) now
+began_act h now c did is before stands = entered_as h now (Begin c) did (begin_marked c) is before stands
+
+-- ---- End
+
+end_marked : (c : ℕ) (short : Option ℕ) → marked (End c) short ≡ End c
+end_marked c None = refl
+end_marked c (Some k) = refl
+
+pub ended_act : (h now : HallValue) (c : ℕ) (did : Did) → IsMadeOf h (End c) did now → IsAct h (ask.End c) (made Ended) now
+ended_act h now c did is before stands = entered_as h now (End c) did (end_marked c) is before stands
 
 -- ---- Msg
 

@@ -17,7 +17,7 @@ use Rattle.model_world.proofs.Histories.{world_from-push, waiting_from-push}
 use Rattle.model_served.specs.Served.{journal_of}
 use Rattle.model_alone.specs.Uses.{event_used}
 use Rattle.r9_hall.specs.Acts.{IsMadeOf}
-use Rattle.r9_hall.specs.HallView.{AllowedNext, HallValue, HasLed, OfHistories, StandsFor, StandsForMore}
+use Rattle.r9_hall.specs.HallView.{AllowedNext, HallValue, HasLed, OfHistories, StandsFor, StandsForMore, StandsOn}
 use Rattle.r9_hall.specs.Outboxes.{waiting}
 use Rattle.model_world.specs.Links.{begun_after}
 use Rattle.r9_hall.specs.WorldView.{IsFirst, WorldValue, world_in}
@@ -139,6 +139,22 @@ stands_more h after event turned history stands =
       roll = turned.roll ∙ ap (λ (r : Roll). roll_after r event) stands.roll ∙ sym (roll_next history entry);
       led = λ whole. led_more h after event history entry turned (stands.led (turned.whole whole)) refl whole;
     }
+
+-- ---- what the history led to stays
+
+pub stands_same : (h : HallValue) (opening : Opening) (world : WorldValue) → opening ≡ h.opening → world_in world ≡ world_in h.world → StandsOn h (record h { opening = opening; world = world })
+stands_same h opening world same led history stands = record {
+  numbered = stands.numbered;
+  legal = stands.legal;
+  from = stands.from;
+  to = stands.to;
+  stored = stands.stored;
+  roll = stands.roll;
+  led = λ whole. record {
+    world = led ∙ (stands.led whole).world ∙ ap (λ (o : Opening). replay o (events_of history)) (sym same);
+    outboxes = λ c. (stands.led whole).outboxes c ∙ ap (λ (o : Opening). outbox (journal_of o (events_of history)) c) (sym same);
+  };
+}
 
 -- ---- what an event gives
 

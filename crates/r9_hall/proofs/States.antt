@@ -146,6 +146,17 @@ absent_made opening before after c None false used at lives left same = record {
 absent_made opening before after c (Some session) true used at lives left same = absurd (cc lives)
 absent_made opening before after c (Some session) false used at lives left same = absurd left
 
+-- what was begun of a turn has changed nothing
+pub begun_world : (opening : Opening) (before begun : Sessions) → desktop_of begun.desktop ≡ desktop_of before.desktop → begun.live.entries ≡ before.live.entries
+    → world_with opening begun ≡ world_with opening before
+begun_world opening before begun same live = λ i. world_of opening (live i) (same i)
+
+pub begun_made : (opening : Opening) (before begun after : Sessions) (event : Event) (made : Made) → desktop_of begun.desktop ≡ desktop_of before.desktop → begun.live.entries ≡ before.live.entries
+    → IsMade opening begun event made after → IsMade opening before event made after
+begun_made opening before begun after event made same live is = record {
+  step_is = ap (λ (w : World). step w event) (sym (begun_world opening before begun same live)) ∙ is.step_is;
+}
+
 -- the turn ends, and what the windows were told is taken
 pub turn_of : (opening : Opening) (before kept after : Sessions) (event : Event) (made : Made) (did : Did) → IsMade opening before event made kept → did.replies ≡ made.replies → did.closed ≡ made.closed
     → did.notes ≡ (desktop_of kept.desktop).notes → desktop_of after.desktop ≡ record (desktop_of kept.desktop) { notes = []; cost = 0 } → after.live.entries ≡ kept.live.entries → IsTurn opening before event did after

@@ -1,5 +1,5 @@
 -- A world and one event more.
-use Rattle.std.proofs.Common.{◌≡◌, ℕ, Option, refl, sym, subst, ◌∙◌}
+use Rattle.std.proofs.Common.{◌≡◌, ◌+◌, ◌-◌, ℕ, true, Option, refl, sym, subst, ◌∙◌, arith}
 use Rattle.r9_event.specs.declared.event.Event.{Event}
 use Rattle.r9_event.specs.declared.event.Opening.{Opening}
 use Rattle.r9_event.specs.declared.event.Did.{Did}
@@ -10,6 +10,7 @@ use Rattle.model_world.specs.World.{World, opened}
 use Rattle.model_world.proofs.Standing.{step_waits}
 use Rattle.model_world.proofs.Steps.{begun_marked, next_marked, opened_linked, step_known, step_linked}
 use Rattle.model_world.proofs.Waking.{all_wait, waits_each}
+use Rattle.r9_desktop.specs.Marks.{Display, IsMarked}
 use Rattle.r9_desktop.specs.World.{desktop_of}
 use Rattle.r9_hall.specs.Settling.{WaitsAt}
 use Rattle.r9_hall.specs.StateView.{IsTurn, world_with}
@@ -51,3 +52,20 @@ turn_quiet opening before after event did linked quiet turn c session =
 
 pub turn_begun : (begun now : ℕ) (event : Event) (short : Option ℕ) → now ≡ begun_after begun event → now ≡ begun_after begun (marked event short)
 turn_begun begun now event short is = is ∙ sym (begun_marked begun event short)
+
+-- ---- the marks
+
+-- the pixels that were written are those that were counted
+pub marks_counted : (first last : Display) (pixels before after : ℕ) → after ≡ before + pixels → (first.nowhere ≡ true → IsMarked first last pixels) → first.nowhere ≡ true
+    → IsMarked first last (after - before)
+marks_counted first last pixels before after counted is nowhere =
+    let same : pixels ≡ after - before = omega (arith, counted) in
+    subst (λ (n : ℕ). IsMarked first last n) same (is nowhere)
+
+-- where nothing happened none is marked
+pub marks_same : (d : Display) (pixels : ℕ) → IsMarked d d pixels
+marks_same d pixels = record {
+  changed = λ column row _ _ _ _ _. refl;
+  kept = λ column row _ _ is. is;
+  few = omega arith;
+}

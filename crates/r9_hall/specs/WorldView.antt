@@ -5,7 +5,8 @@ use Rattle.r9_event.specs.declared.event.Opening.{Opening}
 use Rattle.model_world.specs.Links.{AreKnown, AreLinked, begun_after}
 use Rattle.model_world.specs.Replay.{step}
 use Rattle.model_world.specs.World.{World, opened}
-use Rattle.r9_desktop.specs.World.{desktop_of}
+use Rattle.r9_desktop.specs.Marks.{Display}
+use Rattle.r9_desktop.specs.World.{desktop_of, display_of}
 use Rattle.r9_hall.specs.declared.sessions.Sessions.{Sessions}
 use Rattle.r9_hall.specs.declared.world.World.TheInside as world
 use Rattle.r9_hall.specs.Settling.{WaitsAt}
@@ -23,6 +24,10 @@ pub record WorldValue : Type 0 where
 -- what the history led to
 abbrev pub world_in : WorldValue → World
 world_in w = world_with w.opening w.sessions
+
+-- the display with its marks
+abbrev pub display_in : WorldValue → Display
+display_in w = display_of w.sessions.desktop
 
 -- nothing has happened yet
 pub record IsFirst (opening : Opening) (w : WorldValue) : Type 0 where

@@ -1,6 +1,6 @@
 //! The hall: what its history led to, and the entries of it that are still stored.
 
-ghost use Rattle.std.specs.Prelude.{◌≡◌, ◌<◌, ◌≤◌, ◌+◌, ◌^◌, ◌++◌, ◌∷◌, ◌↔◌, [], true, false, length, None, IsTrue, IfOk, OnOk, OnErr, IsOk};
+ghost use Rattle.std.specs.Prelude.{◌≡◌, ◌<◌, ◌≤◌, ◌+◌, ◌-◌, ◌^◌, ◌++◌, ◌∷◌, ◌↔◌, [], true, false, length, None, IsTrue, IfOk, OnOk, OnErr, IsOk};
 ghost use Rattle.std.specs.Vec.{vec_len, vec_capacity};
 ghost use Rattle.r9_event.specs.declared.event.Event.{Event};
 ghost use Rattle.model_cost.specs.Cells.{cells};
@@ -9,10 +9,13 @@ ghost use Rattle.model_draw.specs.Orders.{picture_of};
 ghost use Rattle.model_event.specs.Legal.{roll_after};
 ghost use Rattle.model_served.specs.Served.{journal_of};
 ghost use Rattle.model_world.specs.Replay.{marked, outbox, replay, step};
+ghost use Rattle.r9_geom.specs.Geometry.{height, width};
+ghost use Rattle.r9_marks.specs.Cells.{cells_over};
+ghost use Rattle.r9_desktop.specs.Marks.{IsCleared, IsMarked};
 ghost use Rattle.r9_hall.specs.Acts.{IsMadeOf};
 ghost use Rattle.r9_hall.specs.HallView.{AllowedNext, IsAsStored, OfHistories, StandsFor, StandsOn, entries};
 ghost use Rattle.r9_hall.specs.Outboxes.{taken};
-ghost use Rattle.r9_hall.specs.WorldView.{world_in};
+ghost use Rattle.r9_hall.specs.WorldView.{display_in, world_in};
 
 use crate::outboxes::{post, waiting_for};
 use crate::world::World;
@@ -208,6 +211,28 @@ impl Hall {
         self.world.tiles()
     }
 
+    /// Whether a cell of the display, of 32 by 32 pixels, is marked: whether a pixel of it was written since its marks were cleared.
+    pub fn marked(&self, column: u32, row: u32) -> bool
+        requires column { column < cells_over (width (display_in self.now.world).r) }
+        requires row { row < cells_over (height (display_in self.now.world).r) }
+        ensures { result ≡ (display_in self.now.world).marked column row }
+    {
+        self.world.marked(column, row)
+    }
+
+    /// Clears the marks of the display. The history that the hall stands for stays, and all else.
+    pub fn clear_marks(&mut self)
+        ensures opening { self.new.opening ≡ self.old.opening }
+        ensures first { self.new.first ≡ self.old.first }
+        ensures stored { IsAsStored self.old self.new }
+        ensures whole { self.new.broken ≡ self.old.broken }
+        ensures watches { self.new.world.watches ≡ self.old.world.watches }
+        ensures world { world_in self.new.world ≡ world_in self.old.world }
+        ensures cleared { IsCleared (display_in self.old.world) (display_in self.new.world) }
+    {
+        self.world.clear_marks();
+    }
+
     /// Whether an event may come next.
     pub fn can(&self, event: &Event) -> bool
         ensures { IsTrue result ↔ AllowedNext self.now event.now }
@@ -233,6 +258,7 @@ impl Hall {
         ensures stopped { event ≡ Event.Stop → IfOk result (λ given. given.did ≡ record { replies = []; notes = []; uses = []; short = None; closed = None }) }
         ensures err { OnErr result (IsAsStored self.old self.new) }
         ensures pixels { IfOk result (λ given. OfHistories self.old (λ events. pixels.new ≤ pixels.old + (step (replay self.old.opening events) (marked event given.did.short)).cost)) }
+        ensures marks { IfOk result (λ _. self.old.broken ≡ false → (display_in self.old.world).nowhere ≡ true → IsMarked (display_in self.old.world) (display_in self.new.world) (pixels.new - pixels.old)) }
         ensures uncounted { OnErr result (pixels.new ≡ pixels.old) }
         ensures silent { event ≡ Event.Stop → pixels.new ≡ pixels.old }
     {
@@ -276,6 +302,9 @@ impl Hall {
         ensures err { OnErr result (IsAsStored self.old self.new) }
         // It writes at most the pixels that what it asks costs.
         ensures pixels { IfOk result (λ did. OfHistories self.old (λ events. pixels.new ≤ pixels.old + (step (replay self.old.opening events) (marked event did.short)).cost)) }
+        // Each cell of the display in which a pixel has changed was marked, none has lost its mark, and no more were marked than pixels were
+        // written.
+        ensures marks { IfOk result (λ _. self.old.broken ≡ false → (display_in self.old.world).nowhere ≡ true → IsMarked (display_in self.old.world) (display_in self.new.world) (pixels.new - pixels.old)) }
         ensures uncounted { OnErr result (pixels.new ≡ pixels.old) }
         ensures silent { event ≡ Event.Stop → pixels.new ≡ pixels.old }
     {

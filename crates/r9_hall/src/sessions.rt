@@ -1,6 +1,6 @@
 //! The sessions that live and what they share, and what an event makes of them.
 
-ghost use Rattle.std.specs.Prelude.{◌≡◌, ◌≤◌, ℕ, [], true, length, None, Option, IfOk, OnOk, IfSome, IsSome};
+ghost use Rattle.std.specs.Prelude.{◌≡◌, ◌≤◌, ℕ, [], true, length, None, Option, IfOk, OnOk, IfSome, IsSome, ◌<◌};
 ghost use Rattle.model_text.specs.Map.{lookup};
 ghost use Rattle.model_cost.specs.Cells.{cells};
 ghost use Rattle.model_draw.specs.Files.{screen_file};
@@ -9,8 +9,11 @@ ghost use Rattle.model_world.specs.Cut.{IsCutEvent, IsWantingEvent};
 ghost use Rattle.model_world.specs.Desktop.{first_desktop};
 ghost use Rattle.model_world.specs.Links.{AreLinked, IsLinked};
 ghost use Rattle.model_world.specs.Replay.{marked, step};
-ghost use Rattle.model_world.specs.World.{display_of, opened};
-ghost use Rattle.r9_desktop.specs.World.{desktop_of};
+ghost use Rattle.model_world.specs.World.{display_of as display_opened, opened};
+ghost use Rattle.r9_geom.specs.Geometry.{height, width};
+ghost use Rattle.r9_marks.specs.Cells.{cells_over};
+ghost use Rattle.r9_desktop.specs.Marks.{IsCleared, IsMarked};
+ghost use Rattle.r9_desktop.specs.World.{began_of, desktop_of, display_of};
 ghost use Rattle.r9_event.specs.declared.event.Event.{Event};
 ghost use Rattle.r9_event.specs.declared.event.Opening.{Opening};
 ghost use Rattle.r9_hall.specs.Settling.{WaitsAt};
@@ -26,6 +29,7 @@ use r9_geom::{Point, Rect};
 use r9_memory::Memory;
 use r9_seen::{Look, answer as answer_seen};
 use r9_session::Session;
+use r9_shared::leave as leave_shared;
 use r9_text::Bytes;
 use std::alloc::Global;
 use std::collections::BTreeMap;
@@ -69,7 +73,7 @@ struct Own {
 
 /// No windows, and a draw device with the display of an opening.
 fn start_desktop(alloc: Global, opening: &Opening) -> Result<Desktop, Memory>
-    ensures { IfOk result (λ desktop. desktop_of desktop ≡ first_desktop (display_of opening.now)) }
+    ensures { IfOk result (λ desktop. desktop_of desktop ≡ first_desktop (display_opened opening.now)) }
 {
     let min = Point { x: 0, y: 0 };
     let max = Point {
@@ -92,6 +96,7 @@ fn answer(
     requires long { 7 ≤ length bytes.now }
     requires linked { IsLinked session found.old.made found.old.connections (desktop_of desktop.old).device }
     ensures answered { IfOk result (λ own. IsAnswered session found.old (desktop_of desktop.old) bytes.now mark own found.new (desktop_of desktop.new)) }
+    ensures began { began_of desktop.new ≡ began_of desktop.old }
     ensures seen { watches ≡ true → IfOk result (λ own. IsSeen session found.old (desktop_of desktop.old) bytes.now mark own) }
 {
     let closed = found.closing_tag(bytes);
@@ -125,6 +130,7 @@ fn answer_in(
     ensures seen { watches ≡ true → IfOk result (λ own. IsSeenOf session (lookup sessions.old.entries session) (desktop_of desktop.old) bytes.now mark own) }
     ensures served { IfOk result (λ own. IsServed session (lookup sessions.old.entries session) sessions.old.entries (desktop_of desktop.old) bytes.now mark own sessions.new.entries (desktop_of desktop.new)) }
     ensures linked { OnOk result (AreLinked (desktop_of desktop.new).device sessions.new.entries) }
+    ensures began { began_of desktop.new ≡ began_of desktop.old }
 {
     match sessions.get_mut(&session) {
         Some(found) => {
@@ -143,11 +149,12 @@ fn leave(
     session: u32,
 ) -> Result<bool, Memory>
     requires { AreLinked (desktop_of desktop.old).device sessions.now.entries }
-    ensures { IfOk result (λ lived. IsLeft session (lookup sessions.now.entries session) (desktop_of desktop.old) lived (desktop_of desktop.new)) }
+    ensures left { IfOk result (λ lived. IsLeft session (lookup sessions.now.entries session) (desktop_of desktop.old) lived (desktop_of desktop.new)) }
+    ensures began { began_of desktop.new ≡ began_of desktop.old }
 {
     match sessions.get(&session) {
         Some(found) => {
-            found.leave(alloc, desktop, session)?;
+            leave_shared(alloc, found, desktop, session)?;
             Ok(true)
         }
         None => Ok(false),
@@ -193,6 +200,7 @@ impl Sessions {
         ensures short { IfOk result (λ made. (opening : Opening) → IfSome made.short (λ k. IsCutEvent (world_with opening self.old) (Event.Msg session bytes.now mark) k)) }
         ensures told { IfOk result (λ made. (opening : Opening) → IsWantingEvent (world_with opening self.old) (marked (Event.Msg session bytes.now mark) made.short) → IsSome made.short) }
         ensures uses { watches ≡ true → IfOk result (λ made. (opening : Opening) → made.uses ≡ event_used (world_with opening self.old) (world_with opening self.new) (marked (Event.Msg session bytes.now mark) made.short)) }
+        ensures began { began_of self.new.desktop ≡ began_of self.old.desktop }
     {
         let hosts = hosts_of(alloc, &self.desktop, watches)?;
         let own = answer_in(
@@ -223,6 +231,7 @@ impl Sessions {
         ensures made { IfOk result (λ made. (opening : Opening) → IsMade opening self.old (Event.Begin session) made self.new) }
         ensures unmarked { IfOk result (λ made. made.short ≡ None) }
         ensures unused { IfOk result (λ made. made.uses ≡ []) }
+        ensures began { began_of self.new.desktop ≡ began_of self.old.desktop }
     {
         self.live.insert(session, Session::fresh(alloc))?;
         Ok(silent(alloc))
@@ -234,6 +243,7 @@ impl Sessions {
         ensures made { IfOk result (λ made. (opening : Opening) → IsMade opening self.old (Event.End session) made self.new) }
         ensures unmarked { IfOk result (λ made. made.short ≡ None) }
         ensures unused { IfOk result (λ made. made.uses ≡ []) }
+        ensures began { began_of self.new.desktop ≡ began_of self.old.desktop }
     {
         let mut replies = Replies::new(alloc);
         if leave(alloc, &self.live, &mut self.desktop, session)? {
@@ -258,6 +268,7 @@ impl Sessions {
         ensures short { IfOk result (λ made. (opening : Opening) → IfSome made.short (λ k. IsCutEvent (world_with opening self.old) event.now k)) }
         ensures told { IfOk result (λ made. (opening : Opening) → IsWantingEvent (world_with opening self.old) (marked event.now made.short) → IsSome made.short) }
         ensures uses { watches ≡ true → IfOk result (λ made. (opening : Opening) → made.uses ≡ event_used (world_with opening self.old) (world_with opening self.new) (marked event.now made.short)) }
+        ensures began { began_of self.new.desktop ≡ began_of self.old.desktop }
     {
         match event {
             Event::Begin { session } => self.begin(alloc, *session),
@@ -288,7 +299,11 @@ impl Sessions {
         ensures told { IfOk result (λ gave. (opening : Opening) → IsWantingEvent (world_with opening self.old) (marked event.now gave.did.short) → IsSome gave.did.short) }
         ensures uses { watches ≡ true → IfOk result (λ gave. (opening : Opening) → gave.did.uses ≡ event_used (world_with opening self.old) (world_with opening self.new) (marked event.now gave.did.short)) }
         ensures pixels { IfOk result (λ gave. (opening : Opening) → gave.pixels ≤ (step (world_with opening self.old) (marked event.now gave.did.short)).cost) }
+        // Each cell of the display in which a pixel has changed was marked, none has lost its mark, and no more were marked than pixels were
+        // written.
+        ensures marks { IfOk result (λ gave. (display_of self.old.desktop).nowhere ≡ true → IsMarked (display_of self.old.desktop) (display_of self.new.desktop) gave.pixels) }
     {
+        self.desktop.begin_turn();
         let made = self.make(alloc, event, watches)?;
         let turn = self.desktop.take_turn();
         Ok(Stepped {
@@ -301,6 +316,24 @@ impl Sessions {
             },
             pixels: turn.pixels,
         })
+    }
+
+    /// Whether a cell of the display, of 32 by 32 pixels, is marked: whether a pixel of it was written since its marks were cleared.
+    pub(crate) fn marked(&self, column: u32, row: u32) -> bool
+        requires column { column < cells_over (width (display_of self.now.desktop).r) }
+        requires row { row < cells_over (height (display_of self.now.desktop).r) }
+        ensures { result ≡ (display_of self.now.desktop).marked column row }
+    {
+        self.desktop.marked(column, row)
+    }
+
+    /// Clears the marks of the display.
+    pub(crate) fn clear_marks(&mut self)
+        ensures live { self.new.live.entries ≡ self.old.live.entries }
+        ensures desktop { desktop_of self.new.desktop ≡ desktop_of self.old.desktop }
+        ensures cleared { IsCleared (display_of self.old.desktop) (display_of self.new.desktop) }
+    {
+        self.desktop.clear_marks();
     }
 
     /// The display as an image(6) file, which the file `screen` outside of windows has, too.

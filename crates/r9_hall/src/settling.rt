@@ -6,7 +6,7 @@ ghost use Rattle.model_text.specs.Map.{lookup};
 ghost use Rattle.model_wire.specs.Spelling.{spelling_of_r, FitsR};
 ghost use Rattle.model_world.specs.Links.{AreLinked, IsLinked};
 ghost use Rattle.model_world.specs.Sleeping.{stirred};
-ghost use Rattle.r9_desktop.specs.World.{desktop_of};
+ghost use Rattle.r9_desktop.specs.World.{began_of, desktop_of};
 ghost use Rattle.r9_event.specs.declared.event.Opening.{Opening};
 ghost use Rattle.r9_hall.specs.Settling.{answered_at, world_of, AreAsked, AreWoken, GoesOn, IsLate, IsNext, IsSettled, WaitsAt};
 ghost use Rattle.r9_hall.specs.StateView.{world_with};
@@ -17,6 +17,7 @@ use r9_desktop::Desktop;
 use r9_event::{Note, Replies, Reply};
 use r9_memory::Memory;
 use r9_session::Session;
+use r9_shared::answer_waiting;
 use r9_wire::{Rmsg, reply_bytes};
 use std::alloc::Global;
 use std::collections::BTreeMap;
@@ -38,9 +39,10 @@ fn answer_late(
     session: u32,
 ) -> Result<Option<Reply>, Memory>
     requires { IsLinked session found.old.made found.old.connections (desktop_of desktop.old).device }
-    ensures { IfOk result (λ given. IsLate session found.old (desktop_of desktop.old) given found.new (desktop_of desktop.new)) }
+    ensures late { IfOk result (λ given. IsLate session found.old (desktop_of desktop.old) given found.new (desktop_of desktop.new)) }
+    ensures began { began_of desktop.new ≡ began_of desktop.old }
 {
-    match found.answer_waiting(alloc, desktop, session)? {
+    match answer_waiting(alloc, found, desktop, session)? {
         Some(reply) => Ok(Some(spelled(alloc, session, &reply)?)),
         None => Ok(None),
     }
@@ -54,7 +56,8 @@ fn answer_at(
     session: u32,
 ) -> Result<Option<Reply>, Memory>
     requires { AreLinked (desktop_of desktop.old).device sessions.old.entries }
-    ensures { IfOk result (λ given. (opening : Opening) → IsNext (answered_at (world_of opening sessions.old.entries (desktop_of desktop.old)) session) (world_of opening sessions.old.entries (desktop_of desktop.old)) given (world_of opening sessions.new.entries (desktop_of desktop.new))) }
+    ensures next { IfOk result (λ given. (opening : Opening) → IsNext (answered_at (world_of opening sessions.old.entries (desktop_of desktop.old)) session) (world_of opening sessions.old.entries (desktop_of desktop.old)) given (world_of opening sessions.new.entries (desktop_of desktop.new))) }
+    ensures began { began_of desktop.new ≡ began_of desktop.old }
 {
     match sessions.get_mut(&session) {
         Some(found) => {
@@ -117,6 +120,7 @@ impl Sessions {
         ensures linked { OnOk result (AreLinked (desktop_of self.new.desktop).device self.new.live.entries) }
         ensures waits { OnOk result (WaitsAt self.new.live.entries (desktop_of self.new.desktop) session) }
         ensures others { OnOk result ((c : ℕ) → WaitsAt self.old.live.entries (desktop_of self.old.desktop) c → WaitsAt self.new.live.entries (desktop_of self.new.desktop) c) }
+        ensures began { began_of self.new.desktop ≡ began_of self.old.desktop }
         ensures replies { OnOk result ((opening : Opening) → GoesOn (world_with opening self.old) replies.old (world_with opening self.new) replies.new) }
     {
         while let Some(reply) = answer_at(alloc, &mut self.live, &mut self.desktop, session)? {
@@ -135,7 +139,8 @@ impl Sessions {
     ) -> Result<(), Memory>
         requires linked { AreLinked (desktop_of self.old.desktop).device self.old.live.entries }
         requires asked { AreAsked self.old.live.entries (desktop_of self.old.desktop) asked.now }
-        ensures { OnOk result ((opening : Opening) → IsSettled (world_with opening self.old) replies.old (world_with opening self.new) replies.new) }
+        ensures settled { OnOk result ((opening : Opening) → IsSettled (world_with opening self.old) replies.old (world_with opening self.new) replies.new) }
+        ensures began { began_of self.new.desktop ≡ began_of self.old.desktop }
     {
         for session in asked {
             self.settle_one(alloc, *session, replies)?;

@@ -1,6 +1,6 @@
 //! The world, without the history that led to it.
 
-ghost use Rattle.std.specs.Prelude.{◌≡◌, ◌≤◌, ◌+◌, true, false, None, option_map, IfOk, OnErr, IfSome, IsSome};
+ghost use Rattle.std.specs.Prelude.{◌≡◌, ◌≤◌, ◌<◌, ◌+◌, ◌-◌, true, false, None, option_map, IfOk, OnErr, IfSome, IsSome};
 ghost use Rattle.std.specs.Option.{option_map_or};
 ghost use Rattle.model_text.specs.Map.{lookup};
 ghost use Rattle.model_cost.specs.Cells.{cells};
@@ -10,8 +10,11 @@ ghost use Rattle.model_alone.specs.Uses.{event_used};
 ghost use Rattle.model_world.specs.Cut.{IsCutEvent, IsWantingEvent};
 ghost use Rattle.model_world.specs.Links.{IsNext, begun_after};
 ghost use Rattle.model_world.specs.Replay.{marked, step};
+ghost use Rattle.r9_geom.specs.Geometry.{height, width};
+ghost use Rattle.r9_marks.specs.Cells.{cells_over};
+ghost use Rattle.r9_desktop.specs.Marks.{IsCleared, IsMarked};
 ghost use Rattle.r9_hall.specs.StateView.{IsWhole};
-ghost use Rattle.r9_hall.specs.WorldView.{IsFirst, IsStepped, world_in};
+ghost use Rattle.r9_hall.specs.WorldView.{IsFirst, IsStepped, display_in, world_in};
 
 use crate::sessions::{Sessions, Stepped};
 use r9_event::{Did, Event, Opening};
@@ -96,6 +99,7 @@ impl World {
         ensures short { IfOk result (λ gave. IfSome gave.did.short (λ k. IsCutEvent (world_in self.old) event.now k)) }
         ensures told { IfOk result (λ gave. IsWantingEvent (world_in self.old) (marked event.now gave.did.short) → IsSome gave.did.short) }
         ensures pixels { IfOk result (λ gave. gave.pixels ≤ (step (world_in self.old) (marked event.now gave.did.short)).cost) }
+        ensures marks { IfOk result (λ gave. (display_in self.old).nowhere ≡ true → IsMarked (display_in self.old) (display_in self.new) gave.pixels) }
     {
         self.broken = true;
         let stepped = self.sessions.step(self.alloc, event, self.watches)?;
@@ -124,6 +128,9 @@ impl World {
         ensures told { IfOk result (λ did. IsWantingEvent (world_in self.old) (marked event.now did.short) → IsSome did.short) }
         // It writes at most the pixels that what it asks costs.
         ensures pixels { IfOk result (λ did. pixels.new ≤ pixels.old + (step (world_in self.old) (marked event.now did.short)).cost) }
+        // Each cell of the display in which a pixel has changed was marked, none has lost its mark, and no more were marked than pixels were
+        // written.
+        ensures marks { IfOk result (λ did. (display_in self.old).nowhere ≡ true → IsMarked (display_in self.old) (display_in self.new) (pixels.new - pixels.old)) }
         ensures uncounted { OnErr result (pixels.new ≡ pixels.old) }
     {
         let stepped = self.make(event)?;
@@ -156,6 +163,27 @@ impl World {
             Some(found) => found.closed(),
             None => None,
         }
+    }
+
+    /// Whether a cell of the display, of 32 by 32 pixels, is marked: whether a pixel of it was written since its marks were cleared.
+    pub fn marked(&self, column: u32, row: u32) -> bool
+        requires column { column < cells_over (width (display_in self.now).r) }
+        requires row { row < cells_over (height (display_in self.now).r) }
+        ensures { result ≡ (display_in self.now).marked column row }
+    {
+        self.sessions.marked(column, row)
+    }
+
+    /// Clears the marks of the display.
+    pub fn clear_marks(&mut self)
+        ensures opening { self.new.opening ≡ self.old.opening }
+        ensures watches { self.new.watches ≡ self.old.watches }
+        ensures begun { self.new.begun ≡ self.old.begun }
+        ensures broken { self.new.broken ≡ self.old.broken }
+        ensures world { world_in self.new ≡ world_in self.old }
+        ensures cleared { IsCleared (display_in self.old) (display_in self.new) }
+    {
+        self.sessions.clear_marks();
     }
 
     /// The display as an image(6) file, which the file `screen` outside of windows has, too.

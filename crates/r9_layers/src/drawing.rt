@@ -9,7 +9,7 @@ ghost use Rattle.model_forest.specs.Cost as cost;
 ghost use Rattle.model_forest.specs.Draw.{after_draw, drawn, in_area, with_canvas};
 ghost use Rattle.model_forest.specs.View.{is_bare};
 ghost use Rattle.model_forest.specs.World.{image_at, IsLive};
-ghost use Rattle.r9_forest.specs.Images.{numbers, world};
+ghost use Rattle.r9_forest.specs.Images.{moment, numbers, world, writes};
 ghost use Rattle.r9_layers.specs.Apart.{IsAhead, IsApart, IsSteady};
 ghost use Rattle.r9_layers.specs.Area.{drawing_of, IsTaskOf};
 ghost use Rattle.r9_layers.specs.Bands.{rows_of};
@@ -90,6 +90,8 @@ pub fn draw_solid<L: Ledger>(
     ensures world { world images.new ≡ after_draw (world images.old) (drawing_of task.now) }
     ensures numbers { numbers images.new ≡ numbers images.old }
     ensures steps { steps.new ≤ steps.old + area_of area.now }
+    ensures moment { moment images.new ≡ moment images.old }
+    ensures writes { writes images.new + steps.old ≡ writes images.old + steps.new }
 {
     images.fill(task.dst, *area, raw, steps);
 }
@@ -112,6 +114,8 @@ fn draw_band<L: Ledger>(
     ensures world { world images.new ≡ with_canvas (world images.old) task.now.dst (holds r.now) (drawn (world images.old) (drawing_of task.now)) }
     ensures numbers { numbers images.new ≡ numbers images.old }
     ensures steps { steps.new ≤ steps.old + area_of r.now }
+    ensures moment { moment images.new ≡ moment images.old }
+    ensures writes { writes images.new + steps.old ≡ writes images.old + steps.new }
 {
     compose_area(images, task, way, r, pixels);
     images.put_pixels(task.dst, r, pixels, steps);
@@ -134,6 +138,8 @@ fn draw_by<L: Ledger>(
     ensures world { world images.new ≡ after_draw (world images.old) (drawing_of task.now) }
     ensures numbers { numbers images.new ≡ numbers images.old }
     ensures steps { steps.new ≤ steps.old + area_of area.now }
+    ensures moment { moment images.new ≡ moment images.old }
+    ensures writes { writes images.new + steps.old ≡ writes images.old + steps.new }
 {
     draw_band(images, task, way, area, pixels, steps);
 }
@@ -225,6 +231,8 @@ fn draw_bands<L: Ledger>(
     ensures world { world images.new ≡ after_draw (world images.old) (drawing_of task.now) }
     ensures numbers { numbers images.new ≡ numbers images.old }
     ensures steps { steps.new ≤ steps.old + area_of area.now }
+    ensures moment { moment images.new ≡ moment images.old }
+    ensures writes { writes images.new + steps.old ≡ writes images.old + steps.new }
 {
     let width = area.width();
     let height = area.height();
@@ -254,6 +262,8 @@ pub fn draw<L: Ledger>(
     ensures world { world images.new ≡ after_draw (world images.old) (drawing_of task.now) }
     ensures numbers { numbers images.new ≡ numbers images.old }
     ensures steps { steps.new ≤ steps.old + area_of area.now }
+    ensures moment { moment images.new ≡ moment images.old }
+    ensures writes { writes images.new + steps.old ≡ writes images.old + steps.new }
 {
     let points = (area.width() * area.height()) as usize;
     let pixels = &mut pixels[..points];

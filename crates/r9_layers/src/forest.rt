@@ -1,8 +1,8 @@
 //! A forest of images: every call is one step of the world that it stands for.
 
-ghost use Rattle.std.specs.Prelude.{◌≡◌, ◌+◌, ◌*◌, ◌^◌, ◌<◌, ◌≤◌, ◌↔◌, ℕ, None, Some, true, length, map, pos, All, IfOk, IfSome, IsOk, IsSome, IsTrue, OnErr, OnOk};
+ghost use Rattle.std.specs.Prelude.{◌≡◌, ◌+◌, ◌*◌, ◌^◌, ◌<◌, ◌≤◌, ◌↔◌, ◌≢◌, ℕ, None, Some, false, true, length, map, pos, All, IfOk, IfSome, IsOk, IsSome, IsTrue, OnErr, OnOk};
 ghost use Rattle.r9_geom.specs.declared.Point.{Point as Spot};
-ghost use Rattle.r9_geom.specs.Geometry.{area_of, height, holds, meet, HasPoints, IsNearBy, IsOrdered, IsRectNearBy};
+ghost use Rattle.r9_geom.specs.Geometry.{area_of, height, holds, meet, width, HasPoints, IsNearBy, IsOrdered, IsRectNearBy};
 ghost use Rattle.model_pixel.specs.Channels as channels;
 ghost use Rattle.model_pixel.specs.Rows.{row_bytes, row_pixel, rows_of};
 ghost use Rattle.r9_chan.specs.Op.{number};
@@ -18,9 +18,12 @@ ghost use Rattle.model_exchanged.specs.Exchanged.{after_put_on, after_put_over, 
 ghost use Rattle.model_resize.specs.Resize.{after_resize, CanResize};
 ghost use Rattle.model_kept.specs.Cells.{cell_of, cells_below, in_cell};
 ghost use Rattle.model_kept.specs.Keeping.{is_hidden, is_shown, outward, place_among};
+ghost use Rattle.r9_marks.specs.Cells.{cells_over};
 ghost use Rattle.r9_plane.specs.Pixels.{chan_of, pixel_at, rect_of};
 ghost use Rattle.r9_store.specs.Tiles.{held, is_held};
 ghost use Rattle.r9_forest.specs.Groups.{group_area};
+ghost use Rattle.r9_forest.specs.Marks.{shown_in, IsMoment};
+ghost use Rattle.r9_watched.specs.Moments.{IsFew, IsSince, Moment};
 ghost use Rattle.r9_forest.specs.declared.keeping.Kept.TheVariants.{Plane as OnPlane, Tile as InTile};
 ghost use Rattle.r9_layers.specs.Area.{drawing_of, IsTaskOf};
 ghost use Rattle.r9_layers.specs.Told.{info_of};
@@ -52,9 +55,9 @@ pub struct Forest {
     pixels: Vec<u32>,
 }
 
-#[tactic(auto, unfolding(crate::specs::Forest::world, crate::specs::Forest::numbers, crate::specs::Forest::room, crate::specs::Keeping::on_plane, crate::specs::Keeping::tiles_of, crate::specs::Keeping::pixel_in, crate::specs::Keeping::tile_of, crate::specs::Keeping::kept_of,))]
+#[tactic(auto, unfolding(crate::specs::Forest::world, crate::specs::Forest::numbers, crate::specs::Forest::room, crate::specs::Forest::moment, crate::specs::Forest::writes, crate::specs::Forest::marked, crate::specs::Forest::mark_count, crate::specs::Keeping::on_plane, crate::specs::Keeping::tiles_of, crate::specs::Keeping::pixel_in, crate::specs::Keeping::tile_of, crate::specs::Keeping::kept_of,))]
 impl Forest {
-    ghost use Rattle.r9_layers.specs.Forest.{numbers, room, world, IsUnchanged};
+    ghost use Rattle.r9_layers.specs.Forest.{mark_count, marked, moment, numbers, room, world, writes, IsUnchanged};
     ghost use Rattle.r9_layers.specs.Keeping.{kept_of, on_plane, pixel_in, tile_of, tiles_of};
 
     /// A forest with no image.
@@ -87,6 +90,8 @@ impl Forest {
         ensures taken { OnOk result (numbers self.new ≡ taken (numbers self.old)) }
         ensures room { room self.old ≤ room self.new }
         ensures err { OnErr result (IsUnchanged self.old self.new) }
+        ensures moment { (j : ℕ) → IsLive (world self.old) j → moment self.new j ≡ moment self.old j }
+        ensures writes { writes self.new ≡ writes self.old }
     {
         let number = self.images.image(r, chan, raw)?;
         Ok(ImageNo(number))
@@ -115,6 +120,8 @@ impl Forest {
         ensures err { OnErr result (IsUnchanged self.old self.new) }
         ensures steps { steps.new ≤ steps.old + 2 * area_of r }
         ensures uncounted { OnErr result (steps.new ≡ steps.old) }
+        ensures moment { moment self.new ≡ moment self.old }
+        ensures writes { writes self.new + steps.old ≡ writes self.old + steps.new }
     {
         let number = self.images.window(parent.0, fill.0, r, raw, steps)?;
         Ok(ImageNo(number))
@@ -139,6 +146,8 @@ impl Forest {
         ensures steps { steps.new ≤ steps.old + 4 * area_of (image_at (world self.old) i.0).r }
         ensures uncounted { OnErr result (steps.new ≡ steps.old) }
         ensures still { IfSome (image_at (world self.old) i.0).standing (λ s. place_among (image_at (world self.old) s.parent).windows i.0 ≡ carried_rect (image_at (world self.old) i.0).r (image_at (world self.old) i.0).r.min corner) → steps.new ≡ steps.old }
+        ensures moment { moment self.new ≡ moment self.old }
+        ensures writes { writes self.new + steps.old ≡ writes self.old + steps.new }
     {
         self.images.origin(i.0, min, corner, steps)
     }
@@ -159,8 +168,10 @@ impl Forest {
         ensures numbers { numbers self.new ≡ numbers self.old }
         ensures room { room self.old ≤ room self.new }
         ensures err { OnErr result (IsUnchanged self.old self.new) }
-        ensures steps { steps.new ≤ steps.old + 2 * area_of (image_at (world self.old) i.0).r + width * height }
+        ensures steps { steps.new ≤ steps.old + 2 * area_of (image_at (world self.old) i.0).r + 2 * (width * height) }
         ensures uncounted { OnErr result (steps.new ≡ steps.old) }
+        ensures moment { moment self.new ≡ moment self.old }
+        ensures writes { writes self.new + steps.old ≡ writes self.old + steps.new }
     {
         self.images.resize(i.0, width, height, raw, steps)
     }
@@ -178,6 +189,8 @@ impl Forest {
         ensures err { OnErr result (world self.new ≡ world self.old) }
         ensures steps { steps.new ≤ steps.old + 2 * group_area (world self.old) (map (λ i. i.0) group.now) }
         ensures uncounted { OnErr result (steps.new ≡ steps.old) }
+        ensures moment { moment self.new ≡ moment self.old }
+        ensures writes { writes self.new + steps.old ≡ writes self.old + steps.new }
     {
         self.images.raise(group, steps)
     }
@@ -195,6 +208,8 @@ impl Forest {
         ensures err { OnErr result (world self.new ≡ world self.old) }
         ensures steps { steps.new ≤ steps.old + 2 * group_area (world self.old) (map (λ i. i.0) group.now) }
         ensures uncounted { OnErr result (steps.new ≡ steps.old) }
+        ensures moment { moment self.new ≡ moment self.old }
+        ensures writes { writes self.new + steps.old ≡ writes self.old + steps.new }
     {
         self.images.lower(group, steps)
     }
@@ -224,6 +239,8 @@ impl Forest {
         ensures err { OnErr result (IsUnchanged self.old self.new) }
         ensures steps { steps.new ≤ steps.old + 2 * area_of r + 4 * area_of (image_at (world self.old) old.0).r }
         ensures uncounted { OnErr result (steps.new ≡ steps.old) }
+        ensures moment { moment self.new ≡ moment self.old }
+        ensures writes { writes self.new + steps.old ≡ writes self.old + steps.new }
     {
         let number = self.images.replace(old.0, r, corner, raw, keep, steps)?;
         Ok(ImageNo(number))
@@ -260,6 +277,8 @@ impl Forest {
         ensures err { OnErr result (IsUnchanged self.old self.new) }
         ensures steps { steps.new ≤ steps.old + 2 * area_of r + 4 * area_of (image_at (world self.old) old.0).r }
         ensures uncounted { OnErr result (steps.new ≡ steps.old) }
+        ensures moment { moment self.new ≡ moment self.old }
+        ensures writes { writes self.new + steps.old ≡ writes self.old + steps.new }
     {
         let number = self
             .images
@@ -291,6 +310,8 @@ impl Forest {
         ensures err { OnErr result (IsUnchanged self.old self.new) }
         ensures steps { steps.new ≤ steps.old + 2 * area_of r }
         ensures uncounted { OnErr result (steps.new ≡ steps.old) }
+        ensures moment { moment self.new ≡ moment self.old }
+        ensures writes { writes self.new + steps.old ≡ writes self.old + steps.new }
     {
         let number = self.images.put_over(old.0, r, corner, raw, keep, steps)?;
         Ok(ImageNo(number))
@@ -325,6 +346,8 @@ impl Forest {
         ensures err { OnErr result (IsUnchanged self.old self.new) }
         ensures steps { steps.new ≤ steps.old + 2 * area_of r }
         ensures uncounted { OnErr result (steps.new ≡ steps.old) }
+        ensures moment { moment self.new ≡ moment self.old }
+        ensures writes { writes self.new + steps.old ≡ writes self.old + steps.new }
     {
         let number = self
             .images
@@ -349,8 +372,64 @@ impl Forest {
         ensures room { room self.old ≤ room self.new }
         ensures steps { steps.new ≤ steps.old + 2 * area_of (image_at (world self.old) i.0).r }
         ensures bare { parent_of (world self.old) i.0 ≡ None → steps.new ≡ steps.old }
+        ensures moment { (j : ℕ) → IsLive (world self.new) j → moment self.new j ≡ moment self.old j }
+        ensures writes { writes self.new + steps.old ≡ writes self.old + steps.new }
     {
         self.images.release(i.0, steps);
+    }
+
+    /// Whether a cell of an image, of 32 by 32 points counted from its min, is marked: whether a point of it was written since its
+    /// marks were cleared. A window has no marks.
+    pub fn marked(&self, i: ImageNo, column: u32, row: u32) -> bool
+        requires live { IsLive (world self.now) i.0 }
+        requires column { column < cells_over (width (image_at (world self.now) i.0).r) }
+        requires row { row < cells_over (height (image_at (world self.now) i.0).r) }
+        ensures { result ≡ marked self.now i.0 column row }
+    {
+        self.images.marked(i.0, column, row)
+    }
+
+    /// Clears the marks of an image that stands nowhere, whose moment is this one then.
+    pub fn clear_marks(&mut self, i: ImageNo)
+        requires live { IsLive (world self.old) i.0 }
+        ensures world { world self.new ≡ world self.old }
+        ensures numbers { numbers self.new ≡ numbers self.old }
+        ensures room { room self.old ≤ room self.new }
+        ensures marks { (column row : ℕ) → marked self.new i.0 column row ≡ false }
+        ensures count { mark_count self.new i.0 ≡ 0 }
+        ensures here { (then : Moment) → moment self.new i.0 ≡ Some then → IsMoment then (image_at (world self.old) i.0).r (shown_in (world self.old) i.0) (marked self.new i.0) 0 (writes self.old) }
+        ensures nowhere { parent_of (world self.old) i.0 ≡ None → IsSome (moment self.new i.0) }
+        ensures elsewhere { (j : ℕ) → j ≢ i.0 → moment self.new j ≡ moment self.old j }
+        ensures writes { writes self.new ≡ writes self.old }
+    {
+        self.images.clear_marks(i.0);
+    }
+
+    /// The moment of an image that stands nowhere is this one. Nothing is done.
+    pub fn look(&mut self, i: ImageNo)
+        requires live { IsLive (world self.old) i.0 }
+        ensures world { world self.new ≡ world self.old }
+        ensures numbers { numbers self.new ≡ numbers self.old }
+        ensures room { room self.old ≤ room self.new }
+        ensures marks { marked self.new i.0 ≡ marked self.old i.0 }
+        ensures count { mark_count self.new i.0 ≡ mark_count self.old i.0 }
+        ensures here { (then : Moment) → moment self.new i.0 ≡ Some then → IsMoment then (image_at (world self.old) i.0).r (shown_in (world self.old) i.0) (marked self.old i.0) (mark_count self.old i.0) (writes self.old) }
+        ensures nowhere { parent_of (world self.old) i.0 ≡ None → IsSome (moment self.new i.0) }
+        ensures elsewhere { (j : ℕ) → j ≢ i.0 → moment self.new j ≡ moment self.old j }
+        ensures writes { writes self.new ≡ writes self.old }
+    {
+        self.images.look(i.0);
+    }
+
+    /// Since the moment of an image each cell of it in which a pixel has changed was marked, none has lost its mark, and no more
+    /// were marked than pixels were written. Nothing is done.
+    pub fn since(&self, i: ImageNo)
+        requires live { IsLive (world self.now) i.0 }
+        ensures since { (then : Moment) → moment self.now i.0 ≡ Some then → IsSince then (image_at (world self.now) i.0).r (shown_in (world self.now) i.0) (marked self.now i.0) }
+        ensures few { (then : Moment) → moment self.now i.0 ≡ Some then → IsFew then (mark_count self.now i.0) (writes self.now) }
+        ensures most { mark_count self.now i.0 < 2 ^ 64 }
+    {
+        self.images.since(i.0);
     }
 
     /// Makes an image repeat or not, and gives it another clip rectangle. It takes no memory.
@@ -361,6 +440,8 @@ impl Forest {
         ensures world { world self.new ≡ after_set (world self.old) i.0 repl clipr }
         ensures numbers { numbers self.new ≡ numbers self.old }
         ensures room { room self.old ≤ room self.new }
+        ensures moment { moment self.new ≡ moment self.old }
+        ensures writes { writes self.new ≡ writes self.old }
     {
         self.images.set(i.0, repl, clipr);
     }
@@ -371,6 +452,8 @@ impl Forest {
         ensures room { room self.old ≤ room self.new }
         ensures same { IsUnchanged self.old self.new }
         ensures memory { points ≤ room self.old → IsOk result }
+        ensures moment { moment self.new ≡ moment self.old }
+        ensures writes { writes self.new ≡ writes self.old }
     {
         let points = points as usize;
         if self.pixels.len() < points {
@@ -407,6 +490,8 @@ impl Forest {
         ensures memory { area_of (meet r (image_at (world self.old) dst.0).r) ≤ room self.old → IsOk result }
         ensures steps { steps.new ≤ steps.old + area_of (cost.area (world self.old) (record { dst = dst.0; clip = clip; r = r; src = src.0; sp = sp; mask = Some mask.0; mp = mp; op = number op })) }
         ensures uncounted { OnErr result (steps.new ≡ steps.old) }
+        ensures moment { moment self.new ≡ moment self.old }
+        ensures writes { writes self.new + steps.old ≡ writes self.old + steps.new }
     {
         self.run(
             &Task {
@@ -445,6 +530,8 @@ impl Forest {
         ensures memory { area_of (meet r (image_at (world self.old) dst.0).r) ≤ room self.old → IsOk result }
         ensures steps { steps.new ≤ steps.old + area_of (cost.area (world self.old) (record { dst = dst.0; clip = clip; r = r; src = src.0; sp = sp; mask = None; mp = record { x = pos 0; y = pos 0 }; op = number op })) }
         ensures uncounted { OnErr result (steps.new ≡ steps.old) }
+        ensures moment { moment self.new ≡ moment self.old }
+        ensures writes { writes self.new + steps.old ≡ writes self.old + steps.new }
     {
         self.run(
             &Task {
@@ -471,6 +558,8 @@ impl Forest {
         ensures memory { area_of (meet task.now.r (image_at (world self.old) task.now.dst).r) ≤ room self.old → IsOk result }
         ensures steps { steps.new ≤ steps.old + area_of (cost.area (world self.old) (drawing_of task.now)) }
         ensures uncounted { OnErr result (steps.new ≡ steps.old) }
+        ensures moment { moment self.new ≡ moment self.old }
+        ensures writes { writes self.new + steps.old ≡ writes self.old + steps.new }
     {
         let area = drawing::area(&self.images, task);
         if area.is_empty() {
@@ -508,6 +597,8 @@ impl Forest {
         ensures err { OnErr result (world self.new ≡ world self.old) }
         ensures steps { steps.new ≤ steps.old + area_of r }
         ensures uncounted { OnErr result (steps.new ≡ steps.old) }
+        ensures moment { moment self.new ≡ moment self.old }
+        ensures writes { writes self.new + steps.old ≡ writes self.old + steps.new }
     {
         self.images.load(i.0, r, rows, steps);
         Ok(())
@@ -524,6 +615,8 @@ impl Forest {
         ensures numbers { numbers self.new ≡ numbers self.old }
         ensures room { room self.old ≤ room self.new }
         ensures steps { steps.new ≤ steps.old + area_of r }
+        ensures moment { moment self.new ≡ moment self.old }
+        ensures writes { writes self.new + steps.old ≡ writes self.old + steps.new }
     {
         self.images.fill(i.0, r, raw, steps);
     }

@@ -10,6 +10,7 @@ ghost use Rattle.model_forest.specs.View as view;
 ghost use Rattle.model_kept.specs.Keeping.{keeping, own, Place};
 ghost use Rattle.r9_locate.specs.Forms.{bits_in, Form, HasBits};
 ghost use Rattle.r9_locate.specs.Table.{shape};
+ghost use Rattle.r9_watched.specs.Moments.{Moment};
 
 use super::lists::Lists;
 use super::runs::along;
@@ -28,6 +29,10 @@ pub trait Pixels {
     ghost forms: { Self → ℕ → Option Form };
     // How much room is spare for places.
     ghost spare: { Self → ℕ };
+    // What each image with a plane was at the moment that proofs look back to.
+    ghost moment: { Self → ℕ → Option Moment };
+    // How many pixels have been written.
+    ghost writes: { Self → ℕ };
 
     /// Reads pixels that an image keeps side by side.
     fn read(&self, i: u32, from: Point, raws: &mut [u32])
@@ -43,8 +48,10 @@ pub trait Pixels {
         ensures others { (place : Place) → ((k : ℕ) → k < length raws.now → place ≢ own i (along at k)) → kept self.new place ≡ kept self.old place }
         ensures has { has self.new ≡ has self.old }
         ensures forms { forms self.new ≡ forms self.old }
+        ensures moment { moment self.new ≡ moment self.old }
         ensures spare { spare self.new ≡ spare self.old }
-        ensures steps { steps.new ≡ steps.old + length raws.now };
+        ensures steps { steps.new ≡ steps.old + length raws.now }
+        ensures writes { writes self.new + steps.old ≡ writes self.old + steps.new };
 
     /// Copies pixels side by side from where one image keeps them to where another one does, whose pixels have as many bits, a
     /// step for each.
@@ -65,8 +72,10 @@ pub trait Pixels {
         ensures others { (place : Place) → ((k : ℕ) → k < n → place ≢ own to (along p k)) → kept self.new place ≡ kept self.old place }
         ensures has { has self.new ≡ has self.old }
         ensures forms { forms self.new ≡ forms self.old }
+        ensures moment { moment self.new ≡ moment self.old }
         ensures spare { spare self.new ≡ spare self.old }
-        ensures steps { steps.new ≡ steps.old + n };
+        ensures steps { steps.new ≡ steps.old + n }
+        ensures writes { writes self.new + steps.old ≡ writes self.old + steps.new };
 
     /// Reads the pixels of a rectangle that an image keeps among rows of so many: the first one comes to number `first`.
     fn read_block(&self, i: u32, r: &Rect, raws: &mut [u32], first: usize, width: usize)
@@ -96,8 +105,10 @@ pub trait Pixels {
         ensures others { (place : Place) → ((p : Spot) → IsTrue (holds r.now p) → place ≢ own i p) → kept self.new place ≡ kept self.old place }
         ensures has { has self.new ≡ has self.old }
         ensures forms { forms self.new ≡ forms self.old }
+        ensures moment { moment self.new ≡ moment self.old }
         ensures spare { spare self.new ≡ spare self.old }
-        ensures steps { steps.new ≡ steps.old + area_of r.now };
+        ensures steps { steps.new ≡ steps.old + area_of r.now }
+        ensures writes { writes self.new + steps.old ≡ writes self.old + steps.new };
 
     /// Writes one raw pixel at all points of a rectangle that an image keeps, a step for each.
     fn fill_block<L: Ledger>(&mut self, i: u32, r: &Rect, raw: u32, steps: &mut Steps<L>)
@@ -109,8 +120,10 @@ pub trait Pixels {
         ensures others { (place : Place) → ((p : Spot) → IsTrue (holds r.now p) → place ≢ own i p) → kept self.new place ≡ kept self.old place }
         ensures has { has self.new ≡ has self.old }
         ensures forms { forms self.new ≡ forms self.old }
+        ensures moment { moment self.new ≡ moment self.old }
         ensures spare { spare self.new ≡ spare self.old }
-        ensures steps { steps.new ≡ steps.old + area_of r.now };
+        ensures steps { steps.new ≡ steps.old + area_of r.now }
+        ensures writes { writes self.new + steps.old ≡ writes self.old + steps.new };
 
     /// Copies the pixels of a rectangle from where one image keeps them to where another one does from a point on, whose pixels
     /// have as many bits, a step for each.
@@ -132,8 +145,10 @@ pub trait Pixels {
         ensures others { (place : Place) → ((q : Spot) → IsTrue (holds r.now q) → place ≢ own to (carried q r.now.min p)) → kept self.new place ≡ kept self.old place }
         ensures has { has self.new ≡ has self.old }
         ensures forms { forms self.new ≡ forms self.old }
+        ensures moment { moment self.new ≡ moment self.old }
         ensures spare { spare self.new ≡ spare self.old }
-        ensures steps { steps.new ≡ steps.old + area_of r.now };
+        ensures steps { steps.new ≡ steps.old + area_of r.now }
+        ensures writes { writes self.new + steps.old ≡ writes self.old + steps.new };
 }
 
 /// The point of a window that stands at a point of the image below it.
@@ -185,8 +200,10 @@ pub fn write_view<P: Pixels, L: Ledger>(
     ensures others { (place : Place) → ((k : ℕ) → k < length raws.now → place ≢ keeping (shape lists.now) i (along at k)) → P.kept pixels.new place ≡ P.kept pixels.old place }
     ensures has { P.has pixels.new ≡ P.has pixels.old }
     ensures forms { P.forms pixels.new ≡ P.forms pixels.old }
+    ensures moment { P.moment pixels.new ≡ P.moment pixels.old }
     ensures spare { P.spare pixels.new ≡ P.spare pixels.old }
     ensures steps { steps.new ≡ steps.old + length raws.now }
+    ensures writes { P.writes pixels.new + steps.old ≡ P.writes pixels.old + steps.new }
 {
     let mut done = 0;
     while done < raws.len() {
@@ -220,8 +237,10 @@ pub fn save_view<P: Pixels, L: Ledger>(
     ensures others { (place : Place) → ((k : ℕ) → k < n → place ≢ own to (along p k)) → P.kept pixels.new place ≡ P.kept pixels.old place }
     ensures has { P.has pixels.new ≡ P.has pixels.old }
     ensures forms { P.forms pixels.new ≡ P.forms pixels.old }
+    ensures moment { P.moment pixels.new ≡ P.moment pixels.old }
     ensures spare { P.spare pixels.new ≡ P.spare pixels.old }
     ensures steps { steps.new ≡ steps.old + n }
+    ensures writes { P.writes pixels.new + steps.old ≡ P.writes pixels.old + steps.new }
 {
     let mut done = 0;
     while done < n {
@@ -256,8 +275,10 @@ pub fn show_own<P: Pixels, L: Ledger>(
     ensures others { (place : Place) → ((k : ℕ) → k < n → place ≢ keeping (shape lists.now) i (along p k)) → P.kept pixels.new place ≡ P.kept pixels.old place }
     ensures has { P.has pixels.new ≡ P.has pixels.old }
     ensures forms { P.forms pixels.new ≡ P.forms pixels.old }
+    ensures moment { P.moment pixels.new ≡ P.moment pixels.old }
     ensures spare { P.spare pixels.new ≡ P.spare pixels.old }
     ensures steps { steps.new ≡ steps.old + n }
+    ensures writes { P.writes pixels.new + steps.old ≡ P.writes pixels.old + steps.new }
 {
     let mut done = 0;
     while done < n {

@@ -3,7 +3,7 @@
 ghost use Rattle.model_text.specs.Map.{lookup};
 ghost use Rattle.r9_messages.specs.Costs.{plan_cost};
 ghost use Rattle.r9_messages.specs.Plans.{IsReady, after, is_spare};
-ghost use Rattle.r9_device.specs.World.{world_of};
+ghost use Rattle.r9_device.specs.World.{moment_of, world_of, writes_of};
 ghost use Rattle.std.specs.Prelude.{IsOk, IsSome, OnErr, OnOk, true, ◌+◌, ◌≡◌, ◌≤◌};
 
 use crate::fonts::{load_cell, make_font};
@@ -33,6 +33,8 @@ pub fn carry_out<L: Ledger>(
     ensures memory { is_spare (world_of device.old) plan.now ≡ true → IsOk result }
     ensures steps { steps.new ≤ steps.old + plan_cost client (world_of device.old) plan.now }
     ensures uncounted { OnErr result (steps.new ≡ steps.old) }
+    ensures moment { moment_of device.new ≡ moment_of device.old }
+    ensures writes { writes_of device.new + steps.old ≡ writes_of device.old + steps.new }
 {
     match plan {
         Plan::Nothing => Ok(()),

@@ -8,7 +8,7 @@ ghost use Rattle.model_cost.specs.Cost.{drawing_cost};
 ghost use Rattle.model_draw.specs.World.{look};
 ghost use Rattle.model_draw.specs.Writing.{is_turned, load_cell, make_font, s_alone, unmasked, with_font};
 ghost use Rattle.r9_messages.specs.Fonts.{after_load_cell, CanLoad};
-ghost use Rattle.r9_device.specs.World.{world_of};
+ghost use Rattle.r9_device.specs.World.{moment_of, world_of, writes_of};
 
 use crate::plan::Loading;
 use r9_chan::Op;
@@ -127,6 +127,8 @@ pub(crate) fn make_font(
     requires { IsSome (lookup (world_of device.old).clients client) }
     ensures made { OnOk result (world_of device.new ≡ with_font (world_of device.old) client id (new_font n ascent)) }
     ensures kept { OnErr result (world_of device.new ≡ world_of device.old) }
+    ensures moment { moment_of device.new ≡ moment_of device.old }
+    ensures writes { writes_of device.new ≡ writes_of device.old }
 {
     let font = Font::new(device.alloc, n, ascent);
     put_font(&mut device.clients, client, id, font)
@@ -147,6 +149,8 @@ pub(crate) fn load_cell<L: Ledger>(
     ensures kept { OnErr result (world_of device.new ≡ world_of device.old) }
     ensures steps { steps.new ≤ steps.old + drawing_cost (world_of device.old).images (unmasked loading.now.cache.0 loading.now.r loading.now.r loading.now.src.0 loading.now.sp s_alone) }
     ensures uncounted { OnErr result (steps.new ≡ steps.old) }
+    ensures moment { moment_of device.new ≡ moment_of device.old }
+    ensures writes { writes_of device.new + steps.old ≡ writes_of device.old + steps.new }
 {
     let Loading { cache, r, sp, .. } = *loading;
     device.forest.keeps();

@@ -3,6 +3,7 @@
 ghost use Rattle.model_cost.specs.Cost.{coming, going_all};
 ghost use Rattle.model_draw.specs.Making.{allocate, clashes, fill_raw, free_image, is_too_large, overhead, set_clip, with_size};
 ghost use Rattle.model_draw.specs.World.{Client as Connection, client_of, with_images};
+ghost use Rattle.model_forest.specs.World.{IsLive};
 ghost use Rattle.model_forest.specs.Numbers.{next_number, taken};
 ghost use Rattle.model_forest.specs.Steps.{after_set};
 ghost use Rattle.model_images.specs.Book.{add_id, image_of, is_image_id_taken, screen_numbered};
@@ -15,11 +16,11 @@ ghost use Rattle.r9_client.specs.Clients.{entry_of};
 ghost use Rattle.r9_device.specs.Live.{CanHold, IsLiveIn};
 ghost use Rattle.r9_messages.specs.Costs.{making_cost};
 ghost use Rattle.r9_messages.specs.Plans.{CanMake, CanSet, after_free, after_make, freed_by, images_made, one_pixel, screen_for};
-ghost use Rattle.r9_device.specs.World.{world_of};
+ghost use Rattle.r9_device.specs.World.{moment_of, world_of, writes_of};
 ghost use Rattle.r9_geom.specs.Geometry.{HasPoints, IsRectNearBy};
-ghost use Rattle.r9_layers.specs.Forest.{numbers, room, world};
+ghost use Rattle.r9_layers.specs.Forest.{moment, numbers, room, world, writes};
 ghost use Rattle.std.specs.List.{sum_by};
-ghost use Rattle.std.specs.Prelude.{Err, IfErr, IfNone, IfOk, IfSome, IsSome, None, Ok, OnErr, OnOk, false, if◌then◌else◌, is_ok, is_some, not, true, ◌+◌, ◌<◌, ◌==◌, ◌^◌, ◌≡◌, ◌≤◌};
+ghost use Rattle.std.specs.Prelude.{ℕ, Err, IfErr, IfNone, IfOk, IfSome, IsSome, None, Ok, OnErr, OnOk, false, if◌then◌else◌, is_ok, is_some, not, true, ◌+◌, ◌<◌, ◌==◌, ◌^◌, ◌≡◌, ◌≤◌};
 
 use crate::lookup::rows_len;
 use crate::plan::Making;
@@ -102,6 +103,8 @@ fn one_pixel<L: Ledger>(
     ensures kept_numbers { OnErr result (numbers forest.new ≡ numbers forest.old) }
     ensures steps { steps.new ≤ steps.old + making_cost making.now }
     ensures uncounted { OnErr result (steps.new ≡ steps.old) }
+    ensures moment { (j : ℕ) → IsLive (world forest.old) j → moment forest.new j ≡ moment forest.old j }
+    ensures writes { writes forest.new + steps.old ≡ writes forest.old + steps.new }
 {
     match making.screen {
         None => forest.image(making.r, making.chan, making.raw),
@@ -142,6 +145,8 @@ fn make<L: Ledger>(
     ensures kept_owner { OnErr result (owner.new ≡ owner.old) }
     ensures steps { steps.new ≤ steps.old + making_cost making.now }
     ensures uncounted { OnErr result (steps.new ≡ steps.old) }
+    ensures moment { (j : ℕ) → IsLive (world forest.old) j → moment forest.new j ≡ moment forest.old j }
+    ensures writes { writes forest.new + steps.old ≡ writes forest.old + steps.new }
 {
     owner.sizes.reserve()?;
     book.reserve()?;
@@ -183,6 +188,8 @@ fn make_for<L: Ledger>(
     ensures kept_book { OnErr result (book.new.book ≡ book.old.book) }
     ensures steps { steps.new ≤ steps.old + making_cost making.now }
     ensures uncounted { OnErr result (steps.new ≡ steps.old) }
+    ensures moment { (j : ℕ) → IsLive (world forest.old) j → moment forest.new j ≡ moment forest.old j }
+    ensures writes { writes forest.new + steps.old ≡ writes forest.old + steps.new }
 {
     match clients.get_mut(&client) {
         Some(owner) => make(forest, book, owner, client, making, steps),
@@ -327,6 +334,8 @@ pub(crate) fn make_image<L: Ledger>(
     ensures kept { OnErr result (world_of device.new ≡ world_of device.old) }
     ensures steps { steps.new ≤ steps.old + making_cost making.now }
     ensures uncounted { OnErr result (steps.new ≡ steps.old) }
+    ensures moment { moment_of device.new ≡ moment_of device.old }
+    ensures writes { writes_of device.new + steps.old ≡ writes_of device.old + steps.new }
 {
     make_for(
         &mut device.forest,
@@ -341,7 +350,9 @@ pub(crate) fn make_image<L: Ledger>(
 // `c`.
 pub(crate) fn clip(device: &mut Device, image: ImageNo, repl: bool, clipr: Rect)
     requires { CanSet (world_of device.old) image.0 repl clipr }
-    ensures { world_of device.new ≡ with_images (world_of device.old) (after_set (world_of device.old).images image.0 repl clipr) }
+    ensures world { world_of device.new ≡ with_images (world_of device.old) (after_set (world_of device.old).images image.0 repl clipr) }
+    ensures moment { moment_of device.new ≡ moment_of device.old }
+    ensures writes { writes_of device.new ≡ writes_of device.old }
 {
     device.forest.set(image, repl, clipr);
 }
@@ -360,6 +371,8 @@ pub(crate) fn free_id<L: Ledger>(
     ensures kept { OnErr result (world_of device.new ≡ world_of device.old) }
     ensures steps { steps.new ≤ steps.old + going_all (world_of device.old).images (freed_by (world_of device.old) client id).gone }
     ensures uncounted { OnErr result (steps.new ≡ steps.old) }
+    ensures moment { moment_of device.new ≡ moment_of device.old }
+    ensures writes { writes_of device.new + steps.old ≡ writes_of device.old + steps.new }
 {
     free_id_frees();
     device.forest.keeps();

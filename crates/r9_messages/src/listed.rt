@@ -5,7 +5,7 @@ ghost use Rattle.model_text.specs.Map.{lookup};
 ghost use Rattle.model_cost.specs.Cost.{message_cost};
 ghost use Rattle.model_draw.specs.Act.{act};
 ghost use Rattle.r9_dmsg.specs.Listed.{listed_message, HasShortList, IsNearListed};
-ghost use Rattle.r9_device.specs.World.{world_of};
+ghost use Rattle.r9_device.specs.World.{moment_of, world_of, writes_of};
 
 use crate::naming::{look_name_use, look_naming, name_image, use_name};
 use crate::string::{lettering, write_string};
@@ -52,6 +52,8 @@ pub fn do_listed<L: Ledger>(
     ensures kept { OnErr result (world_of device.new ≡ world_of device.old) }
     ensures steps { steps.new ≤ steps.old + message_cost client (world_of device.old) (listed_message asked.now) }
     ensures uncounted { OnErr result (steps.new ≡ steps.old) }
+    ensures moment { moment_of device.new ≡ moment_of device.old }
+    ensures writes { writes_of device.new + steps.old ≡ writes_of device.old + steps.new }
 {
     match asked {
         Listed::Restack(asked) => restack(device, client, asked, steps),

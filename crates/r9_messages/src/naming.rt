@@ -4,7 +4,7 @@ ghost use Rattle.std.specs.Prelude.{◌≡◌, true, Ok, Err, IfErr, OnOk, OnErr
 ghost use Rattle.model_text.specs.Map.{lookup};
 ghost use Rattle.model_draw.specs.Making.{flag};
 ghost use Rattle.model_draw.specs.Naming.{name_image, use_name};
-ghost use Rattle.r9_device.specs.World.{world_of};
+ghost use Rattle.r9_device.specs.World.{moment_of, world_of, writes_of};
 
 use r9_client::describe;
 use r9_device::Device;
@@ -34,6 +34,8 @@ pub(crate) fn name_image(device: &mut Device, client: u64, asked: &Naming<'_>) -
     requires { is_ok (name_image client (world_of device.old) asked.now.id (flag asked.now.tied) asked.now.name.now) ≡ true }
     ensures named { OnOk result (name_image client (world_of device.old) asked.now.id (flag asked.now.tied) asked.now.name.now ≡ Ok (world_of device.new)) }
     ensures kept { OnErr result (world_of device.new ≡ world_of device.old) }
+    ensures moment { moment_of device.new ≡ moment_of device.old }
+    ensures writes { writes_of device.new ≡ writes_of device.old }
 {
     let named = if asked.tied != 0 {
         device.book.tie(client, asked.id, asked.name)
@@ -59,6 +61,8 @@ pub(crate) fn use_name(device: &mut Device, client: u64, asked: &NameUse<'_>) ->
     requires accepted { is_ok (use_name client (world_of device.old) asked.now.id asked.now.name.now) ≡ true }
     ensures used { OnOk result (use_name client (world_of device.old) asked.now.id asked.now.name.now ≡ Ok (world_of device.new)) }
     ensures kept { OnErr result (world_of device.new ≡ world_of device.old) }
+    ensures moment { moment_of device.new ≡ moment_of device.old }
+    ensures writes { writes_of device.new ≡ writes_of device.old }
 {
     if device.book.add_named(client, asked.id, asked.name).is_err() {
         return Err(Memory);

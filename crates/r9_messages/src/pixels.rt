@@ -9,7 +9,7 @@ ghost use Rattle.model_text.specs.Map.{lookup};
 ghost use Rattle.r9_chan.specs.Op.{number};
 ghost use Rattle.r9_messages.specs.Plans.{CanDraw, CanWrite, IsPart, after_read, after_task, drawing_by, is_spare};
 ghost use Rattle.r9_messages.specs.declared.plan.Plan.TheVariants as plan;
-ghost use Rattle.r9_device.specs.World.{world_of};
+ghost use Rattle.r9_device.specs.World.{moment_of, world_of, writes_of};
 ghost use Rattle.r9_geom.specs.Geometry.{IsNearBy, IsRectNearBy, area_of};
 ghost use Rattle.std.specs.Prelude.{Err, IfErr, IfNone, IfOk, IfSome, IsOk, IsSome, Ok, OnErr, OnOk, false, length, nat_lt, take, true, ◌+◌, ◌^◌, ◌≡◌, ◌≤◌};
 
@@ -129,6 +129,8 @@ pub(crate) fn draw<L: Ledger>(
     ensures memory { is_spare (world_of device.old) (plan.Draw task.now) ≡ true → IsOk result }
     ensures steps { steps.new ≤ steps.old + drawing_cost (world_of device.old).images (drawing_by (client_of (world_of device.old) client).op task.now) }
     ensures uncounted { OnErr result (steps.new ≡ steps.old) }
+    ensures moment { moment_of device.new ≡ moment_of device.old }
+    ensures writes { writes_of device.new + steps.old ≡ writes_of device.old + steps.new }
 {
     let op = op_of(&device.clients, client);
     device.forest.draw(
@@ -141,7 +143,9 @@ pub(crate) fn draw<L: Ledger>(
 // `O`.
 pub(crate) fn set_operator(device: &mut Device, client: u64, op: Op)
     requires { IsSome (lookup (world_of device.old).clients client) }
-    ensures { world_of device.new ≡ with_operator (world_of device.old) client (number op) }
+    ensures world { world_of device.new ≡ with_operator (world_of device.old) client (number op) }
+    ensures moment { moment_of device.new ≡ moment_of device.old }
+    ensures writes { writes_of device.new ≡ writes_of device.old }
 {
     set_op(&mut device.clients, client, op);
 }
@@ -158,6 +162,8 @@ pub(crate) fn read_pixels(
     requires part { IsPart (world_of device.old) image.0 r }
     ensures pending { OnOk result (world_of device.new ≡ after_read client (world_of device.old) image.0 r) }
     ensures kept { OnErr result (world_of device.new ≡ world_of device.old) }
+    ensures moment { moment_of device.new ≡ moment_of device.old }
+    ensures writes { writes_of device.new ≡ writes_of device.old }
 {
     let rows = device.forest.unload(image, r)?;
     replace_pending(&mut device.clients, client, rows);
@@ -178,6 +184,8 @@ pub(crate) fn write_pixels<L: Ledger>(
     ensures kept { OnErr result (world_of device.new ≡ world_of device.old) }
     ensures steps { steps.new ≤ steps.old + area_of r }
     ensures uncounted { OnErr result (steps.new ≡ steps.old) }
+    ensures moment { moment_of device.new ≡ moment_of device.old }
+    ensures writes { writes_of device.new + steps.old ≡ writes_of device.old + steps.new }
 {
     device.forest.load(image, r, rows, steps)
 }

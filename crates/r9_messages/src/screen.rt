@@ -7,7 +7,7 @@ ghost use Rattle.model_images.specs.Release.{free_screen};
 ghost use Rattle.model_text.specs.Map.{lookup};
 ghost use Rattle.r9_device.specs.Live.{IsLiveIn};
 ghost use Rattle.r9_messages.specs.Plans.{CanScreen, after_free_screen, after_make_screen, after_share, screen_freed_by};
-ghost use Rattle.r9_device.specs.World.{world_of};
+ghost use Rattle.r9_device.specs.World.{moment_of, world_of, writes_of};
 ghost use Rattle.std.specs.Prelude.{Err, IfErr, IfOk, IfSome, IsSome, Ok, OnErr, OnOk, is_ok, is_some, not, true, ◌+◌, ◌==◌, ◌≡◌, ◌≤◌};
 
 use crate::plan::Screening;
@@ -135,6 +135,8 @@ pub(crate) fn make_screen(
     requires { CanScreen (world_of device.old) screening.now }
     ensures made { OnOk result (world_of device.new ≡ after_make_screen client (world_of device.old) screening.now) }
     ensures kept { OnErr result (world_of device.new ≡ world_of device.old) }
+    ensures moment { moment_of device.new ≡ moment_of device.old }
+    ensures writes { writes_of device.new ≡ writes_of device.old }
 {
     let Screening {
         id,
@@ -159,6 +161,8 @@ pub(crate) fn share_screen(
     requires { is_some (screen_numbered (world_of device.old).book screen) ≡ true }
     ensures shared { OnOk result (world_of device.new ≡ after_share client (world_of device.old) id screen) }
     ensures kept { OnErr result (world_of device.new ≡ world_of device.old) }
+    ensures moment { moment_of device.new ≡ moment_of device.old }
+    ensures writes { writes_of device.new ≡ writes_of device.old }
 {
     match device.book.add_screen(client, id, screen, false) {
         Ok(()) => Ok(()),
@@ -180,6 +184,8 @@ pub(crate) fn free_screen_id<L: Ledger>(
     ensures kept { OnErr result (world_of device.new ≡ world_of device.old) }
     ensures steps { steps.new ≤ steps.old + going_all (world_of device.old).images (screen_freed_by (world_of device.old) client id).gone }
     ensures uncounted { OnErr result (steps.new ≡ steps.old) }
+    ensures moment { moment_of device.new ≡ moment_of device.old }
+    ensures writes { writes_of device.new + steps.old ≡ writes_of device.old + steps.new }
 {
     free_screen_frees();
     device.forest.keeps();

@@ -15,7 +15,7 @@ ghost use Rattle.r9_strings.specs.Ready.{CanLetter};
 ghost use Rattle.r9_messages.specs.Fonts.{font_of_id};
 ghost use Rattle.r9_device.specs.Live.{IsLiveIn};
 ghost use Rattle.r9_messages.specs.Strings.{background_of};
-ghost use Rattle.r9_device.specs.World.{world_of};
+ghost use Rattle.r9_device.specs.World.{moment_of, world_of, writes_of};
 
 use r9_chan::Op;
 use r9_client::{font_of, op_of, set_op};
@@ -118,6 +118,8 @@ pub(crate) fn write_string<L: Ledger>(
     ensures kept { OnErr result (world_of device.new ≡ world_of device.old) }
     ensures steps { steps.new ≤ steps.old + of_found (sum_by (drawing_cost (world_of device.old).images)) (string_drawings client (world_of device.old) (writing_in asked.now) (background_of asked.now)) }
     ensures uncounted { OnErr result (steps.new ≡ steps.old) }
+    ensures moment { moment_of device.new ≡ moment_of device.old }
+    ensures writes { writes_of device.new + steps.old ≡ writes_of device.old + steps.new }
 {
     let Ok(lettering) = lettering(device, client, asked) else {
         unreachable!()

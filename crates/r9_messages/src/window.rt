@@ -8,7 +8,7 @@ ghost use Rattle.model_draw.specs.World.{with_images};
 ghost use Rattle.model_forest.specs.Steps.{after_origin};
 ghost use Rattle.r9_messages.specs.Plans.{CanMove};
 ghost use Rattle.r9_messages.specs.Restacking.{ShowWindows, after_restacking, group_of, ids_of};
-ghost use Rattle.r9_device.specs.World.{world_of};
+ghost use Rattle.r9_device.specs.World.{moment_of, world_of, writes_of};
 ghost use Rattle.std.specs.List.{sum_by};
 ghost use Rattle.std.specs.Prelude.{Err, IfErr, IfOk, Ok, OnErr, OnOk, length, map, slice_index, ◌+◌, ◌/◌, ◌<◌, ◌≡◌, ◌≤◌};
 
@@ -56,6 +56,8 @@ pub(crate) fn move_window<L: Ledger>(
     ensures kept { OnErr result (world_of device.new ≡ world_of device.old) }
     ensures steps { steps.new ≤ steps.old + window_moved (world_of device.old) image.0 }
     ensures uncounted { OnErr result (steps.new ≡ steps.old) }
+    ensures moment { moment_of device.new ≡ moment_of device.old }
+    ensures writes { writes_of device.new + steps.old ≡ writes_of device.old + steps.new }
 {
     device.forest.keeps();
     device.forest.origin(image, rmin, scr, steps)
@@ -155,6 +157,8 @@ pub(crate) fn restack<L: Ledger>(
     ensures kept { OnErr result (world_of device.new ≡ world_of device.old) }
     ensures steps { steps.new ≤ steps.old + of_found (sum_by (window_moved (world_of device.old))) (look_windows (world_of device.old) client (ids_of asked.now)) }
     ensures uncounted { OnErr result (steps.new ≡ steps.old) }
+    ensures moment { moment_of device.new ≡ moment_of device.old }
+    ensures writes { writes_of device.new + steps.old ≡ writes_of device.old + steps.new }
 {
     device.forest.keeps();
     let group = group(device, client, asked)?;

@@ -3,7 +3,7 @@
 ghost use Rattle.model_cost.specs.Cost.{rect_shown};
 ghost use Rattle.model_draw.specs.Orders.{fits, has_display, is_side, resize_display};
 ghost use Rattle.model_forest.specs.World.{origin_point};
-ghost use Rattle.r9_device.specs.World.{world_of};
+ghost use Rattle.r9_device.specs.World.{moment_of, world_of, writes_of};
 ghost use Rattle.r9_event.specs.declared.rio.Order.TheVariants.{Size};
 ghost use Rattle.r9_geom.specs.Geometry.{area_of, is_point, IsNearBy};
 ghost use Rattle.std.specs.Prelude.{OnOk, true, ◌+◌, ◌*◌, ◌^◌, ◌≡◌, ◌≤◌};
@@ -60,6 +60,8 @@ pub(crate) fn resize_display<L: Ledger>(
     requires { has_display (world_of device.old) ≡ true }
     ensures resized { OnOk result (world_of device.new ≡ resize_display (world_of device.old) width height) }
     ensures steps { steps.new ≤ steps.old + (2 * area_of (rect_shown (world_of device.old) 0) + 2 * (width * height)) }
+    ensures moment { moment_of device.new ≡ moment_of device.old }
+    ensures writes { writes_of device.new + steps.old ≡ writes_of device.old + steps.new }
 {
     let image = device.image_shown(0);
     let info = device.forest.info(image);

@@ -12,7 +12,7 @@ ghost use Rattle.model_pixel.specs.Channels.{pack};
 ghost use Rattle.r9_orders.specs.Ordering.{CanFill};
 ghost use Rattle.r9_device.specs.Live.{CanHold};
 ghost use Rattle.r9_geom.specs.Geometry.{HasPoints, IsRectNearBy, area_of, holds};
-ghost use Rattle.r9_layers.specs.Forest.{numbers, room, world};
+ghost use Rattle.r9_layers.specs.Forest.{moment, numbers, room, world, writes};
 ghost use Rattle.std.specs.List.{list_any, sum_by};
 ghost use Rattle.std.specs.Prelude.{All, IfOk, None, OnErr, OnOk, false, is_some, true, ◌+◌, ◌<◌, ◌==◌, ◌^◌, ◌≡◌, ◌≤◌};
 
@@ -58,6 +58,8 @@ fn fill_parts<L: Ledger>(
     ensures numbers { numbers forest.new ≡ numbers forest.old }
     ensures room { room forest.old ≤ room forest.new }
     ensures steps { steps.new ≤ steps.old + sum_by area_of parts.now }
+    ensures moment { moment forest.new ≡ moment forest.old }
+    ensures writes { writes forest.new + steps.old ≡ writes forest.old + steps.new }
 {
     for part in parts {
         forest.fill(image, *part, raw, steps);
@@ -72,6 +74,8 @@ pub(crate) fn add_border<L: Ledger>(forest: &mut Forest, image: ImageNo, steps: 
     ensures numbers { numbers forest.new ≡ numbers forest.old }
     ensures room { room forest.old ≤ room forest.new }
     ensures steps { steps.new ≤ steps.old + border (image_at (world forest.old) image.0).r }
+    ensures moment { moment forest.new ≡ moment forest.old }
+    ensures writes { writes forest.new + steps.old ≡ writes forest.old + steps.new }
 {
     forest.keeps();
     let info = forest.info(image);
@@ -105,6 +109,8 @@ fn new_white<L: Ledger>(
     ensures kept_images { OnErr result (world forest.new ≡ world forest.old) }
     ensures kept_numbers { OnErr result (numbers forest.new ≡ numbers forest.old) }
     ensures steps { steps.new ≤ steps.old + coming place }
+    ensures moment { moment forest.new ≡ moment forest.old }
+    ensures writes { writes forest.new + steps.old ≡ writes forest.old + steps.new }
 {
     let parent = ImageNo(book.image_of(screen));
     let fill = ImageNo(book.fill_of(screen));
@@ -147,6 +153,8 @@ pub(crate) fn put_white<L: Ledger>(
     ensures kept_numbers { OnErr result (numbers forest.new ≡ numbers forest.old) }
     ensures kept_book { OnErr result (book.new.book ≡ book.old.book) }
     ensures steps { steps.new ≤ steps.old + coming place }
+    ensures moment { moment forest.new ≡ moment forest.old }
+    ensures writes { writes forest.new + steps.old ≡ writes forest.old + steps.new }
 {
     book.reserve()?;
     let image = new_white(forest, book, screen, place, steps)?;

@@ -5,7 +5,7 @@ ghost use Rattle.model_draw.specs.Orders.{corner, white};
 ghost use Rattle.model_forest.specs.Numbers.{next_number, taken};
 ghost use Rattle.model_forest.specs.World.{parent_of};
 ghost use Rattle.r9_orders.specs.Ordering.{CanReplace, GoesUnseen, images_come, images_next, images_put, images_replaced, is_first, renewing, replacing_images};
-ghost use Rattle.r9_layers.specs.Forest.{numbers, room, world};
+ghost use Rattle.r9_layers.specs.Forest.{moment, numbers, room, world, writes};
 ghost use Rattle.std.specs.Prelude.{IfOk, IsSome, None, OnErr, OnOk, true, ◌+◌, ◌<◌, ◌≡◌, ◌≤◌};
 
 use crate::image::{add_border, white};
@@ -62,6 +62,8 @@ fn put_next<L: Ledger>(
     ensures kept_images { OnErr result (world forest.new ≡ world forest.old) }
     ensures kept_numbers { OnErr result (numbers forest.new ≡ numbers forest.old) }
     ensures steps { steps.new ≤ steps.old + coming next.now.r }
+    ensures moment { moment forest.new ≡ moment forest.old }
+    ensures writes { writes forest.new + steps.old ≡ writes forest.old + steps.new }
 {
     let corner = corner(&next.r, next.hidden);
     if next.above {
@@ -96,6 +98,8 @@ fn replace_next<L: Ledger>(
     ensures kept_images { OnErr result (world forest.new ≡ world forest.old) }
     ensures kept_numbers { OnErr result (numbers forest.new ≡ numbers forest.old) }
     ensures steps { steps.new ≤ steps.old + replacing_images (world forest.old) next.now }
+    ensures moment { moment forest.new ≡ moment forest.old }
+    ensures writes { writes forest.new + steps.old ≡ writes forest.old + steps.new }
 {
     let corner = corner(&next.r, next.hidden);
     if next.above {
@@ -131,6 +135,8 @@ fn next_white<L: Ledger>(
     ensures kept_images { OnErr result (world forest.new ≡ world forest.old) }
     ensures kept_numbers { OnErr result (numbers forest.new ≡ numbers forest.old) }
     ensures steps { steps.new ≤ steps.old + replacing_images (world forest.old) next.now }
+    ensures moment { moment forest.new ≡ moment forest.old }
+    ensures writes { writes forest.new + steps.old ≡ writes forest.old + steps.new }
 {
     if stays {
         put_next(forest, next, steps)
@@ -158,6 +164,8 @@ pub(crate) fn next_window<L: Ledger>(
     ensures book { book.new.book ≡ book.old.book }
     ensures space { OnOk result (0 < book.new.room) }
     ensures steps { steps.new ≤ steps.old + renewing (world forest.old) next.now }
+    ensures moment { moment forest.new ≡ moment forest.old }
+    ensures writes { writes forest.new + steps.old ≡ writes forest.old + steps.new }
 {
     forest.keeps();
     book.reserve()?;

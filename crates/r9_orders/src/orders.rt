@@ -3,7 +3,7 @@
 
 ghost use Rattle.model_cost.specs.Cost.{order_cost, orders_cost};
 ghost use Rattle.model_draw.specs.Orders.{after_order, replace_window, carried_out, drop_window, fits, host_rio, make_window, ordered, place_window, rio_screen};
-ghost use Rattle.r9_device.specs.World.{world_of};
+ghost use Rattle.r9_device.specs.World.{moment_of, world_of, writes_of};
 ghost use Rattle.r9_event.specs.declared.rio.Order.TheVariants.{Host};
 ghost use Rattle.std.specs.Prelude.{OnOk, true, ◌<◌, ◌+◌, ◌≡◌, ◌≤◌, if◌then◌else◌};
 
@@ -25,6 +25,8 @@ fn obey<L: Ledger>(device: &mut Device, order: &Order, steps: &mut Steps<L>) -> 
     requires { fits (world_of device.old) order.now ≡ true }
     ensures obeyed { OnOk result (world_of device.new ≡ after_order (world_of device.old) order.now) }
     ensures steps { OnOk result (steps.new ≤ steps.old + order_cost (world_of device.old) order.now) }
+    ensures moment { moment_of device.new ≡ moment_of device.old }
+    ensures writes { writes_of device.new + steps.old ≡ writes_of device.old + steps.new }
 {
     match order {
         Order::Make {
@@ -65,6 +67,8 @@ fn carry_out_order<L: Ledger>(
 ) -> Result<(), Memory>
     ensures ordered { OnOk result (world_of device.new ≡ ordered (world_of device.old) order.now) }
     ensures steps { OnOk result (steps.new ≤ steps.old + (if fits (world_of device.old) order.now then order_cost (world_of device.old) order.now else 0)) }
+    ensures moment { moment_of device.new ≡ moment_of device.old }
+    ensures writes { writes_of device.new + steps.old ≡ writes_of device.old + steps.new }
 {
     if !fits(device, order) {
         return Ok(());
@@ -81,6 +85,8 @@ pub fn carry_out<L: Ledger>(
 ) -> Result<(), Memory>
     ensures done { OnOk result (world_of device.new ≡ carried_out (world_of device.old) list.now) }
     ensures steps { OnOk result (steps.new ≤ steps.old + orders_cost (world_of device.old) list.now) }
+    ensures moment { moment_of device.new ≡ moment_of device.old }
+    ensures writes { writes_of device.new + steps.old ≡ writes_of device.old + steps.new }
 {
     for order in list.as_slice() {
         carry_out_order(device, order, steps)?;

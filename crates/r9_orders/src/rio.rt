@@ -7,7 +7,7 @@ ghost use Rattle.model_forest.specs.Draw.{after_fill};
 ghost use Rattle.model_images.specs.Book.{fill_of};
 ghost use Rattle.model_pixel.specs.Channels.{colour_of, pack};
 ghost use Rattle.r9_orders.specs.Ordering.{with_rio};
-ghost use Rattle.r9_device.specs.World.{world_of};
+ghost use Rattle.r9_device.specs.World.{moment_of, world_of, writes_of};
 ghost use Rattle.r9_event.specs.declared.rio.Order.TheVariants.{Host};
 ghost use Rattle.r9_geom.specs.Geometry.{area_of};
 ghost use Rattle.std.specs.Prelude.{OnErr, OnOk, false, true, ◌+◌, ◌<◌, ◌≡◌, ◌≤◌};
@@ -31,6 +31,8 @@ pub(crate) fn close_rio<L: Ledger>(
     ensures closed { OnOk result (world_of device.new ≡ after_freed (world_of device.old) (screen_freed (world_of device.old).book window)) }
     ensures kept { OnErr result (world_of device.new ≡ world_of device.old) }
     ensures steps { OnOk result (steps.new ≤ steps.old + going_all (world_of device.old).images (screen_freed (world_of device.old).book window).gone) }
+    ensures moment { moment_of device.new ≡ moment_of device.old }
+    ensures writes { writes_of device.new + steps.old ≡ writes_of device.old + steps.new }
 {
     free_screen_frees();
     device.forest.keeps();
@@ -49,6 +51,8 @@ fn fill_window<L: Ledger>(device: &mut Device, window: u32, steps: &mut Steps<L>
     requires { is_window_rect (at_number (world_of device.old) (image_shown (world_of device.old) window)).r ≡ true }
     ensures filled { world_of device.new ≡ with_images (world_of device.old) (after_fill (world_of device.old).images (image_shown (world_of device.old) window) (inside_border (at_number (world_of device.old) (image_shown (world_of device.old) window)).r) (pack (at_number (world_of device.old) (image_shown (world_of device.old) window)).chan (colour_of 0x777777ff))) }
     ensures steps { steps.new ≤ steps.old + area_of (inside_border (rect_shown (world_of device.old) window)) }
+    ensures moment { moment_of device.new ≡ moment_of device.old }
+    ensures writes { writes_of device.new + steps.old ≡ writes_of device.old + steps.new }
 {
     let image = device.image_shown(window);
     let info = device.forest.info(image);
@@ -63,6 +67,8 @@ fn open_rio(device: &mut Device, window: u32) -> Result<(), Memory>
     requires { has_rio (world_of device.old) 0 ≡ true }
     ensures opened { OnOk result (world_of device.new ≡ with_rio (world_of device.old) window (image_shown (world_of device.old) window)) }
     ensures kept { OnErr result (world_of device.new ≡ world_of device.old) }
+    ensures moment { moment_of device.new ≡ moment_of device.old }
+    ensures writes { writes_of device.new ≡ writes_of device.old }
 {
     let image = device.image_shown(window);
     let fill = device.book.fill_of(rio_screen(device, 0));
@@ -83,6 +89,8 @@ pub(crate) fn host_rio<L: Ledger>(
     requires { fits (world_of device.old) (Host window fill) ≡ true }
     ensures hosted { OnOk result (world_of device.new ≡ host_rio (world_of device.old) window fill) }
     ensures steps { OnOk result (steps.new ≤ steps.old + order_cost (world_of device.old) (Host window fill)) }
+    ensures moment { moment_of device.new ≡ moment_of device.old }
+    ensures writes { writes_of device.new + steps.old ≡ writes_of device.old + steps.new }
 {
     if fill {
         fill_window(device, window, steps);

@@ -11,7 +11,7 @@ ghost use Rattle.model_images.specs.Release.{is_used};
 ghost use Rattle.model_images.specs.declared.Thing.TheVariants.{Screen};
 ghost use Rattle.r9_orders.specs.Ordering.{CanReplace, IsNext, StandsAt, is_used_by_id, renewed, renewing, with_white};
 ghost use Rattle.r9_device.specs.Live.{IsLiveIn};
-ghost use Rattle.r9_device.specs.World.{world_of};
+ghost use Rattle.r9_device.specs.World.{moment_of, world_of, writes_of};
 ghost use Rattle.r9_geom.specs.Geometry.{HasPoints, IsRectNearBy, at_min};
 ghost use Rattle.std.specs.Prelude.{IfOk, OnErr, OnOk, [], false, is_none, true, ◌+◌, ◌<◌, ◌==◌, ◌^◌, ◌≡◌, ◌≤◌, ◌∷◌};
 
@@ -40,6 +40,8 @@ pub(crate) fn place_window<L: Ledger>(
     ensures placed { OnOk result (world_of device.new ≡ place_window (world_of device.old) window at) }
     ensures kept { OnErr result (world_of device.new ≡ world_of device.old) }
     ensures steps { steps.new ≤ steps.old + moving (rect_shown (world_of device.old) window) }
+    ensures moment { moment_of device.new ≡ moment_of device.old }
+    ensures writes { writes_of device.new + steps.old ≡ writes_of device.old + steps.new }
 {
     device.forest.keeps();
     let image = device.image_shown(window);
@@ -57,6 +59,8 @@ fn free_window<L: Ledger>(
     ensures freed { OnOk result (world_of device.new ≡ after_freed (world_of device.old) (image_freed (world_of device.old).book window)) }
     ensures kept { OnErr result (world_of device.new ≡ world_of device.old) }
     ensures steps { OnOk result (steps.new ≤ steps.old + going_all (world_of device.old).images (image_freed (world_of device.old).book window).gone) }
+    ensures moment { moment_of device.new ≡ moment_of device.old }
+    ensures writes { writes_of device.new + steps.old ≡ writes_of device.old + steps.new }
 {
     free_id_frees();
     device.forest.keeps();
@@ -80,6 +84,8 @@ pub(crate) fn drop_window<L: Ledger>(
     requires { has_window (world_of device.old) window ≡ true }
     ensures dropped { OnOk result (world_of device.new ≡ drop_window (world_of device.old) window) }
     ensures steps { OnOk result (steps.new ≤ steps.old + dropping (world_of device.old) window) }
+    ensures moment { moment_of device.new ≡ moment_of device.old }
+    ensures writes { writes_of device.new + steps.old ≡ writes_of device.old + steps.new }
 {
     place_window(device, window, OUTSIDE, steps)?;
     close_rio(device, window, steps)?;
@@ -95,6 +101,8 @@ pub(crate) fn raise_window<L: Ledger>(
     requires { has_window (world_of device.old) window ≡ true }
     ensures raised { OnOk result (world_of device.new ≡ with_images (world_of device.old) (after_raise (world_of device.old).images (image_shown (world_of device.old) window ∷ []))) }
     ensures steps { steps.new ≤ steps.old + moving (rect_shown (world_of device.old) window) }
+    ensures moment { moment_of device.new ≡ moment_of device.old }
+    ensures writes { writes_of device.new + steps.old ≡ writes_of device.old + steps.new }
 {
     device.forest.keeps();
     let image = device.image_shown(window);
@@ -110,6 +118,8 @@ pub(crate) fn lower_window<L: Ledger>(
     requires { has_window (world_of device.old) window ≡ true }
     ensures lowered { OnOk result (world_of device.new ≡ with_images (world_of device.old) (after_lower (world_of device.old).images (image_shown (world_of device.old) window ∷ []))) }
     ensures steps { steps.new ≤ steps.old + moving (rect_shown (world_of device.old) window) }
+    ensures moment { moment_of device.new ≡ moment_of device.old }
+    ensures writes { writes_of device.new + steps.old ≡ writes_of device.old + steps.new }
 {
     device.forest.keeps();
     let image = device.image_shown(window);
@@ -135,6 +145,8 @@ fn add_white<L: Ledger>(
     ensures stands { IfOk result (λ i. StandsAt (world_of device.new).images i.0 place) }
     ensures kept { OnErr result (world_of device.new ≡ world_of device.old) }
     ensures steps { steps.new ≤ steps.old + coming place }
+    ensures moment { moment_of device.new ≡ moment_of device.old }
+    ensures writes { writes_of device.new + steps.old ≡ writes_of device.old + steps.new }
 {
     put_white(
         &mut device.forest,
@@ -160,6 +172,8 @@ fn hide_image<L: Ledger>(
     ensures rect { OnOk result ((at_number (world_of device.new) image.0).r ≡ carried_rect (at_number (world_of device.old) image.0).r (at_number (world_of device.old) image.0).r.min min) }
     ensures kept { OnErr result (world_of device.new ≡ world_of device.old) }
     ensures still { StandsAt (world_of device.old).images image.0 (carried_rect (at_number (world_of device.old) image.0).r (at_number (world_of device.old) image.0).r.min outside) → steps.new ≡ steps.old }
+    ensures moment { moment_of device.new ≡ moment_of device.old }
+    ensures writes { writes_of device.new + steps.old ≡ writes_of device.old + steps.new }
 {
     device.forest.keeps();
     device.forest.origin(image, min, OUTSIDE, steps)
@@ -170,6 +184,8 @@ fn frame<L: Ledger>(device: &mut Device, image: ImageNo, steps: &mut Steps<L>)
     requires { IsLiveIn (world_of device.old) image.0 }
     ensures framed { world_of device.new ≡ with_images (world_of device.old) (bordered (world_of device.old).images image.0) }
     ensures steps { steps.new ≤ steps.old + border (at_number (world_of device.old) image.0).r }
+    ensures moment { moment_of device.new ≡ moment_of device.old }
+    ensures writes { writes_of device.new + steps.old ≡ writes_of device.old + steps.new }
 {
     add_border(&mut device.forest, image, steps);
 }
@@ -178,6 +194,8 @@ fn frame<L: Ledger>(device: &mut Device, image: ImageNo, steps: &mut Steps<L>)
 fn name_window(device: &mut Device, window: u32, name: &[u8]) -> Result<(), Memory>
     ensures named { OnOk result (world_of device.new ≡ with_book (world_of device.old) (with_window_name (world_of device.old).book window name.now)) }
     ensures kept { OnErr result (world_of device.new ≡ world_of device.old) }
+    ensures moment { moment_of device.new ≡ moment_of device.old }
+    ensures writes { writes_of device.new ≡ writes_of device.old }
 {
     tie_window(&mut device.book, window, name)
 }
@@ -199,6 +217,8 @@ fn white_window<L: Ledger>(
     ensures live { IfOk result (λ i. IsLiveIn (world_of device.new) i.0) }
     ensures rect { IfOk result (λ i. (at_number (world_of device.new) i.0).r ≡ r) }
     ensures steps { steps.new ≤ steps.old + coming r }
+    ensures moment { moment_of device.new ≡ moment_of device.old }
+    ensures writes { writes_of device.new + steps.old ≡ writes_of device.old + steps.new }
 {
     if !hide {
         return add_white(device, window, screen, r, steps);
@@ -224,6 +244,8 @@ pub(crate) fn make_window<L: Ledger>(
     requires rect { is_window_rect r ≡ true }
     ensures made { OnOk result (world_of device.new ≡ make_window (world_of device.old) window host r name.now hide) }
     ensures steps { OnOk result (steps.new ≤ steps.old + (coming r + border r)) }
+    ensures moment { moment_of device.new ≡ moment_of device.old }
+    ensures writes { writes_of device.new + steps.old ≡ writes_of device.old + steps.new }
 {
     let screen = rio_screen(device, host);
     let image = white_window(device, window, screen, r, hide, steps)?;
@@ -278,6 +300,8 @@ fn renew_window<L: Ledger>(
     requires ready { CanReplace (world_of device.old).images next.now }
     ensures renewed { OnOk result (world_of device.new ≡ renewed (world_of device.old) window screen next.now) }
     ensures steps { OnOk result (steps.new ≤ steps.old + (renewing (world_of device.old).images next.now + going_all (world_of device.old).images (image_freed (world_of device.old).book window).gone)) }
+    ensures moment { moment_of device.new ≡ moment_of device.old }
+    ensures writes { writes_of device.new + steps.old ≡ writes_of device.old + steps.new }
 {
     free_id_frees();
     device.forest.keeps();
@@ -314,6 +338,8 @@ pub(crate) fn replace_window<L: Ledger>(
     requires ready { CanReplace (world_of device.old).images next.now }
     ensures replaced { OnOk result (world_of device.new ≡ replace_window (world_of device.old) window host next.now.r name.now next.now.keep next.now.hidden) }
     ensures steps { OnOk result (steps.new ≤ steps.old + replacing (world_of device.old) window host next.now.r next.now.keep) }
+    ensures moment { moment_of device.new ≡ moment_of device.old }
+    ensures writes { writes_of device.new + steps.old ≡ writes_of device.old + steps.new }
 {
     let screen = rio_screen(device, host);
     renew_window(device, window, screen, next, steps)?;

@@ -82,7 +82,7 @@ tiles_others owns old new i own_extent block value hidden has written place apar
   where
     by_own : (o : Option Own) → own_at owns place.image ≡ o → option_map_or (kept_in new place.image place.at) o 0 ≡ option_map_or (kept_in old place.image place.at) o 0
     by_own None is = refl
-    by_own (Some (Whole plane)) is = refl
+    by_own (Some (Whole watched)) is = refl
     by_own (Some (Hidden extent)) is =
         ⊎_elim
         (λ (inside : holds extent.r place.at ≡ true).
@@ -174,5 +174,5 @@ tiles_has owns old new same place = by_own (own_at owns place.image)
   where
     by_own : (o : Option Own) → option_map_or (has_in new place.image place.at) o false ≡ option_map_or (has_in old place.image place.at) o false
     by_own None = refl
-    by_own (Some (Whole plane)) = refl
+    by_own (Some (Whole watched)) = refl
     by_own (Some (Hidden extent)) = ap (λ rows. has_tile rows place.image extent.r place.at) same

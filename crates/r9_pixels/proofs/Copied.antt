@@ -28,7 +28,7 @@ whole_place owns cells i x none has = at (own_at owns i) refl has
   where
     at : (o : Option Own) → own_at owns i ≡ o → option_map_or (has_in cells i x) o false ≡ true → option_map (λ (form : Form). form.is_window) (option_map form_in o) ≡ Some false
     at None is has = absurd (false≢true has)
-    at (Some (Whole plane)) is has = refl
+    at (Some (Whole watched)) is has = refl
     at (Some (Hidden extent)) is has = absurd (none extent is)
 
 -- places side by side are near, and do not go far
@@ -42,7 +42,7 @@ places_near kept i at done first here = of (own_at kept.owns.items i) refl first
 
     of : (o : Option Own) → own_at kept.owns.items i ≡ o → option_map_or (has_in kept.cells i (along at 0)) o false ≡ true → option_map_or (has_in kept.cells i (along at done)) o false ≡ true → IsNearBy (2 ^ 42) at × (done ≤ 2 ^ 42)
     of None is start end = absurd (false≢true start)
-    of (Some (Whole plane)) is start end = within (rect_of plane) plane.near start end
+    of (Some (Whole watched)) is start end = within (rect_of watched.plane) watched.plane.near start end
     of (Some (Hidden extent)) is start end =
         within extent.r (kept.tabled.windows i extent is).near
         (tile_parts (all_rows kept.cells) i extent.r (along at 0) start).0
@@ -53,7 +53,7 @@ place_near kept i p has = of (own_at kept.owns.items i) refl has
   where
     of : (o : Option Own) → own_at kept.owns.items i ≡ o → option_map_or (has_in kept.cells i p) o false ≡ true → IsNear p
     of None is has = absurd (false≢true has)
-    of (Some (Whole plane)) is has = near_point (2 ^ 40) (rect_of plane) p plane.near has
+    of (Some (Whole watched)) is has = near_point (2 ^ 40) (rect_of watched.plane) p watched.plane.near has
     of (Some (Hidden extent)) is has =
         near_point (2 ^ 40) extent.r p (kept.tabled.windows i extent is).near (tile_parts (all_rows kept.cells) i extent.r p has).0
 
@@ -64,6 +64,7 @@ carried_none kept from at to p = record {
   others = λ place apart. refl;
   has = refl;
   forms = refl;
+  moment = refl;
   spare = refl;
 }
 
@@ -106,6 +107,7 @@ carried_more old mid new from at to p done len here there here_is there_is apart
       ∙ was.others place (λ k lower. away k (omega (arith, lower)));
   has = is.has ∙ was.has;
   forms = is.forms ∙ was.forms;
+  moment = is.moment ∙ was.moment;
   spare = is.spare ∙ was.spare;
 }
   where

@@ -1,6 +1,8 @@
 pub mod Areas
 pub mod Copied
 pub mod Coming
+pub mod Few
+pub mod Looked
 pub mod Off
 pub mod Owning
 pub mod Points
@@ -10,4 +12,5 @@ pub mod Standing
 pub mod Taking
 pub mod Telling
 pub mod Tiled
+pub mod Touched
 pub mod Wholes

@@ -10,7 +10,7 @@ use Rattle.r9_geom.specs.declared.Point.{Point}
 use Rattle.r9_geom.specs.declared.Rect.{Rect}
 use Rattle.r9_geom.specs.Geometry.{is_point}
 use Rattle.r9_geom.proofs.GeometryLemmas.{is_point_true, true_is_point}
-use Rattle.r9_plane.specs.declared.plane.Plane.{Plane}
+use Rattle.r9_watched.specs.declared.Watched.{Watched}
 use Rattle.model_pixel.specs.Channels.{depth}
 use Rattle.r9_locate.specs.Forms.{Form}
 use Rattle.r9_cells.specs.Fitting.{IsCelled}
@@ -44,8 +44,8 @@ own_other owns i j slot other = get_or-set_other owns i j slot None other
 abbrev pub IsNoWindow : Option Own → Type 0
 IsNoWindow slot = (extent : Extent) → slot ≢ Some (Hidden extent)
 
-pub no_window : (plane : Plane) → IsNoWindow (Some (Whole plane))
-no_window plane extent is = cc
+pub no_window : (watched : Watched) → IsNoWindow (Some (Whole watched))
+no_window watched extent is = cc
 
 pub none_window : (slot : Option Own) → slot ≡ None → IsNoWindow slot
 none_window slot none extent is = cc
@@ -82,6 +82,14 @@ set_each owns i slot tell below n =
     ∙ sym (ap (λ b. if b then tell slot else tell (own_at owns n)) (ne_eqb n i other)))
     (cases_eq n i)
 
+-- the same is told, where one was set to another of which the same is told
+pub set_still : {C : Type 0} (owns : List (Option Own)) (i : ℕ) (slot : Option Own) (tell : Option Own → C) → i < length owns → tell slot ≡ tell (own_at owns i) → (n : ℕ) → tell (own_at (set owns i slot) n) ≡ tell (own_at owns n)
+set_still owns i slot tell below still n =
+    ⊎_elim
+    (λ (same : n ≡ i). ap tell (ap (own_at (set owns i slot)) same ∙ own_same owns i slot below) ∙ still ∙ ap (λ m. tell (own_at owns m)) (sym same))
+    (λ (other : n ≢ i). ap tell (own_other owns i n slot other))
+    (cases_eq n i)
+
 -- a slot that was set to what it was
 pub own_again : (owns : List (Option Own)) (i j : ℕ) (slot : Option Own) → i < length owns → own_at owns i ≡ slot → own_at (set owns i slot) j ≡ own_at owns j
 own_again owns i j slot below is =
@@ -92,6 +100,12 @@ own_again owns i j slot below is =
 
 pub extent_is : (a b : Extent) → Some (Hidden a) ≡ Some (Hidden b) → a ≡ b
 extent_is a b same = cc
+
+pub whole_is : (a b : Watched) → Some (Whole a) ≡ Some (Whole b) → a ≡ b
+whole_is a b same = cc
+
+pub whole_own : (own : Own) (watched : Watched) → Some own ≡ Some (Whole watched) → own ≡ Whole watched
+whole_own own watched same = cc
 
 -- how many bits the pixels of a slot have
 abbrev pub own_bits : Option Own → ℕ
@@ -151,15 +165,15 @@ true_place a b same =
     (and_from (a.cell == b.cell) (is_point a.at b.at) (eq-eqb a.cell b.cell (ap (λ (p : CellPlace). p.cell) same)) (true_is_point a.at b.at (ap (λ (p : CellPlace). p.at) same)))
 
 -- what has the form of no window has a plane
-pub whole_of : (slot : Option Own) → option_map (λ (form : Form). form.is_window) (option_map form_in slot) ≡ Some false → (plane : Plane) × (slot ≡ Some (Whole plane))
+pub whole_of : (slot : Option Own) → option_map (λ (form : Form). form.is_window) (option_map form_in slot) ≡ Some false → (watched : Watched) × (slot ≡ Some (Whole watched))
 whole_of None e = absurd cc
-whole_of (Some (Whole plane)) e = (plane, refl)
+whole_of (Some (Whole watched)) e = (watched, refl)
 whole_of (Some (Hidden extent)) e = absurd cc
 
 -- and what has that of a window has its rectangle and channels
 pub hidden_of : (slot : Option Own) → option_map (λ (form : Form). form.is_window) (option_map form_in slot) ≡ Some true → (extent : Extent) × (slot ≡ Some (Hidden extent))
 hidden_of None e = absurd cc
-hidden_of (Some (Whole plane)) e = absurd cc
+hidden_of (Some (Whole watched)) e = absurd cc
 hidden_of (Some (Hidden extent)) e = (extent, refl)
 
 pub own_there : (owns : List (Option Own)) (i : ℕ) (kept : Own) → own_at owns i ≡ Some kept → i < length owns
@@ -168,3 +182,7 @@ own_there owns i kept is =
     (λ (below : i < length owns). below)
     (λ past. let none : None ≡ Some kept = sym (get_or_past owns i None past) ∙ is in absurd cc)
     (cases_lt i (length owns))
+
+-- what has a plane is one of the table
+pub whole_below : (owns : List (Option Own)) (i : ℕ) → option_map (λ (form : Form). form.is_window) (option_map form_in (own_at owns i)) ≡ Some false → i < length owns
+whole_below owns i whole = let found = whole_of (own_at owns i) whole in own_there owns i (Whole found.0) found.1

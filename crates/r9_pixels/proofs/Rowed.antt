@@ -40,6 +40,7 @@ rows_none kept from r to p = record {
   others = λ place apart. refl;
   has = refl;
   forms = refl;
+  moment = refl;
   spare = refl;
 }
 
@@ -89,6 +90,7 @@ rows_more old mid new from r to p row ordered low apart was is = record {
       (λ q inside same. away q (more r row q ordered ∙ or_right (holds (strip at (width r)) q) (holds (band r row) q) inside) same);
   has = is.has ∙ was.has;
   forms = is.forms ∙ was.forms;
+  moment = is.moment ∙ was.moment;
   spare = is.spare ∙ was.spare;
 }
   where

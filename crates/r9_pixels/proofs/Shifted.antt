@@ -59,9 +59,9 @@ record IsMoved (old new : Own) (min : Point) (extent : Extent) : Type 0 where
   chan : extent.chan ≡ was.chan
 
 moved_from : (old new : Own) (min : Point) (extent : Extent) → form_in new ≡ shifted_form min (form_in old) → Some new ≡ Some (Hidden extent) → IsMoved old new min extent
-moved_from (Whole plane) (Whole other) min extent form is = absurd cc
+moved_from (Whole watched) (Whole other) min extent form is = absurd cc
 moved_from (Hidden was) (Whole other) min extent form is = absurd cc
-moved_from (Whole plane) (Hidden now) min extent form is = absurd (false≢true (sym (ap (λ (f : Form). f.is_window) form)))
+moved_from (Whole watched) (Hidden now) min extent form is = absurd (false≢true (sym (ap (λ (f : Form). f.is_window) form)))
 moved_from (Hidden was) (Hidden now) min extent form is =
     let same : now ≡ extent = extent_is now extent is in
     record {

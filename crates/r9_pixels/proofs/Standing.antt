@@ -29,8 +29,8 @@ stands_some (Some s) p e = refl
 
 form_window : (slot : Option Own) (image : Image) → option_map form_in slot ≡ Some (form_of image) → is_some image.standing ≡ true → (extent : Extent) × (slot ≡ Some (Hidden extent)) × (extent.r ≡ image.r)
 form_window None image e window = cc
-form_window (Some (Whole plane)) image e window =
-    let same : false ≡ is_some image.standing = some_same (plane_form plane) (form_of image) e in
+form_window (Some (Whole watched)) image e window =
+    let same : false ≡ is_some image.standing = some_same (plane_form watched.plane) (form_of image) e in
     absurd (false≢true (same ∙ window))
   where
     some_same : (a b : Form) → Some a ≡ Some b → a.is_window ≡ b.is_window

@@ -66,8 +66,8 @@ taken_place owns old new world p windows formed all taken place = by_own (own_at
 
     by_own : (o : Option Own) → own_at owns n ≡ o → place_of new n place.at o ≡ (place_of old n place.at o || in_hidden world p windows place)
     by_own None is = sym (out (none_window (own_at owns n) is))
-    by_own (Some (Whole plane)) is =
-        sym (ap (λ b. holds (rect_of plane) place.at || b) (out (subst IsNoWindow (sym is) (no_window plane))) ∙ or_none (holds (rect_of plane) place.at))
+    by_own (Some (Whole watched)) is =
+        sym (ap (λ b. holds (rect_of watched.plane) place.at || b) (out (subst IsNoWindow (sym is) (no_window watched))) ∙ or_none (holds (rect_of watched.plane) place.at))
     by_own (Some (Hidden extent)) is =
         let h = holds extent.r place.at in
         let had = is_some (cell_at (all_rows old) n (cell_of extent.r place.at)) in
@@ -91,7 +91,7 @@ given_place owns old new world p windows formed all given place = by_own (own_at
 
     by_own : (o : Option Own) → own_at owns n ≡ o → place_of new n place.at o ≡ (not (in_shown world p windows place) && place_of old n place.at o)
     by_own None is = sym (and_right (not (in_shown world p windows place)) false refl)
-    by_own (Some (Whole plane)) is = sym (ap (λ b. not b && holds (rect_of plane) place.at) (out (subst IsNoWindow (sym is) (no_window plane))))
+    by_own (Some (Whole watched)) is = sym (ap (λ b. not b && holds (rect_of watched.plane) place.at) (out (subst IsNoWindow (sym is) (no_window watched))))
     by_own (Some (Hidden extent)) is =
         let h = holds extent.r place.at in
         let had = is_some (cell_at (all_rows old) n (cell_of extent.r place.at)) in
@@ -107,7 +107,7 @@ whole_kept plane at false e = pixel_outside plane.r plane.chan plane.bytes.items
 -- what has a place is kept, and the rest is 0
 pub given_kept : (old new : Cells) (n : ℕ) (at : Point) (slot : Option Own) → ((l : ℕ) (q : Point) → cell_pixel new n l q ≡ (if is_some (cell_at (all_rows new) n l) then cell_pixel old n l q else 0)) → kept_of new n at slot ≡ (if place_of new n at slot then kept_of old n at slot else 0)
 given_kept old new n at None pixels = refl
-given_kept old new n at (Some (Whole plane)) pixels = whole_kept plane at (holds (rect_of plane) at) refl
+given_kept old new n at (Some (Whole watched)) pixels = whole_kept watched.plane at (holds (rect_of watched.plane) at) refl
 given_kept old new n at (Some (Hidden extent)) pixels =
     let k = cell_of extent.r at in
     let h = holds extent.r at in

@@ -36,13 +36,13 @@ no_pixel cells j l q none = ap (λ o. option_map_or (λ t. pixel (tiles_in cells
 -- an image whose cells keep the same, with the same tiles
 pub kept_same : (old new : Cells) (n : ℕ) (p : Point) (slot : Option Own) → ((l : ℕ) (q : Point) → cell_pixel new n l q ≡ cell_pixel old n l q) → kept_of new n p slot ≡ kept_of old n p slot
 kept_same old new n p None same = refl
-kept_same old new n p (Some (Whole plane)) same = refl
+kept_same old new n p (Some (Whole watched)) same = refl
 kept_same old new n p (Some (Hidden extent)) same =
     ap (λ (raw : ℕ). if holds extent.r p then raw else 0) (same (cell_of extent.r p) (in_cell extent.r p))
 
 pub place_same : (old new : Cells) (n : ℕ) (p : Point) (slot : Option Own) → ((l : ℕ) → is_some (cell_at (all_rows new) n l) ≡ is_some (cell_at (all_rows old) n l)) → place_of new n p slot ≡ place_of old n p slot
 place_same old new n p None same = refl
-place_same old new n p (Some (Whole plane)) same = refl
+place_same old new n p (Some (Whole watched)) same = refl
 place_same old new n p (Some (Hidden extent)) same = ap (λ b. holds extent.r p && b) (same (cell_of extent.r p))
 
 -- an image that has no tile

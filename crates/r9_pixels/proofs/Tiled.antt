@@ -55,7 +55,7 @@ fitting pixels world formed cells = record {
 
     within_by : (i k : ℕ) → cell_count (image_at world i).r ≤ k → (slot : Option Own) → own_at owns i ≡ slot → cell_at rows i k ≡ None
     within_by i k past None is = none_within i k None is (none_window None refl)
-    within_by i k past (Some (Whole plane)) is = none_within i k (Some (Whole plane)) is (no_window plane)
+    within_by i k past (Some (Whole watched)) is = none_within i k (Some (Whole watched)) is (no_window watched)
     within_by i k past (Some (Hidden extent)) is = hidden_within i k extent past is
 
     hidden_each : (i k : ℕ) (extent : Extent) → k < cell_count (image_at world i).r → own_at owns i ≡ Some (Hidden extent) → is_some (cell_at rows i k) ≡ hides world i (cell_part (image_at world i).r k)
@@ -79,7 +79,7 @@ fitting pixels world formed cells = record {
 
     each_by : (i k : ℕ) → k < cell_count (image_at world i).r → (slot : Option Own) → own_at owns i ≡ slot → is_some (cell_at rows i k) ≡ hides world i (cell_part (image_at world i).r k)
     each_by i k small None is = none_each i k None is (none_window None refl)
-    each_by i k small (Some (Whole plane)) is = none_each i k (Some (Whole plane)) is (no_window plane)
+    each_by i k small (Some (Whole watched)) is = none_each i k (Some (Whole watched)) is (no_window watched)
     each_by i k small (Some (Hidden extent)) is = hidden_each i k extent small is
 
 -- a number for which there is no row has no image
@@ -103,7 +103,7 @@ place_tile pixels i p window has = by_own (own_at pixels.owns.items i) window ha
 
     by_own : (slot : Option Own) → option_map (λ (form : Form). form.is_window) (option_map form_in slot) ≡ Some true → option_map_or (has_in pixels.cells i p) slot false ≡ true → is_some (option_map_or (tile_in pixels.cells i p) slot None) ≡ true
     by_own None window has = absurd cc
-    by_own (Some (Whole plane)) window has = absurd cc
+    by_own (Some (Whole watched)) window has = absurd cc
     by_own (Some (Hidden extent)) window has = right (holds extent.r p) (is_some (cell_at (all_rows pixels.cells) i (cell_of extent.r p))) has
 
 -- and so do all places of its cell
@@ -115,7 +115,7 @@ cell_tile pixels i p q form is same = by_own (own_at pixels.owns.items i) is
 
     by_own : (slot : Option Own) → option_map form_in slot ≡ Some form → option_map_or (tile_in pixels.cells i p) slot None ≡ option_map_or (tile_in pixels.cells i q) slot None
     by_own None e = refl
-    by_own (Some (Whole plane)) e = refl
+    by_own (Some (Whole watched)) e = refl
     by_own (Some (Hidden extent)) e =
         let r : extent.r ≡ form.r = rect (form_in (Hidden extent)) form e in
         ap (cell_at (all_rows pixels.cells) i) (ap (λ (r : Rect). cell_of r p) r ∙ same ∙ ap (λ (r : Rect). cell_of r q) (sym r))

@@ -7,7 +7,7 @@ use Rattle.r9_plane.specs.Pixels.{along}
 use Rattle.model_kept.specs.Keeping.{own, Place}
 use Rattle.r9_locate.specs.Forms.{bits_in}
 use Rattle.r9_pixels.specs.declared.keeping.KeptPixels.{KeptPixels}
-use Rattle.r9_pixels.specs.Kept.{form_at, has_place, kept_at, spare_in}
+use Rattle.r9_pixels.specs.Kept.{form_at, has_place, kept_at, moment, spare_in}
 
 -- there are places for them, of as many bits
 pub record CanCarry (kept : KeptPixels) (from : ℕ) (at : Point) (to : ℕ) (p : Point) (n : ℕ) : Type 0 where
@@ -22,6 +22,7 @@ pub record IsCarried (old new : KeptPixels) (from : ℕ) (at : Point) (to : ℕ)
   pub others : (place : Place) → ((k : ℕ) → k < n → place ≢ own to (along p k)) → kept_at new place ≡ kept_at old place
   pub has : has_place new ≡ has_place old
   pub forms : form_at new ≡ form_at old
+  pub moment : moment new ≡ moment old
   pub spare : spare_in new ≡ spare_in old
 
 -- the same of the pixels of a rectangle, which come to stand from p on
@@ -36,4 +37,5 @@ pub record IsCarriedBlock (old new : KeptPixels) (from : ℕ) (r : Rect) (to : �
   pub others : (place : Place) → ((q : Point) → holds r q ≡ true → place ≢ own to (carried q r.min p)) → kept_at new place ≡ kept_at old place
   pub has : has_place new ≡ has_place old
   pub forms : form_at new ≡ form_at old
+  pub moment : moment new ≡ moment old
   pub spare : spare_in new ≡ spare_in old

@@ -1,16 +1,20 @@
 -- The pixels of a table of images.
-use Rattle.std.specs.Prelude.{◌≡◌, ℕ, Bool, false, List, None, Option, length, option_map}
+use Rattle.std.specs.Prelude.{◌≡◌, ℕ, Bool, false, List, None, Option, length, option_and_then, option_map}
 use Rattle.std.specs.Option.{option_map_or}
 use Rattle.r9_geom.specs.declared.Rect.{Rect}
 use Rattle.model_forest.specs.declared.Window.{Window}
 use Rattle.model_forest.specs.World.{World, no_rect}
 use Rattle.model_kept.specs.Keeping.{Place}
+use Rattle.r9_plane.specs.declared.plane.Plane.{Plane}
+use Rattle.r9_plane.specs.Marks.{marked_at}
+use Rattle.r9_plane.specs.Marks as plane
 use Rattle.r9_store.specs.Tiles.{Tiles, spare}
+use Rattle.r9_watched.specs.Moments.{Moment, moment_at}
 use Rattle.r9_locate.specs.Forms.{Form}
 use Rattle.r9_cells.specs.Cells.{all_rows, tiles_in}
 use Rattle.r9_cells.specs.Fitting.{wanted_all, wanted_later}
 use Rattle.r9_pixels.specs.declared.keeping.KeptPixels.{KeptPixels}
-use Rattle.r9_pixels.specs.Owns.{form_in, has_in, kept_in, own_at, tile_in}
+use Rattle.r9_pixels.specs.Owns.{form_in, has_in, kept_in, moment_in, own_at, plane_in, tile_in}
 
 -- the pixel at a place, 0 where there is none
 abbrev pub kept_at : KeptPixels → Place → ℕ
@@ -51,8 +55,32 @@ wanted_in pixels world p windows = wanted_all (all_rows pixels.cells) world p wi
 abbrev pub later_in : KeptPixels → World → ℕ → List Window → ℕ → List Window → ℕ
 later_in pixels world p windows q later = wanted_later (all_rows pixels.cells) world p windows q later
 
+-- what each image with a plane was at the moment that proofs look back to
+abbrev pub moment : KeptPixels → ℕ → Option Moment
+moment pixels i = option_and_then moment_in (own_at pixels.owns.items i)
+
+-- how many pixels have been written
+abbrev pub writes : KeptPixels → ℕ
+writes pixels = pixels.writes.sum
+
+-- the plane of an image that has one, which of its cells are marked, and how many
+abbrev pub plane_at : KeptPixels → ℕ → Option Plane
+plane_at pixels i = option_and_then plane_in (own_at pixels.owns.items i)
+
+abbrev pub marked : KeptPixels → ℕ → (column row : ℕ) → Bool
+marked pixels i column row = option_map_or (λ plane. marked_at plane column row) (plane_at pixels i) false
+
+abbrev pub mark_count : KeptPixels → ℕ → ℕ
+mark_count pixels i = option_map_or plane.mark_count (plane_at pixels i) 0
+
+-- what it is at this moment
+abbrev pub moment_now : KeptPixels → ℕ → Option Moment
+moment_now pixels i = option_map (λ plane. moment_at plane (writes pixels)) (plane_at pixels i)
+
 -- both keep the same, at the same places
 pub record IsUnchanged (old new : KeptPixels) : Type 0 where
   pub kept : kept_at new ≡ kept_at old
   pub has : has_place new ≡ has_place old
   pub forms : form_at new ≡ form_at old
+  pub moment : moment new ≡ moment old
+  pub writes : writes new ≡ writes old

@@ -10,6 +10,7 @@ ghost use Rattle.r9_pixels.specs.declared.own.Extent.{Extent as Size};
 ghost use Rattle.r9_pixels.specs.declared.own.Own.TheVariants.{Hidden};
 ghost use Rattle.r9_pixels.specs.Owns.{own_at};
 
+use super::counted::Area;
 use super::keeping::KeptPixels;
 use super::own::{Extent, Own};
 use r9_geom::{Point, Rect};
@@ -30,7 +31,7 @@ fn down(p: Point, rows: u64) -> Point
 
 impl KeptPixels {
     ghost use Rattle.r9_pixels.specs.Carried.{CanCarryBlock, IsCarriedBlock};
-    ghost use Rattle.r9_pixels.specs.Kept.{form_at, has_place, kept_at, spare_in};
+    ghost use Rattle.r9_pixels.specs.Kept.{form_at, has_place, kept_at, moment, spare_in, writes};
 
     // Reads the pixels of a rectangle from what an image keeps them in.
     fn get_block(
@@ -52,7 +53,7 @@ impl KeptPixels {
         ensures others { (n : ℕ) → ((p : Spot) → IsTrue (holds r.now p) → n ≢ number_in r.now first width p) → slice_index raws.new n ≡ slice_index raws.old n }
     {
         match keeper {
-            Own::Whole(plane) => plane.get_block(r, raws, first, width),
+            Own::Whole(watched) => watched.plane.get_block(r, raws, first, width),
             Own::Hidden(extent) => {
                 self.cells
                     .read_block(i as usize, &extent.r, r, raws, first, width);
@@ -99,11 +100,14 @@ impl KeptPixels {
         ensures others { (place : Place) → ((p : Spot) → IsTrue (holds r.now p) → place ≢ own i p) → kept_at self.new place ≡ kept_at self.old place }
         ensures has { has_place self.new ≡ has_place self.old }
         ensures forms { form_at self.new ≡ form_at self.old }
+        ensures moment { moment self.new ≡ moment self.old }
         ensures spare { spare_in self.new ≡ spare_in self.old }
         ensures steps { steps.new ≡ steps.old + area_of r.now }
+        ensures writes { writes self.new + steps.old ≡ writes self.old + steps.new }
     {
-        if let Some(Own::Whole(plane)) = &mut self.owns[i as usize] {
-            plane.put_block(r, raws, first, width, steps);
+        self.writes = self.writes.and(&Area(*r));
+        if let Some(Own::Whole(watched)) = &mut self.owns[i as usize] {
+            watched.put_block(r, raws, first, width, steps);
         }
     }
 
@@ -129,9 +133,12 @@ impl KeptPixels {
         ensures others { (place : Place) → ((p : Spot) → IsTrue (holds r.now p) → place ≢ own i p) → kept_at self.new place ≡ kept_at self.old place }
         ensures has { has_place self.new ≡ has_place self.old }
         ensures forms { form_at self.new ≡ form_at self.old }
+        ensures moment { moment self.new ≡ moment self.old }
         ensures spare { spare_in self.new ≡ spare_in self.old }
         ensures steps { steps.new ≡ steps.old + area_of r.now }
+        ensures writes { writes self.new + steps.old ≡ writes self.old + steps.new }
     {
+        self.writes = self.writes.and(&Area(*r));
         self.cells
             .write_block(i as usize, &extent.r, r, raws, first, width, steps);
     }
@@ -157,8 +164,10 @@ impl KeptPixels {
         ensures others { (place : Place) → ((p : Spot) → IsTrue (holds r.now p) → place ≢ own i p) → kept_at self.new place ≡ kept_at self.old place }
         ensures has { has_place self.new ≡ has_place self.old }
         ensures forms { form_at self.new ≡ form_at self.old }
+        ensures moment { moment self.new ≡ moment self.old }
         ensures spare { spare_in self.new ≡ spare_in self.old }
         ensures steps { steps.new ≡ steps.old + area_of r.now }
+        ensures writes { writes self.new + steps.old ≡ writes self.old + steps.new }
     {
         match self.extent(i) {
             Some(extent) => self.write_tiles(i, &extent, r, raws, first, width, steps),
@@ -179,11 +188,14 @@ impl KeptPixels {
         ensures others { (place : Place) → ((p : Spot) → IsTrue (holds r.now p) → place ≢ own i p) → kept_at self.new place ≡ kept_at self.old place }
         ensures has { has_place self.new ≡ has_place self.old }
         ensures forms { form_at self.new ≡ form_at self.old }
+        ensures moment { moment self.new ≡ moment self.old }
         ensures spare { spare_in self.new ≡ spare_in self.old }
         ensures steps { steps.new ≡ steps.old + area_of r.now }
+        ensures writes { writes self.new + steps.old ≡ writes self.old + steps.new }
     {
-        if let Some(Own::Whole(plane)) = &mut self.owns[i as usize] {
-            plane.fill(*r, raw, steps);
+        self.writes = self.writes.and(&Area(*r));
+        if let Some(Own::Whole(watched)) = &mut self.owns[i as usize] {
+            watched.fill(*r, raw, steps);
         }
     }
 
@@ -206,9 +218,12 @@ impl KeptPixels {
         ensures others { (place : Place) → ((p : Spot) → IsTrue (holds r.now p) → place ≢ own i p) → kept_at self.new place ≡ kept_at self.old place }
         ensures has { has_place self.new ≡ has_place self.old }
         ensures forms { form_at self.new ≡ form_at self.old }
+        ensures moment { moment self.new ≡ moment self.old }
         ensures spare { spare_in self.new ≡ spare_in self.old }
         ensures steps { steps.new ≡ steps.old + area_of r.now }
+        ensures writes { writes self.new + steps.old ≡ writes self.old + steps.new }
     {
+        self.writes = self.writes.and(&Area(*r));
         self.cells.fill_block(i as usize, &extent.r, r, raw, steps);
     }
 
@@ -230,8 +245,10 @@ impl KeptPixels {
         ensures others { (place : Place) → ((p : Spot) → IsTrue (holds r.now p) → place ≢ own i p) → kept_at self.new place ≡ kept_at self.old place }
         ensures has { has_place self.new ≡ has_place self.old }
         ensures forms { form_at self.new ≡ form_at self.old }
+        ensures moment { moment self.new ≡ moment self.old }
         ensures spare { spare_in self.new ≡ spare_in self.old }
         ensures steps { steps.new ≡ steps.old + area_of r.now }
+        ensures writes { writes self.new + steps.old ≡ writes self.old + steps.new }
     {
         match self.extent(i) {
             Some(extent) => self.paint_tiles(i, &extent, r, raw, steps),
@@ -258,12 +275,16 @@ impl KeptPixels {
         requires can { CanCarryBlock self.old from r.now to p }
         ensures carried { IsCarriedBlock self.old self.new from r.now to p }
         ensures steps { steps.new ≡ steps.old + area_of r.now }
+        ensures writes { writes self.new + steps.old ≡ writes self.old + steps.new }
     {
+        self.writes = self.writes.and(&Area(*r));
         match &self.owns[from as usize] {
             Some(keeper) => match keeper {
-                Own::Whole(plane) => {
+                Own::Whole(watched) => {
+                    let there = r.at_min(p);
+                    let plane = &watched.plane;
                     self.cells
-                        .hide_block(to as usize, &extent.r, &r.at_min(p), plane, r.min, steps);
+                        .hide_block(to as usize, &extent.r, &there, plane, r.min, steps);
                 }
                 Own::Hidden(_) => unreachable!(),
             },
@@ -290,11 +311,13 @@ impl KeptPixels {
         requires can { CanCarryBlock self.old from r.now to p }
         ensures carried { IsCarriedBlock self.old self.new from r.now to p }
         ensures steps { steps.new ≡ steps.old + area_of r.now }
+        ensures writes { writes self.new + steps.old ≡ writes self.old + steps.new }
     {
+        self.writes = self.writes.and(&Area(*r));
         match &mut self.owns[to as usize] {
-            Some(Own::Whole(plane)) => {
+            Some(Own::Whole(watched)) => {
                 self.cells
-                    .show_block(from as usize, &extent.r, r, plane, p, steps);
+                    .show_block(from as usize, &extent.r, r, watched, p, steps);
             }
             _ => unreachable!(),
         }
@@ -309,6 +332,7 @@ impl KeptPixels {
         requires can { CanCarryBlock self.old from r.now to p }
         ensures carried { IsCarriedBlock self.old self.new from r.now to p }
         ensures steps { steps.new ≡ steps.old + area_of r.now }
+        ensures writes { writes self.new + steps.old ≡ writes self.old + steps.new }
     {
         let columns = r.width() as usize;
         for row in 0..r.height() {
@@ -334,6 +358,7 @@ impl KeptPixels {
         requires can { CanCarryBlock self.old from r.now to p }
         ensures carried { IsCarriedBlock self.old self.new from r.now to p }
         ensures steps { steps.new ≡ steps.old + area_of r.now }
+        ensures writes { writes self.new + steps.old ≡ writes self.old + steps.new }
     {
         match self.extent(from) {
             Some(_) => self.copy_rows(from, r, to, p, steps),
@@ -358,6 +383,7 @@ impl KeptPixels {
         requires can { CanCarryBlock self.old from r.now to p }
         ensures carried { IsCarriedBlock self.old self.new from r.now to p }
         ensures steps { steps.new ≡ steps.old + area_of r.now }
+        ensures writes { writes self.new + steps.old ≡ writes self.old + steps.new }
     {
         match self.extent(from) {
             Some(extent) => self.show_block(from, r, &extent, to, p, steps),
@@ -381,6 +407,7 @@ impl KeptPixels {
         requires can { CanCarryBlock self.old from r.now to p }
         ensures carried { IsCarriedBlock self.old self.new from r.now to p }
         ensures steps { steps.new ≡ steps.old + area_of r.now }
+        ensures writes { writes self.new + steps.old ≡ writes self.old + steps.new }
     {
         match self.extent(to) {
             Some(extent) => self.block_to_tiles(from, r, to, &extent, p, steps),

@@ -7,6 +7,7 @@ ghost use Rattle.r9_pixels.specs.declared.own.Extent.{Extent as Size};
 ghost use Rattle.r9_pixels.specs.declared.own.Own.TheVariants.{Hidden};
 ghost use Rattle.r9_pixels.specs.Owns.{own_at};
 
+use super::counted::Row;
 use super::keeping::KeptPixels;
 use super::own::{Extent, Own};
 use r9_geom::Point;
@@ -19,7 +20,7 @@ const BLOCK: usize = 64;
 
 impl KeptPixels {
     ghost use Rattle.r9_pixels.specs.Carried.{CanCarry, IsCarried};
-    ghost use Rattle.r9_pixels.specs.Kept.{form_at, has_place, kept_at, spare_in};
+    ghost use Rattle.r9_pixels.specs.Kept.{form_at, has_place, kept_at, moment, spare_in, writes};
 
     // Copies pixels side by side from the plane of an image to the tiles of a window.
     fn hide<L: Ledger>(
@@ -39,14 +40,19 @@ impl KeptPixels {
         ensures others { (place : Place) → ((k : ℕ) → k < n → place ≢ own to (along p k)) → kept_at self.new place ≡ kept_at self.old place }
         ensures has { has_place self.new ≡ has_place self.old }
         ensures forms { form_at self.new ≡ form_at self.old }
+        ensures moment { moment self.new ≡ moment self.old }
         ensures spare { spare_in self.new ≡ spare_in self.old }
         ensures steps { steps.new ≡ steps.old + n }
+        ensures writes { writes self.new + steps.old ≡ writes self.old + steps.new }
     {
+        self.writes = self.writes.and(&Row(n));
         match &self.owns[from as usize] {
             Some(keeper) => match keeper {
-                Own::Whole(plane) => self
-                    .cells
-                    .hide(to as usize, &extent.r, p, n, plane, at, steps),
+                Own::Whole(watched) => {
+                    let plane = &watched.plane;
+                    self.cells
+                        .hide(to as usize, &extent.r, p, n, plane, at, steps);
+                }
                 Own::Hidden(_) => unreachable!(),
             },
             None => unreachable!(),
@@ -71,13 +77,16 @@ impl KeptPixels {
         ensures others { (place : Place) → ((k : ℕ) → k < n → place ≢ own to (along p k)) → kept_at self.new place ≡ kept_at self.old place }
         ensures has { has_place self.new ≡ has_place self.old }
         ensures forms { form_at self.new ≡ form_at self.old }
+        ensures moment { moment self.new ≡ moment self.old }
         ensures spare { spare_in self.new ≡ spare_in self.old }
         ensures steps { steps.new ≡ steps.old + n }
+        ensures writes { writes self.new + steps.old ≡ writes self.old + steps.new }
     {
+        self.writes = self.writes.and(&Row(n));
         match &mut self.owns[to as usize] {
-            Some(Own::Whole(plane)) => {
+            Some(Own::Whole(watched)) => {
                 self.cells
-                    .show(from as usize, &extent.r, at, n, plane, p, steps);
+                    .show(from as usize, &extent.r, at, n, watched, p, steps);
             }
             _ => unreachable!(),
         }
@@ -97,6 +106,7 @@ impl KeptPixels {
         requires can { CanCarry self.old from at to p (length raws.old) }
         ensures carried { IsCarried self.old self.new from at to p (length raws.old) }
         ensures steps { steps.new ≡ steps.old + length raws.old }
+        ensures writes { writes self.new + steps.old ≡ writes self.old + steps.new }
     {
         self.load(from, at, raws);
         self.put(to, p, raws, steps);
@@ -118,6 +128,7 @@ impl KeptPixels {
         requires can { CanCarry self.old from at to p n }
         ensures carried { IsCarried self.old self.new from at to p n }
         ensures steps { steps.new ≡ steps.old + n }
+        ensures writes { writes self.new + steps.old ≡ writes self.old + steps.new }
     {
         self.copy_part(from, at, to, p, &mut room[..n], steps);
     }
@@ -135,6 +146,7 @@ impl KeptPixels {
         requires { CanCarry self.old from at to p n }
         ensures carried { IsCarried self.old self.new from at to p n }
         ensures steps { steps.new ≡ steps.old + n }
+        ensures writes { writes self.new + steps.old ≡ writes self.old + steps.new }
     {
         let mut block = [0; BLOCK];
         let mut done = 0;
@@ -163,6 +175,7 @@ impl KeptPixels {
         requires can { CanCarry self.old from at to p n }
         ensures carried { IsCarried self.old self.new from at to p n }
         ensures steps { steps.new ≡ steps.old + n }
+        ensures writes { writes self.new + steps.old ≡ writes self.old + steps.new }
     {
         match self.extent(from) {
             Some(_) => self.copy_blocks(from, at, to, p, n, steps),
@@ -185,6 +198,7 @@ impl KeptPixels {
         requires can { CanCarry self.old from at to p n }
         ensures carried { IsCarried self.old self.new from at to p n }
         ensures steps { steps.new ≡ steps.old + n }
+        ensures writes { writes self.new + steps.old ≡ writes self.old + steps.new }
     {
         match self.extent(from) {
             Some(extent) => self.show(from, extent, at, to, p, n, steps),
@@ -205,6 +219,7 @@ impl KeptPixels {
         requires { CanCarry self.old from at to p n }
         ensures carried { IsCarried self.old self.new from at to p n }
         ensures steps { steps.new ≡ steps.old + n }
+        ensures writes { writes self.new + steps.old ≡ writes self.old + steps.new }
     {
         if n == 0 {
             return;

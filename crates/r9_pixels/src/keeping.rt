@@ -7,13 +7,15 @@ ghost use Rattle.r9_pixels.specs.declared.own.Extent.{Extent as Size};
 ghost use Rattle.r9_pixels.specs.declared.own.Own.TheVariants.{Hidden};
 ghost use Rattle.r9_locate.specs.Forms.{bits_in};
 ghost use Rattle.r9_cells.specs.Cells.{all_rows};
-ghost use Rattle.r9_pixels.specs.Owns.{own_at, IsTabled, IsWithinBits};
+ghost use Rattle.r9_pixels.specs.Owns.{own_at, AreFew, IsTabled, IsWithinBits};
 
+use super::counted::Row;
 use super::own::{Extent, Own};
 use r9_cells::Cells;
 use r9_geom::{Point, Rect};
 use r9_locate::Pixels;
 use r9_steps::Steps;
+use r9_tally::Tally;
 use std::alloc::Global;
 use std::sync::ledger::Ledger;
 
@@ -22,22 +24,29 @@ use std::sync::ledger::Ledger;
 pub struct KeptPixels {
     pub(crate) owns: Vec<Option<Own>>,
     pub(crate) cells: Cells,
+    // How many pixels have been written, for proofs alone.
+    pub(crate) writes: Tally,
     ghost tabled: { IsTabled owns.items (all_rows cells) },
     ghost bounded: { IsWithinBits owns.items cells },
+    // Since its moment no more cells of a plane were marked than pixels were written.
+    ghost few: { AreFew writes.sum owns.items },
 }
 
 impl KeptPixels {
-    ghost use Rattle.r9_pixels.specs.Kept.{form_at, has_place, kept_at, room_of, spare_in};
+    ghost use Rattle.r9_pixels.specs.Kept.{form_at, has_place, kept_at, moment, room_of, spare_in, writes};
 
     /// No image, and room for none.
     pub fn new(alloc: Global) -> Self
         ensures places { (place : Place) → has_place result place ≡ false }
         ensures forms { (i : ℕ) → form_at result i ≡ None }
         ensures room { room_of result ≡ 0 }
+        ensures moment { (i : ℕ) → moment result i ≡ None }
+        ensures writes { writes result ≡ 0 }
     {
         KeptPixels {
             owns: Vec::new(alloc),
             cells: Cells::new(alloc),
+            writes: Tally::none(),
         }
     }
 
@@ -61,7 +70,7 @@ impl KeptPixels {
         ensures below { (k : ℕ) → k < length raws.old → slice_index raws.new k < 2 ^ bits_in (form_at self.now) i }
     {
         match keeper {
-            Own::Whole(plane) => plane.get_row(from, raws),
+            Own::Whole(watched) => watched.plane.get_row(from, raws),
             Own::Hidden(extent) => self.cells.read(i as usize, &extent.r, from, raws),
         }
     }
@@ -76,11 +85,14 @@ impl KeptPixels {
         ensures others { (place : Place) → ((k : ℕ) → k < length raws.now → place ≢ own i (along at k)) → kept_at self.new place ≡ kept_at self.old place }
         ensures has { has_place self.new ≡ has_place self.old }
         ensures forms { form_at self.new ≡ form_at self.old }
+        ensures moment { moment self.new ≡ moment self.old }
         ensures spare { spare_in self.new ≡ spare_in self.old }
         ensures steps { steps.new ≡ steps.old + length raws.now }
+        ensures writes { writes self.new + steps.old ≡ writes self.old + steps.new }
     {
-        if let Some(Own::Whole(plane)) = &mut self.owns[i as usize] {
-            plane.put_row(at, raws, steps);
+        self.writes = self.writes.and(&Row(raws.len()));
+        if let Some(Own::Whole(watched)) = &mut self.owns[i as usize] {
+            watched.put_row(at, raws, steps);
         }
     }
 
@@ -100,9 +112,12 @@ impl KeptPixels {
         ensures others { (place : Place) → ((k : ℕ) → k < length raws.now → place ≢ own i (along at k)) → kept_at self.new place ≡ kept_at self.old place }
         ensures has { has_place self.new ≡ has_place self.old }
         ensures forms { form_at self.new ≡ form_at self.old }
+        ensures moment { moment self.new ≡ moment self.old }
         ensures spare { spare_in self.new ≡ spare_in self.old }
         ensures steps { steps.new ≡ steps.old + length raws.now }
+        ensures writes { writes self.new + steps.old ≡ writes self.old + steps.new }
     {
+        self.writes = self.writes.and(&Row(raws.len()));
         self.cells.write(i as usize, &extent.r, at, raws, steps);
     }
 
@@ -115,8 +130,10 @@ impl KeptPixels {
         ensures others { (place : Place) → ((k : ℕ) → k < length raws.now → place ≢ own i (along at k)) → kept_at self.new place ≡ kept_at self.old place }
         ensures has { has_place self.new ≡ has_place self.old }
         ensures forms { form_at self.new ≡ form_at self.old }
+        ensures moment { moment self.new ≡ moment self.old }
         ensures spare { spare_in self.new ≡ spare_in self.old }
         ensures steps { steps.new ≡ steps.old + length raws.now }
+        ensures writes { writes self.new + steps.old ≡ writes self.old + steps.new }
     {
         match self.extent(i) {
             Some(extent) => self.put_hidden(i, extent, at, raws, steps),
@@ -145,7 +162,7 @@ impl KeptPixels {
 }
 
 impl Pixels for KeptPixels {
-    ghost use Rattle.r9_pixels.specs.Kept.{form_at, has_place, kept_at, spare_in};
+    ghost use Rattle.r9_pixels.specs.Kept.{form_at, has_place, kept_at, moment, spare_in, writes};
 
     ghost kept = { kept_at };
 
@@ -154,6 +171,10 @@ impl Pixels for KeptPixels {
     ghost forms = { form_at };
 
     ghost spare = { spare_in };
+
+    ghost moment = { moment };
+
+    ghost writes = { writes };
 
     fn read(&self, i: u32, from: Point, raws: &mut [u32]) {
         self.load(i, from, raws);

@@ -10,8 +10,10 @@ ghost use Rattle.r9_pixels.specs.Places.{HasCells};
 
 mod blocks;
 mod carrying;
+mod counted;
 mod keeping;
 mod making;
+mod marking;
 mod own;
 mod shifting;
 mod sizing;

@@ -6,6 +6,7 @@ ghost use Rattle.r9_plane.specs.Pixels.{pixel_at, rect_of};
 ghost use Rattle.model_kept.specs.Restack.{with_own};
 ghost use Rattle.r9_pixels.specs.Owns.{plane_form, window_form};
 ghost use Rattle.r9_pixels.specs.Places.{with_form, with_places};
+ghost use Rattle.r9_watched.specs.Moments.{moment_at, with_moment};
 
 use super::keeping::KeptPixels;
 use super::own::{Extent, Own};
@@ -14,7 +15,7 @@ use r9_memory::Memory;
 use r9_plane::Plane;
 
 impl KeptPixels {
-    ghost use Rattle.r9_pixels.specs.Kept.{form_at, has_place, kept_at, room_of, spare_in, IsUnchanged};
+    ghost use Rattle.r9_pixels.specs.Kept.{form_at, has_place, kept_at, moment, room_of, spare_in, writes, IsUnchanged};
 
     /// Makes room for an image under a number.
     pub fn make_room(&mut self, i: u32) -> Result<(), Memory>
@@ -47,10 +48,13 @@ impl KeptPixels {
         ensures kept { kept_at self.new ≡ with_own i (pixel_at plane) (kept_at self.old) }
         ensures has { has_place self.new ≡ with_places i (holds (rect_of plane)) (has_place self.old) }
         ensures forms { form_at self.new ≡ with_form i (Some (plane_form plane)) (form_at self.old) }
+        ensures moment { moment self.new ≡ with_moment i (Some (moment_at plane (writes self.old))) (moment self.old) }
+        ensures writes { writes self.new ≡ writes self.old }
         ensures room { room_of self.new ≡ room_of self.old }
         ensures spare { spare_in self.new ≡ spare_in self.old }
     {
-        self.owns[i as usize] = Some(Own::Whole(plane));
+        let watched = self.watch(plane);
+        self.owns[i as usize] = Some(Own::Whole(watched));
     }
 
     /// Puts a window under a number that has no image. There is no place for a pixel of it yet.
@@ -64,6 +68,8 @@ impl KeptPixels {
         ensures kept { kept_at self.new ≡ kept_at self.old }
         ensures has { has_place self.new ≡ has_place self.old }
         ensures forms { OnOk result (form_at self.new ≡ with_form i (Some (window_form extent)) (form_at self.old)) }
+        ensures moment { moment self.new ≡ moment self.old }
+        ensures writes { writes self.new ≡ writes self.old }
         ensures room { room_of self.new ≡ room_of self.old }
         ensures spare { spare_in self.new ≡ spare_in self.old }
         ensures err { OnErr result (form_at self.new ≡ form_at self.old) }
@@ -79,6 +85,8 @@ impl KeptPixels {
         ensures kept { kept_at self.new ≡ with_own i (λ _. 0) (kept_at self.old) }
         ensures has { has_place self.new ≡ with_places i (λ _. false) (has_place self.old) }
         ensures forms { form_at self.new ≡ with_form i None (form_at self.old) }
+        ensures moment { moment self.new ≡ with_moment i None (moment self.old) }
+        ensures writes { writes self.new ≡ writes self.old }
         ensures room { room_of self.new ≡ room_of self.old }
     {
         self.cells.give_all(i as usize);

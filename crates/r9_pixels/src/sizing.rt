@@ -15,7 +15,7 @@ use r9_locate::Lists;
 use r9_memory::Memory;
 
 impl KeptPixels {
-    ghost use Rattle.r9_pixels.specs.Kept.{form_at, has_place, kept_at, later_in, room_of, spare_in, wanted_in, IsUnchanged};
+    ghost use Rattle.r9_pixels.specs.Kept.{form_at, has_place, kept_at, later_in, moment, room_of, spare_in, wanted_in, writes, IsUnchanged};
 
     /// Makes room for the tiles of all cells that image p hides with these windows and that have none. Where there are areas,
     /// cells that meet none of them have theirs, and so have those of the windows before `from`.
@@ -100,6 +100,8 @@ impl KeptPixels {
         ensures spare { spare_in self.old ≤ spare_in self.new + wanted_in self.old (shape lists.now) p windows.now }
         ensures has { (place : Place) → has_place self.new place ≡ (has_place self.old place || in_hidden (shape lists.now) p windows.now place) }
         ensures forms { form_at self.new ≡ form_at self.old }
+        ensures moment { moment self.new ≡ moment self.old }
+        ensures writes { writes self.new ≡ writes self.old }
         ensures room { room_of self.new ≡ room_of self.old }
     {
         self.cells.take_hidden(lists, p, windows, from, areas);
@@ -124,6 +126,8 @@ impl KeptPixels {
         ensures spare { spare_in self.old ≤ spare_in self.new }
         ensures has { (place : Place) → has_place self.new place ≡ (not (in_shown (shape lists.now) p windows.now place) && has_place self.old place) }
         ensures forms { form_at self.new ≡ form_at self.old }
+        ensures moment { moment self.new ≡ moment self.old }
+        ensures writes { writes self.new ≡ writes self.old }
         ensures room { room_of self.new ≡ room_of self.old }
     {
         self.cells.give_shown(lists, p, windows, from, areas);

@@ -10,17 +10,21 @@ ghost use Rattle.model_kept.specs.Restack.{with_own};
 ghost use Rattle.r9_locate.specs.Forms.{bits_in};
 ghost use Rattle.r9_pixels.specs.Owns.{plane_form};
 ghost use Rattle.r9_pixels.specs.Places.{with_form, with_places};
+ghost use Rattle.r9_watched.specs.Moments.{with_moment, IsFew};
+ghost use Rattle.r9_watched.specs.Watched.{count_of, moment_of};
 
+use super::counted::Area;
 use super::keeping::KeptPixels;
 use super::own::Own;
 use r9_geom::Rect;
 use r9_plane::Plane;
 use r9_steps::Steps;
+use r9_watched::Watched;
 use std::mem;
 use std::sync::ledger::Ledger;
 
 impl KeptPixels {
-    ghost use Rattle.r9_pixels.specs.Kept.{form_at, has_place, kept_at, spare_in};
+    ghost use Rattle.r9_pixels.specs.Kept.{form_at, has_place, kept_at, moment, spare_in, writes};
 
     /// The plane of an image that stands nowhere.
     pub fn plane(&self, i: u32) -> &Plane
@@ -29,7 +33,7 @@ impl KeptPixels {
         ensures pixels { (p : Spot) → kept_at self.now (own i p) ≡ pixel_at result.now p }
     {
         match &self.owns[i as usize] {
-            Some(Own::Whole(plane)) => plane,
+            Some(Own::Whole(watched)) => &watched.plane,
             _ => unreachable!(),
         }
     }
@@ -45,25 +49,33 @@ impl KeptPixels {
         ensures others { (place : Place) → ((p : Spot) → IsTrue (holds r p) → place ≢ own i p) → kept_at self.new place ≡ kept_at self.old place }
         ensures has { has_place self.new ≡ has_place self.old }
         ensures forms { form_at self.new ≡ form_at self.old }
+        ensures moment { moment self.new ≡ moment self.old }
         ensures steps { steps.new ≡ steps.old + area_of r }
+        ensures writes { writes self.new + steps.old ≡ writes self.old + steps.new }
     {
+        self.writes = self.writes.and(&Area(r));
         match &mut self.owns[i as usize] {
-            Some(Own::Whole(plane)) => plane.load(r, rows, steps),
+            Some(Own::Whole(watched)) => watched.load(r, rows, steps),
             _ => unreachable!(),
         }
     }
 
-    /// Gives an image that stands nowhere another plane, for the one that it had. It takes no memory.
-    pub fn replace_whole(&mut self, i: u32, plane: Plane) -> Plane
-        requires { option_map (λ form. form.is_window) (form_at self.old i) ≡ Some false }
-        ensures form { form_at self.old i ≡ Some (plane_form result) }
-        ensures pixels { (p : Spot) → kept_at self.old (own i p) ≡ pixel_at result p }
-        ensures kept { kept_at self.new ≡ with_own i (pixel_at plane) (kept_at self.old) }
-        ensures has { has_place self.new ≡ with_places i (holds (rect_of plane)) (has_place self.old) }
-        ensures forms { form_at self.new ≡ with_form i (Some (plane_form plane)) (form_at self.old) }
+    /// Gives an image that stands nowhere another plane with a moment, for the one that it had. It takes no memory.
+    pub fn replace_whole(&mut self, i: u32, watched: Watched) -> Watched
+        requires whole { option_map (λ form. form.is_window) (form_at self.old i) ≡ Some false }
+        requires few { IsFew (moment_of watched) (count_of watched) (writes self.old) }
+        ensures form { form_at self.old i ≡ Some (plane_form result.plane) }
+        ensures pixels { (p : Spot) → kept_at self.old (own i p) ≡ pixel_at result.plane p }
+        ensures had_moment { moment self.old i ≡ Some (moment_of result) }
+        ensures had_few { IsFew (moment_of result) (count_of result) (writes self.old) }
+        ensures kept { kept_at self.new ≡ with_own i (pixel_at watched.plane) (kept_at self.old) }
+        ensures has { has_place self.new ≡ with_places i (holds (rect_of watched.plane)) (has_place self.old) }
+        ensures forms { form_at self.new ≡ with_form i (Some (plane_form watched.plane)) (form_at self.old) }
         ensures spare { spare_in self.new ≡ spare_in self.old }
+        ensures moment { moment self.new ≡ with_moment i (Some (moment_of watched)) (moment self.old) }
+        ensures writes { writes self.new ≡ writes self.old }
     {
-        match mem::replace(&mut self.owns[i as usize], Some(Own::Whole(plane))) {
+        match mem::replace(&mut self.owns[i as usize], Some(Own::Whole(watched))) {
             Some(Own::Whole(had)) => had,
             _ => unreachable!(),
         }
@@ -82,10 +94,13 @@ impl KeptPixels {
         ensures others { (place : Place) → ((p : Spot) → IsTrue (holds r p) → place ≢ own i p) → kept_at self.new place ≡ kept_at self.old place }
         ensures has { has_place self.new ≡ has_place self.old }
         ensures forms { form_at self.new ≡ form_at self.old }
+        ensures moment { moment self.new ≡ moment self.old }
         ensures steps { steps.new ≡ steps.old + area_of r }
+        ensures writes { writes self.new + steps.old ≡ writes self.old + steps.new }
     {
+        self.writes = self.writes.and(&Area(r));
         match &mut self.owns[i as usize] {
-            Some(Own::Whole(plane)) => plane.copy(r, other, r.min, steps),
+            Some(Own::Whole(watched)) => watched.copy(r, other, r.min, steps),
             _ => unreachable!(),
         }
     }

@@ -21,7 +21,7 @@ use Rattle.r9_locate.specs.Table.{shape}
 use Rattle.r9_locate.proofs.Locating.{strip_at}
 use Rattle.r9_locate.proofs.Parts.{get_or-part}
 use Rattle.r9_pixels.specs.declared.keeping.KeptPixels.{KeptPixels}
-use Rattle.r9_pixels.specs.Kept.{form_at, has_place, kept_at}
+use Rattle.r9_pixels.specs.Kept.{form_at, has_place, kept_at, moment}
 use Rattle.r9_shown.specs.Shown.{block}
 use Rattle.r9_put.specs.Written.{IsStored, IsWritten}
 use Rattle.r9_put.proofs.Forms.{image_near}
@@ -51,6 +51,7 @@ written_more shape i a b c f g h first mid last ok places live both same_a same_
   put = put_more shape i a b c f g h _ _ _ ok places live both same_a same_b before.put now.put;
   has = now.has ∙ before.has;
   forms = now.forms ∙ before.forms;
+  moment = now.moment ∙ before.moment;
 }
 
 pub written_none : (shape : World) (i : ℕ) (a : Point → Bool) (f : Point → ℕ) (pixels : KeptPixels) → ((p : Point) → a p ≡ false) → IsWritten shape i a f pixels pixels
@@ -61,6 +62,7 @@ written_none shape i a f pixels none = record {
   };
   has = refl;
   forms = refl;
+  moment = refl;
 }
 
 -- of a part that is all
@@ -124,17 +126,19 @@ written_same shape i a b f g old new area same is =
       };
       has = all.has;
       forms = all.forms;
+      moment = all.moment;
     }
 
 -- what is written where all of a bare rectangle is kept is put on it
-pub area_written : (shape : World) (i : ℕ) (r : Rect) (f : Point → ℕ) (old new : KeptPixels) → ((p : Point) → holds r p ≡ true → holds (image_at shape i).r p ≡ true) → ((p : Point) → holds r p ≡ true → is_bare (image_at shape i).windows p ≡ true) → ((p : Point) → holds r p ≡ true → kept_at new (keeping shape i p) ≡ f p) → ((place : Place) → ((p : Point) → holds r p ≡ true → place ≢ keeping shape i p) → kept_at new place ≡ kept_at old place) → has_place new ≡ has_place old → form_at new ≡ form_at old → IsWritten shape i (holds r) f old new
-area_written shape i r f old new inside bare at others has forms = record {
+pub area_written : (shape : World) (i : ℕ) (r : Rect) (f : Point → ℕ) (old new : KeptPixels) → ((p : Point) → holds r p ≡ true → holds (image_at shape i).r p ≡ true) → ((p : Point) → holds r p ≡ true → is_bare (image_at shape i).windows p ≡ true) → ((p : Point) → holds r p ≡ true → kept_at new (keeping shape i p) ≡ f p) → ((place : Place) → ((p : Point) → holds r p ≡ true → place ≢ keeping shape i p) → kept_at new place ≡ kept_at old place) → has_place new ≡ has_place old → form_at new ≡ form_at old → moment new ≡ moment old → IsWritten shape i (holds r) f old new
+area_written shape i r f old new inside bare at others has forms moments = record {
   put = record {
     put = λ p within in_r none. at p in_r;
     others = λ place apart. others place (λ p in_r same. apart p (inside p in_r) in_r (bare p in_r) same);
   };
   has = has;
   forms = forms;
+  moment = moments;
 }
 
 -- the pixels of a rectangle are among these rows

@@ -11,7 +11,7 @@ use Rattle.model_kept.specs.Keeping.{own, Place}
 use Rattle.r9_locate.specs.Forms.{forms_of, Form}
 use Rattle.r9_locate.proofs.Locating.{keeping-root}
 use Rattle.r9_pixels.specs.declared.keeping.KeptPixels.{KeptPixels}
-use Rattle.r9_pixels.specs.Kept.{form_at, has_place, kept_at}
+use Rattle.r9_pixels.specs.Kept.{form_at, has_place, kept_at, moment}
 use Rattle.r9_put.specs.Written.{IsStored, IsWritten}
 use Rattle.r9_put.proofs.Forms.{form_live, standing_nowhere}
 
@@ -29,8 +29,8 @@ whole_form world pixels i forms live root =
 pub whole_place : (world : World) (pixels : KeptPixels) (i : ℕ) (p : Point) → IsStored world pixels → IsLive world i → parent_of world i ≡ None → holds (image_at world i).r p ≡ true → has_place pixels (own i p) ≡ true
 whole_place world pixels i p stored live root inside = ap (has_place pixels) (sym (keeping-root world i p root)) ∙ stored.has i p live inside
 
-pub whole_written : (world : World) (i : ℕ) (r : Rect) (f : Point → ℕ) (old new : KeptPixels) → parent_of world i ≡ None → length (image_at world i).windows ≡ 0 → ((p : Point) → holds r p ≡ true → holds (image_at world i).r p ≡ true) → ((p : Point) → holds r p ≡ true → kept_at new (own i p) ≡ f p) → ((place : Place) → ((p : Point) → holds r p ≡ true → place ≢ own i p) → kept_at new place ≡ kept_at old place) → has_place new ≡ has_place old → form_at new ≡ form_at old → IsWritten world i (holds r) f old new
-whole_written world i r f old new root none inside at others has forms = record {
+pub whole_written : (world : World) (i : ℕ) (r : Rect) (f : Point → ℕ) (old new : KeptPixels) → parent_of world i ≡ None → length (image_at world i).windows ≡ 0 → ((p : Point) → holds r p ≡ true → holds (image_at world i).r p ≡ true) → ((p : Point) → holds r p ≡ true → kept_at new (own i p) ≡ f p) → ((place : Place) → ((p : Point) → holds r p ≡ true → place ≢ own i p) → kept_at new place ≡ kept_at old place) → has_place new ≡ has_place old → form_at new ≡ form_at old → moment new ≡ moment old → IsWritten world i (holds r) f old new
+whole_written world i r f old new root none inside at others has forms moments = record {
   put = record {
     put = λ p within in_r bare. ap (kept_at new) (keeping-root world i p root) ∙ at p in_r;
     others = λ place apart.
@@ -38,4 +38,5 @@ whole_written world i r f old new root none inside at others has forms = record 
   };
   has = has;
   forms = forms;
+  moment = moments;
 }

@@ -7,7 +7,7 @@ use Rattle.model_kept.specs.Keeping.{keeping}
 use Rattle.model_kept.specs.Restack.{IsPut}
 use Rattle.r9_locate.specs.Forms.{HasBits}
 use Rattle.r9_pixels.specs.declared.keeping.KeptPixels.{KeptPixels}
-use Rattle.r9_pixels.specs.Kept.{form_at, has_place, kept_at}
+use Rattle.r9_pixels.specs.Kept.{form_at, has_place, kept_at, moment}
 
 -- a world of images with a place for each pixel that one shows, of as many bits as the image's channels
 pub record IsStored (world : World) (pixels : KeptPixels) : Type 0 where
@@ -20,3 +20,4 @@ pub record IsWritten (world : World) (i : ℕ) (area : Point → Bool) (raws : P
   pub put : IsPut world i area raws (kept_at old) (kept_at new)
   pub has : has_place new ≡ has_place old
   pub forms : form_at new ≡ form_at old
+  pub moment : moment new ≡ moment old

@@ -8,7 +8,7 @@ ghost use Rattle.model_forest.specs.View.{is_bare, top_window};
 ghost use Rattle.model_forest.specs.World.{image_at, IsLive};
 ghost use Rattle.r9_locate.specs.Forms.{bits_in};
 ghost use Rattle.r9_locate.specs.Table.{shape};
-ghost use Rattle.r9_pixels.specs.Kept.{form_at};
+ghost use Rattle.r9_pixels.specs.Kept.{form_at, writes};
 ghost use Rattle.r9_put.specs.Written.{IsStored, IsWritten};
 ghost use Rattle.r9_shown.specs.Shown as spec;
 ghost use Rattle.r9_shown.specs.Shown.{down};
@@ -38,6 +38,7 @@ fn fill_bare<L: Ledger>(
     requires bare { (p : Spot) → IsTrue (holds r p) → is_bare (image_at (shape lists.now) i).windows p ≡ true }
     ensures written { IsWritten (shape lists.now) i (holds r) (λ _. raw) pixels.old pixels.new }
     ensures steps { steps.new ≤ steps.old + area_of r }
+    ensures writes { writes pixels.new + steps.old ≡ writes pixels.old + steps.new }
 {
     paint_area(lists, pixels, i, &r, raw, steps);
 }
@@ -65,6 +66,7 @@ fn fill_block<L: Ledger>(
     requires below { raw < 2 ^ bits_in (form_at pixels.old) i }
     ensures written { IsWritten (shape lists.now) i (holds (spec.block at columns rows)) (λ _. raw) pixels.old pixels.new }
     ensures steps { steps.new ≤ steps.old + columns * rows }
+    ensures writes { writes pixels.new + steps.old ≡ writes pixels.old + steps.new }
 {
     if top(&lists.get(i).windows, at).is_none() {
         fill_bare(lists, pixels, i, block(at, columns, rows), raw, steps);
@@ -93,6 +95,7 @@ fn fill_band<L: Ledger>(
     requires below { raw < 2 ^ bits_in (form_at pixels.old) i }
     ensures written { IsWritten (shape lists.now) i (holds (spec.block at columns rows)) (λ _. raw) pixels.old pixels.new }
     ensures steps { steps.new ≤ steps.old + columns * rows }
+    ensures writes { writes pixels.new + steps.old ≡ writes pixels.old + steps.new }
 {
     let mut done = 0;
     while done < columns {
@@ -121,6 +124,7 @@ pub fn fill_area<L: Ledger>(
     requires below { raw < 2 ^ bits_in (form_at pixels.old) i }
     ensures written { IsWritten (shape lists.now) i (holds r.now) (λ _. raw) pixels.old pixels.new }
     ensures steps { steps.new ≤ steps.old + area_of r.now }
+    ensures writes { writes pixels.new + steps.old ≡ writes pixels.old + steps.new }
 {
     let columns = r.width() as usize;
     let height = r.height();

@@ -9,7 +9,7 @@ ghost use Rattle.r9_plane.specs.Pixels.{along};
 ghost use Rattle.model_forest.specs.World.{image_at, IsLive};
 ghost use Rattle.r9_locate.specs.Forms.{bits_in, forms_of};
 ghost use Rattle.r9_locate.specs.Table.{shape};
-ghost use Rattle.r9_pixels.specs.Kept.{form_at};
+ghost use Rattle.r9_pixels.specs.Kept.{form_at, writes};
 ghost use Rattle.r9_put.specs.Written.{IsStored, IsWritten};
 
 use super::rows::put_side_by_side;
@@ -46,6 +46,7 @@ fn load_run<L: Ledger>(
     requires bits { bits_in (form_at pixels.old) i ≡ channels.depth (image_at (shape lists.now) i).chan }
     ensures written { IsWritten (shape lists.now) i (holds (strip at (length raws.old))) (row_pixel r.now (channels.depth (image_at (shape lists.now) i).chan) rows.now) pixels.old pixels.new }
     ensures steps { steps.new ≤ steps.old + length raws.old }
+    ensures writes { writes pixels.new + steps.old ≡ writes pixels.old + steps.new }
 {
     read_rows(r, lists.get(i).chan.depth(), rows, at, raws);
     put_side_by_side(lists, pixels, i, at, raws, steps);
@@ -71,6 +72,7 @@ fn load_row<L: Ledger>(
     requires bits { bits_in (form_at pixels.old) i ≡ channels.depth (image_at (shape lists.now) i).chan }
     ensures written { IsWritten (shape lists.now) i (holds (strip (point_at r.now 0 row) (width r.now))) (row_pixel r.now (channels.depth (image_at (shape lists.now) i).chan) rows.now) pixels.old pixels.new }
     ensures steps { steps.new ≤ steps.old + width r.now }
+    ensures writes { writes pixels.new + steps.old ≡ writes pixels.old + steps.new }
 {
     let at = r.point_at(0, row);
     let width = r.width() as usize;
@@ -110,6 +112,7 @@ fn load_rows<L: Ledger>(
     requires bits { bits_in (form_at pixels.old) i ≡ channels.depth (image_at (shape lists.now) i).chan }
     ensures written { IsWritten (shape lists.now) i (holds r.now) (row_pixel r.now (channels.depth (image_at (shape lists.now) i).chan) rows.now) pixels.old pixels.new }
     ensures steps { steps.new ≤ steps.old + area_of r.now }
+    ensures writes { writes pixels.new + steps.old ≡ writes pixels.old + steps.new }
 {
     for row in 0..r.height() {
         load_row(lists, pixels, i, r, rows, row, steps);
@@ -135,6 +138,7 @@ pub fn load_area<L: Ledger>(
     requires bits { bits_in (form_at pixels.old) i ≡ channels.depth (image_at (shape lists.now) i).chan }
     ensures written { IsWritten (shape lists.now) i (holds r) (row_pixel r (channels.depth (image_at (shape lists.now) i).chan) rows.now) pixels.old pixels.new }
     ensures steps { steps.new ≤ steps.old + area_of r }
+    ensures writes { writes pixels.new + steps.old ≡ writes pixels.old + steps.new }
 {
     if is_whole(lists, i) {
         pixels.load_whole(i, r, rows, steps);

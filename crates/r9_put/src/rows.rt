@@ -9,7 +9,7 @@ ghost use Rattle.model_forest.specs.View.{top_window};
 ghost use Rattle.model_forest.specs.World.{image_at, IsLive};
 ghost use Rattle.r9_locate.specs.Forms.{bits_in};
 ghost use Rattle.r9_locate.specs.Table.{shape};
-ghost use Rattle.r9_pixels.specs.Kept.{form_at};
+ghost use Rattle.r9_pixels.specs.Kept.{form_at, writes};
 ghost use Rattle.r9_put.specs.Written.{IsStored, IsWritten};
 ghost use Rattle.r9_shown.specs.Shown as spec;
 ghost use Rattle.r9_shown.specs.Shown.{down};
@@ -38,6 +38,7 @@ fn put_run<L: Ledger>(
     requires below { (k : ℕ) → k < length raws.now → slice_index raws.now k < 2 ^ bits_in (form_at pixels.old) i }
     ensures written { IsWritten (shape lists.now) i (holds (strip at (length raws.now))) (λ p. slice_index raws.now (distance at.x p.x)) pixels.old pixels.new }
     ensures steps { steps.new ≤ steps.old + length raws.now }
+    ensures writes { writes pixels.new + steps.old ≡ writes pixels.old + steps.new }
 {
     if top(&lists.get(i).windows, at).is_none() {
         write_view(lists, pixels, i, at, raws, steps);
@@ -60,6 +61,7 @@ pub(crate) fn put_side_by_side<L: Ledger>(
     requires below { (k : ℕ) → k < length raws.now → slice_index raws.now k < 2 ^ bits_in (form_at pixels.old) i }
     ensures written { IsWritten (shape lists.now) i (holds (strip at (length raws.now))) (λ p. slice_index raws.now (distance at.x p.x)) pixels.old pixels.new }
     ensures steps { steps.new ≤ steps.old + length raws.now }
+    ensures writes { writes pixels.new + steps.old ≡ writes pixels.old + steps.new }
 {
     let mut done = 0;
     while done < raws.len() {
@@ -97,6 +99,7 @@ fn put_block<L: Ledger>(
     requires below { (k : ℕ) → k < length raws.now → slice_index raws.now k < 2 ^ bits_in (form_at pixels.old) i }
     ensures written { IsWritten (shape lists.now) i (holds (spec.block at columns rows)) (λ p. slice_index raws.now (number_in (spec.block at columns rows) first width p)) pixels.old pixels.new }
     ensures steps { steps.new ≤ steps.old + columns * rows }
+    ensures writes { writes pixels.new + steps.old ≡ writes pixels.old + steps.new }
 {
     if top(&lists.get(i).windows, at).is_none() {
         write_area(
@@ -136,6 +139,7 @@ fn put_band<L: Ledger>(
     requires below { (k : ℕ) → k < length raws.now → slice_index raws.now k < 2 ^ bits_in (form_at pixels.old) i }
     ensures written { IsWritten (shape lists.now) i (holds (spec.block at width rows)) (λ p. slice_index raws.now (number_in (spec.block at width rows) first width p)) pixels.old pixels.new }
     ensures steps { steps.new ≤ steps.old + width * rows }
+    ensures writes { writes pixels.new + steps.old ≡ writes pixels.old + steps.new }
 {
     let mut done = 0;
     while done < width {
@@ -175,6 +179,7 @@ pub fn put_rows<L: Ledger>(
     requires below { (k : ℕ) → k < length raws.now → slice_index raws.now k < 2 ^ bits_in (form_at pixels.old) i }
     ensures written { IsWritten (shape lists.now) i (holds r.now) (λ p. slice_index raws.now (number_of r.now p)) pixels.old pixels.new }
     ensures steps { steps.new ≤ steps.old + area_of r.now }
+    ensures writes { writes pixels.new + steps.old ≡ writes pixels.old + steps.new }
 {
     let width = r.width() as usize;
     let height = r.height();

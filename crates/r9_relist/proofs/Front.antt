@@ -1,9 +1,9 @@
 -- Windows with which two lists begin, and lists in which each image has one window.
-use Rattle.std.proofs.Common.{◌≡◌, ◌≢◌, ◌∙◌, ℕ, zero, suc, ◌+◌, ◌<◌, ◌≤◌, Bool, true, false, All, List, [], ◌∷◌, Some, None, cond, get_or, length, take, refl, sym, ap, subst, eq-eqb, arith}
+use Rattle.std.proofs.Common.{◌≡◌, ◌≢◌, ◌∙◌, ℕ, zero, suc, ◌+◌, ◌++◌, ◌<◌, ◌≤◌, Bool, true, false, All, List, [], ◌∷◌, Some, None, cond, get_or, length, length-append, take, refl, sym, ap, subst, eq-eqb, arith}
 use Rattle.std.specs.Prelude.{◌==◌, ◌||◌, if◌then◌else◌}
 use Rattle.std.specs.List.{list_any, position, position_or_len}
 use Rattle.std.proofs.lemmas.Bool.{true≢false}
-use Rattle.std.proofs.lemmas.List.{get_or-take, length-take-le, take_all}
+use Rattle.std.proofs.lemmas.List.{get_or-take, length-take-le, take-append-le, take_all}
 use Rattle.std.proofs.lemmas.List.Folds.{list_any_at}
 use Rattle.std.proofs.lemmas.List.Quantifiers.{position-Some}
 use Rattle.std.proofs.lemmas.List.Sums.{fails_before_first, sum_by-cons}
@@ -79,6 +79,18 @@ front_whole ws w none = record {
       let here = ap (λ (l : List Window). (get_or l k d).image) (sym all) ∙ same in
       true≢false (sym (eq-eqb (get_or ws k d).image w here) ∙ fails_before_first test ws k d (omega (arith, lower, past)));
 }
+
+-- before a list in two parts, of which one begins with all of the first part
+pub front_joined : (old upper lower : List Window) (w : ℕ) → IsFront old upper w (length upper) → IsFront old (upper ++ lower) w (length upper)
+front_joined old upper lower w front =
+    let n = length upper in
+    let same : take n (upper ++ lower) ≡ take n upper = take-append-le n upper lower (omega arith) in
+    record {
+      old = front.old;
+      new = omega (arith, length-append upper lower);
+      same = front.same ∙ sym same;
+      apart = subst (All (λ (v : Window). v.image ≢ w)) (sym same) front.apart;
+    }
 
 -- among which another image is not that is in neither list
 pub front_other : (old ws : List Window) (w p n : ℕ) → IsFront old ws w n → All (λ v. v.image ≢ p) ws → IsFront old ws p n

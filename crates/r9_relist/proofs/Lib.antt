@@ -10,3 +10,4 @@ pub mod Without
 pub mod Uncovering
 pub mod Tops
 pub mod Off
+pub mod Moments

@@ -362,11 +362,11 @@ module _ (world : World) (p : ℕ) (ws : List Window) (order : IsReordering worl
 
 -- ---- a window goes
 
-pub left_given : (world : World) (p w : ℕ) → IsGoing world p w → (area : Rect) → HasPlaceOf world p w area → (has : Place → Bool) → HasCells world has → HasGivenOff (with_list world p (others world p w)) p (others world p w) 0 (area ∷ []) has
-left_given world p w going area covered has cells at v x window inside off shown =
+pub left_given : (world : World) (p w : ℕ) → IsGoing world p w → (area : Rect) → HasPlaceOf world p w area → (n : ℕ) → IsFront (image_at world p).windows (others world p w) w n → (has : Place → Bool) → HasCells world has → HasGivenOff (with_list world p (others world p w)) p (others world p w) n (area ∷ []) has
+left_given world p w going area covered n front has cells at v x window inside off shown =
     cells i p x stands within
     ∙ ap (λ o. option_map_or (λ (m : ℕ). hides_on world m i (cell_part r k)) o false) stands
-    ∙ sym (same_cells world p ws i live stands apart place placed k tops)
+    ∙ sym (⊎_elim alike_first (λ (later : n ≤ at). same_cells world p ws i live stands apart place placed k (tops (clear later))) (cases_lt at n))
     ∙ (λ j. hides_cell (sym at_p j).r ws i (sym at_i j).r (cell_of (sym at_i j).r x))
     ∙ shown
   where
@@ -416,12 +416,22 @@ left_given world p w going area covered has cells at v x window inside off shown
     placed : (y : Point) → holds r y ≡ true → holds (place_among (image_at world p).windows i) (outward world p i y) ≡ true
     placed y h = place-inside world going.before (places-forest world going.before) p i y stands h
 
-    clear : meets (area ∷ []) (standing_at world ws i x) ≡ false
-    clear = sym (ap (λ (image : Image). meets (area ∷ []) (standing_cell ws i image.r (cell_of image.r x))) at_i) ∙ off (omega arith)
+    -- the first windows are hidden alike
+    alike_first : at < n → hides_cell (image_at world p).r ws i r k ≡ hides_on world p i (cell_part r k)
+    alike_first below = λ j. not (is_inside (out (place j)) (image_at world p).r) || list_any (λ (u : Window). not (is_empty (meet u.place (out (place j))))) (found.1 j)
+      where
+        found : (i ≢ w) × (above i ws ≡ above i (image_at world p).windows)
+        found = front_above (image_at world p).windows ws w n at v front window below
 
-    tops : (y : Point) → holds (cell_part r k) y ≡ true → holds (image_at world p).r (outward world p i y) ≡ true → is_top ws i (outward world p i y) ≡ is_top (image_at world p).windows i (outward world p i y)
-    tops y here below =
+        out : Rect → Rect
+        out to = record { min = carried (cell_part r k).min r.min to.min; max = carried (cell_part r k).max r.min to.min }
+
+    clear : n ≤ at → meets (area ∷ []) (standing_at world ws i x) ≡ false
+    clear later = sym (ap (λ (image : Image). meets (area ∷ []) (standing_cell ws i image.r (cell_of image.r x))) at_i) ∙ off later
+
+    tops : meets (area ∷ []) (standing_at world ws i x) ≡ false → (y : Point) → holds (cell_part r k) y ≡ true → holds (image_at world p).r (outward world p i y) ≡ true → is_top ws i (outward world p i y) ≡ is_top (image_at world p).windows i (outward world p i y)
+    tops off_it y here below =
         let q = outward world p i y in
         let out : carried y r.min (place_among ws i).min ≡ q = ap (λ (s : Rect). carried y r.min s.min) place in
-        let gone : holds area q ≡ false = ap (holds area) (sym out) ∙ (or_parts (holds area (carried y r.min (place_among ws i).min)) false (away (area ∷ []) r (cell_part r k) (place_among ws i).min y clear here)).0 in
+        let gone : holds area q ≡ false = ap (holds area) (sym out) ∙ (or_parts (holds area (carried y r.min (place_among ws i).min)) false (away (area ∷ []) r (cell_part r k) (place_among ws i).min y off_it here)).0 in
         (leaving_outside world p w going area covered q below gone).tops i

@@ -36,7 +36,7 @@ whole_has pixels world i x same live root = by_image (world i) refl
   where
     by_own : (image : Image) → is_some image.standing ≡ false → (o : Option Own) → option_map form_in o ≡ Some (form_of image) → option_map_or (has_in pixels.cells i x) o false ≡ holds image.r x
     by_own image none None e = cc
-    by_own image none (Some (Whole plane)) e = ap (λ r. holds r x) (same_rect (plane_form plane) (form_of image) e)
+    by_own image none (Some (Whole watched)) e = ap (λ r. holds r x) (same_rect (plane_form watched.plane) (form_of image) e)
     by_own image none (Some (Hidden extent)) e =
         absurd (true≢false (same_kind (window_form extent) (form_of image) e ∙ none))
 

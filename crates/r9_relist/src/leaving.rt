@@ -11,9 +11,10 @@ ghost use Rattle.model_kept.specs.Keeping.{keeping, with_kept};
 ghost use Rattle.model_kept.specs.Restack.{with_list, with_own, IsRestacked};
 ghost use Rattle.r9_locate.specs.Forms.{bits_in, forms_of};
 ghost use Rattle.r9_locate.specs.Table.{made, shape};
-ghost use Rattle.r9_pixels.specs.Kept.{form_at, has_place, kept_at};
+ghost use Rattle.r9_pixels.specs.Kept.{form_at, has_place, kept_at, moment, writes};
 ghost use Rattle.r9_pixels.specs.Places.{HasCells};
 ghost use Rattle.r9_restack.specs.Stacks.{IsFront};
+ghost use Rattle.r9_watched.specs.Moments.{with_moment};
 ghost use Rattle.r9_relist.specs.Leaving.{gone, others, HasFill, HasPlaceOf, IsGoing};
 
 use model_forest::Window;
@@ -46,7 +47,7 @@ fn around(windows: &[Window], w: u32) -> (&[Window], &[Window])
     }
 }
 
-// Moves the pixels to where they are kept without a window.
+// Moves the pixels to where they are kept without a window. How many windows stand above it.
 fn uncover<S: Source, L: Ledger>(
     lists: &Lists,
     pixels: &mut KeptPixels,
@@ -55,7 +56,7 @@ fn uncover<S: Source, L: Ledger>(
     w: u32,
     area: &Rect,
     steps: &mut Steps<L>,
-)
+) -> usize
     requires going { IsGoing (shape lists.now) p w }
     requires forms { form_at pixels.old ≡ forms_of (shape lists.now) }
     requires cells { HasCells (shape lists.now) (has_place pixels.old) }
@@ -65,13 +66,17 @@ fn uncover<S: Source, L: Ledger>(
     requires place { HasPlaceOf (shape lists.now) p w area.now }
     requires given { (x : Spot) → S.given source.now x < 2 ^ bits_in (form_at pixels.old) p }
     requires fill { (z : Spot) → S.fill source.now z < 2 ^ bits_in (form_at pixels.old) p }
+    ensures front { IsFront (image_at (shape lists.now) p).windows (others (shape lists.now) p w) w result }
     ensures moved { IsRestacked (shape lists.now) (with_list (shape lists.now) p (others (shape lists.now) p w)) p (kept_at pixels.old) (with_own w (λ x. kept_at pixels.old (keeping (shape lists.now) w x)) (kept_at pixels.new)) (S.fill source.now) }
     ensures has { has_place pixels.new ≡ has_place pixels.old }
     ensures forms { form_at pixels.new ≡ form_at pixels.old }
     ensures steps { steps.new ≤ steps.old + 2 * area_of area.now }
+    ensures moment { moment pixels.new ≡ moment pixels.old }
+    ensures writes { writes pixels.new + steps.old ≡ writes pixels.old + steps.new }
 {
     let (upper, lower) = around(&lists.get(p).windows, w);
     leave(lists, pixels, source, p, w, upper, lower, area, steps);
+    upper.len()
 }
 
 // Takes a window out of the list of an image.
@@ -113,10 +118,12 @@ pub fn take_away<S: Source, L: Ledger>(
     ensures cells { HasCells (shape lists.new) (has_place pixels.new) }
     ensures forms { form_at pixels.new ≡ forms_of (shape lists.new) }
     ensures steps { steps.new ≤ steps.old + 2 * area_of area.now }
+    ensures moment { moment pixels.new ≡ moment pixels.old }
+    ensures writes { writes pixels.new + steps.old ≡ writes pixels.old + steps.new }
 {
-    uncover(lists, pixels, source, p, w, area, steps);
+    let from = uncover(lists, pixels, source, p, w, area, steps);
     unlist(alloc, lists, p, w);
-    pixels.give_shown(lists, p, &lists.get(p).windows, 0, &[*area]);
+    pixels.give_shown(lists, p, &lists.get(p).windows, from, &[*area]);
     lists.remove(w);
     pixels.remove(w);
 }
@@ -133,6 +140,8 @@ pub fn take_whole(lists: &mut Lists, pixels: &mut KeptPixels, i: u32)
     ensures world { with_kept (shape lists.new) (kept_at pixels.new) ≡ with_image (with_kept (shape lists.old) (kept_at pixels.old)) i None }
     ensures cells { HasCells (shape lists.new) (has_place pixels.new) }
     ensures forms { form_at pixels.new ≡ forms_of (shape lists.new) }
+    ensures moment { moment pixels.new ≡ with_moment i None (moment pixels.old) }
+    ensures writes { writes pixels.new ≡ writes pixels.old }
 {
     lists.remove(i);
     pixels.remove(i);

@@ -10,7 +10,7 @@ ghost use Rattle.model_kept.specs.Keeping.{is_top, own, with_kept, Place};
 ghost use Rattle.model_kept.specs.Restack.{with_list};
 ghost use Rattle.r9_locate.specs.Forms.{bits_in, forms_of};
 ghost use Rattle.r9_locate.specs.Table.{made, shape};
-ghost use Rattle.r9_pixels.specs.Kept.{form_at, has_place, kept_at, room_of, spare_in, wanted_in, IsUnchanged};
+ghost use Rattle.r9_pixels.specs.Kept.{form_at, has_place, kept_at, moment, room_of, spare_in, wanted_in, writes, IsUnchanged};
 ghost use Rattle.r9_pixels.specs.Places.{in_hidden, HasCells, HasGivenOff, HasTakenOff};
 ghost use Rattle.r9_region.specs.Region.{covers};
 ghost use Rattle.r9_restack.specs.Areas.{AreApartIn};
@@ -98,6 +98,8 @@ pub fn settle(
     ensures spare { spare_in pixels.old ≤ spare_in pixels.new }
     ensures cells { HasCells (shape lists.new) (has_place pixels.new) }
     ensures forms { form_at pixels.new ≡ forms_of (shape lists.new) }
+    ensures moment { moment pixels.new ≡ moment pixels.old }
+    ensures writes { writes pixels.new ≡ writes pixels.old }
 {
     pixels.give_shown(lists, p, &list, from, areas);
     let _ = lists.set_windows(p, list);
@@ -134,6 +136,8 @@ fn move_pixels<S: Source, L: Ledger>(
     ensures has { (place : Place) → has_place pixels.new place ≡ (has_place pixels.old place || in_hidden (shape lists.now) p new.now place) }
     ensures forms { form_at pixels.new ≡ forms_of (shape lists.now) }
     ensures steps { steps.new ≤ steps.old + 2 * area_of area.now + 2 * area_of (image_at (shape lists.now) w).r }
+    ensures moment { moment pixels.new ≡ moment pixels.old }
+    ensures writes { writes pixels.new + steps.old ≡ writes pixels.old + steps.new }
 {
     pixels.take_hidden(lists, p, new, from, areas);
     restack(lists, pixels, source, p, w, new, from, area, steps);
@@ -169,6 +173,8 @@ pub fn relist<S: Source, L: Ledger>(
     ensures cells { HasCells (shape lists.new) (has_place pixels.new) }
     ensures forms { form_at pixels.new ≡ forms_of (shape lists.new) }
     ensures steps { steps.new ≤ steps.old + 2 * area_of area.now + 2 * area_of (image_at (shape lists.old) w).r }
+    ensures moment { moment pixels.new ≡ moment pixels.old }
+    ensures writes { writes pixels.new + steps.old ≡ writes pixels.old + steps.new }
 {
     let from = count_front(&lists.get(p).windows, &list, w);
     let place = place_among(&list, w);
@@ -217,6 +223,8 @@ pub fn add<S: Source, L: Ledger>(
     ensures cells { HasCells (shape lists.new) (has_place pixels.new) }
     ensures forms { form_at pixels.new ≡ forms_of (shape lists.new) }
     ensures steps { steps.new ≤ steps.old + 2 * area_of (image_at (shape lists.old) w.image).r }
+    ensures moment { moment pixels.new ≡ moment pixels.old }
+    ensures writes { writes pixels.new + steps.old ≡ writes pixels.old + steps.new }
 {
     // It stood nowhere before.
     let area = no_points(w.place.min);
@@ -259,6 +267,8 @@ fn conceal_pixels<S: Source, L: Ledger>(
     ensures has { (place : Place) → has_place pixels.new place ≡ (has_place pixels.old place || in_hidden (shape lists.now) p new.now place) }
     ensures forms { form_at pixels.new ≡ forms_of (shape lists.now) }
     ensures steps { steps.new ≤ steps.old + 2 * area_of area.now }
+    ensures moment { moment pixels.new ≡ moment pixels.old }
+    ensures writes { writes pixels.new + steps.old ≡ writes pixels.old + steps.new }
 {
     let from = count_front(&lists.get(p).windows, new, w);
     let place = place_among(new, w);
@@ -298,6 +308,8 @@ pub fn hide<S: Source, L: Ledger>(
     ensures cells { HasCells (shape lists.new) (has_place pixels.new) }
     ensures forms { form_at pixels.new ≡ forms_of (shape lists.new) }
     ensures steps { steps.new ≤ steps.old + 2 * area_of area.now }
+    ensures moment { moment pixels.new ≡ moment pixels.old }
+    ensures writes { writes pixels.new + steps.old ≡ writes pixels.old + steps.new }
 {
     let from = conceal_pixels(lists, pixels, source, p, w, &list, area, steps);
     settle(lists, pixels, p, list, from, &[*area]);
@@ -326,6 +338,8 @@ fn order_pixels<L: Ledger>(
     ensures has { (place : Place) → has_place pixels.new place ≡ (has_place pixels.old place || in_hidden (shape lists.now) p new.now place) }
     ensures forms { form_at pixels.new ≡ forms_of (shape lists.now) }
     ensures steps { steps.new ≤ steps.old + 2 * sum_by area_of areas.now }
+    ensures moment { moment pixels.new ≡ moment pixels.old }
+    ensures writes { writes pixels.new + steps.old ≡ writes pixels.old + steps.new }
 {
     pixels.take_hidden(lists, p, new, 0, areas);
     reorder(lists, pixels, p, new, areas, steps);
@@ -355,6 +369,8 @@ pub fn reorder_windows<L: Ledger>(
     ensures cells { HasCells (shape lists.new) (has_place pixels.new) }
     ensures forms { form_at pixels.new ≡ forms_of (shape lists.new) }
     ensures steps { steps.new ≤ steps.old + 2 * sum_by area_of areas.now }
+    ensures moment { moment pixels.new ≡ moment pixels.old }
+    ensures writes { writes pixels.new + steps.old ≡ writes pixels.old + steps.new }
 {
     order_pixels(lists, pixels, p, &list, areas, steps);
     settle(lists, pixels, p, list, 0, areas);

@@ -1,6 +1,7 @@
 -- The tables of images in which one that stands nowhere gets another rectangle and another plane.
 use Rattle.std.proofs.Common.{◌≡◌, ◌≢◌, ◌∙◌, ℕ, ◌*◌, ◌<◌, ◌^◌, arith, pos, All, Bool, false, Option, Some, None, refl, sym, ap, ⊎_elim, eq-eqb}
 use Rattle.std.specs.Prelude.{◌==◌, is_some, option_map, if◌then◌else◌}
+use Rattle.std.specs.Option.{option_map_or}
 use Rattle.std.proofs.lemmas.Bool.{cases_eq, ne_eqb, true≢false}
 use Rattle.std.proofs.lemmas.Int.{ints}
 use Rattle.r9_geom.specs.declared.Point.{Point}
@@ -10,7 +11,7 @@ use Rattle.r9_geom.proofs.GeometryLemmas.{distance_is}
 use Rattle.r9_plane.specs.declared.plane.Plane.{Plane}
 use Rattle.r9_plane.specs.Pixels.{chan_of, rect_of}
 use Rattle.model_forest.specs.declared.Standing.{Standing}
-use Rattle.model_forest.specs.World.{Image, World, image_at, parent_of, with_image, IsForest, IsLive}
+use Rattle.model_forest.specs.World.{Image, World, image_at, no_rect, parent_of, with_image, IsForest, IsLive}
 use Rattle.model_forest.proofs.Changes.{with_image-at, with_image-other, World-changed}
 use Rattle.model_kept.specs.Keeping.{own, Place}
 use Rattle.model_kept.specs.Restack.{with_list, with_own}
@@ -18,6 +19,7 @@ use Rattle.model_kept.proofs.Worlds.{image_at-slot}
 use Rattle.r9_locate.specs.Forms.{form_of, forms_of, Form}
 use Rattle.r9_pixels.specs.Owns.{plane_form}
 use Rattle.r9_pixels.specs.Places.{with_form, with_places, HasCells, StandsOn}
+use Rattle.r9_watched.specs.Moments.{with_moment, Moment}
 use Rattle.r9_relist.proofs.Near.{nearby}
 use Rattle.model_resize.specs.Resize.{sized, CanResize}
 use Rattle.model_resize.proofs.Sizes.{rect-forest}
@@ -71,6 +73,13 @@ form_chan world i live = by_slot (world i) refl
     by_slot None e = absurd (true≢false (sym live ∙ ap is_some e))
     by_slot (Some image) e = ap (λ (im : Image). Some im.chan) (sym (image_at-slot world i image e))
 
+pub form_rect : (world : World) (i : ℕ) → IsLive world i → option_map_or (λ (form : Form). form.r) (forms_of world i) no_rect ≡ (image_at world i).r
+form_rect world i live = by_slot (world i) refl
+  where
+    by_slot : (o : Option Image) → world i ≡ o → option_map_or (λ (form : Form). form.r) (option_map form_of o) no_rect ≡ (image_at world i).r
+    by_slot None e = absurd (true≢false (sym live ∙ ap is_some e))
+    by_slot (Some image) e = ap (λ (im : Image). im.r) (sym (image_at-slot world i image e))
+
 -- what a plane of an image's form has
 pub record IsPlaneOf (world : World) (i : ℕ) (plane : Plane) : Type 0 where
   pub rect : rect_of plane ≡ (image_at world i).r
@@ -123,6 +132,16 @@ form_back forms i a b is = λ j n. at n j
         ⊎_elim
         (λ (here : n ≡ i). ap (λ t. if t then b else (if n == i then a else forms n)) (eq-eqb n i here) ∙ sym is ∙ ap forms (sym here))
         (λ (other : n ≢ i). (λ k. if ne_eqb n i other k then b else (if ne_eqb n i other k then a else forms n)))
+        (cases_eq n i)
+
+pub moment_back : (moments : ℕ → Option Moment) (i : ℕ) (a b : Option Moment) → moments i ≡ b → with_moment i b (with_moment i a moments) ≡ moments
+moment_back moments i a b is = λ j n. at n j
+  where
+    at : (n : ℕ) → with_moment i b (with_moment i a moments) n ≡ moments n
+    at n =
+        ⊎_elim
+        (λ (here : n ≡ i). ap (λ t. if t then b else (if n == i then a else moments n)) (eq-eqb n i here) ∙ sym is ∙ ap moments (sym here))
+        (λ (other : n ≢ i). (λ k. if ne_eqb n i other k then b else (if ne_eqb n i other k then a else moments n)))
         (cases_eq n i)
 
 pub own_back : (kept : Place → ℕ) (i : ℕ) (a b : Point → ℕ) → ((p : Point) → kept (own i p) ≡ b p) → with_own i b (with_own i a kept) ≡ kept

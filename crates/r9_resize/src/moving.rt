@@ -9,7 +9,7 @@ ghost use Rattle.model_forest.specs.World.{image_at, parent_of, IsForest, IsLive
 ghost use Rattle.model_kept.specs.Keeping.{own, Place};
 ghost use Rattle.r9_locate.specs.Forms.{forms_of};
 ghost use Rattle.r9_locate.specs.Table.{shape};
-ghost use Rattle.r9_pixels.specs.Kept.{form_at, has_place, kept_at};
+ghost use Rattle.r9_pixels.specs.Kept.{form_at, has_place, kept_at, moment, writes};
 ghost use Rattle.r9_restack.specs.Moving.{more, IsFresh};
 ghost use Rattle.r9_resize.specs.Moves.{HasPlacesFor, IsMovedFor, IsResized};
 
@@ -47,6 +47,8 @@ fn move_part<L: Ledger>(
     ensures has { has_place pixels.new ≡ has_place pixels.old }
     ensures forms { form_at pixels.new ≡ form_at pixels.old }
     ensures steps { steps.new ≤ steps.old + length raws.old }
+    ensures moment { moment pixels.new ≡ moment pixels.old }
+    ensures writes { writes pixels.new + steps.old ≡ writes pixels.old + steps.new }
 {
     let frame = lists.get(i);
     let Some(v) = top(&frame.windows, q) else {
@@ -86,6 +88,8 @@ fn move_row<L: Ledger>(
     ensures has { has_place pixels.new ≡ has_place pixels.old }
     ensures forms { form_at pixels.new ≡ form_at pixels.old }
     ensures steps { steps.new ≤ steps.old + n }
+    ensures moment { moment pixels.new ≡ moment pixels.old }
+    ensures writes { writes pixels.new + steps.old ≡ writes pixels.old + steps.new }
 {
     let mut block = [0; BLOCK];
     let frame = lists.get(i);
@@ -120,6 +124,8 @@ fn move_area<L: Ledger>(
     ensures has { has_place pixels.new ≡ has_place pixels.old }
     ensures forms { form_at pixels.new ≡ form_at pixels.old }
     ensures steps { steps.new ≤ steps.old + area_of area.now }
+    ensures moment { moment pixels.new ≡ moment pixels.old }
+    ensures writes { writes pixels.new + steps.old ≡ writes pixels.old + steps.new }
 {
     let width = area.width() as usize;
     for row in 0..area.height() {
@@ -146,6 +152,8 @@ pub(crate) fn move_pixels<L: Ledger>(
     ensures has { has_place pixels.new ≡ has_place pixels.old }
     ensures forms { form_at pixels.new ≡ form_at pixels.old }
     ensures steps { steps.new ≤ steps.old + 2 * area_of (rect_of had.now) + area_of (image_at (shape lists.now) i).r }
+    ensures moment { moment pixels.new ≡ moment pixels.old }
+    ensures writes { writes pixels.new + steps.old ≡ writes pixels.old + steps.new }
 {
     let from = had.rect();
     let to = lists.get(i).r;

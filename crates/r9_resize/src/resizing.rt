@@ -1,6 +1,6 @@
 //! An image that stands nowhere gets another size.
 
-ghost use Rattle.std.specs.Prelude.{◌≡◌, ◌≢◌, ◌+◌, ◌*◌, ◌<◌, ◌≤◌, ◌^◌, IfOk, OnErr, OnOk};
+ghost use Rattle.std.specs.Prelude.{◌≡◌, ◌≢◌, ◌+◌, ◌*◌, ◌<◌, ◌≤◌, ◌^◌, Some, IfOk, OnErr, OnOk};
 ghost use Rattle.r9_geom.specs.declared.Point.{Point as Spot};
 ghost use Rattle.r9_geom.specs.Geometry.{area_of, holds};
 ghost use Rattle.model_pixel.specs.Channels as channels;
@@ -12,8 +12,10 @@ ghost use Rattle.model_resize.specs.Resize as spec;
 ghost use Rattle.model_resize.specs.Resize.{after_resize, CanResize};
 ghost use Rattle.r9_locate.specs.Forms.{forms_of};
 ghost use Rattle.r9_locate.specs.Table.{made, shape};
-ghost use Rattle.r9_pixels.specs.Kept.{form_at, has_place, kept_at, spare_in, wanted_in};
+ghost use Rattle.r9_pixels.specs.Kept.{form_at, has_place, kept_at, moment, spare_in, wanted_in, writes};
 ghost use Rattle.r9_pixels.specs.Places.{with_places, HasCells};
+ghost use Rattle.r9_watched.specs.Moments.{with_moment, IsFew};
+ghost use Rattle.r9_watched.specs.Watched.{count_of, moment_of};
 ghost use Rattle.r9_resize.specs.Sizes.{with_rects};
 
 use super::framing::set_rects;
@@ -24,6 +26,7 @@ use r9_memory::Memory;
 use r9_pixels::KeptPixels;
 use r9_plane::Plane;
 use r9_steps::Steps;
+use r9_watched::Watched;
 use std::alloc::Global;
 use std::sync::ledger::Ledger;
 
@@ -47,31 +50,37 @@ fn enter(
     lists: &mut Lists,
     pixels: &mut KeptPixels,
     i: u32,
-    plane: Plane,
-) -> Result<Plane, Memory>
+    watched: Watched,
+) -> Result<Watched, Memory>
     requires can { CanResize (shape lists.old) i }
     requires before { IsForest (shape lists.old) }
-    requires after { IsForest (with_rects (shape lists.old) i (rect_of plane) (rect_of plane)) }
-    requires chan { chan_of plane ≡ (image_at (shape lists.old) i).chan }
+    requires after { IsForest (with_rects (shape lists.old) i (rect_of watched.plane) (rect_of watched.plane)) }
+    requires chan { chan_of watched.plane ≡ (image_at (shape lists.old) i).chan }
     requires forms { form_at pixels.old ≡ forms_of (shape lists.old) }
-    ensures lists { OnOk result (shape lists.new ≡ with_rects (shape lists.old) i (rect_of plane) (rect_of plane)) }
-    ensures kept { OnOk result (kept_at pixels.new ≡ with_own i (pixel_at plane) (kept_at pixels.old)) }
-    ensures has { OnOk result (has_place pixels.new ≡ with_places i (holds (rect_of plane)) (has_place pixels.old)) }
+    requires few { IsFew (moment_of watched) (count_of watched) (writes pixels.old) }
+    ensures lists { OnOk result (shape lists.new ≡ with_rects (shape lists.old) i (rect_of watched.plane) (rect_of watched.plane)) }
+    ensures kept { OnOk result (kept_at pixels.new ≡ with_own i (pixel_at watched.plane) (kept_at pixels.old)) }
+    ensures has { OnOk result (has_place pixels.new ≡ with_places i (holds (rect_of watched.plane)) (has_place pixels.old)) }
     ensures spare { OnOk result (wanted_in pixels.new (shape lists.new) i (image_at (shape lists.new) i).windows ≤ spare_in pixels.new) }
-    ensures rect { IfOk result (λ had. rect_of had ≡ (image_at (shape lists.old) i).r) }
-    ensures had_chan { IfOk result (λ had. chan_of had ≡ (image_at (shape lists.old) i).chan) }
-    ensures had { IfOk result (λ had. (q : Spot) → kept_at pixels.old (own i q) ≡ pixel_at had q) }
+    ensures rect { IfOk result (λ had. rect_of had.plane ≡ (image_at (shape lists.old) i).r) }
+    ensures had_chan { IfOk result (λ had. chan_of had.plane ≡ (image_at (shape lists.old) i).chan) }
+    ensures had { IfOk result (λ had. (q : Spot) → kept_at pixels.old (own i q) ≡ pixel_at had.plane q) }
     ensures lists_err { OnErr result (shape lists.new ≡ shape lists.old) }
     ensures kept_err { OnErr result (kept_at pixels.new ≡ kept_at pixels.old) }
     ensures has_err { OnErr result ((place : Place) → place.image ≢ i → has_place pixels.new place ≡ has_place pixels.old place) }
     ensures made { made lists.new ≡ made lists.old }
     ensures forms { form_at pixels.new ≡ forms_of (shape lists.new) }
+    ensures moment { OnOk result (moment pixels.new ≡ with_moment i (Some (moment_of watched)) (moment pixels.old)) }
+    ensures had_moment { IfOk result (λ had. moment pixels.old i ≡ Some (moment_of had)) }
+    ensures had_few { IfOk result (λ had. IsFew (moment_of had) (count_of had) (writes pixels.old)) }
+    ensures moment_err { OnErr result (moment pixels.new ≡ moment pixels.old) }
+    ensures writes { writes pixels.new ≡ writes pixels.old }
 {
     let frame = lists.get(i);
     let (from, clipr) = (frame.r, frame.clipr);
-    let to = plane.rect();
+    let to = watched.plane.rect();
     set_rects(alloc, lists, i, to, to);
-    let had = pixels.replace_whole(i, plane);
+    let had = pixels.replace_whole(i, watched);
     match pixels.reserve_hidden(lists, i, &lists.get(i).windows, 0, &[]) {
         Ok(()) => Ok(had),
         Err(memory) => {
@@ -84,7 +93,8 @@ fn enter(
 
 /// Gives an image that stands nowhere another size while its windows stay where they stand. Points that it had keep their
 /// pixels, and each other one has a raw pixel. Memory is taken, for a plane and for the tiles of what it shows no more, before
-/// any pixel is written. At most two pixels are written for each point that it had, and one for each that it has then.
+/// any pixel is written. At most two pixels are written for each point that it had, and two for each that it has then: all of
+/// these, so that each cell is marked.
 pub fn resize<L: Ledger>(
     alloc: Global,
     lists: &mut Lists,
@@ -107,13 +117,17 @@ pub fn resize<L: Ledger>(
     ensures made { made lists.new ≡ made lists.old }
     ensures cells { HasCells (shape lists.new) (has_place pixels.new) }
     ensures forms { form_at pixels.new ≡ forms_of (shape lists.new) }
-    ensures steps { steps.new ≤ steps.old + 2 * area_of (image_at (shape lists.old) i).r + width * height }
+    ensures steps { steps.new ≤ steps.old + 2 * area_of (image_at (shape lists.old) i).r + 2 * (width * height) }
     ensures uncounted { OnErr result (steps.new ≡ steps.old) }
+    ensures moment { moment pixels.new ≡ moment pixels.old }
+    ensures writes { writes pixels.new + steps.old ≡ writes pixels.old + steps.new }
 {
     let chan = lists.get(i).chan;
     let plane = Plane::new(alloc, sized(width, height), chan, raw)?;
-    let had = enter(alloc, lists, pixels, i, plane)?;
+    let watched = pixels.watch(plane);
+    let had = enter(alloc, lists, pixels, i, watched)?;
     pixels.take_hidden(lists, i, &lists.get(i).windows, 0, &[]);
+    let had = pixels.resume(i, had, raw, steps);
     move_pixels(lists, pixels, &had, i, steps);
     pixels.give_shown(lists, i, &lists.get(i).windows, 0, &[]);
     Ok(())

@@ -56,8 +56,10 @@ fn save<P: Pixels, L: Ledger>(
     ensures others { (place : Place) → ((v : Stood) → a ≡ Some v → v.image ≢ w → (z : Spot) → IsTrue (holds r.now z) → place ≢ own v.image (view.inward (shape lists.now) v z)) → P.kept pixels.new place ≡ P.kept pixels.old place }
     ensures has { P.has pixels.new ≡ P.has pixels.old }
     ensures forms { P.forms pixels.new ≡ P.forms pixels.old }
+    ensures moment { P.moment pixels.new ≡ P.moment pixels.old }
     ensures spare { P.spare pixels.new ≡ P.spare pixels.old }
     ensures steps { steps.new ≤ steps.old + area_of r.now }
+    ensures writes { P.writes pixels.new + steps.old ≡ P.writes pixels.old + steps.new }
 {
     if let Some(v) = a {
         if v.image != w {
@@ -98,8 +100,10 @@ fn reveal<P: Pixels, S: Source, L: Ledger>(
     ensures others { (place : Place) → ((z : Spot) → IsTrue (holds r.now z) → place ≢ keeping (shape lists.now) p z) → P.kept pixels.new place ≡ P.kept pixels.old place }
     ensures has { P.has pixels.new ≡ P.has pixels.old }
     ensures forms { P.forms pixels.new ≡ P.forms pixels.old }
+    ensures moment { P.moment pixels.new ≡ P.moment pixels.old }
     ensures spare { P.spare pixels.new ≡ P.spare pixels.old }
     ensures steps { steps.new ≡ steps.old + area_of r.now }
+    ensures writes { P.writes pixels.new + steps.old ≡ P.writes pixels.old + steps.new }
 {
     match b {
         None => show_in(lists, pixels, source, Kind::Fill, r.min, p, r, steps),
@@ -149,8 +153,10 @@ fn show<P: Pixels, S: Source, L: Ledger>(
     ensures shown { IsShownAnew (shape lists.now) p w a b (S.given source.now) (S.fill source.now) r.now (P.kept pixels.old) (P.kept pixels.new) }
     ensures has { P.has pixels.new ≡ P.has pixels.old }
     ensures forms { P.forms pixels.new ≡ P.forms pixels.old }
+    ensures moment { P.moment pixels.new ≡ P.moment pixels.old }
     ensures spare { P.spare pixels.new ≡ P.spare pixels.old }
     ensures steps { steps.new ≤ steps.old + 2 * area_of r.now }
+    ensures writes { P.writes pixels.new + steps.old ≡ P.writes pixels.old + steps.new }
 {
     save(lists, pixels, p, a, w, r, steps);
     reveal(lists, pixels, source, p, w, b, r, steps);
@@ -201,8 +207,10 @@ pub(crate) fn change_block<P: Pixels, S: Source, L: Ledger>(
     ensures moved { (before : Place → ℕ) (done : Spot → Bool) → IsFreshIn (spec.block q columns rows) done → IsChanged (shape lists.now) p (after_of stacks.now) w (S.given source.now) (S.fill source.now) before (P.kept pixels.old) done → IsChanged (shape lists.now) p (after_of stacks.now) w (S.given source.now) (S.fill source.now) before (P.kept pixels.new) (more_in (spec.block q columns rows) done) }
     ensures has { P.has pixels.new ≡ P.has pixels.old }
     ensures forms { P.forms pixels.new ≡ P.forms pixels.old }
+    ensures moment { P.moment pixels.new ≡ P.moment pixels.old }
     ensures spare { P.spare pixels.new ≡ P.spare pixels.old }
     ensures steps { steps.new ≤ steps.old + 2 * (columns * rows) }
+    ensures writes { P.writes pixels.new + steps.old ≡ P.writes pixels.old + steps.new }
 {
     let Some(tops) = tops else {
         return;
@@ -255,8 +263,10 @@ fn change_band<P: Pixels, S: Source, L: Ledger>(
     ensures moved { (before : Place → ℕ) (done : Spot → Bool) → IsFreshIn (spec.block at columns rows) done → IsChanged (shape lists.now) p (after_of stacks.now) w (S.given source.now) (S.fill source.now) before (P.kept pixels.old) done → IsChanged (shape lists.now) p (after_of stacks.now) w (S.given source.now) (S.fill source.now) before (P.kept pixels.new) (more_in (spec.block at columns rows) done) }
     ensures has { P.has pixels.new ≡ P.has pixels.old }
     ensures forms { P.forms pixels.new ≡ P.forms pixels.old }
+    ensures moment { P.moment pixels.new ≡ P.moment pixels.old }
     ensures spare { P.spare pixels.new ≡ P.spare pixels.old }
     ensures steps { steps.new ≤ steps.old + 2 * (columns * rows) }
+    ensures writes { P.writes pixels.new + steps.old ≡ P.writes pixels.old + steps.new }
 {
     let mut done = 0;
     while done < columns {
@@ -307,8 +317,10 @@ fn change_rows<P: Pixels, S: Source, L: Ledger>(
     ensures moved { (before : Place → ℕ) (done : Spot → Bool) → IsFreshIn (spec.block at columns n) done → IsChanged (shape lists.now) p (after_of stacks.now) w (S.given source.now) (S.fill source.now) before (P.kept pixels.old) done → IsChanged (shape lists.now) p (after_of stacks.now) w (S.given source.now) (S.fill source.now) before (P.kept pixels.new) (more_in (spec.block at columns result) done) }
     ensures has { P.has pixels.new ≡ P.has pixels.old }
     ensures forms { P.forms pixels.new ≡ P.forms pixels.old }
+    ensures moment { P.moment pixels.new ≡ P.moment pixels.old }
     ensures spare { P.spare pixels.new ≡ P.spare pixels.old }
     ensures steps { steps.new ≤ steps.old + 2 * (columns * result) }
+    ensures writes { P.writes pixels.new + steps.old ≡ P.writes pixels.old + steps.new }
 {
     let most = Extent {
         columns: columns.min(LONGEST),
@@ -361,8 +373,10 @@ fn change_within<P: Pixels, S: Source, L: Ledger>(
     ensures moved { (before : Place → ℕ) (done : Spot → Bool) → ((z : Spot) → IsTrue (holds area.now z) → done z ≡ false) → IsChanged (shape lists.now) p (after_of stacks.now) w (S.given source.now) (S.fill source.now) before (P.kept pixels.old) done → IsChanged (shape lists.now) p (after_of stacks.now) w (S.given source.now) (S.fill source.now) before (P.kept pixels.new) (λ z. holds area.now z || done z) }
     ensures has { P.has pixels.new ≡ P.has pixels.old }
     ensures forms { P.forms pixels.new ≡ P.forms pixels.old }
+    ensures moment { P.moment pixels.new ≡ P.moment pixels.old }
     ensures spare { P.spare pixels.new ≡ P.spare pixels.old }
     ensures steps { steps.new ≤ steps.old + 2 * area_of area.now }
+    ensures writes { P.writes pixels.new + steps.old ≡ P.writes pixels.old + steps.new }
 {
     let columns = area.width() as usize;
     if columns == 0 {
@@ -413,8 +427,10 @@ pub(crate) fn change_area<P: Pixels, S: Source, L: Ledger>(
     ensures moved { IsChanged (shape lists.now) p (after_of stacks.now) w (S.given source.now) (S.fill source.now) (P.kept pixels.old) (P.kept pixels.new) (holds area.now) }
     ensures has { P.has pixels.new ≡ P.has pixels.old }
     ensures forms { P.forms pixels.new ≡ P.forms pixels.old }
+    ensures moment { P.moment pixels.new ≡ P.moment pixels.old }
     ensures spare { P.spare pixels.new ≡ P.spare pixels.old }
     ensures steps { steps.new ≤ steps.old + 2 * area_of area.now }
+    ensures writes { P.writes pixels.new + steps.old ≡ P.writes pixels.old + steps.new }
 {
     change_within(lists, pixels, source, p, w, stacks, area, steps);
 }
@@ -441,8 +457,10 @@ pub(crate) fn change_areas<P: Pixels, S: Source, L: Ledger>(
     ensures moved { IsChanged (shape lists.now) p (after_of stacks.now) w (S.given source.now) (S.fill source.now) (P.kept pixels.old) (P.kept pixels.new) (covers areas.now) }
     ensures has { P.has pixels.new ≡ P.has pixels.old }
     ensures forms { P.forms pixels.new ≡ P.forms pixels.old }
+    ensures moment { P.moment pixels.new ≡ P.moment pixels.old }
     ensures spare { P.spare pixels.new ≡ P.spare pixels.old }
     ensures steps { steps.new ≤ steps.old + 2 * sum_by area_of areas.now }
+    ensures writes { P.writes pixels.new + steps.old ≡ P.writes pixels.old + steps.new }
 {
     for area in areas {
         change_within(lists, pixels, source, p, w, stacks, area, steps);
@@ -478,8 +496,10 @@ pub fn change<P: Pixels, S: Source, L: Ledger>(
     ensures moved { (as_before as_after : Place → ℕ) → IsGiven (shape lists.now) p (upper.now ++ lower.now) w (S.given source.now) (P.kept pixels.old) (P.kept pixels.new) as_before as_after → IsRestacked (shape lists.now) (with_list (shape lists.now) p (upper.now ++ lower.now)) p as_before as_after (S.fill source.now) }
     ensures has { P.has pixels.new ≡ P.has pixels.old }
     ensures forms { P.forms pixels.new ≡ P.forms pixels.old }
+    ensures moment { P.moment pixels.new ≡ P.moment pixels.old }
     ensures spare { P.spare pixels.new ≡ P.spare pixels.old }
     ensures steps { steps.new ≤ steps.old + 2 * area_of area.now }
+    ensures writes { P.writes pixels.new + steps.old ≡ P.writes pixels.old + steps.new }
 {
     let stacks = stacks_around(&lists.get(p).windows, upper, lower, w);
     change_area(lists, pixels, source, p, w, &stacks, area, steps);

@@ -94,8 +94,10 @@ fn show_block<P: Pixels, S: Source, L: Ledger>(
     ensures others { (place : Place) → ((k : ℕ) → k < length raws.old → place ≢ keeping (shape lists.now) p (along q k)) → P.kept pixels.new place ≡ P.kept pixels.old place }
     ensures has { P.has pixels.new ≡ P.has pixels.old }
     ensures forms { P.forms pixels.new ≡ P.forms pixels.old }
+    ensures moment { P.moment pixels.new ≡ P.moment pixels.old }
     ensures spare { P.spare pixels.new ≡ P.spare pixels.old }
     ensures steps { steps.new ≡ steps.old + length raws.old }
+    ensures writes { P.writes pixels.new + steps.old ≡ P.writes pixels.old + steps.new }
 {
     put(source, kind, at, raws);
     write_view(lists, pixels, p, q, raws, steps);
@@ -125,8 +127,10 @@ fn show_row<P: Pixels, S: Source, L: Ledger>(
     ensures others { (place : Place) → ((k : ℕ) → k < n → place ≢ keeping (shape lists.now) p (along q k)) → P.kept pixels.new place ≡ P.kept pixels.old place }
     ensures has { P.has pixels.new ≡ P.has pixels.old }
     ensures forms { P.forms pixels.new ≡ P.forms pixels.old }
+    ensures moment { P.moment pixels.new ≡ P.moment pixels.old }
     ensures spare { P.spare pixels.new ≡ P.spare pixels.old }
     ensures steps { steps.new ≡ steps.old + n }
+    ensures writes { P.writes pixels.new + steps.old ≡ P.writes pixels.old + steps.new }
 {
     let mut block = [0; BLOCK];
     let mut done = 0;
@@ -183,8 +187,10 @@ fn show_rows<P: Pixels, S: Source, L: Ledger>(
     ensures others { (place : Place) → ((z : Spot) → IsTrue (holds r.now z) → place ≢ keeping (shape lists.now) p z) → P.kept pixels.new place ≡ P.kept pixels.old place }
     ensures has { P.has pixels.new ≡ P.has pixels.old }
     ensures forms { P.forms pixels.new ≡ P.forms pixels.old }
+    ensures moment { P.moment pixels.new ≡ P.moment pixels.old }
     ensures spare { P.spare pixels.new ≡ P.spare pixels.old }
     ensures steps { steps.new ≡ steps.old + area_of r.now }
+    ensures writes { P.writes pixels.new + steps.old ≡ P.writes pixels.old + steps.new }
 {
     let columns = r.width() as usize;
     for row in 0..r.height() {
@@ -227,8 +233,10 @@ pub(crate) fn show_in<P: Pixels, S: Source, L: Ledger>(
     ensures others { (place : Place) → ((z : Spot) → IsTrue (holds r.now z) → place ≢ keeping (shape lists.now) p z) → P.kept pixels.new place ≡ P.kept pixels.old place }
     ensures has { P.has pixels.new ≡ P.has pixels.old }
     ensures forms { P.forms pixels.new ≡ P.forms pixels.old }
+    ensures moment { P.moment pixels.new ≡ P.moment pixels.old }
     ensures spare { P.spare pixels.new ≡ P.spare pixels.old }
     ensures steps { steps.new ≡ steps.old + area_of r.now }
+    ensures writes { P.writes pixels.new + steps.old ≡ P.writes pixels.old + steps.new }
 {
     if r.is_empty() {
         return;

@@ -65,8 +65,10 @@ pub fn reorder<P: Pixels, L: Ledger>(
     ensures moved { (fill : Spot → ℕ) → IsRestacked (shape lists.now) (with_list (shape lists.now) p new.now) p (P.kept pixels.old) (P.kept pixels.new) fill }
     ensures has { P.has pixels.new ≡ P.has pixels.old }
     ensures forms { P.forms pixels.new ≡ P.forms pixels.old }
+    ensures moment { P.moment pixels.new ≡ P.moment pixels.old }
     ensures spare { P.spare pixels.new ≡ P.spare pixels.old }
     ensures steps { steps.new ≤ steps.old + 2 * sum_by area_of areas.now }
+    ensures writes { P.writes pixels.new + steps.old ≡ P.writes pixels.old + steps.new }
 {
     let windows = &lists.get(p).windows;
     let stacks = stacks_of(windows, new, count_same(windows, new, p), p);

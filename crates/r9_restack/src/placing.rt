@@ -137,8 +137,10 @@ fn keep_run<P: Pixels, S: Source, L: Ledger>(
     ensures others { (place : Place) → ((k : ℕ) → k < length raws.old → place ≢ own w (along x k)) → P.kept pixels.new place ≡ P.kept pixels.old place }
     ensures has { P.has pixels.new ≡ P.has pixels.old }
     ensures forms { P.forms pixels.new ≡ P.forms pixels.old }
+    ensures moment { P.moment pixels.new ≡ P.moment pixels.old }
     ensures spare { P.spare pixels.new ≡ P.spare pixels.old }
     ensures steps { steps.new ≡ steps.old + length raws.old }
+    ensures writes { P.writes pixels.new + steps.old ≡ P.writes pixels.old + steps.new }
 {
     source.give(x, raws);
     pixels.write(w, x, raws, steps);
@@ -161,8 +163,10 @@ fn keep_strip<P: Pixels, S: Source, L: Ledger>(
     ensures others { (place : Place) → ((k : ℕ) → k < n → place ≢ own w (along x k)) → P.kept pixels.new place ≡ P.kept pixels.old place }
     ensures has { P.has pixels.new ≡ P.has pixels.old }
     ensures forms { P.forms pixels.new ≡ P.forms pixels.old }
+    ensures moment { P.moment pixels.new ≡ P.moment pixels.old }
     ensures spare { P.spare pixels.new ≡ P.spare pixels.old }
     ensures steps { steps.new ≡ steps.old + n }
+    ensures writes { P.writes pixels.new + steps.old ≡ P.writes pixels.old + steps.new }
 {
     let mut raws = [0; BLOCK];
     let mut done = 0;
@@ -194,8 +198,10 @@ fn keep_block<P: Pixels, S: Source, L: Ledger>(
     ensures others { (place : Place) → ((z : Spot) → IsTrue (holds (spec.block x columns rows) z) → place ≢ own w z) → P.kept pixels.new place ≡ P.kept pixels.old place }
     ensures has { P.has pixels.new ≡ P.has pixels.old }
     ensures forms { P.forms pixels.new ≡ P.forms pixels.old }
+    ensures moment { P.moment pixels.new ≡ P.moment pixels.old }
     ensures spare { P.spare pixels.new ≡ P.spare pixels.old }
     ensures steps { steps.new ≡ steps.old + columns * rows }
+    ensures writes { P.writes pixels.new + steps.old ≡ P.writes pixels.old + steps.new }
 {
     let r = block(x, columns, rows);
     match source.given_in(&r) {
@@ -248,8 +254,10 @@ fn place_block<P: Pixels, S: Source, L: Ledger>(
     ensures others { (z : Spot) → holds (spec.block x columns rows) z ≡ false → P.kept pixels.new (own w z) ≡ P.kept pixels.old (own w z) }
     ensures has { P.has pixels.new ≡ P.has pixels.old }
     ensures forms { P.forms pixels.new ≡ P.forms pixels.old }
+    ensures moment { P.moment pixels.new ≡ P.moment pixels.old }
     ensures spare { P.spare pixels.new ≡ P.spare pixels.old }
     ensures steps { steps.new ≤ steps.old + 2 * (columns * rows) }
+    ensures writes { P.writes pixels.new + steps.old ≡ P.writes pixels.old + steps.new }
 {
     let Some(shown) = shown else {
         keep_block(pixels, source, w, x, columns, rows, steps);
@@ -300,8 +308,10 @@ fn place_band<P: Pixels, S: Source, L: Ledger>(
     ensures others { (z : Spot) → holds (spec.block x columns rows) z ≡ false → P.kept pixels.new (own w z) ≡ P.kept pixels.old (own w z) }
     ensures has { P.has pixels.new ≡ P.has pixels.old }
     ensures forms { P.forms pixels.new ≡ P.forms pixels.old }
+    ensures moment { P.moment pixels.new ≡ P.moment pixels.old }
     ensures spare { P.spare pixels.new ≡ P.spare pixels.old }
     ensures steps { steps.new ≤ steps.old + 2 * (columns * rows) }
+    ensures writes { P.writes pixels.new + steps.old ≡ P.writes pixels.old + steps.new }
 {
     let below = lists.get(p).r;
     let mut done = 0;
@@ -372,8 +382,10 @@ fn place_rows<P: Pixels, S: Source, L: Ledger>(
     ensures others { (z : Spot) → holds (spec.block x columns result) z ≡ false → P.kept pixels.new (own w z) ≡ P.kept pixels.old (own w z) }
     ensures has { P.has pixels.new ≡ P.has pixels.old }
     ensures forms { P.forms pixels.new ≡ P.forms pixels.old }
+    ensures moment { P.moment pixels.new ≡ P.moment pixels.old }
     ensures spare { P.spare pixels.new ≡ P.spare pixels.old }
     ensures steps { steps.new ≤ steps.old + 2 * (columns * result) }
+    ensures writes { P.writes pixels.new + steps.old ≡ P.writes pixels.old + steps.new }
 {
     let below = lists.get(p).r;
     let most = Extent {
@@ -446,8 +458,10 @@ pub(crate) fn place<P: Pixels, S: Source, L: Ledger>(
     ensures kept { (z : Spot) → IsTrue (holds r.now z) → shows (image_at (shape lists.now) p).r (after_of stacks.now) w (carried z r.now.min corner) ≡ false → P.kept pixels.new (own w z) ≡ S.given source.now z }
     ensures has { P.has pixels.new ≡ P.has pixels.old }
     ensures forms { P.forms pixels.new ≡ P.forms pixels.old }
+    ensures moment { P.moment pixels.new ≡ P.moment pixels.old }
     ensures spare { P.spare pixels.new ≡ P.spare pixels.old }
     ensures steps { steps.new ≤ steps.old + 2 * area_of r.now }
+    ensures writes { P.writes pixels.new + steps.old ≡ P.writes pixels.old + steps.new }
 {
     let columns = r.width() as usize;
     if columns == 0 {

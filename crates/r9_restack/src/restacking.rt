@@ -59,8 +59,10 @@ pub fn restack<P: Pixels, S: Source, L: Ledger>(
     ensures moved { (as_before : Place → ℕ) → ((place : Place) → place.image ≢ w → as_before place ≡ P.kept pixels.old place) → ((x : Spot) → holds (image_at (shape lists.now) w).r x ≡ true → as_before (keeping (shape lists.now) w x) ≡ S.given source.now x) → IsRestacked (shape lists.now) (with_list (shape lists.now) p new.now) p as_before (P.kept pixels.new) (S.fill source.now) }
     ensures has { P.has pixels.new ≡ P.has pixels.old }
     ensures forms { P.forms pixels.new ≡ P.forms pixels.old }
+    ensures moment { P.moment pixels.new ≡ P.moment pixels.old }
     ensures spare { P.spare pixels.new ≡ P.spare pixels.old }
     ensures steps { steps.new ≤ steps.old + 2 * area_of area.now + 2 * area_of (image_at (shape lists.now) w).r }
+    ensures writes { P.writes pixels.new + steps.old ≡ P.writes pixels.old + steps.new }
 {
     let stacks = stacks_of(&lists.get(p).windows, new, from, w);
     change_area(lists, pixels, source, p, w, &stacks, area, steps);
@@ -100,8 +102,10 @@ pub fn leave<P: Pixels, S: Source, L: Ledger>(
     ensures moved { IsRestacked (shape lists.now) (with_list (shape lists.now) p (upper.now ++ lower.now)) p (P.kept pixels.old) (with_own w (λ x. P.kept pixels.old (keeping (shape lists.now) w x)) (P.kept pixels.new)) (S.fill source.now) }
     ensures has { P.has pixels.new ≡ P.has pixels.old }
     ensures forms { P.forms pixels.new ≡ P.forms pixels.old }
+    ensures moment { P.moment pixels.new ≡ P.moment pixels.old }
     ensures spare { P.spare pixels.new ≡ P.spare pixels.old }
     ensures steps { steps.new ≤ steps.old + 2 * area_of area.now }
+    ensures writes { P.writes pixels.new + steps.old ≡ P.writes pixels.old + steps.new }
 {
     change(lists, pixels, source, p, w, upper, lower, area, steps);
 }
@@ -131,8 +135,10 @@ pub fn conceal<P: Pixels, S: Source, L: Ledger>(
     ensures moved { IsRestacked (shape lists.now) (with_list (shape lists.now) p new.now) p (P.kept pixels.old) (P.kept pixels.new) (S.fill source.now) }
     ensures has { P.has pixels.new ≡ P.has pixels.old }
     ensures forms { P.forms pixels.new ≡ P.forms pixels.old }
+    ensures moment { P.moment pixels.new ≡ P.moment pixels.old }
     ensures spare { P.spare pixels.new ≡ P.spare pixels.old }
     ensures steps { steps.new ≤ steps.old + 2 * area_of area.now }
+    ensures writes { P.writes pixels.new + steps.old ≡ P.writes pixels.old + steps.new }
 {
     // No image is a window on itself: none of them is taken out.
     let stacks = stacks_of(&lists.get(p).windows, new, from, p);

@@ -12,7 +12,7 @@ ghost use Rattle.model_world.specs.Whole.{desktop_for};
 ghost use Rattle.model_used.specs.Look as model;
 ghost use Rattle.model_used.specs.Look.{look_at, used_then};
 ghost use Rattle.r9_around.specs.Words.{mark_after};
-ghost use Rattle.r9_desktop.specs.World.{desktop_of};
+ghost use Rattle.r9_desktop.specs.World.{began_of, desktop_of};
 ghost use Rattle.r9_seen.specs.View.{look_of};
 ghost use Rattle.r9_wire.specs.View.{r_of};
 
@@ -22,6 +22,7 @@ use r9_desktop::Desktop;
 use r9_event::Uses;
 use r9_memory::Memory;
 use r9_session::{Answered, Session};
+use r9_shared::answer as answer_shared;
 use std::alloc::Global;
 
 /// A message's answer, and what it used.
@@ -55,12 +56,13 @@ pub fn answer(
     ensures wrote { IfOk result (λ s. s.answered.wrote ≡ written_at found.old bytes.now) }
     ensures linked { OnOk result (IsLinked session found.new.made found.new.connections (desktop_of desktop.new).device) }
     ensures others { OnOk result (KeepsOthers session (desktop_of desktop.old).device (desktop_of desktop.new).device) }
+    ensures began { began_of desktop.new ≡ began_of desktop.old }
     ensures look { watches ≡ true → IfOk result (λ s. look_of s.look ≡ look_at session found.old (desktop_of desktop.old) bytes.now) }
     ensures uses { watches ≡ true → IfOk result (λ s. s.uses ≡ used_then session (desktop_of desktop.old) (mark_after mark s.answered.short) (option_map r_of s.answered.reply) (look_at session found.old (desktop_of desktop.old) bytes.now)) }
     ensures unwatched { watches ≡ false → IfOk result (λ s. (s.uses ≡ []) × (look_of s.look ≡ model.Uses [])) }
 {
     let look = look_at_watched(alloc, found, desktop, session, bytes, watches)?;
-    let answered = found.answer(alloc, desktop, session, bytes, mark)?;
+    let answered = answer_shared(alloc, found, desktop, session, bytes, mark)?;
     let uses = used_then(alloc, desktop, &answered, &look)?;
     Ok(Seen {
         answered,

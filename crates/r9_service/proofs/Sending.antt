@@ -18,10 +18,10 @@ tally_send : IsSend Tally.the_row
 tally_send = owning_send Tally.the_type tt (λ d. tt) (λ k x w. tt)
 
 spending_send : IsSend Spending.the_field.row
-spending_send = search (sendable, tally_send) depth 40 fits 20000
+spending_send = search (sendable, crosses, tally_send) depth 40 fits 20000
 
 draw_send : IsSend Draw.the_field.row
-draw_send = search (sendable, crosses, maps.crosses) depth 80 fits 20000
+draw_send = search (sendable, crosses, maps.crosses, tally_send) depth 80 fits 20000
 
 manager_send : IsSend Manager.the_row
 manager_send = search (sendable, crosses, maps.crosses) depth 80 fits 20000

@@ -11,7 +11,7 @@ ghost use Rattle.model_kept.specs.Restack.{shifted_shape};
 ghost use Rattle.r9_locate.specs.Forms.{forms_of};
 ghost use Rattle.r9_locate.specs.Lists.{frame_image};
 ghost use Rattle.r9_locate.specs.Table.{made, shape};
-ghost use Rattle.r9_pixels.specs.Kept.{form_at, has_place, kept_at};
+ghost use Rattle.r9_pixels.specs.Kept.{form_at, has_place, kept_at, moment, writes};
 ghost use Rattle.r9_pixels.specs.Places.{HasCells};
 
 use model_forest::Window;
@@ -94,6 +94,8 @@ pub fn shift(alloc: Global, lists: &mut Lists, pixels: &mut KeptPixels, i: u32, 
     ensures world { with_kept (shape lists.new) (kept_at pixels.new) ≡ with_image (with_kept (shape lists.old) (kept_at pixels.old)) i (Some (shifted_image (image_at (with_kept (shape lists.old) (kept_at pixels.old)) i) min)) }
     ensures cells { HasCells (shape lists.new) (has_place pixels.new) }
     ensures forms { form_at pixels.new ≡ forms_of (shape lists.new) }
+    ensures moment { moment pixels.new ≡ moment pixels.old }
+    ensures writes { writes pixels.new ≡ writes pixels.old }
 {
     shift_frame(alloc, lists, i, min);
     pixels.shift(i, min);

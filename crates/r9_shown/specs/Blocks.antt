@@ -1,5 +1,5 @@
 -- Rows of a rectangle of an image, and where their points are kept.
-use Rattle.std.specs.Prelude.{◌≡◌, ◌+◌, ◌<◌, ◌≤◌, ℕ, true}
+use Rattle.std.specs.Prelude.{◌≡◌, ◌+◌, ◌-◌, ◌<◌, ◌≤◌, ℕ, true}
 use Rattle.r9_geom.specs.declared.Point.{Point}
 use Rattle.r9_geom.specs.declared.Rect.{Rect}
 use Rattle.r9_geom.specs.Geometry.{carried, height, holds, point_at, strip, width}
@@ -15,7 +15,7 @@ abbrev pub IsKeptFrom : World → ℕ → Point → Block → Type 0
 IsKeptFrom world i at block =
     (p : Point) → holds (shown.block at block.extent.columns block.extent.rows) p ≡ true → keeping world i p ≡ own block.image (carried p at block.at)
 
--- rows of a rectangle in each column of which the points are kept as in the first one
+-- rows of a rectangle in each column of which the points are kept as in the first one, and where those of its first and last columns are
 pub record IsBand (world : World) (i : ℕ) (r : Rect) (row : ℕ) (band : Band) : Type 0 where
   pub some : 0 < band.rows
   pub most : row + band.rows ≤ height r
@@ -24,3 +24,7 @@ pub record IsBand (world : World) (i : ℕ) (r : Rect) (row : ℕ) (band : Band)
   pub fits : band.first.extent.columns ≤ width r
   pub rows : band.first.extent.rows ≡ band.rows
   pub first : IsKeptFrom world i (point_at r 0 row) band.first
+  pub last_columns : 0 < band.last.extent.columns
+  pub last_fits : band.last.extent.columns ≤ width r
+  pub last_rows : band.last.extent.rows ≡ band.rows
+  pub last : IsKeptFrom world i (point_at r (width r - band.last.extent.columns) row) band.last

@@ -1,13 +1,15 @@
 //! Blocks of points over which one image keeps what an image shows.
 
-ghost use Rattle.std.specs.Prelude.{◌≡◌, ◌==◌, ◌&&◌, ◌^◌, ◌<◌, ◌≤◌, ◌<ℤ◌, ◌≤ℤ◌, ◌+ℤ◌, pos, ℕ, false, length, take, IfSome, IsTrue};
+ghost use Rattle.std.specs.Prelude.{◌≡◌, ◌-◌, ◌==◌, ◌&&◌, ◌^◌, ◌<◌, ◌≤◌, ◌<ℤ◌, ◌≤ℤ◌, ◌+ℤ◌, pos, ℕ, false, length, take, IfSome, IsTrue};
 ghost use Rattle.std.specs.List.{position};
 ghost use Rattle.r9_geom.specs.declared.Point.{Point as Spot};
 ghost use Rattle.r9_geom.specs.Geometry.{carried, holds, strip, IsNear};
+ghost use Rattle.r9_plane.specs.Pixels.{along};
 ghost use Rattle.model_forest.specs.View.{is_bare};
 ghost use Rattle.model_forest.specs.World.{image_at, IsLive};
 ghost use Rattle.model_kept.specs.Keeping.{keeping, own};
 ghost use Rattle.r9_locate.specs.Table.{shape};
+ghost use Rattle.r9_shown.specs.Blocks.{IsKeptFrom};
 ghost use Rattle.r9_shown.specs.Shown as spec;
 ghost use Rattle.r9_shown.specs.Shown.{IsKeptBelow};
 
@@ -51,10 +53,10 @@ fn is_before(at: i64, low: i64, n: u64) -> bool
 fn begins_in(r: &Rect, q: Point, most: Extent) -> bool
     ensures { result ≡ false → (z : Spot) → IsTrue (holds (spec.block q most.columns most.rows) z) → holds r.now z ≡ false }
 {
-    if !is_before(r.min.x, q.x, most.columns as u64) {
+    if !is_before(r.min.y, q.y, most.rows) {
         return false;
     }
-    is_before(r.min.y, q.y, most.rows)
+    is_before(r.min.x, q.x, most.columns as u64)
 }
 
 /// For how many columns and rows from a point on a rectangle holds all points or none.
@@ -133,13 +135,15 @@ pub fn cover_over(windows: &[Window], q: Point, most: Extent) -> Cover
     while left > 0 {
         left -= 1;
         let place = &windows[left].place;
-        if place.holds(q) {
-            return Cover {
-                bare: false,
-                extent: cut(place, q, most),
-            };
+        if begins_in(place, q, extent) {
+            if place.holds(q) {
+                return Cover {
+                    bare: false,
+                    extent: cut(place, q, most),
+                };
+            }
+            extent = cut(place, q, extent);
         }
-        extent = cut(place, q, extent);
     }
     Cover { bare: true, extent }
 }
@@ -209,28 +213,33 @@ pub fn block_of(lists: &Lists, i: u32, at: Point, most: Extent) -> Block
     block
 }
 
-/// For how many rows down so many points side by side are kept as in the first of them, of which this is known of the first block.
-pub fn steady_blocks(lists: &Lists, i: u32, at: Point, columns: usize, first: Extent) -> u64
+/// The last block of so many columns of the first row, of which the first block is known: all of them are kept for its rows as in
+/// the first one.
+pub(crate) fn last_block(lists: &Lists, i: u32, at: Point, columns: usize, first: &Block) -> Block
     requires live { IsLive (shape lists.now) i }
     requires near { IsNear at }
     requires columns { columns ≤ 2 ^ 41 }
-    requires rows { 0 < first.rows }
-    requires steady { (z : Spot) (k : ℕ) → IsTrue (holds (strip at first.columns) z) → k < first.rows → IsKeptBelow (shape lists.now) i z k }
-    requires inside { (p : Spot) → IsTrue (holds (spec.block at columns first.rows) p) → IsTrue (holds (image_at (shape lists.now) i).r p) }
-    ensures some { 0 < result }
-    ensures most { result ≤ first.rows }
-    ensures same { (z : Spot) (k : ℕ) → IsTrue (holds (strip at columns) z) → k < result → IsKeptBelow (shape lists.now) i z k }
+    requires some { 0 < first.now.extent.columns }
+    requires fits { first.now.extent.columns ≤ columns }
+    requires rows { 0 < first.now.extent.rows }
+    requires kept { IsKeptFrom (shape lists.now) i at first.now }
+    requires inside { (p : Spot) → IsTrue (holds (spec.block at columns first.now.extent.rows) p) → IsTrue (holds (image_at (shape lists.now) i).r p) }
+    ensures some { 0 < result.extent.columns }
+    ensures fits { result.extent.columns ≤ columns }
+    ensures some_rows { 0 < result.extent.rows }
+    ensures most { result.extent.rows ≤ first.now.extent.rows }
+    ensures kept { IsKeptFrom (shape lists.now) i (along at (columns - result.extent.columns)) result }
+    ensures same { (z : Spot) (k : ℕ) → IsTrue (holds (strip at columns) z) → k < result.extent.rows → IsKeptBelow (shape lists.now) i z k }
 {
-    let mut rows = first.rows;
-    let mut done = first.columns;
+    let mut last = *first;
+    let mut done = last.extent.columns;
     while done < columns {
         let most = Extent {
             columns: columns - done,
-            rows,
+            rows: last.extent.rows,
         };
-        let extent = block_of(lists, i, along(at, done), most).extent;
-        rows = extent.rows;
-        done += extent.columns;
+        last = block_of(lists, i, along(at, done), most);
+        done += last.extent.columns;
     }
-    rows
+    last
 }

@@ -14,7 +14,7 @@ ghost use Rattle.r9_shown.specs.Blocks.{IsBand, IsKeptFrom};
 ghost use Rattle.r9_shown.specs.Shown.{IsKeptBelow};
 
 use super::bands::{beyond, block};
-use super::blocks::{Block, Extent, block_of, steady_blocks};
+use super::blocks::{Block, Extent, block_of, last_block};
 use r9_geom::{Point, Rect};
 use r9_locate::{Lists, Pixels};
 use r9_steps::Steps;
@@ -30,10 +30,11 @@ fn kept_in(part: &Block) -> Rect
     block(part.at, part.extent.columns, part.extent.rows)
 }
 
-// Rows of a rectangle in each column of which the points are kept as in the first one, and where the first points are.
+// Rows of a rectangle in each column of which the points are kept as in the first one, and where the first and the last columns are.
 #[derive(Clone, Copy)]
 struct Band {
     first: Block,
+    last: Block,
     rows: u64,
 }
 
@@ -67,8 +68,12 @@ fn part_at(lists: &Lists, i: u32, r: &Rect, column: usize, row: u64, band: &Band
     if column == 0 {
         return band.first;
     }
+    let columns = r.width() as usize - column;
+    if columns == band.last.extent.columns {
+        return band.last;
+    }
     let most = Extent {
-        columns: r.width() as usize - column,
+        columns,
         rows: band.rows,
     };
     let part = block_of(lists, i, r.point_at(column as u64, row), most);
@@ -92,9 +97,11 @@ fn band_at(lists: &Lists, i: u32, r: &Rect, row: u64) -> Band
         rows: r.height() - row,
     };
     let first = block_of(lists, i, at, most);
-    let rows = steady_blocks(lists, i, at, columns, first.extent);
+    let last = last_block(lists, i, at, columns, &first);
+    let rows = last.extent.rows;
     Band {
         first: with_rows(&first, rows),
+        last,
         rows,
     }
 }
@@ -179,8 +186,10 @@ fn write_band<P: Pixels, L: Ledger>(
     ensures others { (place : Place) → ((p : Spot) → IsTrue (holds (spec.rows_of r.now row band.now.rows) p) → place ≢ keeping (shape lists.now) i p) → P.kept pixels.new place ≡ P.kept pixels.old place }
     ensures has { P.has pixels.new ≡ P.has pixels.old }
     ensures forms { P.forms pixels.new ≡ P.forms pixels.old }
+    ensures moment { P.moment pixels.new ≡ P.moment pixels.old }
     ensures spare { P.spare pixels.new ≡ P.spare pixels.old }
     ensures steps { steps.new ≡ steps.old + width r.now * band.now.rows }
+    ensures writes { P.writes pixels.new + steps.old ≡ P.writes pixels.old + steps.new }
 {
     let columns = r.width() as usize;
     let mut done = 0;
@@ -216,8 +225,10 @@ pub fn write_area<P: Pixels, L: Ledger>(
     ensures others { (place : Place) → ((p : Spot) → IsTrue (holds r.now p) → place ≢ keeping (shape lists.now) i p) → P.kept pixels.new place ≡ P.kept pixels.old place }
     ensures has { P.has pixels.new ≡ P.has pixels.old }
     ensures forms { P.forms pixels.new ≡ P.forms pixels.old }
+    ensures moment { P.moment pixels.new ≡ P.moment pixels.old }
     ensures spare { P.spare pixels.new ≡ P.spare pixels.old }
     ensures steps { steps.new ≡ steps.old + area_of r.now }
+    ensures writes { P.writes pixels.new + steps.old ≡ P.writes pixels.old + steps.new }
 {
     if r.is_empty() {
         return;
@@ -255,8 +266,10 @@ fn paint_band<P: Pixels, L: Ledger>(
     ensures others { (place : Place) → ((p : Spot) → IsTrue (holds (spec.rows_of r.now row band.now.rows) p) → place ≢ keeping (shape lists.now) i p) → P.kept pixels.new place ≡ P.kept pixels.old place }
     ensures has { P.has pixels.new ≡ P.has pixels.old }
     ensures forms { P.forms pixels.new ≡ P.forms pixels.old }
+    ensures moment { P.moment pixels.new ≡ P.moment pixels.old }
     ensures spare { P.spare pixels.new ≡ P.spare pixels.old }
     ensures steps { steps.new ≡ steps.old + width r.now * band.now.rows }
+    ensures writes { P.writes pixels.new + steps.old ≡ P.writes pixels.old + steps.new }
 {
     let columns = r.width() as usize;
     let mut done = 0;
@@ -287,8 +300,10 @@ pub fn paint_area<P: Pixels, L: Ledger>(
     ensures others { (place : Place) → ((p : Spot) → IsTrue (holds r.now p) → place ≢ keeping (shape lists.now) i p) → P.kept pixels.new place ≡ P.kept pixels.old place }
     ensures has { P.has pixels.new ≡ P.has pixels.old }
     ensures forms { P.forms pixels.new ≡ P.forms pixels.old }
+    ensures moment { P.moment pixels.new ≡ P.moment pixels.old }
     ensures spare { P.spare pixels.new ≡ P.spare pixels.old }
     ensures steps { steps.new ≡ steps.old + area_of r.now }
+    ensures writes { P.writes pixels.new + steps.old ≡ P.writes pixels.old + steps.new }
 {
     if r.is_empty() {
         return;
@@ -329,8 +344,10 @@ fn save_band<P: Pixels, L: Ledger>(
     ensures others { (place : Place) → ((q : Spot) → IsTrue (holds (spec.rows_of r.now row band.now.rows) q) → place ≢ own to (carried q r.now.min p)) → P.kept pixels.new place ≡ P.kept pixels.old place }
     ensures has { P.has pixels.new ≡ P.has pixels.old }
     ensures forms { P.forms pixels.new ≡ P.forms pixels.old }
+    ensures moment { P.moment pixels.new ≡ P.moment pixels.old }
     ensures spare { P.spare pixels.new ≡ P.spare pixels.old }
     ensures steps { steps.new ≡ steps.old + width r.now * band.now.rows }
+    ensures writes { P.writes pixels.new + steps.old ≡ P.writes pixels.old + steps.new }
 {
     let columns = r.width() as usize;
     let mut done = 0;
@@ -365,8 +382,10 @@ pub fn save_area<P: Pixels, L: Ledger>(
     ensures others { (place : Place) → ((q : Spot) → IsTrue (holds r.now q) → place ≢ own to (carried q r.now.min p)) → P.kept pixels.new place ≡ P.kept pixels.old place }
     ensures has { P.has pixels.new ≡ P.has pixels.old }
     ensures forms { P.forms pixels.new ≡ P.forms pixels.old }
+    ensures moment { P.moment pixels.new ≡ P.moment pixels.old }
     ensures spare { P.spare pixels.new ≡ P.spare pixels.old }
     ensures steps { steps.new ≡ steps.old + area_of r.now }
+    ensures writes { P.writes pixels.new + steps.old ≡ P.writes pixels.old + steps.new }
 {
     if r.is_empty() {
         return;
@@ -408,8 +427,10 @@ fn show_band<P: Pixels, L: Ledger>(
     ensures others { (place : Place) → ((p : Spot) → IsTrue (holds (spec.rows_of r.now row band.now.rows) p) → place ≢ keeping (shape lists.now) i p) → P.kept pixels.new place ≡ P.kept pixels.old place }
     ensures has { P.has pixels.new ≡ P.has pixels.old }
     ensures forms { P.forms pixels.new ≡ P.forms pixels.old }
+    ensures moment { P.moment pixels.new ≡ P.moment pixels.old }
     ensures spare { P.spare pixels.new ≡ P.spare pixels.old }
     ensures steps { steps.new ≡ steps.old + width r.now * band.now.rows }
+    ensures writes { P.writes pixels.new + steps.old ≡ P.writes pixels.old + steps.new }
 {
     let columns = r.width() as usize;
     let mut done = 0;
@@ -446,8 +467,10 @@ pub fn show_area<P: Pixels, L: Ledger>(
     ensures others { (place : Place) → ((q : Spot) → IsTrue (holds r.now q) → place ≢ keeping (shape lists.now) i q) → P.kept pixels.new place ≡ P.kept pixels.old place }
     ensures has { P.has pixels.new ≡ P.has pixels.old }
     ensures forms { P.forms pixels.new ≡ P.forms pixels.old }
+    ensures moment { P.moment pixels.new ≡ P.moment pixels.old }
     ensures spare { P.spare pixels.new ≡ P.spare pixels.old }
     ensures steps { steps.new ≡ steps.old + area_of r.now }
+    ensures writes { P.writes pixels.new + steps.old ≡ P.writes pixels.old + steps.new }
 {
     if r.is_empty() {
         return;

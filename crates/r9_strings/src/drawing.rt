@@ -10,7 +10,7 @@ ghost use Rattle.model_forest.specs.World.{IsLive};
 ghost use Rattle.model_draw.specs.Writing as writing;
 ghost use Rattle.r9_fonts.specs.Near.{IsPieceNearBy};
 ghost use Rattle.r9_fonts.specs.View.{layout_of};
-ghost use Rattle.r9_layers.specs.Forest.{numbers, room, world, IsUnchanged};
+ghost use Rattle.r9_layers.specs.Forest.{moment, numbers, room, world, writes, IsUnchanged};
 ghost use Rattle.r9_strings.specs.Drawings.{background, characters, drawings, laid_out, letter};
 ghost use Rattle.r9_strings.specs.Ready.{CanLetter, Fits};
 
@@ -29,6 +29,8 @@ fn room_for(forest: &mut Forest, dst: ImageNo, r: &Rect) -> Result<(), Memory>
     ensures ok { OnOk result (Fits (world forest.old) dst.0 (room forest.new) r.now) }
     ensures room { room forest.old ≤ room forest.new }
     ensures same { IsUnchanged forest.old forest.new }
+    ensures moment { moment forest.new ≡ moment forest.old }
+    ensures writes { writes forest.new ≡ writes forest.old }
 {
     let cut = r.meet(&forest.info(dst).r);
     if cut.is_empty() {
@@ -46,6 +48,8 @@ fn room_for_background(forest: &mut Forest, lettering: &Lettering, r: &Rect) -> 
     ensures ok { OnOk result (IfSome lettering.now.background (λ _. Fits (world forest.old) lettering.now.dst.0 (room forest.new) r.now)) }
     ensures room { room forest.old ≤ room forest.new }
     ensures same { IsUnchanged forest.old forest.new }
+    ensures moment { moment forest.new ≡ moment forest.old }
+    ensures writes { writes forest.new ≡ writes forest.old }
 {
     match lettering.background {
         Some(_) => room_for(forest, lettering.dst, r),
@@ -59,6 +63,8 @@ fn room_for_characters(forest: &mut Forest, dst: ImageNo, pieces: &[Piece]) -> R
     ensures ok { OnOk result (All (λ piece. Fits (world forest.old) dst.0 (room forest.new) piece.r) pieces.now) }
     ensures room { room forest.old ≤ room forest.new }
     ensures same { IsUnchanged forest.old forest.new }
+    ensures moment { moment forest.new ≡ moment forest.old }
+    ensures writes { writes forest.new ≡ writes forest.old }
 {
     for piece in pieces {
         room_for(forest, dst, &piece.r)?;
@@ -80,6 +86,8 @@ fn draw_background<L: Ledger>(
     ensures numbers { numbers forest.new ≡ numbers forest.old }
     ensures room { room forest.old ≤ room forest.new }
     ensures steps { steps.new ≤ steps.old + sum_by (drawing_cost (world forest.old)) (background lettering.now r.now) }
+    ensures moment { moment forest.new ≡ moment forest.old }
+    ensures writes { writes forest.new + steps.old ≡ writes forest.old + steps.new }
 {
     let Some(background) = lettering.background else {
         return;
@@ -111,6 +119,8 @@ fn draw_characters<L: Ledger>(
     ensures numbers { numbers forest.new ≡ numbers forest.old }
     ensures room { room forest.old ≤ room forest.new }
     ensures steps { steps.new ≤ steps.old + sum_by (drawing_cost (world forest.old)) (characters lettering.now pieces.now) }
+    ensures moment { moment forest.new ≡ moment forest.old }
+    ensures writes { writes forest.new + steps.old ≡ writes forest.old + steps.new }
 {
     for piece in pieces {
         draw_character(forest, lettering, piece, steps);
@@ -131,6 +141,8 @@ fn draw_character<L: Ledger>(
     ensures numbers { numbers forest.new ≡ numbers forest.old }
     ensures room { room forest.old ≤ room forest.new }
     ensures steps { steps.new ≤ steps.old + drawing_cost (world forest.old) (letter lettering.now piece.now) }
+    ensures moment { moment forest.new ≡ moment forest.old }
+    ensures writes { writes forest.new + steps.old ≡ writes forest.old + steps.new }
 {
     let Ok(()) = forest.draw(
         lettering.dst,
@@ -203,6 +215,8 @@ pub fn draw_string<L: Ledger>(
     ensures kept { OnErr result (world forest.new ≡ world forest.old) }
     ensures steps { steps.new ≤ steps.old + sum_by (drawing_cost (world forest.old)) (drawings (world forest.old) font.now lettering.now indices.now) }
     ensures uncounted { OnErr result (steps.new ≡ steps.old) }
+    ensures moment { moment forest.new ≡ moment forest.old }
+    ensures writes { writes forest.new + steps.old ≡ writes forest.old + steps.new }
 {
     let laid = laid_out(font, lettering, indices)?;
     let font_r = forest.info(lettering.font_image).r;

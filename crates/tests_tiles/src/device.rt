@@ -3,9 +3,10 @@ ghost use Rattle.std.specs.Prelude.{◌≡◌, ◌<◌};
 
 use crate::step::{Step, push_step};
 use r9_chan::Chan;
-use r9_draw::Draw;
+use r9_draw::{Draw, Shown};
 use r9_event::{Order, Orders};
 use r9_geom::{Point, Rect};
+use r9_marks::cells_over;
 use r9_memory::Memory;
 use r9_steps::Steps;
 use r9_text::Bytes;
@@ -101,4 +102,58 @@ fn counted<L: Ledger>(alloc: Global, steps: &[(Step, usize)], blank: Blank) -> R
 // Takes steps, after each of which so many tiles are held, and gives how many pixels they wrote.
 pub fn leaves(alloc: Global, steps: &[(Step, usize)]) -> Result<u64, Fail> {
     counted::<Brand>(alloc, steps, Blank::new(1))
+}
+
+// Whether a cell of the display is marked; one beside it is not.
+fn is_marked(draw: &Draw, column: u32, row: u32) -> bool {
+    let r = draw.info(Shown::Display).r;
+    if column as usize >= cells_over(r.width() as usize) {
+        return false;
+    }
+    if row as usize >= cells_over(r.height() as usize) {
+        return false;
+    }
+    draw.marked(column, row)
+}
+
+// The cells of the display that are marked, row by row, each as its column and its row, of a display of at most five by three.
+fn marked(alloc: Global, draw: &Draw) -> Result<Vec<(u32, u32)>, Memory> {
+    let mut cells = Vec::new(alloc);
+    for row in 0..3 {
+        for column in 0..5 {
+            if is_marked(draw, column, row) {
+                cells.push((column, row))?;
+            }
+        }
+    }
+    Ok(cells)
+}
+
+fn marked_after<L: Ledger>(
+    alloc: Global,
+    steps: &[(Step, &[(u32, u32)])],
+    blank: Blank,
+) -> Result<(), Fail>
+    requires name { blank.name ≡ L.name }
+    requires parts { blank.parts ≡ L.parts }
+    requires some { 0 < L.parts }
+{
+    let mut pixels: Steps<L> = Steps::new(blank);
+    let mut draw = start(alloc, Chan::from_text("x8r8g8b8")?)?;
+    for (step, cells) in steps {
+        draw.clear_marks();
+        if !take(alloc, &mut draw, step, &mut pixels)? {
+            return Err(Fail::from("refused"));
+        }
+        let found = marked(alloc, &draw)?;
+        if found.as_slice() != *cells {
+            return Err(Fail::from(found));
+        }
+    }
+    Ok(())
+}
+
+// Takes steps, in each of which these cells of the display are marked, and no others.
+pub fn marks(alloc: Global, steps: &[(Step, &[(u32, u32)])]) -> Result<(), Fail> {
+    marked_after::<Brand>(alloc, steps, Blank::new(1))
 }

@@ -191,6 +191,8 @@ returns-in_err-enter-clause-err g c =
       kept = c.enter.ensures.kept;
       has = c.enter.ensures.has;
       forms = c.enter.ensures.forms ∙ ap forms_of c.in_err-enter.ensures.lists_err ∙ sym c.requires.forms;
+      moment = c.enter.ensures.moment;
+      writes = c.enter.ensures.writes;
     })
 
 -- ---- into the list

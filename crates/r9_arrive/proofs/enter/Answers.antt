@@ -11,10 +11,11 @@ use Rattle.r9_locate.specs.Table.{shape}
 use Rattle.r9_pixels.specs.Kept.{form_at, has_place}
 use Rattle.r9_pixels.specs.Owns.{window_form}
 use Rattle.r9_pixels.specs.Places.{with_form, with_places, HasLaterTaken, HasTakenOff, StandsOn}
+use Rattle.r9_watched.specs.Moments.{with_moment}
 use Rattle.r9_relist.proofs.Lists.{lists_near, lists_places, lists_standing}
 use Rattle.r9_relist.proofs.Off.{relisted_taken}
 use Rattle.r9_relist.proofs.Relisted.{relist_on, relist_ones}
-use Rattle.r9_arrive.proofs.Entering.{form_out, has_out, kept_out, later_taken, put_forms, put_out}
+use Rattle.r9_arrive.proofs.Entering.{form_out, has_out, kept_out, later_taken, moment_out, put_forms, put_out}
 use Rattle.r9_arrive.proofs.enter.Goals as goal
 use Rattle.r9_arrive.proofs.enter.Goals.{After-insert, Start}
 
@@ -129,3 +130,8 @@ returns-in-Err-clause-forms c =
     ∙ form_out (form_at c.args.pixels.now) c.args.i (window_form (record { r = c.args.frame.r; chan = c.args.frame.chan })) (free (goal.at.returns-in-Err-clause-forms c).After-insert)
     ∙ c.requires.forms
     ∙ ap forms_of (sym (c.shorten.ensures.world ∙ c.remove.ensures.world ∙ out (goal.at.returns-in-Err-clause-forms c).After-insert))
+
+pub returns-in-Err-clause-moment : goal.returns-in-Err-clause-moment
+returns-in-Err-clause-moment c =
+    c.remove-in-Err.ensures.moment ∙ ap (with_moment c.args.i None) (c.reserve_both.ensures.kept.moment ∙ c.insert_hidden.ensures.moment)
+    ∙ moment_out c.args.pixels.now c.args.i (free (goal.at.returns-in-Err-clause-moment c).After-insert)

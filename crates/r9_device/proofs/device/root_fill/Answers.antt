@@ -16,3 +16,6 @@ set-requires-clause-points c = λ _.
     let i = c.in_ok-fill.fill.0 in
     let P : Option Image → Type 0 = λ o. HasPoints (unwrap_or o no_image).r in
     subst P (sym (ap (λ (w : World). w i) c.in_ok-fill.ensures.made ∙ dot-at (world c.args.forest.now) i c.args.chan c.args.grey)) dot-points
+
+pub returns-clause-moment : goal.returns-clause-moment
+returns-clause-moment c j live = (λ i. c.set.ensures.moment i j) ∙ c.in_ok-fill.ensures.moment j live

@@ -1,4 +1,4 @@
-use Rattle.std.proofs.Common.{rules, ◌≡◌, Option, Some, sym, ap, subst, ◌∙◌}
+use Rattle.std.proofs.Common.{◌≡◌, Option, Some, sym, ap, subst, ◌∙◌}
 use Rattle.std.specs.Option.{option_copied_mut}
 use Rattle.model_text.specs.Map.{lookup, with}
 use Rattle.model_map.proofs.Keys.{lookup_at, with-written}
@@ -12,7 +12,7 @@ use Rattle.r9_hall.proofs.sessions.answer_in.Goals as goal
 
 pub answer-requires-clause-linked : goal.answer-requires-clause-linked
 answer-requires-clause-linked c =
-    let at : lookup c.args.sessions.now.entries c.args.session ≡ Some c.in-Some.found.now = search rules in
+    let at : lookup c.args.sessions.now.entries c.args.session ≡ Some c.in-Some.found.now = sym (lookup_at c.args.sessions.now.entries c.args.session) ∙ sym c.get_mut.ensures.value ∙ ap option_copied_mut c.in-Some.is in
     linked_of (desktop_of c.args.desktop.now).device c.args.sessions.now.entries c.args.session c.in-Some.found.now c.requires.linked at
 
 pub returns-in_ok-own-in-Some : goal.returns-in_ok-own-in-Some
@@ -27,5 +27,6 @@ returns-in_ok-own-in-Some c =
     record {
       seen = λ watches. subst (λ (found : Option Session). IsSeenOf c.args.session found (desktop_of c.args.desktop.now) c.args.bytes.now c.args.mark (Some c.in_ok-own-in-Some.own)) (sym at) (c.in_ok-own-in-Some.ensures.seen watches);
       served = subst (λ (found : Option Session). IsServed c.args.session found before (desktop_of c.args.desktop.now) c.args.bytes.now c.args.mark (Some c.in_ok-own-in-Some.own) after left) (sym at) served;
+      began = c.answer.ensures.began;
       linked = served_linked c.args.session before (desktop_of c.args.desktop.now) (Some c.in-Some.found.now) c.args.bytes.now c.args.mark (Some c.in_ok-own-in-Some.own) after left c.requires.linked at served;
     }

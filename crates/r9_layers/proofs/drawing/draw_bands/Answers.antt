@@ -20,6 +20,8 @@ loop-row-init g c =
       drawn = canvas-none W task.dst (holds (band c.args.area.now 0)) (drawn W (drawing_of task)) c.requires.live.dst (λ p. band_none c.args.area.now p);
       numbers = refl;
       steps = omega arith;
+      moment = refl;
+      writes = refl;
     }
 
 pub width-width-requires : goal.width-width-requires
@@ -120,6 +122,8 @@ loop-row-preserved g c =
           (λ p h bare. drawn-left W task (holds (band area n)) (drawn W d) c.requires.steady p bare (λ q earlier. rows_above area p q n (n + k) h earlier));
       numbers = c.draw_band.ensures.numbers ∙ c.loop-row.invariant.numbers;
       steps = omega (arith, c.draw_band.ensures.steps, c.loop-row.invariant.steps, size);
+      moment = c.draw_band.ensures.moment ∙ c.loop-row.invariant.moment;
+      writes = omega (arith, c.draw_band.ensures.writes, c.loop-row.invariant.writes);
     }
 
 pub returns-clause-world : goal.returns-clause-world

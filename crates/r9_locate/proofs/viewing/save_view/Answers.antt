@@ -78,6 +78,8 @@ loop-done-preserved g c =
           ∙ c.loop-done.invariant.others place (λ k lower. apart k (omega (arith, lower)));
       has = c.carry.ensures.has ∙ c.loop-done.invariant.has;
       forms = c.carry.ensures.forms ∙ c.loop-done.invariant.forms;
+      moment = c.carry.ensures.moment ∙ c.loop-done.invariant.moment;
       spare = c.carry.ensures.spare ∙ c.loop-done.invariant.spare;
       steps = omega (arith, c.carry.ensures.steps, c.loop-done.invariant.steps);
+      writes = omega (arith, c.carry.ensures.writes, c.loop-done.invariant.writes);
     }

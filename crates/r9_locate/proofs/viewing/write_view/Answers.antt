@@ -80,6 +80,8 @@ loop-done-preserved g c =
           ∙ c.loop-done.invariant.others place (λ k lower. apart k (omega (arith, lower)));
       has = c.write.ensures.has ∙ c.loop-done.invariant.has;
       forms = c.write.ensures.forms ∙ c.loop-done.invariant.forms;
+      moment = c.write.ensures.moment ∙ c.loop-done.invariant.moment;
       spare = c.write.ensures.spare ∙ c.loop-done.invariant.spare;
       steps = omega (arith, c.write.ensures.steps, c.loop-done.invariant.steps, long);
+      writes = omega (arith, c.write.ensures.writes, c.loop-done.invariant.writes);
     }

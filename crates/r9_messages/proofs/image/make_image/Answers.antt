@@ -5,6 +5,7 @@ use Rattle.model_draw.specs.World.{Client}
 use Rattle.r9_layers.specs.Forest.{numbers, world}
 use Rattle.r9_device.specs.World.{world_of}
 use Rattle.r9_messages.proofs.Made.{keeps, kept-made, makes}
+use Rattle.r9_device.proofs.Lookups.{display-lives}
 use Rattle.r9_device.proofs.Manager.{manager-with, not_manager}
 use Rattle.r9_device.proofs.Spare.{spare-added}
 use Rattle.r9_device.proofs.Ties.{ties-made}
@@ -41,3 +42,8 @@ pub invariant_of-device-clause-ties : goal.invariant_of-device-clause-ties
 invariant_of-device-clause-ties g c =
     let before = c.args.device.now in
     ties-made c.make_for.result before.book.book c.make_for.new.book.book c.args.client c.args.making.now.id (next_number (numbers before.forest)) c.args.making.now.screen before.ties c.make_for.ensures.book c.make_for.ensures.kept_book
+
+pub returns-clause-moment : goal.returns-clause-moment
+returns-clause-moment g c =
+    let before = c.args.device.now in
+    c.make_for.ensures.moment 0 (display-lives (world before.forest) before.book.book before.kept)

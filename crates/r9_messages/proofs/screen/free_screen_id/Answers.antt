@@ -9,6 +9,7 @@ use Rattle.r9_layers.specs.Forest.{numbers, world}
 use Rattle.r9_device.specs.World.{world_of}
 use Rattle.r9_device.specs.Gone.{CanRelease, images_without, numbers_without}
 use Rattle.r9_device.proofs.Kept.{can-release}
+use Rattle.r9_device.proofs.Lookups.{display-lives}
 use Rattle.r9_device.proofs.Worlds.{kept-after}
 use Rattle.r9_messages.proofs.Costs.{screen-freed-cost}
 use Rattle.r9_messages.proofs.Freeing.{screen-freed-world}
@@ -75,3 +76,19 @@ returns-clause-steps g c =
     let freed : Freed = record { book = c.free_screen.new.self.book; gone = c.in-Ok.gone } in
     let same = ap (λ (gone : List Thing). going_all (world before.forest) gone) c.as_slice.ensures ∙ screen-freed-cost (world_of before) c.args.client c.args.id freed c.in-Ok.ensures.freed in
     subst (λ (n : ℕ). c.release.new.steps ≤ c.args.steps.now + n) same c.release.ensures.steps
+
+pub returns-clause-moment : goal.returns-clause-moment
+returns-clause-moment g c =
+    let before = c.args.device.now in
+    let freed : Freed = record { book = c.free_screen.new.self.book; gone = c.in-Ok.gone } in
+    let kept =
+    kept-after (world before.forest) (world c.release.new.forest) before.book.book freed before.kept c.keeps.ensures
+    (c.free_screen_frees.ensures.freed before.book.book c.args.client c.args.id freed before.kept.screens c.in-Ok.ensures.freed) (
+      c.free_screen_frees.ensures.complete before.book.book c.args.client c.args.id freed before.kept.finds c.in-Ok.ensures.freed,
+      c.free_screen_frees.ensures.finds before.book.book c.args.client c.args.id freed before.kept.finds c.in-Ok.ensures.freed,
+    )
+    (c.free_screen_frees.ensures.order before.book.book c.args.client c.args.id freed c.in-Ok.ensures.freed)
+    (c.free_screen_frees.ensures.rest before.book.book c.args.client c.args.id freed c.in-Ok.ensures.freed)
+    (c.free_screen_frees.ensures.others before.book.book c.args.client c.args.id freed c.in-Ok.ensures.freed 0 0 (not_owner c.args.client (not_manager before.clients.entries c.args.client c.requires.live before.manager)))
+    (c.release.ensures.world ∙ ap (λ (gone : List Thing). fold images_without (world before.forest) gone) c.as_slice.ensures) in
+    c.release.ensures.moment 0 (display-lives (world c.release.new.forest) c.free_screen.new.self.book kept)

@@ -1,4 +1,4 @@
-use Rattle.std.proofs.Common.{ℕ, List, ◌<◌, ◌^◌, ◌∙◌, ap, sym, subst, arith}
+use Rattle.std.proofs.Common.{ℕ, List, ◌<◌, ◌^◌, ◌∙◌, refl, ap, sym, subst, arith}
 use Rattle.std.specs.Prelude.{IsTrue}
 use Rattle.std.specs.List.{list_any, sum_by}
 use Rattle.std.proofs.lemmas.List.{take_all}
@@ -12,7 +12,7 @@ use Rattle.r9_orders.proofs.Costs.{part-within}
 use Rattle.r9_orders.proofs.image.fill_parts.Goals as goal
 
 pub loop-part-init : goal.loop-part-init
-loop-part-init g c = record { filling = filling-begins c.args.forest.now c.args.image.0 c.args.raw c.args.parts.now c.requires.live; within = omega arith }
+loop-part-init g c = record { filling = filling-begins c.args.forest.now c.args.image.0 c.args.raw c.args.parts.now c.requires.live; within = omega arith; same = refl; counted = refl }
 
 pub loop-part-preserved : goal.loop-part-preserved
 loop-part-preserved g c =
@@ -21,6 +21,8 @@ loop-part-preserved g c =
     record {
       filling = filling-more c.args.forest.now c.loop-part.forest c.fill.new.self c.args.image.0 c.args.raw parts n _ c.loop-part-test.true c.loop-part.invariant.filling c.fill.ensures.world c.fill.ensures.numbers c.fill.ensures.room;
       within = part-within parts n _ c.args.steps.now c.loop-part.steps c.fill.new.steps c.loop-part-test.true c.loop-part.invariant.within c.fill.ensures.steps;
+      same = c.fill.ensures.moment ∙ c.loop-part.invariant.same;
+      counted = let counted = c.loop-part.invariant.counted in omega (arith, counted, c.fill.ensures.writes);
     }
 
 pub fill-requires-clause-live : goal.fill-requires-clause-live
@@ -53,3 +55,9 @@ pub returns-clause-steps : goal.returns-clause-steps
 returns-clause-steps g c =
     let within = c.loop-part.invariant.within in
     omega (arith, within, ap (λ (ps : List Rect). sum_by area_of ps) (take_all c.loop-part.part-index c.args.parts.now c.loop-part-test.false))
+
+pub returns-clause-moment : goal.returns-clause-moment
+returns-clause-moment g c = c.loop-part.invariant.same
+
+pub returns-clause-writes : goal.returns-clause-writes
+returns-clause-writes g c = c.loop-part.invariant.counted

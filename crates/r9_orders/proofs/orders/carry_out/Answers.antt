@@ -1,10 +1,10 @@
-use Rattle.std.proofs.Common.{refl, arith}
+use Rattle.std.proofs.Common.{◌∙◌, refl, arith}
 use Rattle.r9_device.specs.World.{world_of}
 use Rattle.r9_orders.proofs.Costs.{all-done, one-done, one-within}
 use Rattle.r9_orders.proofs.orders.carry_out.Goals as goal
 
 pub loop-order-init : goal.loop-order-init
-loop-order-init g c = record { done = refl; within = omega arith }
+loop-order-init g c = record { done = refl; within = omega arith; same = refl; counted = refl }
 
 pub loop-order-preserved : goal.loop-order-preserved
 loop-order-preserved g c = record {
@@ -14,6 +14,8 @@ loop-order-preserved g c = record {
   within =
       one-within (world_of c.args.device.now) (world_of c.loop-order.device) (world_of c.carry_out_order.new.device) c.as_slice-order-items.result.now c.args.list.now c.loop-order.order-index _ c.order-item.result c.args.steps.now c.loop-order.steps c.carry_out_order.new.steps
       c.as_slice-order-items.ensures c.loop-order-test.true c.order-item.is c.in_ok-carry_out_order.ensures.ordered c.loop-order.invariant.within c.in_ok-carry_out_order.ensures.steps;
+  same = c.carry_out_order.ensures.moment ∙ c.loop-order.invariant.same;
+  counted = let counted = c.loop-order.invariant.counted in omega (arith, counted, c.carry_out_order.ensures.writes);
 }
 
 pub returns-clause-done : goal.returns-clause-done

@@ -11,6 +11,7 @@ use Rattle.r9_layers.specs.Forest.{numbers, world}
 use Rattle.r9_device.specs.World.{world_of}
 use Rattle.r9_device.specs.Gone.{CanRelease, images_without, numbers_without}
 use Rattle.r9_device.proofs.Kept.{can-release}
+use Rattle.r9_device.proofs.Lookups.{display-lives}
 use Rattle.r9_device.proofs.Worlds.{kept-after}
 use Rattle.r9_orders.proofs.Freed.{screen-closed-world, screen-unknown-world}
 use Rattle.model_images.proofs.Spare.{free_screen-gives}
@@ -85,3 +86,19 @@ returns-in-Ok-clause-steps g c =
     let freed : Freed = record { book = c.free_screen.new.self.book; gone = c.in-Ok.gone } in
     let same = ap (λ (gone : List Thing). going_all (world before.forest) gone) c.as_slice.ensures in
     omega (arith, same, rio-gone (world before.forest) before.book.book c.args.window freed c.in-Ok.ensures.freed, c.release.ensures.steps)
+
+pub returns-in-Ok-clause-moment : goal.returns-in-Ok-clause-moment
+returns-in-Ok-clause-moment g c =
+    let before = c.args.device.now in
+    let freed : Freed = record { book = c.free_screen.new.self.book; gone = c.in-Ok.gone } in
+    let kept =
+    kept-after (world before.forest) (world c.release.new.forest) before.book.book freed before.kept c.keeps.ensures
+    (c.free_screen_frees.ensures.freed before.book.book 0 c.args.window freed before.kept.screens c.in-Ok.ensures.freed) (
+      c.free_screen_frees.ensures.complete before.book.book 0 c.args.window freed before.kept.finds c.in-Ok.ensures.freed,
+      c.free_screen_frees.ensures.finds before.book.book 0 c.args.window freed before.kept.finds c.in-Ok.ensures.freed,
+    )
+    (c.free_screen_frees.ensures.order before.book.book 0 c.args.window freed c.in-Ok.ensures.freed)
+    (c.free_screen_frees.ensures.rest before.book.book 0 c.args.window freed c.in-Ok.ensures.freed)
+    (ap (λ (ids : List ImageId). find (λ e. (e.client == 0) && (e.id == 0)) ids) (free_screen-image_ids before.book.book 0 c.args.window freed c.in-Ok.ensures.freed))
+    (c.release.ensures.world ∙ ap (λ (gone : List Thing). fold images_without (world before.forest) gone) c.as_slice.ensures) in
+    c.release.ensures.moment 0 (display-lives (world c.release.new.forest) freed.book kept)

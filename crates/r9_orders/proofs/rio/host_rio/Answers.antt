@@ -1,6 +1,6 @@
-use Rattle.std.proofs.Common.{◌≡◌, ◌≤◌, ◌+◌, ℕ, sym, subst, ap, ◌∙◌}
+use Rattle.std.proofs.Common.{◌≡◌, ◌≤◌, ◌+◌, ℕ, sym, subst, ap, ◌∙◌, arith}
 use Rattle.r9_device.specs.declared.device.Device.{Device}
-use Rattle.r9_device.specs.World.{world_of}
+use Rattle.r9_device.specs.World.{moment_of, world_of, writes_of}
 use Rattle.r9_orders.proofs.Hosting.{filled, filled-else, filled-then, host-rect, host-root, hosted}
 use Rattle.r9_orders.proofs.rio.host_rio.Goals as goal
 use Rattle.std.specs.Prelude.{if◌then◌else◌}
@@ -43,3 +43,35 @@ returns-clause-steps g c =
       | else-fill v ↦ fill-else w c.args.window c.args.fill c.args.steps.now c.if-fill.steps v.if-fill.false v.steps-is
     ] in
     hosted-within c.open_rio.result w (world_of c.if-fill.device) c.args.window c.args.fill c.args.steps.now c.if-fill.steps c.close_rio.new.steps c.args.device.now.kept c.requires first most c.in_ok-close_rio.ensures.steps
+
+pub returns-in_err-close_rio-clause-moment : goal.returns-in_err-close_rio-clause-moment
+returns-in_err-close_rio-clause-moment g c =
+    let first : moment_of c.if-fill.device ≡ moment_of c.args.device.now = elim c.if-fill.branch [
+      | then-fill v ↦ ap (λ (d : Device). moment_of d) v.device-is ∙ v.fill_window.ensures.moment
+      | else-fill v ↦ ap (λ (d : Device). moment_of d) v.device-is
+    ] in
+    c.close_rio.ensures.moment ∙ first
+
+pub returns-in_err-close_rio-clause-writes : goal.returns-in_err-close_rio-clause-writes
+returns-in_err-close_rio-clause-writes g c =
+    let first : writes_of c.if-fill.device + c.args.steps.now ≡ writes_of c.args.device.now + c.if-fill.steps = elim c.if-fill.branch [
+      | then-fill v ↦ let device = ap (λ (d : Device). writes_of d) v.device-is in let steps = v.steps-is in omega (arith, device, steps, v.fill_window.ensures.writes)
+      | else-fill v ↦ let device = ap (λ (d : Device). writes_of d) v.device-is in let steps = v.steps-is in omega (arith, device, steps)
+    ] in
+    omega (arith, first, c.close_rio.ensures.writes)
+
+pub returns-clause-moment : goal.returns-clause-moment
+returns-clause-moment g c =
+    let first : moment_of c.if-fill.device ≡ moment_of c.args.device.now = elim c.if-fill.branch [
+      | then-fill v ↦ ap (λ (d : Device). moment_of d) v.device-is ∙ v.fill_window.ensures.moment
+      | else-fill v ↦ ap (λ (d : Device). moment_of d) v.device-is
+    ] in
+    c.open_rio.ensures.moment ∙ c.close_rio.ensures.moment ∙ first
+
+pub returns-clause-writes : goal.returns-clause-writes
+returns-clause-writes g c =
+    let first : writes_of c.if-fill.device + c.args.steps.now ≡ writes_of c.args.device.now + c.if-fill.steps = elim c.if-fill.branch [
+      | then-fill v ↦ let device = ap (λ (d : Device). writes_of d) v.device-is in let steps = v.steps-is in omega (arith, device, steps, v.fill_window.ensures.writes)
+      | else-fill v ↦ let device = ap (λ (d : Device). writes_of d) v.device-is in let steps = v.steps-is in omega (arith, device, steps)
+    ] in
+    omega (arith, first, c.close_rio.ensures.writes, c.open_rio.ensures.writes)

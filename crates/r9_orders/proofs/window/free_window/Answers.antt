@@ -9,6 +9,7 @@ use Rattle.r9_layers.specs.Forest.{numbers, world}
 use Rattle.r9_device.specs.World.{world_of}
 use Rattle.r9_device.specs.Gone.{CanRelease, images_without, numbers_without}
 use Rattle.r9_device.proofs.Kept.{can-release}
+use Rattle.r9_device.proofs.Lookups.{display-lives}
 use Rattle.r9_device.proofs.Worlds.{kept-after}
 use Rattle.r9_orders.proofs.Freed.{image-freed-world, image-unknown-world}
 use Rattle.model_images.proofs.Spare.{free_id-gives}
@@ -83,3 +84,19 @@ returns-in-Ok-clause-steps g c =
     let freed : Freed = record { book = c.free_id.new.self.book; gone = c.in-Ok.gone } in
     let same = ap (λ (gone : List Thing). going_all (world before.forest) gone) c.as_slice.ensures in
     omega (arith, same, window-gone (world before.forest) before.book.book c.args.window freed c.in-Ok.ensures.freed, c.release.ensures.steps)
+
+pub returns-in-Ok-clause-moment : goal.returns-in-Ok-clause-moment
+returns-in-Ok-clause-moment g c =
+    let before = c.args.device.now in
+    let freed : Freed = record { book = c.free_id.new.self.book; gone = c.in-Ok.gone } in
+    let kept =
+    kept-after (world before.forest) (world c.release.new.forest) before.book.book freed before.kept c.keeps.ensures
+    (c.free_id_frees.ensures.freed before.book.book 0 c.args.window freed before.kept.screens c.in-Ok.ensures.freed) (
+      c.free_id_frees.ensures.complete before.book.book 0 c.args.window freed before.kept.finds c.in-Ok.ensures.freed,
+      c.free_id_frees.ensures.finds before.book.book 0 c.args.window freed before.kept.finds c.in-Ok.ensures.freed,
+    )
+    (c.free_id_frees.ensures.order before.book.book 0 c.args.window freed c.in-Ok.ensures.freed)
+    (c.free_id_frees.ensures.rest before.book.book 0 c.args.window freed c.in-Ok.ensures.freed)
+    (free_id-display before.book.book c.args.window freed c.requires c.in-Ok.ensures.freed)
+    (c.release.ensures.world ∙ ap (λ (gone : List Thing). fold images_without (world before.forest) gone) c.as_slice.ensures) in
+    c.release.ensures.moment 0 (display-lives (world c.release.new.forest) freed.book kept)

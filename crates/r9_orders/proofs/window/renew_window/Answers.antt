@@ -23,6 +23,7 @@ use Rattle.r9_orders.specs.Ordering.{GoesUnseen}
 use Rattle.r9_device.proofs.Spare.{spare-freed}
 use Rattle.model_cost.specs.Cost.{going_all}
 use Rattle.r9_device.proofs.Kept.{can-release}
+use Rattle.r9_device.proofs.Lookups.{display-lives}
 use Rattle.r9_orders.proofs.Costs.{renewed-costs, window-gone}
 use Rattle.r9_orders.proofs.window.renew_window.Goals as goal
 
@@ -175,3 +176,43 @@ returns-in-Ok-made-clause-steps g c =
     let same = renewed-costs images (world c.next_window-made.new.forest) book n c.args.screen freed.gone g (can-release images book freed before.kept is order) in
     let slice = ap (λ (gone : List Thing). going_all (world c.next_window-made.new.forest) gone) c.as_slice-2.ensures in
     omega (arith, same, slice, window-gone images book window freed e, c.next_window-made.ensures.steps, c.release.ensures.steps)
+
+pub returns-in-Ok-made-clause-moment : goal.returns-in-Ok-made-clause-moment
+returns-in-Ok-made-clause-moment g c =
+    let before = c.args.device.now in
+    let window = c.args.window in
+    let n = next_number (numbers before.forest) in
+    let freed : Freed = record { book = c.free_id.new.self.book; gone = c.in-Ok.gone } in
+    let e = c.in-Ok.ensures.freed in
+    let other = window-some (world_of before) window c.requires.window in
+    let used = screen-left before.book.book window c.args.screen freed c.requires.screen e in
+    let is = c.free_id_frees.ensures.freed before.book.book 0 window freed before.kept.screens e in
+    let order = c.free_id_frees.ensures.order before.book.book 0 window freed e in
+    let rest = c.free_id_frees.ensures.rest before.book.book 0 window freed e in
+    let none : LeavesNone before.book.book freed = (c.free_id_frees.ensures.complete before.book.book 0 window freed before.kept.finds e, c.free_id_frees.ensures.finds before.book.book 0 window freed before.kept.finds e) in
+    let display = free_id-display before.book.book window freed other e in
+    let o : Outcome Book = Ok freed.book in
+    let g = grows-renewed o (world_of before) (world c.next_window-made.new.forest) window n c.args.screen c.args.next.now c.goes_unseen-stays.result before.kept c.keeps.ensures c.requires.next c.requires.ready c.in-Ok-made.ensures.free c.in-Ok-made.ensures.made in
+    let added = added-is freed.book c.next_window-made.new.book.book c.add_window.new.book.book window c.in-Ok-made.image.0 n c.args.screen c.next_window-made.ensures.book c.in-Ok-made.ensures.number c.add_window.ensures in
+    let given = id-given freed.book c.add_window.new.book.book window n c.args.screen (id-left before.book.book window freed other e) added in
+    let kept =
+    kept-renewed (world before.forest) (world c.next_window-made.new.forest) (world c.release.new.forest) before.book.book c.add_window.new.book.book freed window n c.args.screen before.kept c.keeps.ensures.parents c.keeps-2.ensures.parents g used is none order rest display
+    (c.release.ensures.world ∙ ap (λ (gone : List Thing). fold images_without (world c.next_window-made.new.forest) gone) c.as_slice-2.ensures) given other in
+    c.release.ensures.moment 0 (display-lives (world c.release.new.forest) c.add_window.new.book.book kept) ∙ (λ i. c.next_window-made.ensures.moment i 0)
+
+pub returns-clause-moment : goal.returns-clause-moment
+returns-clause-moment g c =
+    let before = c.args.device.now in
+    let window = c.args.window in
+    let freed : Freed = record { book = c.free_id.new.self.book; gone = c.in-Ok.gone } in
+    let e = c.in-Ok.ensures.freed in
+    let other = window-some (world_of before) window c.requires.window in
+    let is = c.free_id_frees.ensures.freed before.book.book 0 window freed before.kept.screens e in
+    let order = c.free_id_frees.ensures.order before.book.book 0 window freed e in
+    let rest = c.free_id_frees.ensures.rest before.book.book 0 window freed e in
+    let none : LeavesNone before.book.book freed = (c.free_id_frees.ensures.complete before.book.book 0 window freed before.kept.finds e, c.free_id_frees.ensures.finds before.book.book 0 window freed before.kept.finds e) in
+    let display = free_id-display before.book.book window freed other e in
+    let kept =
+    kept-left (world before.forest) (world c.next_window-made.new.forest) (world c.release.new.forest) before.book.book c.next_window-made.new.book.book freed before.kept c.keeps.ensures is none order rest display c.in-Err-made.ensures.kept_images
+    (c.release.ensures.world ∙ ap (λ (gone : List Thing). fold images_without (world c.next_window-made.new.forest) gone) c.as_slice-2.ensures) c.next_window-made.ensures.book in
+    c.release.ensures.moment 0 (display-lives (world c.release.new.forest) c.next_window-made.new.book.book kept) ∙ (λ i. c.next_window-made.ensures.moment i 0)

@@ -20,6 +20,7 @@ loop-row-init g c = record {
   within = omega arith;
   written = written_none (shape c.args.lists.now) c.args.i (holds (band c.args.r.now 0)) (λ _. c.args.raw) c.args.pixels.now (λ p. band_none c.args.r.now p);
   steps = omega arith;
+  writes = refl;
 }
 
 pub point_at-at-requires-clause-row : goal.point_at-at-requires-clause-row
@@ -84,6 +85,7 @@ loop-row-preserved g c =
           (λ p h. refl) (λ p h. refl)
           c.loop-row.invariant.written c.fill_band.ensures.written;
       steps = omega (arith, c.fill_band.ensures.steps, c.loop-row.invariant.steps, more, wide);
+      writes = omega (arith, c.fill_band.ensures.writes, c.loop-row.invariant.writes);
     }
 
 pub returns-clause-written : goal.returns-clause-written

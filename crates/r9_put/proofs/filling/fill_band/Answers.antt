@@ -19,6 +19,7 @@ loop-done-init g c = record {
   within = omega arith;
   written = written_none (shape c.args.lists.now) c.args.i (holds (block c.args.at 0 c.args.rows)) (λ _. c.args.raw) c.args.pixels.now (λ p. block_none c.args.at c.args.rows p);
   steps = omega arith;
+  writes = refl;
 }
 
 pub fill_block-requires-clause-near : goal.fill_block-requires-clause-near
@@ -76,6 +77,7 @@ loop-done-preserved g c =
           (λ p h. refl) (λ p h. refl)
           c.loop-done.invariant.written c.fill_block.ensures.written;
       steps = omega (arith, c.fill_block.ensures.steps, c.loop-done.invariant.steps, more);
+      writes = omega (arith, c.fill_block.ensures.writes, c.loop-done.invariant.writes);
     }
 
 pub returns-clause-written : goal.returns-clause-written

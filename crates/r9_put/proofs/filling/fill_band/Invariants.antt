@@ -1,7 +1,8 @@
-use Rattle.std.proofs.Common.{◌≤◌, ◌+◌, ◌*◌, ◌-◌}
+use Rattle.std.proofs.Common.{◌≡◌, ◌≤◌, ◌+◌, ◌*◌, ◌-◌}
 use Rattle.r9_geom.specs.Geometry.{holds}
 use Rattle.r9_locate.specs.Table.{shape}
 use Rattle.r9_shown.specs.Shown.{block}
+use Rattle.r9_pixels.specs.Kept.{writes}
 use Rattle.r9_put.specs.Written.{IsWritten}
 use Rattle.r9_put.proofs.filling.fill_band.Given as goal
 
@@ -10,6 +11,7 @@ invariant-loop-done g l = record {
   within : l.done ≤ l.columns;
   written : IsWritten (shape l.lists) l.i (holds (block l.at l.done l.rows)) (λ _. l.raw) l.fn.pixels l.pixels;
   steps : l.steps ≤ l.fn.steps + l.done * l.rows;
+  writes : writes l.pixels + l.fn.steps ≡ writes l.fn.pixels + l.steps;
 }
 
 abbrev pub decreases-loop-done : goal.decreases-loop-done

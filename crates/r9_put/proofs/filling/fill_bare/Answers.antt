@@ -12,4 +12,4 @@ pub returns-clause-written : goal.returns-clause-written
 returns-clause-written g c =
     let put = c.paint_area.ensures in
     area_written (shape c.args.lists.now) c.args.i c.args.r (λ _. c.args.raw) c.args.pixels.now c.paint_area.new.pixels
-    c.requires.inside c.requires.bare put.at put.others put.has put.forms
+    c.requires.inside c.requires.bare put.at put.others put.has put.forms put.moment

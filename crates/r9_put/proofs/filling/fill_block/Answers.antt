@@ -58,4 +58,5 @@ returns-else-is_none-clause-written g c =
       };
       has = refl;
       forms = refl;
+      moment = refl;
     }

@@ -23,4 +23,4 @@ returns-then-is_whole-clause-written g c =
     let whole = c.is_whole.ensures c.if-is_whole.true in
     let is = c.load_whole.ensures in
     whole_written (shape c.args.lists.now) c.args.i c.args.r (row_pixel c.args.r (depth (image_at (shape c.args.lists.now) c.args.i).chan) c.args.rows.now) c.args.pixels.now c.load_whole.new.self whole.0 whole.1 c.requires.of_image
-    (λ p h. is.at p h ∙ ap (λ n. row_pixel c.args.r n c.args.rows.now p) c.requires.bits) is.others is.has is.forms
+    (λ p h. is.at p h ∙ ap (λ n. row_pixel c.args.r n c.args.rows.now p) c.requires.bits) is.others is.has is.forms is.moment

@@ -27,6 +27,7 @@ loop-done-init g c = record {
       written_none (shape c.args.lists.now) c.args.i (holds (strip (point_at c.args.r.now 0 c.args.row) 0)) (row_pixel c.args.r.now (depth (image_at (shape c.args.lists.now) c.args.i).chan) c.args.rows.now) c.args.pixels.now
       (λ p. strip_none (point_at c.args.r.now 0 c.args.row) p);
   steps = omega arith;
+  writes = refl;
 }
 
 pub along-requires-clause-near : goal.along-requires-clause-near
@@ -92,6 +93,7 @@ loop-done-preserved g c =
           (λ p h. refl) (λ p h. refl)
           c.loop-done.invariant.written c.load_run.ensures.written;
       steps = omega (arith, c.load_run.ensures.steps, c.loop-done.invariant.steps, long);
+      writes = omega (arith, c.load_run.ensures.writes, c.loop-done.invariant.writes);
     }
 
 pub returns-clause-written : goal.returns-clause-written

@@ -16,6 +16,7 @@ pub loop-row-init : goal.loop-row-init
 loop-row-init g c = record {
   written = written_none (shape c.args.lists.now) c.args.i (holds (band c.args.r.now 0)) (row_pixel c.args.r.now (depth (image_at (shape c.args.lists.now) c.args.i).chan) c.args.rows.now) c.args.pixels.now (λ p. band_none c.args.r.now p);
   steps = omega arith;
+  writes = refl;
 }
 
 pub load_row-requires-clause-row : goal.load_row-requires-clause-row
@@ -46,6 +47,7 @@ loop-row-preserved g c =
           (λ p h. refl) (λ p h. refl)
           c.loop-row.invariant.written c.load_row.ensures.written;
       steps = omega (arith, c.load_row.ensures.steps, c.loop-row.invariant.steps);
+      writes = omega (arith, c.load_row.ensures.writes, c.loop-row.invariant.writes);
     }
 
 pub returns-clause-written : goal.returns-clause-written

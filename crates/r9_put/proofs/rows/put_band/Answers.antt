@@ -23,6 +23,7 @@ loop-done-init g c = record {
   within = omega arith;
   written = written_none (shape c.args.lists.now) c.args.i (holds (block c.args.at 0 c.args.rows)) (λ p. get_or c.args.raws.now (number_in (block c.args.at c.args.width c.args.rows) c.args.first c.args.width p) 0) c.args.pixels.now (λ p. block_none c.args.at c.args.rows p);
   steps = omega arith;
+  writes = refl;
 }
 
 pub put_block-requires-clause-near : goal.put_block-requires-clause-near
@@ -102,6 +103,7 @@ loop-done-preserved g c =
           ∙ ap (λ n. get_or raws n 0) (number_along at p c.args.width done len rows c.args.first c.args.width (ap (λ (z : Spot). holds (block z len rows) p) (sym c.along-q.ensures) ∙ h)))
           c.loop-done.invariant.written c.put_block.ensures.written;
       steps = omega (arith, c.put_block.ensures.steps, c.loop-done.invariant.steps, more);
+      writes = omega (arith, c.put_block.ensures.writes, c.loop-done.invariant.writes);
     }
 
 pub returns-clause-written : goal.returns-clause-written

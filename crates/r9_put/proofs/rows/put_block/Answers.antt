@@ -63,7 +63,7 @@ returns-then-is_none-clause-written g c =
     (area_written (shape c.args.lists.now) c.args.i c.block.result _ c.args.pixels.now c.write_area.new.pixels
     (λ p h. c.requires.inside p (here p h))
     (λ p h. none_bare ws p (ap is_some (c.requires.steady p (here p h)) ∙ none))
-    put.at put.others put.has put.forms)
+    put.at put.others put.has put.forms put.moment)
 
 pub returns-then-is_none-clause-steps : goal.returns-then-is_none-clause-steps
 returns-then-is_none-clause-steps g c =
@@ -82,4 +82,5 @@ returns-else-is_none-clause-written g c =
       };
       has = refl;
       forms = refl;
+      moment = refl;
     }

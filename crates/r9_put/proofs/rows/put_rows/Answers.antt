@@ -23,6 +23,7 @@ loop-row-init g c = record {
   within = omega arith;
   written = written_none (shape c.args.lists.now) c.args.i (holds (band c.args.r.now 0)) (λ p. get_or c.args.raws.now (number_of c.args.r.now p) 0) c.args.pixels.now (λ p. band_none c.args.r.now p);
   steps = omega arith;
+  writes = refl;
 }
 
 pub point_at-at-requires-clause-row : goal.point_at-at-requires-clause-row
@@ -105,6 +106,7 @@ loop-row-preserved g c =
           ∙ ap (λ n. get_or raws n 0) (number_down r at p row rows is.left is.top (ap (λ n. holds (block at n rows) p) (sym w_is) ∙ h)))
           c.loop-row.invariant.written c.put_band.ensures.written;
       steps = omega (arith, c.put_band.ensures.steps, c.loop-row.invariant.steps, more, wide);
+      writes = omega (arith, c.put_band.ensures.writes, c.loop-row.invariant.writes);
     }
 
 pub returns-clause-written : goal.returns-clause-written

@@ -52,6 +52,7 @@ returns-then-is_none-clause-written g c =
       };
       has = c.write_view.ensures.has;
       forms = c.write_view.ensures.forms;
+      moment = c.write_view.ensures.moment;
     }
 
 pub returns-else-is_none-clause-written : goal.returns-else-is_none-clause-written
@@ -71,4 +72,5 @@ returns-else-is_none-clause-written g c =
       };
       has = refl;
       forms = refl;
+      moment = refl;
     }

@@ -98,6 +98,7 @@ loop-done-preserved g c =
           ∙ part_pixel raws at done size p (sym (λ j. holds (strip (c.along-q.ensures j) (long j)) p) ∙ h))
           c.loop-done.invariant.written c.put_run.ensures.written;
       steps = omega (arith, c.put_run.ensures.steps, c.loop-done.invariant.steps, long);
+      writes = omega (arith, c.put_run.ensures.writes, c.loop-done.invariant.writes);
     }
 
 pub returns-clause-written : goal.returns-clause-written

@@ -1,6 +1,7 @@
-use Rattle.std.proofs.Common.{◌≤◌, ◌+◌, ◌-◌, get_or, length}
+use Rattle.std.proofs.Common.{◌≡◌, ◌≤◌, ◌+◌, ◌-◌, get_or, length}
 use Rattle.r9_geom.specs.Geometry.{distance, holds, strip}
 use Rattle.r9_locate.specs.Table.{shape}
+use Rattle.r9_pixels.specs.Kept.{writes}
 use Rattle.r9_put.specs.Written.{IsWritten}
 use Rattle.r9_put.proofs.rows.put_side_by_side.Given as goal
 
@@ -9,6 +10,7 @@ invariant-loop-done g l = record {
   within : l.done ≤ length l.raws;
   written : IsWritten (shape l.lists) l.i (holds (strip l.at l.done)) (λ p. get_or l.raws (distance l.at.x p.x) 0) l.fn.pixels l.pixels;
   steps : l.steps ≤ l.fn.steps + l.done;
+  writes : writes l.pixels + l.fn.steps ≡ writes l.fn.pixels + l.steps;
 }
 
 abbrev pub decreases-loop-done : goal.decreases-loop-done

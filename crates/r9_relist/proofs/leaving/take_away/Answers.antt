@@ -10,10 +10,12 @@ use Rattle.r9_locate.specs.Forms.{forms_of, Form}
 use Rattle.r9_locate.specs.Lists.{IsNearby}
 use Rattle.r9_locate.specs.Table.{shape}
 use Rattle.r9_cells.specs.Fitting.{AreOne}
-use Rattle.r9_pixels.specs.Kept.{form_at, has_place, kept_at}
+use Rattle.r9_pixels.specs.Kept.{form_at, has_place, kept_at, moment}
 use Rattle.r9_pixels.specs.Places.{in_shown, with_form, HasCells, HasGivenOff, StandsOn}
+use Rattle.r9_watched.specs.Moments.{with_moment, Moment}
 use Rattle.r9_relist.specs.Leaving.{gone, others}
 use Rattle.r9_relist.proofs.Uncovering.{final_forest, gone_cells, gone_forms, gone_kept, gone_room, gone_world, live_below, on_then, ones_then}
+use Rattle.r9_relist.proofs.Moments.{moment_same, window_moment}
 use Rattle.r9_relist.proofs.Near.{nearby}
 use Rattle.r9_relist.proofs.Off.{left_given}
 use Rattle.r9_relist.proofs.Relisted.{list_at, list_live, relist_forms}
@@ -27,10 +29,10 @@ live g c =
     subst (λ (w : World). IsLive w c.args.p) (sym c.unlist.ensures.world) (list_live world c.args.p c.args.p (others world c.args.p c.args.w) below ∙ below)
 
 -- the forms of the lists without it
-forms : (g : _) (c : After-unlist g) → form_at c.uncover.new.pixels ≡ forms_of (shape c.unlist.new.lists)
+forms : (g : _) (c : After-unlist g) → form_at c.uncover-from.new.pixels ≡ forms_of (shape c.unlist.new.lists)
 forms g c =
     let world = shape c.args.lists.now in
-    c.uncover.ensures.forms ∙ c.requires.forms
+    c.uncover-from.ensures.forms ∙ c.requires.forms
     ∙ sym (relist_forms world c.args.p (others world c.args.p c.args.w) (live_below world c.args.p c.args.w c.requires.going)) ∙ ap forms_of (sym c.unlist.ensures.world)
 
 -- the list without it
@@ -64,10 +66,10 @@ pub give_shown-requires-clause-still : goal.give_shown-requires-clause-still
 give_shown-requires-clause-still g c =
     let world = shape c.args.lists.now in
     let at = (goal.at.give_shown-requires-clause-still g c).After-deref in
-    subst (λ (has : Place → Bool). HasGivenOff (shape c.unlist.new.lists) c.args.p c.deref.result.now 0 (c.args.area.now ∷ []) has) (sym c.uncover.ensures.has)
-    (subst (λ (ws : List Window). HasGivenOff (shape c.unlist.new.lists) c.args.p ws 0 (c.args.area.now ∷ []) (has_place c.args.pixels.now)) (sym (left g at))
-    (subst (λ (w : World). HasGivenOff w c.args.p (others world c.args.p c.args.w) 0 (c.args.area.now ∷ []) (has_place c.args.pixels.now)) (sym c.unlist.ensures.world)
-    (left_given world c.args.p c.args.w c.requires.going c.args.area.now c.requires.place (has_place c.args.pixels.now) c.requires.cells)))
+    subst (λ (has : Place → Bool). HasGivenOff (shape c.unlist.new.lists) c.args.p c.deref.result.now c.uncover-from.result (c.args.area.now ∷ []) has) (sym c.uncover-from.ensures.has)
+    (subst (λ (ws : List Window). HasGivenOff (shape c.unlist.new.lists) c.args.p ws c.uncover-from.result (c.args.area.now ∷ []) (has_place c.args.pixels.now)) (sym (left g at))
+    (subst (λ (w : World). HasGivenOff w c.args.p (others world c.args.p c.args.w) c.uncover-from.result (c.args.area.now ∷ []) (has_place c.args.pixels.now)) (sym c.unlist.ensures.world)
+    (left_given world c.args.p c.args.w c.requires.going c.args.area.now c.requires.place c.uncover-from.result c.uncover-from.ensures.front (has_place c.args.pixels.now) c.requires.cells)))
 
 -- the lists without the image
 without_it : (g : _) (c : After-unlist g) → with_image (shape c.unlist.new.lists) c.args.w None ≡ gone (shape c.args.lists.now) c.args.p c.args.w
@@ -108,7 +110,7 @@ forms_then g c =
     let world = shape c.args.lists.now in
     c.remove-2.ensures.forms
     ∙ ap (λ (f : ℕ → Option Form). with_form c.args.w None f)
-    (c.give_shown.ensures.forms ∙ c.uncover.ensures.forms ∙ c.requires.forms ∙ sym (relist_forms world c.args.p (others world c.args.p c.args.w) (live_below world c.args.p c.args.w c.requires.going)))
+    (c.give_shown.ensures.forms ∙ c.uncover-from.ensures.forms ∙ c.requires.forms ∙ sym (relist_forms world c.args.p (others world c.args.p c.args.w) (live_below world c.args.p c.args.w c.requires.going)))
     ∙ gone_forms (with_list world c.args.p (others world c.args.p c.args.w)) c.args.w
 
 cells : (g : _) (c : After-remove-2 g) → c.deref.result.now ≡ others (shape c.args.lists.now) c.args.p c.args.w → HasCells (gone (shape c.args.lists.now) c.args.p c.args.w) (has_place c.remove-2.new.self)
@@ -117,7 +119,7 @@ cells g c listed =
     gone_cells world c.args.p c.args.w c.requires.going (has_place c.args.pixels.now) (has_place c.give_shown.new.self) (has_place c.remove-2.new.self) c.requires.cells
     (λ place.
     c.give_shown.ensures.has place
-    ∙ (λ j. not (in_shown (c.unlist.ensures.world j) c.args.p (listed j) place) && c.uncover.ensures.has j place))
+    ∙ (λ j. not (in_shown (c.unlist.ensures.world j) c.args.p (listed j) place) && c.uncover-from.ensures.has j place))
     c.remove-2.ensures.has
 
 pub returns-clause-lists : goal.returns-clause-lists
@@ -138,7 +140,15 @@ returns-clause-world g c =
     let at = (goal.at.returns-clause-world g c).After-remove-2 in
     let world = shape c.args.lists.now in
     ap (λ (w : World). with_kept w (kept_at c.remove-2.new.self)) (lists g at)
-    ∙ gone_world world c.args.p c.args.w c.requires.going c.remove-2.new.self (kept_at c.args.pixels.now) (kept_at c.uncover.new.pixels) (g.S.Source.fill c.args.source.now) c.requires.fills c.uncover.ensures.moved
+    ∙ gone_world world c.args.p c.args.w c.requires.going c.remove-2.new.self (kept_at c.args.pixels.now) (kept_at c.uncover-from.new.pixels) (g.S.Source.fill c.args.source.now) c.requires.fills c.uncover-from.ensures.moved
     (forms_then g at) (cells g at (left g (goal.at.returns-clause-world g c).After-deref))
-    (gone_kept c.args.w (kept_at c.uncover.new.pixels) (kept_at c.give_shown.new.self) (kept_at c.remove-2.new.self) (has_place c.give_shown.new.self) (has_place c.remove-2.new.self)
+    (gone_kept c.args.w (kept_at c.uncover-from.new.pixels) (kept_at c.give_shown.new.self) (kept_at c.remove-2.new.self) (has_place c.give_shown.new.self) (has_place c.remove-2.new.self)
     c.give_shown.ensures.kept c.remove-2.ensures.kept c.remove-2.ensures.has)
+
+-- a window that goes had no moment
+pub returns-clause-moment : goal.returns-clause-moment
+returns-clause-moment g c =
+    let before = moment c.args.pixels.now in
+    c.remove-2.ensures.moment
+    ∙ ap (λ (moments : ℕ → Option Moment). with_moment c.args.w None moments) (c.give_shown.ensures.moment ∙ c.uncover-from.ensures.moment)
+    ∙ moment_same before c.args.w None (window_moment c.args.pixels.now (shape c.args.lists.now) c.args.w c.args.p c.requires.forms c.requires.going.stands)

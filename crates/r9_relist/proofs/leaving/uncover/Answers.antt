@@ -5,7 +5,7 @@ use Rattle.r9_geom.specs.Geometry.{IsNear}
 use Rattle.model_forest.specs.declared.Window.{Window}
 use Rattle.model_forest.specs.Stack.{without}
 use Rattle.model_forest.specs.View.{top_window}
-use Rattle.model_forest.specs.World.{Image}
+use Rattle.model_forest.specs.World.{image_at, Image}
 use Rattle.model_kept.specs.Keeping.{keeping}
 use Rattle.model_kept.specs.Restack.{with_list, with_own, IsRestacked}
 use Rattle.r9_locate.specs.Forms.{HasBits}
@@ -14,6 +14,7 @@ use Rattle.r9_pixels.specs.Kept.{has_place, kept_at}
 use Rattle.r9_restack.specs.Changing.{HasPlacesBut, IsChange, StaysTop}
 use Rattle.r9_restack.specs.Stacks.{IsFront}
 use Rattle.r9_relist.specs.Leaving.{others}
+use Rattle.r9_relist.proofs.Front.{front_joined}
 use Rattle.r9_relist.proofs.Uncovering.{leaving_change, leaving_gone, leaving_outside, leaving_places, live_below, near_corners}
 use Rattle.r9_relist.proofs.Relisted.{forest_bits}
 use Rattle.r9_relist.proofs.leaving.uncover.Goals as goal
@@ -81,3 +82,13 @@ returns-clause-moved g c =
     let old = kept_at c.args.pixels.now in
     subst (λ (ws : List Window). IsRestacked world (with_list world c.args.p ws) c.args.p old (with_own c.args.w (λ x. old (keeping world c.args.w x)) (kept_at c.leave.new.pixels)) (g.S.Source.fill c.args.source.now))
     (parts g (goal.at.returns-clause-moved g c).After-around) c.leave.ensures.moved
+
+pub returns-clause-front : goal.returns-clause-front
+returns-clause-front g c =
+    let world = shape c.args.lists.now in
+    let had = (image_at world c.args.p).windows in
+    let upper = c.around.result.0.now in
+    let lower = c.around.result.1.now in
+    subst (λ (ws : List Window). IsFront had ws c.args.w (length upper)) (parts g (goal.at.returns-clause-front g c).After-around)
+    (front_joined had upper lower c.args.w
+    (subst (λ (ws : List Window). IsFront ws upper c.args.w (length upper)) (c.deref.ensures.value ∙ ap (λ (image : Image). image.windows) (sym c.get.ensures)) c.around.ensures.front))

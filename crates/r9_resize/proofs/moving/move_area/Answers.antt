@@ -25,6 +25,8 @@ loop-row-init g c = record {
   has = refl;
   forms = refl;
   steps = omega arith;
+  moment = refl;
+  writes = refl;
 }
 
 pub move_row-requires-clause-width : goal.move_row-requires-clause-width
@@ -57,6 +59,8 @@ loop-row-preserved g c =
       has = c.move_row.ensures.has ∙ c.loop-row.invariant.has;
       forms = c.move_row.ensures.forms ∙ c.loop-row.invariant.forms;
       steps = row_more _ _ _ row (width area) c.width-width.result c.width-width.ensures c.move_row.ensures.steps c.loop-row.invariant.steps;
+      moment = c.move_row.ensures.moment ∙ c.loop-row.invariant.moment;
+      writes = omega (arith, c.move_row.ensures.writes, c.loop-row.invariant.writes);
     }
 
 pub returns-clause-moved : goal.returns-clause-moved

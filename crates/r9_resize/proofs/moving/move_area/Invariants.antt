@@ -3,7 +3,7 @@ use Rattle.r9_geom.specs.Geometry.{holds, width}
 use Rattle.r9_geom.proofs.GeometryLemmas.{band}
 use Rattle.r9_plane.specs.Pixels.{pixel_at, rect_of}
 use Rattle.r9_locate.specs.Table.{shape}
-use Rattle.r9_pixels.specs.Kept.{form_at, has_place, kept_at}
+use Rattle.r9_pixels.specs.Kept.{form_at, has_place, kept_at, moment, writes}
 use Rattle.r9_resize.specs.Moves.{IsMovedFor}
 use Rattle.r9_resize.proofs.moving.move_area.Given as goal
 
@@ -13,4 +13,6 @@ invariant-loop-row g l = record {
   has : has_place l.pixels ≡ has_place l.fn.pixels;
   forms : form_at l.pixels ≡ form_at l.fn.pixels;
   steps : l.steps ≤ l.fn.steps + l.row * width l.area;
+  moment : moment l.pixels ≡ moment l.fn.pixels;
+  writes : writes l.pixels + l.fn.steps ≡ writes l.fn.pixels + l.steps;
 }

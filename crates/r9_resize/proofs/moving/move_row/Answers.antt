@@ -21,6 +21,8 @@ loop-done-init g c = record {
   has = refl;
   forms = refl;
   steps = omega arith;
+  moment = refl;
+  writes = refl;
 }
 
 pub move_part-requires-clause-near : goal.move_part-requires-clause-near
@@ -62,4 +64,6 @@ loop-done-preserved g c =
       has = c.move_part.ensures.has ∙ c.loop-done.invariant.has;
       forms = c.move_part.ensures.forms ∙ c.loop-done.invariant.forms;
       steps = omega (arith, c.move_part.ensures.steps, c.loop-done.invariant.steps, long);
+      moment = c.move_part.ensures.moment ∙ c.loop-done.invariant.moment;
+      writes = omega (arith, c.move_part.ensures.writes, c.loop-done.invariant.writes);
     }

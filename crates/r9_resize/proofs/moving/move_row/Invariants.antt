@@ -3,7 +3,7 @@ use Rattle.r9_geom.specs.declared.Point.{Point}
 use Rattle.r9_plane.specs.Pixels.{pixel_at, rect_of}
 use Rattle.model_kept.specs.Keeping.{Place}
 use Rattle.r9_locate.specs.Table.{shape}
-use Rattle.r9_pixels.specs.Kept.{form_at, has_place, kept_at}
+use Rattle.r9_pixels.specs.Kept.{form_at, has_place, kept_at, moment, writes}
 use Rattle.r9_restack.specs.Moving.{more, IsFresh}
 use Rattle.r9_resize.specs.Moves.{IsMovedFor}
 use Rattle.r9_resize.proofs.moving.move_row.Given as goal
@@ -16,6 +16,8 @@ invariant-loop-done g l = record {
   has : has_place l.pixels ≡ has_place l.fn.pixels;
   forms : form_at l.pixels ≡ form_at l.fn.pixels;
   steps : l.steps ≤ l.fn.steps + l.done;
+  moment : moment l.pixels ≡ moment l.fn.pixels;
+  writes : writes l.pixels + l.fn.steps ≡ writes l.fn.pixels + l.steps;
 }
 
 abbrev pub decreases-loop-done : goal.decreases-loop-done

@@ -1,16 +1,24 @@
-use Rattle.std.proofs.Common.{◌≡◌, ◌∙◌, ℕ, All, Bool, refl, sym, subst, ap, arith}
-use Rattle.std.specs.Prelude.{◌&&◌, ◌||◌, not, if◌then◌else◌}
+use Rattle.std.proofs.Common.{◌≡◌, ◌∙◌, ℕ, ◌*◌, ◌<◌, ◌^◌, All, Bool, Option, Some, refl, sym, subst, ap, arith}
+use Rattle.std.specs.Prelude.{◌&&◌, ◌||◌, not, option_map, if◌then◌else◌}
+use Rattle.std.specs.Option.{option_map_or}
 use Rattle.r9_geom.specs.declared.Rect.{Rect}
 use Rattle.r9_geom.specs.Geometry.{area_of, holds}
+use Rattle.r9_plane.specs.declared.plane.Plane.{Plane}
 use Rattle.r9_plane.specs.Pixels.{pixel_at, rect_of}
-use Rattle.model_forest.specs.World.{Image, World, image_at, IsForest, IsLive}
+use Rattle.model_pixel.specs.Channels.{depth}
+use Rattle.model_forest.specs.declared.Standing.{Standing}
+use Rattle.model_forest.specs.World.{Image, World, image_at, no_rect, parent_of, IsForest, IsLive}
 use Rattle.model_kept.specs.Keeping.{with_kept, Place}
 use Rattle.model_kept.specs.Restack.{with_own}
 use Rattle.model_resize.specs.Resize.{sized}
 use Rattle.model_resize.proofs.Sizes.{SameButSize}
+use Rattle.r9_locate.specs.Forms.{bits_in, forms_of, Form}
 use Rattle.r9_locate.specs.Table.{shape}
-use Rattle.r9_pixels.specs.Kept.{has_place, kept_at}
+use Rattle.r9_pixels.specs.Kept.{form_at, has_place, kept_at, moment, rect_at}
 use Rattle.r9_pixels.specs.Places.{in_hidden, in_shown, with_places, HasCells, StandsOn}
+use Rattle.r9_watched.specs.Moments.{with_moment, Moment}
+use Rattle.r9_watched.specs.Watched.{moment_of}
+use Rattle.r9_relist.proofs.Relisted.{bits_at}
 use Rattle.r9_relist.proofs.Surfaces.{placed_alike}
 use Rattle.r9_cells.specs.Fitting.{AreOne}
 use Rattle.r9_resize.specs.Moves.{HasPlacesFor, IsResized}
@@ -18,7 +26,7 @@ use Rattle.r9_resize.specs.Sizes.{with_rects}
 use Rattle.r9_resize.proofs.Celled.{cells_then, places_for}
 use Rattle.r9_resize.proofs.Ones.{all_given, all_taken, ones}
 use Rattle.r9_resize.proofs.Resized.{rects_at, rects_live, rects_same, resized_world}
-use Rattle.r9_resize.proofs.Shapes.{cells_still, own_here, own_on, own_there, sized_area, sized_forest}
+use Rattle.r9_resize.proofs.Shapes.{cells_still, form_rect, moment_back, own_on, own_there, root_form, sized_area, sized_forest}
 use Rattle.r9_resize.proofs.resizing.resize.Given.{Over}
 use Rattle.r9_resize.proofs.resizing.resize.Goals as goal
 use Rattle.r9_resize.proofs.resizing.resize.Goals.{After-deref, After-deref-2, After-give_shown, After-move_pixels, After-take_hidden, Start}
@@ -37,7 +45,7 @@ then_same g c = rects_same (shape c.args.lists.now) c.args.i (sized c.args.width
 pub enter-requires-clause-after : goal.enter-requires-clause-after
 enter-requires-clause-after g c =
     let at = goal.at.enter-requires-clause-after g c in
-    subst (λ (r : Rect). IsForest (with_rects (shape c.args.lists.now) c.args.i r r)) (sym (c.in_ok-plane.ensures.rect ∙ c.sized.ensures)) (then_ok g at.Start)
+    subst (λ (r : Rect). IsForest (with_rects (shape c.args.lists.now) c.args.i r r)) (sym (ap (λ (plane : Plane). rect_of plane) c.watch-watched.ensures.plane ∙ c.in_ok-plane.ensures.rect ∙ c.sized.ensures)) (then_ok g at.Start)
 
 pub returns-in_err-had-clause-cells : goal.returns-in_err-had-clause-cells
 returns-in_err-had-clause-cells g c =
@@ -49,7 +57,7 @@ returns-in_err-had-clause-cells g c =
 
 lists_are : (g : Over) (c : After-deref g) → shape c.enter.new.lists ≡ with_rects (shape c.args.lists.now) c.args.i (sized c.args.width c.args.height) (sized c.args.width c.args.height)
 lists_are g c =
-    c.in_ok-had.ensures.lists ∙ ap (λ (r : Rect). with_rects (shape c.args.lists.now) c.args.i r r) (c.in_ok-plane.ensures.rect ∙ c.sized.ensures)
+    c.in_ok-had.ensures.lists ∙ ap (λ (r : Rect). with_rects (shape c.args.lists.now) c.args.i r r) (ap (λ (plane : Plane). rect_of plane) c.watch-watched.ensures.plane ∙ c.in_ok-plane.ensures.rect ∙ c.sized.ensures)
 
 forest : (g : Over) (c : After-deref g) → shape c.enter.new.lists ≡ with_rects (shape c.args.lists.now) c.args.i (sized c.args.width c.args.height) (sized c.args.width c.args.height) → IsForest (with_rects (shape c.args.lists.now) c.args.i (sized c.args.width c.args.height) (sized c.args.width c.args.height)) → IsForest (shape c.enter.new.lists)
 forest g c is ok = subst IsForest (sym is) ok
@@ -85,6 +93,38 @@ give_shown-requires-clause-one g c =
 pub give_shown-requires-clause-still : goal.give_shown-requires-clause-still
 give_shown-requires-clause-still g c = all_given (shape c.enter.new.lists) c.args.i c.deref-2.result.now (has_place c.move_pixels.new.pixels)
 
+-- the forms once the tiles are taken
+formed : (g : Over) (c : After-take_hidden g) → form_at c.take_hidden.new.self ≡ forms_of (shape c.enter.new.lists)
+formed g c = c.take_hidden.ensures.forms ∙ c.enter.ensures.forms
+
+pub resume-had-requires-clause-whole : goal.resume-had-requires-clause-whole
+resume-had-requires-clause-whole g c =
+    let at = goal.at.resume-had-requires-clause-whole g c in
+    let i = c.args.i in
+    let old = shape c.args.lists.now in
+    let to = sized c.args.width c.args.height in
+    let is = lists_are g at.After-deref in
+    ap (λ (forms : ℕ → Option Form). option_map (λ (form : Form). form.is_window) (forms i)) (formed g at.After-take_hidden)
+    ∙ root_form (shape c.enter.new.lists) i (alive g at.After-deref is (then_live g at.Start))
+    (ap (λ (w : World). parent_of w i) is ∙ ap (λ (im : Image). option_map (λ (s : Standing). s.parent) im.standing) (rects_at old i to to) ∙ c.requires.can.nowhere)
+
+pub resume-had-requires-clause-raw : goal.resume-had-requires-clause-raw
+resume-had-requires-clause-raw g c =
+    let at = goal.at.resume-had-requires-clause-raw g c in
+    let i = c.args.i in
+    let old = shape c.args.lists.now in
+    let to = sized c.args.width c.args.height in
+    let is = lists_are g at.After-deref in
+    let bits : bits_in (form_at c.take_hidden.new.self) i ≡ depth (image_at old i).chan =
+    ap (λ (forms : ℕ → Option Form). bits_in forms i) (formed g at.After-take_hidden)
+    ∙ bits_at (shape c.enter.new.lists) i (alive g at.After-deref is (then_live g at.Start))
+    ∙ ap (λ (w : World). depth (image_at w i).chan) is
+    ∙ ap (λ (im : Image). depth im.chan) (rects_at old i to to) in
+    subst (λ (n : ℕ). c.args.raw < 2 ^ n) (sym bits) c.requires.raw
+
+pub resume-had-requires-clause-few : goal.resume-had-requires-clause-few
+resume-had-requires-clause-few g c = omega (arith, c.in_ok-had.ensures.had_few, c.enter.ensures.writes, c.take_hidden.ensures.writes)
+
 pub move_pixels-requires-clause-forest : goal.move_pixels-requires-clause-forest
 move_pixels-requires-clause-forest g c =
     let at = goal.at.move_pixels-requires-clause-forest g c in
@@ -96,7 +136,7 @@ taken g c is place =
     let i = c.args.i in
     let to = sized c.args.width c.args.height in
     let new = with_rects (shape c.args.lists.now) i to to in
-    let rect : rect_of c.in_ok-plane.plane ≡ (image_at new i).r = c.in_ok-plane.ensures.rect ∙ c.sized.ensures ∙ sym (ap (λ (im : Image). im.r) (rects_at (shape c.args.lists.now) i to to)) in
+    let rect : rect_of c.watch-watched.result.plane ≡ (image_at new i).r = ap (λ (plane : Plane). rect_of plane) c.watch-watched.ensures.plane ∙ c.in_ok-plane.ensures.rect ∙ c.sized.ensures ∙ sym (ap (λ (im : Image). im.r) (rects_at (shape c.args.lists.now) i to to)) in
     let list : c.deref.result.now ≡ (image_at new i).windows = c.deref.ensures.value ∙ sym (ap (λ (im : Image). im.windows) c.get-2.ensures) ∙ ap (λ (w : World). (image_at w i).windows) is in
     c.take_hidden.ensures.has place
     ∙ ap (λ (h : Place → Bool). h place || in_hidden (shape c.enter.new.lists) i c.deref.result.now place) (c.in_ok-had.ensures.has ∙ ap (λ (r : Rect). with_places i (holds r) (has_place c.args.pixels.now)) rect)
@@ -110,9 +150,10 @@ move_pixels-requires-clause-places g c =
     let to = sized c.args.width c.args.height in
     let is = lists_are g at.After-deref in
     let mid = has_place c.take_hidden.new.self in
-    subst (λ (w : World). HasPlacesFor w i (rect_of c.in_ok-had.had) mid) (sym is)
-    (subst (λ (r : Rect). HasPlacesFor (with_rects old i to to) i r mid) (sym c.in_ok-had.ensures.rect)
-    (places_for old (with_rects old i to to) i (then_live g at.Start) c.requires.before (then_ok g at.Start) (then_same g at.Start) (has_place c.args.pixels.now) c.requires.cells mid (taken g at.After-take_hidden is)))
+    subst (λ (has : Place → Bool). HasPlacesFor (shape c.enter.new.lists) i (rect_of c.resume-had.result) has) (sym c.resume-had.ensures.has)
+    (subst (λ (w : World). HasPlacesFor w i (rect_of c.resume-had.result) mid) (sym is)
+    (subst (λ (r : Rect). HasPlacesFor (with_rects old i to to) i r mid) (sym (ap (λ (plane : Plane). rect_of plane) c.resume-had.ensures.had ∙ c.in_ok-had.ensures.rect))
+    (places_for old (with_rects old i to to) i (then_live g at.Start) c.requires.before (then_ok g at.Start) (then_same g at.Start) (has_place c.args.pixels.now) c.requires.cells mid (taken g at.After-take_hidden is))))
 
 pub give_shown-requires-clause-windows : goal.give_shown-requires-clause-windows
 give_shown-requires-clause-windows g c =
@@ -134,28 +175,26 @@ given g c is place =
     let new = with_rects (shape c.args.lists.now) i to to in
     let list : c.deref-2.result.now ≡ (image_at new i).windows = c.deref-2.ensures.value ∙ sym (ap (λ (im : Image). im.windows) c.get-3.ensures) ∙ ap (λ (w : World). (image_at w i).windows) is in
     c.give_shown.ensures.has place
-    ∙ (λ j. not (in_shown (is j) i (list j) place) && c.move_pixels.ensures.has j place)
+    ∙ (λ j. not (in_shown (is j) i (list j) place) && (c.move_pixels.ensures.has ∙ c.resume-had.ensures.has) j place)
 
 -- the pixels once they are moved
-resized : (g : Over) (c : After-move_pixels g) → shape c.enter.new.lists ≡ with_rects (shape c.args.lists.now) c.args.i (sized c.args.width c.args.height) (sized c.args.width c.args.height) → IsResized (with_rects (shape c.args.lists.now) c.args.i (sized c.args.width c.args.height) (sized c.args.width c.args.height)) c.args.i (image_at (shape c.args.lists.now) c.args.i).r c.args.raw (kept_at c.args.pixels.now) (kept_at c.move_pixels.new.pixels)
-resized g c is =
+resized : (g : Over) (c : After-move_pixels g) → shape c.enter.new.lists ≡ with_rects (shape c.args.lists.now) c.args.i (sized c.args.width c.args.height) (sized c.args.width c.args.height) → form_at c.take_hidden.new.self ≡ forms_of (shape c.enter.new.lists) → IsLive (shape c.enter.new.lists) c.args.i → IsResized (with_rects (shape c.args.lists.now) c.args.i (sized c.args.width c.args.height) (sized c.args.width c.args.height)) c.args.i (image_at (shape c.args.lists.now) c.args.i).r c.args.raw (kept_at c.args.pixels.now) (kept_at c.move_pixels.new.pixels)
+resized g c is forms live =
     let i = c.args.i in
     let old = shape c.args.lists.now in
     let to = sized c.args.width c.args.height in
     let before = kept_at c.args.pixels.now in
     let after = kept_at c.move_pixels.new.pixels in
-    let entered : kept_at c.take_hidden.new.self ≡ with_own i (pixel_at c.in_ok-plane.plane) before = c.take_hidden.ensures.kept ∙ c.in_ok-had.ensures.kept in
-    let rect : (image_at (shape c.enter.new.lists) i).r ≡ c.sized.result = ap (λ (w : World). (image_at w i).r) is ∙ ap (λ (im : Image). im.r) (rects_at old i to to) ∙ sym c.sized.ensures in
+    let watched = c.watch-watched.result in
+    let entered : kept_at c.take_hidden.new.self ≡ with_own i (pixel_at watched.plane) before = c.take_hidden.ensures.kept ∙ c.in_ok-had.ensures.kept in
+    let rect : rect_at c.take_hidden.new.self i ≡ (image_at (shape c.enter.new.lists) i).r =
+    ap (λ (forms : ℕ → Option Form). option_map_or (λ (form : Form). form.r) (forms i) no_rect) forms ∙ form_rect (shape c.enter.new.lists) i live in
     subst (λ (w : World). IsResized w i (image_at old i).r c.args.raw before after) is
-    (subst (λ (r : Rect). IsResized (shape c.enter.new.lists) i r c.args.raw before after) c.in_ok-had.ensures.rect
+    (subst (λ (r : Rect). IsResized (shape c.enter.new.lists) i r c.args.raw before after) (ap (λ (plane : Plane). rect_of plane) c.resume-had.ensures.had ∙ c.in_ok-had.ensures.rect)
     (c.move_pixels.ensures.resized before c.args.raw
-    (λ q here.
-    ap (λ (kept : Place → ℕ). kept (record { image = i; at = q })) entered
-    ∙ own_here before i (pixel_at c.in_ok-plane.plane) q
-    ∙ c.in_ok-plane.ensures.pixels q
-    ∙ ap (λ b. if b then c.args.raw else 0) (ap (λ (r : Rect). holds r q) (sym rect) ∙ here))
-    c.in_ok-had.ensures.had
-    (λ place other. ap (λ (kept : Place → ℕ). kept place) entered ∙ own_there before i (pixel_at c.in_ok-plane.plane) place other)))
+    (λ q here. c.resume-had.ensures.at q (ap (λ (r : Rect). holds r q) rect ∙ here))
+    (λ q. c.in_ok-had.ensures.had q ∙ ap (λ (plane : Plane). pixel_at plane q) (sym c.resume-had.ensures.had))
+    (λ place other. c.resume-had.ensures.others place other ∙ ap (λ (kept : Place → ℕ). kept place) entered ∙ own_there before i (pixel_at watched.plane) place other)))
 
 pub returns-clause-cells : goal.returns-clause-cells
 returns-clause-cells g c =
@@ -178,17 +217,38 @@ returns-clause-world g c =
     let celled =
     cells_then old (with_rects old i to to) i (then_live g at.Start) c.requires.before (then_ok g at.Start) (then_same g at.Start) (has_place c.args.pixels.now) c.requires.cells (has_place c.take_hidden.new.self) (taken g at.After-take_hidden is) (has_place c.give_shown.new.self) (given g at.After-give_shown is) in
     placed_alike c.give_shown.new.self (shape c.enter.new.lists) moved (forest g at.After-deref is (then_ok g at.Start))
-    (c.give_shown.ensures.forms ∙ c.move_pixels.ensures.forms ∙ c.take_hidden.ensures.forms ∙ c.enter.ensures.forms)
+    (c.give_shown.ensures.forms ∙ c.move_pixels.ensures.forms ∙ c.resume-had.ensures.forms ∙ formed g at.After-take_hidden)
     (cells g at.After-give_shown is celled)
     (λ place has. c.give_shown.ensures.kept place ∙ ap (λ b. if b then moved place else 0) has)
     ∙ ap (λ (w : World). with_kept w moved) is
-    ∙ resized_world old i c.args.width c.args.height c.args.raw (kept_at c.args.pixels.now) moved c.requires.can c.requires.before (then_ok g at.Start) (resized g at.After-move_pixels is)
+    ∙ resized_world old i c.args.width c.args.height c.args.raw (kept_at c.args.pixels.now) moved c.requires.can c.requires.before (then_ok g at.Start) (resized g at.After-move_pixels is (formed g at.After-take_hidden) (alive g at.After-deref is (then_live g at.Start)))
+
+-- the points that it has then
+size : (g : Over) (c : After-deref g) → area_of (image_at (shape c.enter.new.lists) c.args.i).r ≡ c.args.width * c.args.height
+size g c =
+    let i = c.args.i in
+    let to = sized c.args.width c.args.height in
+    ap (λ (w : World). area_of (image_at w i).r) (lists_are g c) ∙ ap (λ (im : Image). area_of im.r) (rects_at (shape c.args.lists.now) i to to) ∙ sized_area c.args.width c.args.height
 
 pub returns-clause-steps : goal.returns-clause-steps
 returns-clause-steps g c =
     let at = goal.at.returns-clause-steps g c in
+    let was : area_of (rect_of c.resume-had.result) ≡ area_of (image_at (shape c.args.lists.now) c.args.i).r = ap (λ (plane : Plane). area_of (rect_of plane)) c.resume-had.ensures.had ∙ ap area_of c.in_ok-had.ensures.rect in
+    let is = size g at.After-deref in
+    let filled : area_of (rect_at c.take_hidden.new.self c.args.i) ≡ area_of (image_at (shape c.enter.new.lists) c.args.i).r =
+    ap (λ (forms : ℕ → Option Form). area_of (option_map_or (λ (form : Form). form.r) (forms c.args.i) no_rect)) (formed g at.After-take_hidden)
+    ∙ ap area_of (form_rect (shape c.enter.new.lists) c.args.i (alive g at.After-deref (lists_are g at.After-deref) (then_live g at.Start))) in
+    omega (arith, was, is, filled, c.move_pixels.ensures.steps, c.resume-had.ensures.steps)
+
+-- the moment of the plane that it had is that of the new one
+pub returns-clause-moment : goal.returns-clause-moment
+returns-clause-moment g c =
     let i = c.args.i in
-    let to = sized c.args.width c.args.height in
-    let was = ap area_of c.in_ok-had.ensures.rect in
-    let is = ap (λ (w : World). area_of (image_at w i).r) (lists_are g at.After-deref) ∙ ap (λ (im : Image). area_of im.r) (rects_at (shape c.args.lists.now) i to to) ∙ sized_area c.args.width c.args.height in
-    omega (arith, was, is, c.move_pixels.ensures.steps)
+    let had = Some (moment_of c.in_ok-had.had) in
+    c.give_shown.ensures.moment ∙ c.move_pixels.ensures.moment ∙ c.resume-had.ensures.moment
+    ∙ ap (λ (moments : ℕ → Option Moment). with_moment i had moments) (c.take_hidden.ensures.moment ∙ c.in_ok-had.ensures.moment)
+    ∙ moment_back (moment c.args.pixels.now) i (Some (moment_of c.watch-watched.result)) had c.in_ok-had.ensures.had_moment
+
+pub returns-clause-writes : goal.returns-clause-writes
+returns-clause-writes g c =
+    omega (arith, c.give_shown.ensures.writes, c.move_pixels.ensures.writes, c.resume-had.ensures.writes, c.take_hidden.ensures.writes, c.enter.ensures.writes)

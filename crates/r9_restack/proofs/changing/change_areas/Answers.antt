@@ -17,8 +17,10 @@ loop-area-init g c = record {
   moved = changed-none (shape c.args.lists.now) c.args.p (after_of c.args.stacks.now) c.args.w (g.S.Source.given c.args.source.now) (g.S.Source.fill c.args.source.now) (g.P.Pixels.kept c.args.pixels.now) (covers (take 0 c.args.areas.now)) (λ z. refl);
   has = refl;
   forms = refl;
+  moment = refl;
   spare = refl;
   steps = omega arith;
+  writes = refl;
 }
 
 pub change_within-requires-clause-near : goal.change_within-requires-clause-near
@@ -51,8 +53,10 @@ loop-area-preserved g c =
           (c.change_within.ensures.moved (kept c.args.pixels.now) (covers (take k areas)) (λ z h. fresh_area areas k _ z (c.requires.areas.apart z) c.loop-area-test.true h) c.loop-area.invariant.moved);
       has = c.change_within.ensures.has ∙ c.loop-area.invariant.has;
       forms = c.change_within.ensures.forms ∙ c.loop-area.invariant.forms;
+      moment = c.change_within.ensures.moment ∙ c.loop-area.invariant.moment;
       spare = c.change_within.ensures.spare ∙ c.loop-area.invariant.spare;
       steps = areas_grown _ _ _ areas k _ c.loop-area-test.true c.change_within.ensures.steps c.loop-area.invariant.steps;
+      writes = omega (arith, c.change_within.ensures.writes, c.loop-area.invariant.writes);
     }
 
 pub returns-clause-moved : goal.returns-clause-moved

@@ -22,8 +22,10 @@ loop-done-init g c = record {
   moved = λ before done fresh m. changed-same (shape c.args.lists.now) c.args.p (after_of c.args.stacks.now) c.args.w (g.S.Source.given c.args.source.now) (g.S.Source.fill c.args.source.now) before (g.P.Pixels.kept c.args.pixels.now) done (more_in (block c.args.at 0 c.args.rows) done) (λ z. ap (λ b. b || done z) (block_none c.args.at c.args.rows z)) m;
   has = refl;
   forms = refl;
+  moment = refl;
   spare = refl;
   steps = omega arith;
+  writes = refl;
 }
 
 pub change_block-requires-clause-near : goal.change_block-requires-clause-near
@@ -88,8 +90,10 @@ loop-done-preserved g c =
           (c.change_block.ensures.moved before until ready so_far);
       has = c.change_block.ensures.has ∙ c.loop-done.invariant.has;
       forms = c.change_block.ensures.forms ∙ c.loop-done.invariant.forms;
+      moment = c.change_block.ensures.moment ∙ c.loop-done.invariant.moment;
       spare = c.change_block.ensures.spare ∙ c.loop-done.invariant.spare;
       steps = omega (arith, c.change_block.ensures.steps, c.loop-done.invariant.steps, more_steps);
+      writes = omega (arith, c.change_block.ensures.writes, c.loop-done.invariant.writes);
     }
 
 pub returns-clause-moved : goal.returns-clause-moved

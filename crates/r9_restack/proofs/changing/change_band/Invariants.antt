@@ -14,8 +14,10 @@ invariant-loop-done g l = record {
   moved : (before : Place → ℕ) (done : Point → Bool) → IsFreshIn (block l.at l.columns l.rows) done → IsChanged (shape l.lists) l.p (after_of l.stacks) l.w (g.S.Source.given l.source) (g.S.Source.fill l.source) before (g.P.Pixels.kept l.fn.pixels) done → IsChanged (shape l.lists) l.p (after_of l.stacks) l.w (g.S.Source.given l.source) (g.S.Source.fill l.source) before (g.P.Pixels.kept l.pixels) (more_in (block l.at l.done l.rows) done);
   has : g.P.Pixels.has l.pixels ≡ g.P.Pixels.has l.fn.pixels;
   forms : g.P.Pixels.forms l.pixels ≡ g.P.Pixels.forms l.fn.pixels;
+  moment : g.P.Pixels.moment l.pixels ≡ g.P.Pixels.moment l.fn.pixels;
   spare : g.P.Pixels.spare l.pixels ≡ g.P.Pixels.spare l.fn.pixels;
   steps : l.steps ≤ l.fn.steps + 2 * (l.done * l.rows);
+  writes : g.P.Pixels.writes l.pixels + l.fn.steps ≡ g.P.Pixels.writes l.fn.pixels + l.steps;
 }
 
 abbrev pub decreases-loop-done : goal.decreases-loop-done

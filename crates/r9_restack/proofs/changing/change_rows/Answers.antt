@@ -121,6 +121,12 @@ returns-clause-forms g c = c.change_band.ensures.forms ∙ c.change_block.ensure
 pub returns-clause-spare : goal.returns-clause-spare
 returns-clause-spare g c = c.change_band.ensures.spare ∙ c.change_block.ensures.spare
 
+pub returns-clause-moment : goal.returns-clause-moment
+returns-clause-moment g c = c.change_band.ensures.moment ∙ c.change_block.ensures.moment
+
+pub returns-clause-writes : goal.returns-clause-writes
+returns-clause-writes g c = omega (arith, c.change_band.ensures.writes, c.change_block.ensures.writes)
+
 pub returns-clause-steps : goal.returns-clause-steps
 returns-clause-steps g c =
     let now = (goal.at.returns-clause-steps g c).After-steady_rows_of-rows in

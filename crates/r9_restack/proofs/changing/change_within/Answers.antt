@@ -35,8 +35,10 @@ loop-row-init g c = record {
   moved = λ before done fresh m. changed-same (shape c.args.lists.now) c.args.p (after_of c.args.stacks.now) c.args.w (g.S.Source.given c.args.source.now) (g.S.Source.fill c.args.source.now) before (g.P.Pixels.kept c.args.pixels.now) done (more_in (band c.args.area.now 0) done) (λ z. ap (λ b. b || done z) (band_none c.args.area.now z)) m;
   has = refl;
   forms = refl;
+  moment = refl;
   spare = refl;
   steps = omega arith;
+  writes = refl;
 }
 
 pub point_at-at-requires-clause-row : goal.point_at-at-requires-clause-row
@@ -111,8 +113,10 @@ loop-row-preserved g c =
           (c.change_rows-row.ensures.moved before until ready so_far);
       has = c.change_rows-row.ensures.has ∙ c.loop-row.invariant.has;
       forms = c.change_rows-row.ensures.forms ∙ c.loop-row.invariant.forms;
+      moment = c.change_rows-row.ensures.moment ∙ c.loop-row.invariant.moment;
       spare = c.change_rows-row.ensures.spare ∙ c.loop-row.invariant.spare;
       steps = omega (arith, c.change_rows-row.ensures.steps, c.loop-row.invariant.steps, more_steps, wide);
+      writes = omega (arith, c.change_rows-row.ensures.writes, c.loop-row.invariant.writes);
     }
 
 pub returns-clause-moved : goal.returns-clause-moved

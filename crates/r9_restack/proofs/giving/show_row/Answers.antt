@@ -36,8 +36,10 @@ loop-done-init g c = record {
   long = refl;
   has = refl;
   forms = refl;
+  moment = refl;
   spare = refl;
   steps = omega arith;
+  writes = refl;
 }
 
 pub show_block-requires-clause-near : goal.show_block-requires-clause-near
@@ -103,8 +105,10 @@ loop-done-preserved g c =
       long = omega (arith, length-append c.show_block.new.raws (drop len c.loop-done.block), length-drop len c.loop-done.block, c.show_block.auto.raws, size, c.loop-done.invariant.long, c.min-len.ensures);
       has = c.show_block.ensures.has ∙ c.loop-done.invariant.has;
       forms = c.show_block.ensures.forms ∙ c.loop-done.invariant.forms;
+      moment = c.show_block.ensures.moment ∙ c.loop-done.invariant.moment;
       spare = c.show_block.ensures.spare ∙ c.loop-done.invariant.spare;
       steps = omega (arith, c.show_block.ensures.steps, c.loop-done.invariant.steps, size);
+      writes = omega (arith, c.show_block.ensures.writes, c.loop-done.invariant.writes);
     }
 
 pub returns-clause-at : goal.returns-clause-at

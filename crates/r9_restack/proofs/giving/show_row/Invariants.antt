@@ -13,8 +13,10 @@ invariant-loop-done g l = record {
   long : length l.block ≡ 256;
   has : g.P.Pixels.has l.pixels ≡ g.P.Pixels.has l.fn.pixels;
   forms : g.P.Pixels.forms l.pixels ≡ g.P.Pixels.forms l.fn.pixels;
+  moment : g.P.Pixels.moment l.pixels ≡ g.P.Pixels.moment l.fn.pixels;
   spare : g.P.Pixels.spare l.pixels ≡ g.P.Pixels.spare l.fn.pixels;
   steps : l.steps ≡ l.fn.steps + l.done;
+  writes : g.P.Pixels.writes l.pixels + l.fn.steps ≡ g.P.Pixels.writes l.fn.pixels + l.steps;
 }
 
 abbrev pub decreases-loop-done : goal.decreases-loop-done

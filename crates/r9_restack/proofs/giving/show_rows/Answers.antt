@@ -28,8 +28,10 @@ loop-row-init g c = record {
   others = λ place apart. refl;
   has = refl;
   forms = refl;
+  moment = refl;
   spare = refl;
   steps = omega arith;
+  writes = refl;
 }
 
 -- points of the row are points of the rectangle
@@ -105,8 +107,10 @@ loop-row-preserved g c =
           ∙ c.loop-row.invariant.others place (λ z above. apart z (split z ∙ or_right (holds (strip to n) z) (holds (band r row) z) above));
       has = c.show_row.ensures.has ∙ c.loop-row.invariant.has;
       forms = c.show_row.ensures.forms ∙ c.loop-row.invariant.forms;
+      moment = c.show_row.ensures.moment ∙ c.loop-row.invariant.moment;
       spare = c.show_row.ensures.spare ∙ c.loop-row.invariant.spare;
       steps = omega (arith, c.show_row.ensures.steps, c.loop-row.invariant.steps, more_steps, c.width-columns.ensures);
+      writes = omega (arith, c.show_row.ensures.writes, c.loop-row.invariant.writes);
     }
 
 pub returns-clause-at : goal.returns-clause-at

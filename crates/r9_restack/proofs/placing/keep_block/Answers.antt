@@ -97,8 +97,10 @@ loop-row-init g c = record {
   others = λ place apart. refl;
   has = refl;
   forms = refl;
+  moment = refl;
   spare = refl;
   steps = omega arith;
+  writes = refl;
 }
 
 pub keep_strip-requires-clause-has : goal.keep_strip-requires-clause-has
@@ -142,8 +144,10 @@ loop-row-preserved g c =
           ∙ c.loop-row.invariant.others place (λ z above. apart z (one_row x n row z ∙ or_right (holds (strip (down x row) n) z) (holds (block x n row) z) above));
       has = c.keep_strip.ensures.has ∙ c.loop-row.invariant.has;
       forms = c.keep_strip.ensures.forms ∙ c.loop-row.invariant.forms;
+      moment = c.keep_strip.ensures.moment ∙ c.loop-row.invariant.moment;
       spare = c.keep_strip.ensures.spare ∙ c.loop-row.invariant.spare;
       steps = omega (arith, c.keep_strip.ensures.steps, c.loop-row.invariant.steps, more_steps);
+      writes = omega (arith, c.keep_strip.ensures.writes, c.loop-row.invariant.writes);
     }
 
 pub returns-after-loop-row-clause-at : goal.returns-after-loop-row-clause-at

@@ -11,6 +11,8 @@ invariant-loop-row g l = record {
   others : (place : Place) → ((z : Point) → holds (block l.x l.columns l.row) z ≡ true → place ≢ own l.w z) → g.P.Pixels.kept l.pixels place ≡ g.P.Pixels.kept l.fn.pixels place;
   has : g.P.Pixels.has l.pixels ≡ g.P.Pixels.has l.fn.pixels;
   forms : g.P.Pixels.forms l.pixels ≡ g.P.Pixels.forms l.fn.pixels;
+  moment : g.P.Pixels.moment l.pixels ≡ g.P.Pixels.moment l.fn.pixels;
   spare : g.P.Pixels.spare l.pixels ≡ g.P.Pixels.spare l.fn.pixels;
   steps : l.steps ≡ l.fn.steps + l.columns * l.row;
+  writes : g.P.Pixels.writes l.pixels + l.fn.steps ≡ g.P.Pixels.writes l.fn.pixels + l.steps;
 }

@@ -15,8 +15,10 @@ loop-done-init g c = record {
   long = refl;
   has = refl;
   forms = refl;
+  moment = refl;
   spare = refl;
   steps = omega arith;
+  writes = refl;
 }
 
 pub keep_run-requires-clause-has : goal.keep_run-requires-clause-has
@@ -66,8 +68,10 @@ loop-done-preserved g c =
       long = omega (arith, length-append c.keep_run.new.raws (drop len raws), length-drop len raws, c.keep_run.auto.raws, long, c.loop-done.invariant.long, c.min-len.ensures);
       has = c.keep_run.ensures.has ∙ c.loop-done.invariant.has;
       forms = c.keep_run.ensures.forms ∙ c.loop-done.invariant.forms;
+      moment = c.keep_run.ensures.moment ∙ c.loop-done.invariant.moment;
       spare = c.keep_run.ensures.spare ∙ c.loop-done.invariant.spare;
       steps = omega (arith, c.keep_run.ensures.steps, c.loop-done.invariant.steps, long);
+      writes = omega (arith, c.keep_run.ensures.writes, c.loop-done.invariant.writes);
     }
 
 pub returns-clause-at : goal.returns-clause-at

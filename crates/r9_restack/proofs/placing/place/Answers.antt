@@ -69,8 +69,10 @@ loop-row-init g c =
       kept = λ z h hid. absurd (false≢true (sym (band_none r z) ∙ h));
       has = refl;
       forms = refl;
+      moment = refl;
       spare = refl;
       steps = omega arith;
+      writes = refl;
     }
 
 pub point_at-x-requires-clause-row : goal.point_at-x-requires-clause-row
@@ -185,8 +187,10 @@ loop-row-preserved g c =
           ∙ c.loop-row.invariant.kept z above hid);
       has = c.place_rows-row.ensures.has ∙ c.loop-row.invariant.has;
       forms = c.place_rows-row.ensures.forms ∙ c.loop-row.invariant.forms;
+      moment = c.place_rows-row.ensures.moment ∙ c.loop-row.invariant.moment;
       spare = c.place_rows-row.ensures.spare ∙ c.loop-row.invariant.spare;
       steps = omega (arith, c.place_rows-row.ensures.steps, c.loop-row.invariant.steps, more_steps, wide);
+      writes = omega (arith, c.place_rows-row.ensures.writes, c.loop-row.invariant.writes);
     }
   where
     not_true : (b : Bool) → not b ≡ true → b ≡ false

@@ -17,8 +17,10 @@ invariant-loop-row g l = record {
   kept : (z : Point) → holds (band l.r l.row) z ≡ true → shows (image_at (shape l.lists) l.p).r (after_of l.stacks) l.w (carried z l.r.min l.corner) ≡ false → g.P.Pixels.kept l.pixels (own l.w z) ≡ g.S.Source.given l.source z;
   has : g.P.Pixels.has l.pixels ≡ g.P.Pixels.has l.fn.pixels;
   forms : g.P.Pixels.forms l.pixels ≡ g.P.Pixels.forms l.fn.pixels;
+  moment : g.P.Pixels.moment l.pixels ≡ g.P.Pixels.moment l.fn.pixels;
   spare : g.P.Pixels.spare l.pixels ≡ g.P.Pixels.spare l.fn.pixels;
   steps : l.steps ≤ l.fn.steps + 2 * (width l.r * l.row);
+  writes : g.P.Pixels.writes l.pixels + l.fn.steps ≡ g.P.Pixels.writes l.fn.pixels + l.steps;
 }
 
 abbrev pub decreases-loop-row : goal.decreases-loop-row

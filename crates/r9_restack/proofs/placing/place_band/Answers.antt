@@ -42,8 +42,10 @@ loop-done-init g c =
       others = λ z apart. refl;
       has = refl;
       forms = refl;
+      moment = refl;
       spare = refl;
       steps = omega arith;
+      writes = refl;
     }
 
 -- its columns are columns of the band
@@ -151,8 +153,10 @@ loop-done-preserved g c =
           ∙ c.loop-done.invariant.others z none.1;
       has = c.place_block.ensures.has ∙ c.loop-done.invariant.has;
       forms = c.place_block.ensures.forms ∙ c.loop-done.invariant.forms;
+      moment = c.place_block.ensures.moment ∙ c.loop-done.invariant.moment;
       spare = c.place_block.ensures.spare ∙ c.loop-done.invariant.spare;
       steps = omega (arith, c.place_block.ensures.steps, c.loop-done.invariant.steps, more_steps);
+      writes = omega (arith, c.place_block.ensures.writes, c.loop-done.invariant.writes);
     }
   where
     or_none : (a b : Bool) → (a || b) ≡ false → (a ≡ false) × (b ≡ false)

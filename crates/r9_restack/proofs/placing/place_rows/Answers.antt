@@ -242,6 +242,12 @@ returns-clause-forms g c = c.place_band.ensures.forms ∙ c.place_block.ensures.
 pub returns-clause-spare : goal.returns-clause-spare
 returns-clause-spare g c = c.place_band.ensures.spare ∙ c.place_block.ensures.spare
 
+pub returns-clause-moment : goal.returns-clause-moment
+returns-clause-moment g c = c.place_band.ensures.moment ∙ c.place_block.ensures.moment
+
+pub returns-clause-writes : goal.returns-clause-writes
+returns-clause-writes g c = omega (arith, c.place_band.ensures.writes, c.place_block.ensures.writes)
+
 pub returns-clause-steps : goal.returns-clause-steps
 returns-clause-steps g c =
     let now = (goal.at.returns-clause-steps g c).After-steady_band-rows in

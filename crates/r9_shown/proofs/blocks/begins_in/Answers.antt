@@ -12,7 +12,7 @@ returns-then-not-is_before c off z h =
     (λ k.
     let b = bounds_of (block c.args.q c.args.most.columns c.args.most.rows) z h in
     let a = bounds_of c.args.r.now z k in
-    absurd (omega (arith, ints, b.right, a.left, c.is_before.ensures c.if-not-is_before.true)))
+    absurd (omega (arith, ints, b.bottom, a.top, c.is_before.ensures c.if-not-is_before.true)))
 
 pub returns : goal.returns
 returns c off z h =
@@ -20,4 +20,4 @@ returns c off z h =
     (λ k.
     let b = bounds_of (block c.args.q c.args.most.columns c.args.most.rows) z h in
     let a = bounds_of c.args.r.now z k in
-    absurd (omega (arith, ints, b.bottom, a.top, c.is_before-2.ensures off)))
+    absurd (omega (arith, ints, b.right, a.left, c.is_before-2.ensures off)))

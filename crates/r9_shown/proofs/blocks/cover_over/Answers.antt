@@ -8,8 +8,8 @@ use Rattle.r9_shown.proofs.Above.{bare_of, covered_by}
 use Rattle.r9_shown.proofs.Keepers.{block_within}
 use Rattle.r9_shown.proofs.blocks.cover_over.Goals as goal
 
-pub loop-left-preserved : goal.loop-left-preserved
-loop-left-preserved c =
+pub loop-left-preserved-then-begins_in : goal.loop-left-preserved-then-begins_in
+loop-left-preserved-then-begins_in c =
     let now = c.loop-left.left - 1 in
     record {
       within = omega (arith, c.loop-left.invariant.within);
@@ -27,6 +27,24 @@ loop-left-preserved c =
           ap (λ (w : Window). holds w.place z) (here_is c.args.windows.now j now d _ here there)
           ∙ c.cut-extent.ensures.same z inside
           ∙ sym c.if-holds.ensures)
+          (cases_lt now j);
+    }
+
+pub loop-left-preserved : goal.loop-left-preserved
+loop-left-preserved c =
+    let now = c.loop-left.left - 1 in
+    record {
+      within = omega (arith, c.loop-left.invariant.within);
+      some = c.loop-left.invariant.some;
+      some_rows = c.loop-left.invariant.some_rows;
+      few = c.loop-left.invariant.few;
+      few_rows = c.loop-left.invariant.few_rows;
+      clear = λ j d z from there inside.
+          ⊎_elim
+          (λ (late : now < j). c.loop-left.invariant.clear j d z (omega (arith, late)) there inside)
+          (λ early.
+          let here : j ≡ now = omega (arith, early, from) in
+          ap (λ (w : Window). holds w.place z) (here_is c.args.windows.now j now d _ here there) ∙ c.begins_in.ensures c.if-begins_in.false z inside)
           (cases_lt now j);
     }
 

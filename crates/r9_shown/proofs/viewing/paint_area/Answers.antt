@@ -28,8 +28,10 @@ loop-row-init g c =
       filled = filled_none Place (keeping (shape c.args.lists.now) c.args.i) (λ (_ : Point). c.args.raw) (g.P.Pixels.kept c.args.pixels.now) (band c.args.r.now 0) (band_none c.args.r.now);
       has = refl;
       forms = refl;
+      moment = refl;
       spare = refl;
       steps = omega arith;
+      writes = refl;
     }
 
 pub band_at-band-requires-clause-some : goal.band_at-band-requires-clause-some
@@ -79,8 +81,10 @@ loop-row-preserved g c =
           (record { at = c.paint_band.ensures.at; others = c.paint_band.ensures.others });
       has = c.paint_band.ensures.has ∙ c.loop-row.invariant.has;
       forms = c.paint_band.ensures.forms ∙ c.loop-row.invariant.forms;
+      moment = c.paint_band.ensures.moment ∙ c.loop-row.invariant.moment;
       spare = c.paint_band.ensures.spare ∙ c.loop-row.invariant.spare;
       steps = omega (arith, c.paint_band.ensures.steps, c.loop-row.invariant.steps, more);
+      writes = omega (arith, c.paint_band.ensures.writes, c.loop-row.invariant.writes);
     }
 
 pub returns-clause-at : goal.returns-clause-at

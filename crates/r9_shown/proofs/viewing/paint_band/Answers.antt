@@ -20,8 +20,10 @@ loop-done-init g c =
       filled = filled_none Place (keeping (shape c.args.lists.now) c.args.i) (λ (_ : Point). c.args.raw) (g.P.Pixels.kept c.args.pixels.now) (left_of c.args.r.now c.args.row c.args.band.now.rows 0) (left_none c.args.r.now c.args.row c.args.band.now.rows);
       has = refl;
       forms = refl;
+      moment = refl;
       spare = refl;
       steps = omega arith;
+      writes = refl;
     }
 
 pub part_at-part-requires-clause-column : goal.part_at-part-requires-clause-column
@@ -130,8 +132,10 @@ loop-done-preserved g c =
           (λ k apart. c.fill_block.ensures.others k (λ x h. apart x (ap (λ (s : Rect). holds s x) (sym rect) ∙ h))));
       has = c.fill_block.ensures.has ∙ c.loop-done.invariant.has;
       forms = c.fill_block.ensures.forms ∙ c.loop-done.invariant.forms;
+      moment = c.fill_block.ensures.moment ∙ c.loop-done.invariant.moment;
       spare = c.fill_block.ensures.spare ∙ c.loop-done.invariant.spare;
       steps = omega (arith, c.fill_block.ensures.steps, c.loop-done.invariant.steps, size, more);
+      writes = omega (arith, c.fill_block.ensures.writes, c.loop-done.invariant.writes);
     }
 
 pub returns-clause-at : goal.returns-clause-at

@@ -13,8 +13,10 @@ invariant-loop-done g l = record {
   filled : IsFilled Place (keeping (shape l.lists) l.i) (λ (p : Point). l.raw) (g.P.Pixels.kept l.fn.pixels) (g.P.Pixels.kept l.pixels) (left_of l.r l.row l.band.rows l.done);
   has : g.P.Pixels.has l.pixels ≡ g.P.Pixels.has l.fn.pixels;
   forms : g.P.Pixels.forms l.pixels ≡ g.P.Pixels.forms l.fn.pixels;
+  moment : g.P.Pixels.moment l.pixels ≡ g.P.Pixels.moment l.fn.pixels;
   spare : g.P.Pixels.spare l.pixels ≡ g.P.Pixels.spare l.fn.pixels;
   steps : l.steps ≡ l.fn.steps + l.done * l.band.rows;
+  writes : g.P.Pixels.writes l.pixels + l.fn.steps ≡ g.P.Pixels.writes l.fn.pixels + l.steps;
 }
 
 abbrev pub decreases-loop-done : goal.decreases-loop-done

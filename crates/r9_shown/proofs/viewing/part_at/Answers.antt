@@ -1,6 +1,6 @@
-use Rattle.std.proofs.Common.{◌∙◌, ◌-◌, sym, ap, subst, arith}
+use Rattle.std.proofs.Common.{◌≡◌, ◌∙◌, ◌-◌, sym, ap, subst, arith}
 use Rattle.r9_geom.specs.declared.Point.{Point}
-use Rattle.r9_geom.specs.Geometry.{carried, holds, point_at}
+use Rattle.r9_geom.specs.Geometry.{carried, holds, point_at, width}
 use Rattle.r9_geom.proofs.GeometryLemmas.{height_most, width_most}
 use Rattle.model_kept.specs.Keeping.{own}
 use Rattle.r9_locate.specs.Table.{shape}
@@ -14,6 +14,13 @@ use Rattle.r9_shown.proofs.viewing.part_at.Goals as goal
 pub returns-then-column-eq0-clause-kept : goal.returns-then-column-eq0-clause-kept
 returns-then-column-eq0-clause-kept c =
     subst (λ n. IsKeptFrom (shape c.args.lists.now) c.args.i (point_at c.args.r.now n c.args.row) c.args.band.now.first) (sym c.if-column-eq0.true) c.requires.band.first
+
+pub returns-then-columns-band-clause-kept : goal.returns-then-columns-band-clause-kept
+returns-then-columns-band-clause-kept c =
+    let r = c.args.r.now in
+    let last = c.args.band.now.last in
+    let is : width r - last.extent.columns ≡ c.args.column = omega (arith, c.if-columns-band.true, c.width.ensures, c.requires.column) in
+    subst (λ n. IsKeptFrom (shape c.args.lists.now) c.args.i (point_at r n c.args.row) last) is c.requires.band.last
 
 pub point_at-requires-clause-column : goal.point_at-requires-clause-column
 point_at-requires-clause-column c = omega (arith, c.requires.column, width_most c.args.r.now c.requires.near c.requires.ordered)

@@ -29,8 +29,10 @@ loop-row-init g c =
       filled = filled_none Place (λ (q : Point). own c.args.to (carried q c.args.r.now.min c.args.p)) (λ (q : Point). g.P.Pixels.kept c.args.pixels.now (keeping (shape c.args.lists.now) c.args.i q)) (g.P.Pixels.kept c.args.pixels.now) (band c.args.r.now 0) (band_none c.args.r.now);
       has = refl;
       forms = refl;
+      moment = refl;
       spare = refl;
       steps = omega arith;
+      writes = refl;
     }
 
 pub band_at-band-requires-clause-some : goal.band_at-band-requires-clause-some
@@ -84,8 +86,10 @@ loop-row-preserved g c =
           });
       has = c.save_band.ensures.has ∙ c.loop-row.invariant.has;
       forms = c.save_band.ensures.forms ∙ c.loop-row.invariant.forms;
+      moment = c.save_band.ensures.moment ∙ c.loop-row.invariant.moment;
       spare = c.save_band.ensures.spare ∙ c.loop-row.invariant.spare;
       steps = omega (arith, c.save_band.ensures.steps, c.loop-row.invariant.steps, more);
+      writes = omega (arith, c.save_band.ensures.writes, c.loop-row.invariant.writes);
     }
 
 pub returns-clause-at : goal.returns-clause-at

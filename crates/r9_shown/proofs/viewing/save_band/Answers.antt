@@ -23,8 +23,10 @@ loop-done-init g c =
       filled = filled_none Place (λ (q : Point). own c.args.to (carried q c.args.r.now.min c.args.p)) (λ (q : Point). g.P.Pixels.kept c.args.pixels.now (keeping (shape c.args.lists.now) c.args.i q)) (g.P.Pixels.kept c.args.pixels.now) (left_of c.args.r.now c.args.row c.args.band.now.rows 0) (left_none c.args.r.now c.args.row c.args.band.now.rows);
       has = refl;
       forms = refl;
+      moment = refl;
       spare = refl;
       steps = omega arith;
+      writes = refl;
     }
 
 pub part_at-part-requires-clause-column : goal.part_at-part-requires-clause-column
@@ -192,8 +194,10 @@ loop-done-preserved g c =
           (λ k apart. c.carry_block.ensures.others k (λ x h same. apart x (ap (λ (s : Rect). holds s x) (sym rect) ∙ h) (same ∙ ap (λ (s : Rect). own c.args.to (carried x s.min there)) rect))));
       has = c.carry_block.ensures.has ∙ c.loop-done.invariant.has;
       forms = c.carry_block.ensures.forms ∙ c.loop-done.invariant.forms;
+      moment = c.carry_block.ensures.moment ∙ c.loop-done.invariant.moment;
       spare = c.carry_block.ensures.spare ∙ c.loop-done.invariant.spare;
       steps = omega (arith, c.carry_block.ensures.steps, c.loop-done.invariant.steps, size, more);
+      writes = omega (arith, c.carry_block.ensures.writes, c.loop-done.invariant.writes);
     }
 
 pub returns-clause-at : goal.returns-clause-at

@@ -29,8 +29,10 @@ loop-row-init g c =
       filled = filled_none Place (keeping (shape c.args.lists.now) c.args.i) (λ (p : Point). get_or c.args.raws.now (number_in c.args.r.now c.args.first c.args.width p) 0) (g.P.Pixels.kept c.args.pixels.now) (band c.args.r.now 0) (band_none c.args.r.now);
       has = refl;
       forms = refl;
+      moment = refl;
       spare = refl;
       steps = omega arith;
+      writes = refl;
     }
 
 pub band_at-band-requires-clause-some : goal.band_at-band-requires-clause-some
@@ -80,8 +82,10 @@ loop-row-preserved g c =
           (record { at = c.write_band.ensures.at; others = c.write_band.ensures.others });
       has = c.write_band.ensures.has ∙ c.loop-row.invariant.has;
       forms = c.write_band.ensures.forms ∙ c.loop-row.invariant.forms;
+      moment = c.write_band.ensures.moment ∙ c.loop-row.invariant.moment;
       spare = c.write_band.ensures.spare ∙ c.loop-row.invariant.spare;
       steps = omega (arith, c.write_band.ensures.steps, c.loop-row.invariant.steps, more);
+      writes = omega (arith, c.write_band.ensures.writes, c.loop-row.invariant.writes);
     }
 
 pub returns-clause-at : goal.returns-clause-at

@@ -14,8 +14,10 @@ invariant-loop-row g l = record {
   filled : IsFilled Place (keeping (shape l.lists) l.i) (λ (p : Point). get_or l.raws (number_in l.r l.first l.width p) 0) (g.P.Pixels.kept l.fn.pixels) (g.P.Pixels.kept l.pixels) (band l.r l.row);
   has : g.P.Pixels.has l.pixels ≡ g.P.Pixels.has l.fn.pixels;
   forms : g.P.Pixels.forms l.pixels ≡ g.P.Pixels.forms l.fn.pixels;
+  moment : g.P.Pixels.moment l.pixels ≡ g.P.Pixels.moment l.fn.pixels;
   spare : g.P.Pixels.spare l.pixels ≡ g.P.Pixels.spare l.fn.pixels;
   steps : l.steps ≡ l.fn.steps + width l.r * l.row;
+  writes : g.P.Pixels.writes l.pixels + l.fn.steps ≡ g.P.Pixels.writes l.fn.pixels + l.steps;
 }
 
 abbrev pub decreases-loop-row : goal.decreases-loop-row

@@ -11,6 +11,8 @@ loop-piece-preserved g c = record {
       (Alike-then _ _ _ (Alike-after_draw (world c.loop-piece.forest) (letter c.args.lettering.now _) (c.loop-piece.invariant.alike.lives _ c.requires.images.dst)) (Alike-same _ _ c.draw_character.ensures.drawn));
   numbers = c.draw_character.ensures.numbers ∙ c.loop-piece.invariant.numbers;
   grown = omega (arith, c.draw_character.ensures.room, c.loop-piece.invariant.grown);
+  moment = c.draw_character.ensures.moment ∙ c.loop-piece.invariant.moment;
+  writes = omega (arith, c.draw_character.ensures.writes, c.loop-piece.invariant.writes);
   rest =
       next_drawn (world c.args.forest.now) (world c.loop-piece.forest) (world c.draw_character.new.forest) c.args.lettering.now c.args.pieces.now c.loop-piece.piece-index _ c.loop-piece-test.true c.draw_character.ensures.drawn c.loop-piece.invariant.rest;
   within =

@@ -14,6 +14,8 @@ loop-piece-preserved c = record {
     numbers = c.in_ok-room_for.ensures.same.numbers ∙ c.loop-piece.invariant.same.numbers;
   };
   grown = omega (arith, c.in_ok-room_for.ensures.room, c.loop-piece.invariant.grown);
+  moment = c.in_ok-room_for.ensures.moment ∙ c.loop-piece.invariant.moment;
+  writes = c.in_ok-room_for.ensures.writes ∙ c.loop-piece.invariant.writes;
   fits =
       next_fits _ _ _ _ _ c.args.pieces.now c.loop-piece.piece-index _ c.loop-piece-test.true c.loop-piece.invariant.same.world c.in_ok-room_for.ensures.room c.loop-piece.invariant.fits c.in_ok-room_for.ensures.ok;
 }

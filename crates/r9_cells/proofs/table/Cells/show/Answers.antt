@@ -30,13 +30,13 @@ along-requires-clause-columns g c =
 pub along-there-requires-clause-near : goal.along-there-requires-clause-near
 along-there-requires-clause-near g c =
     let first = c.requires.inside 0 (omega (arith, c.loop-done-test.true)) in
-    near_wider (2 ^ 40) (2 ^ 42) c.args.at (lit≤ tt) (row_near (rect_of c.args.plane.now) c.args.at 0 c.args.plane.now.near first first).0
+    near_wider (2 ^ 40) (2 ^ 42) c.args.at (lit≤ tt) (row_near (rect_of c.args.watched.now.plane) c.args.at 0 c.args.watched.now.plane.near first first).0
 
 pub along-there-requires-clause-columns : goal.along-there-requires-clause-columns
 along-there-requires-clause-columns g c =
     let first = c.requires.inside 0 (omega (arith, c.loop-done-test.true)) in
     let here = c.requires.inside c.loop-done.done c.loop-done-test.true in
-    omega (arith, (row_near (rect_of c.args.plane.now) c.args.at c.loop-done.done c.args.plane.now.near first here).1)
+    omega (arith, (row_near (rect_of c.args.watched.now.plane) c.args.at c.loop-done.done c.args.watched.now.plane.near first here).1)
 
 pub run_of-run-requires-clause-inside : goal.run_of-run-requires-clause-inside
 run_of-run-requires-clause-inside g c =
@@ -73,7 +73,7 @@ put_row-requires-clause-inside g c p h =
     let now = (goal.at.put_row-requires-clause-inside g c).After-row in
     let found = strip_at c.along-there.result p (length c.row.result.now) h in
     ap (λ r. holds r p) c.loop-done.invariant.rect
-    ∙ ap (holds (rect_of c.args.plane.now)) (found.2 ∙ next g now found.0)
+    ∙ ap (holds (rect_of c.args.watched.now.plane)) (found.2 ∙ next g now found.0)
     ∙ c.requires.inside (c.loop-done.done + found.0) (omega (arith, found.1, c.row.ensures.len, c.run_of-run.ensures.most, c.loop-done.invariant.within))
 
 pub put_row-requires-clause-raws : goal.put_row-requires-clause-raws
@@ -98,19 +98,24 @@ loop-done-preserved g c =
       within = omega (arith, c.run_of-run.ensures.most, c.loop-done.invariant.within);
       rect = c.put_row.ensures.rect ∙ c.loop-done.invariant.rect;
       chan = c.put_row.ensures.chan ∙ c.loop-done.invariant.chan;
+      moment = c.put_row.ensures.moment ∙ c.loop-done.invariant.moment;
+      few = omega (arith, c.loop-done.invariant.few, c.put_row.ensures.few, c.put_row.ensures.steps);
       pixels =
-          grown at done len f (pixel_at c.args.plane.now) (pixel_at c.loop-done.plane) (pixel_at c.put_row.new.self) c.loop-done.invariant.pixels
+          grown at done len f (pixel_at c.args.watched.now.plane) (pixel_at c.loop-done.watched.plane) (pixel_at c.put_row.new.self.plane) c.loop-done.invariant.pixels
           (λ q h.
           let found = strip_at (along at done) q len h in
           let is : q ≡ along there found.0 = found.2 ∙ sym (ap (λ p. along p found.0) c.along-there.ensures) in
           let place : q ≡ along at (done + found.0) = found.2 ∙ along-along at done found.0 in
           c.put_row.ensures.pixels q
-          ∙ ap (λ b. if b then slice_index raws (distance there.x q.x) else pixel_at c.loop-done.plane q) (strips q ∙ h)
+          ∙ ap (λ b. if b then slice_index raws (distance there.x q.x) else pixel_at c.loop-done.watched.plane q) (strips q ∙ h)
           ∙ ap (slice_index raws) (strip_distance there q found.0 (ap (λ (p : Point). p.x) is))
           ∙ kept g now found.0 found.1
           ∙ ap (λ p. place_pixel c.args.self.now (cell_place c.args.i c.args.r.now p)) (sym (ap (λ p. carried p at c.args.from) place ∙ carried_along at c.args.from (done + found.0))))
           (λ q none.
           c.put_row.ensures.pixels q
-          ∙ ap (λ b. if b then slice_index raws (distance there.x q.x) else pixel_at c.loop-done.plane q) (strips q ∙ none));
+          ∙ ap (λ b. if b then slice_index raws (distance there.x q.x) else pixel_at c.loop-done.watched.plane q) (strips q ∙ none));
       steps = omega (arith, c.put_row.ensures.steps, c.loop-done.invariant.steps, c.row.ensures.len);
     }
+
+pub returns-clause-few : goal.returns-clause-few
+returns-clause-few g c = omega (arith, c.loop-done.invariant.few, c.loop-done.invariant.steps, c.loop-done.invariant.within)

@@ -18,7 +18,7 @@ use Rattle.r9_cells.proofs.table.Cells.show_band.Goals as goal
 
 pub loop-column-init : goal.loop-column-init
 loop-column-init g c =
-    record { within = omega arith; rect = refl; chan = refl; shown = λ q. sym (ap (λ b. if b then place_pixel c.args.self.now (cell_place c.args.i c.args.r.now (carried q c.args.to c.args.band.now.min)) else pixel_at c.args.plane.now q) (side_none c.args.band.now (carried q c.args.to c.args.band.now.min))); steps = omega arith }
+    record { within = omega arith; rect = refl; chan = refl; moment = refl; few = omega arith; shown = λ q. sym (ap (λ b. if b then place_pixel c.args.self.now (cell_place c.args.i c.args.r.now (carried q c.args.to c.args.band.now.min)) else pixel_at c.args.watched.now.plane q) (side_none c.args.band.now (carried q c.args.to c.args.band.now.min))); steps = omega arith }
 
 pub part_of-part-requires-clause-column : goal.part_of-part-requires-clause-column
 part_of-part-requires-clause-column g c =
@@ -96,7 +96,7 @@ show_part-requires-clause-inside g c p h =
     let lies = has_lies c.args.self.now c.args.i c.args.r.now c.args.band.now c.requires.also c.requires.ordered c.requires.some c.requires.has in
     let is = part_tells r whole piece at c.part_of-part.ensures (omega (arith, c.loop-column-test.true, c.width.ensures)) in
     let here = part_lies r whole piece at is lies in
-    ap (λ (s : Rect). holds s (carried p piece.min c.right-there.result)) c.loop-column.invariant.rect ∙ ap (holds (rect_of c.args.plane.now)) (ap (carried p piece.min) c.right-there.ensures ∙ part_carried r whole piece at p c.args.to is) ∙ c.requires.inside p (part_points r whole piece at is lies.ordered p h)
+    ap (λ (s : Rect). holds s (carried p piece.min c.right-there.result)) c.loop-column.invariant.rect ∙ ap (holds (rect_of c.args.watched.now.plane)) (ap (carried p piece.min) c.right-there.ensures ∙ part_carried r whole piece at p c.args.to is) ∙ c.requires.inside p (part_points r whole piece at is lies.ordered p h)
 
 pub show_part-requires-clause-to : goal.show_part-requires-clause-to
 show_part-requires-clause-to g c =
@@ -110,7 +110,7 @@ show_part-requires-clause-to g c =
     let first = first_point r piece here in
     let there : carried piece.min piece.min c.right-there.result ≡ carried piece.min whole.min c.args.to = (ap (carried piece.min piece.min) c.right-there.ensures ∙ part_carried r whole piece at piece.min c.args.to is) in
     let self : carried piece.min piece.min c.right-there.result ≡ c.right-there.result = same_point (carried piece.min piece.min c.right-there.result) c.right-there.result (omega (arith, ints)) (omega (arith, ints)) in
-    near_point (2 ^ 40) (rect_of c.args.plane.now) c.right-there.result c.args.plane.now.near (ap (holds (rect_of c.args.plane.now)) (sym self ∙ there) ∙ c.requires.inside piece.min (part_points r whole piece at is lies.ordered piece.min first))
+    near_point (2 ^ 40) (rect_of c.args.watched.now.plane) c.right-there.result c.args.watched.now.plane.near (ap (holds (rect_of c.args.watched.now.plane)) (sym self ∙ there) ∙ c.requires.inside piece.min (part_points r whole piece at is lies.ordered piece.min first))
 
 pub show_part-requires-clause-below : goal.show_part-requires-clause-below
 show_part-requires-clause-below g c p h =
@@ -169,17 +169,23 @@ loop-column-preserved g c =
       within = omega (arith, is.fits, c.width-column.ensures);
       rect = c.show_part.ensures.rect ∙ c.loop-column.invariant.rect;
       chan = c.show_part.ensures.chan ∙ c.loop-column.invariant.chan;
+      moment = c.show_part.ensures.moment ∙ c.loop-column.invariant.moment;
+      few = omega (arith, c.loop-column.invariant.few, c.show_part.ensures.few, c.show_part.ensures.steps);
       shown = λ q.
-          shown_more (side whole at) piece (side whole (at + width piece)) (carried q c.args.to whole.min) (pixel_at c.args.plane.now q) (pixel_at c.loop-column.plane q) (pixel_at c.show_part.new.plane q) (place_pixel c.args.self.now (cell_place c.args.i r (carried q c.args.to whole.min))) (part_next r whole piece at is) (c.loop-column.invariant.shown q)
-          (c.show_part.ensures.pixels q ∙ ap (λ (p : Point). if holds piece p then place_pixel c.args.self.now (cell_place c.args.i r p) else pixel_at c.loop-column.plane q) (ap (λ (t : Point). carried q t piece.min) c.right-there.ensures ∙ part_back r whole piece at q c.args.to is))
-          ∙ ap (λ n. if holds (side whole (at + n)) (carried q c.args.to whole.min) then (place_pixel c.args.self.now (cell_place c.args.i r (carried q c.args.to whole.min))) else pixel_at c.args.plane.now q) (sym c.width-column.ensures);
+          shown_more (side whole at) piece (side whole (at + width piece)) (carried q c.args.to whole.min) (pixel_at c.args.watched.now.plane q) (pixel_at c.loop-column.watched.plane q) (pixel_at c.show_part.new.watched.plane q) (place_pixel c.args.self.now (cell_place c.args.i r (carried q c.args.to whole.min))) (part_next r whole piece at is) (c.loop-column.invariant.shown q)
+          (c.show_part.ensures.pixels q ∙ ap (λ (p : Point). if holds piece p then place_pixel c.args.self.now (cell_place c.args.i r p) else pixel_at c.loop-column.watched.plane q) (ap (λ (t : Point). carried q t piece.min) c.right-there.ensures ∙ part_back r whole piece at q c.args.to is))
+          ∙ ap (λ n. if holds (side whole (at + n)) (carried q c.args.to whole.min) then (place_pixel c.args.self.now (cell_place c.args.i r (carried q c.args.to whole.min))) else pixel_at c.args.watched.now.plane q) (sym c.width-column.ensures);
       steps = more_columns r whole piece at c.width-column.result c.args.steps.now c.loop-column.steps c.show_part.new.steps is c.width-column.ensures c.loop-column.invariant.steps c.show_part.ensures.steps;
     }
 
 pub returns-clause-pixels : goal.returns-clause-pixels
 returns-clause-pixels g c q =
-    c.loop-column.invariant.shown q ∙ ap (λ (s : Rect). if holds s (carried q c.args.to c.args.band.now.min) then place_pixel c.args.self.now (cell_place c.args.i c.args.r.now (carried q c.args.to c.args.band.now.min)) else pixel_at c.args.plane.now q) (side_whole c.args.band.now c.loop-column.column c.requires.ordered c.loop-column.invariant.within (omega (arith, c.loop-column-test.false, c.width.ensures)))
+    c.loop-column.invariant.shown q ∙ ap (λ (s : Rect). if holds s (carried q c.args.to c.args.band.now.min) then place_pixel c.args.self.now (cell_place c.args.i c.args.r.now (carried q c.args.to c.args.band.now.min)) else pixel_at c.args.watched.now.plane q) (side_whole c.args.band.now c.loop-column.column c.requires.ordered c.loop-column.invariant.within (omega (arith, c.loop-column-test.false, c.width.ensures)))
 
 pub returns-clause-steps : goal.returns-clause-steps
 returns-clause-steps g c =
     every_column c.args.band.now c.loop-column.column c.args.steps.now c.loop-column.steps c.loop-column.invariant.within (omega (arith, c.loop-column-test.false, c.width.ensures)) c.loop-column.invariant.steps
+
+pub returns-clause-few : goal.returns-clause-few
+returns-clause-few g c =
+    omega (arith, c.loop-column.invariant.few, every_column c.args.band.now c.loop-column.column c.args.steps.now c.loop-column.steps c.loop-column.invariant.within (omega (arith, c.loop-column-test.false, c.width.ensures)) c.loop-column.invariant.steps)

@@ -3,6 +3,7 @@ use Rattle.std.specs.Prelude.{if◌then◌else◌}
 use Rattle.r9_geom.specs.declared.Point.{Point}
 use Rattle.r9_geom.specs.Geometry.{carried, height, holds, width}
 use Rattle.r9_plane.specs.Pixels.{chan_of, pixel_at, rect_of}
+use Rattle.r9_watched.specs.Watched.{count_of, moment_of}
 use Rattle.r9_cells.specs.Cells.{place_pixel}
 use Rattle.r9_cells.specs.Rows.{cell_place}
 use Rattle.r9_cells.proofs.Bands.{side}
@@ -11,9 +12,11 @@ use Rattle.r9_cells.proofs.table.Cells.show_band.Given as goal
 abbrev pub invariant-loop-column : goal.invariant-loop-column
 invariant-loop-column g l = record {
   within : l.column ≤ width l.band;
-  rect : rect_of l.plane ≡ rect_of l.fn.plane;
-  chan : chan_of l.plane ≡ chan_of l.fn.plane;
-  shown : (q : Point) → pixel_at l.plane q ≡ (if holds (side l.band l.column) (carried q l.to l.band.min) then place_pixel l.self (cell_place l.i l.r (carried q l.to l.band.min)) else pixel_at l.fn.plane q);
+  rect : rect_of l.watched.plane ≡ rect_of l.fn.watched.plane;
+  chan : chan_of l.watched.plane ≡ chan_of l.fn.watched.plane;
+  moment : moment_of l.watched ≡ moment_of l.fn.watched;
+  few : count_of l.watched + l.fn.steps ≤ count_of l.fn.watched + l.steps;
+  shown : (q : Point) → pixel_at l.watched.plane q ≡ (if holds (side l.band l.column) (carried q l.to l.band.min) then place_pixel l.self (cell_place l.i l.r (carried q l.to l.band.min)) else pixel_at l.fn.watched.plane q);
   steps : l.steps ≡ l.fn.steps + l.column * height l.band;
 }
 

@@ -18,7 +18,7 @@ use Rattle.r9_cells.proofs.table.Cells.show_block.Goals as goal
 
 pub loop-row-init : goal.loop-row-init
 loop-row-init g c =
-    record { within = omega arith; rect = refl; chan = refl; shown = λ q. sym (ap (λ b. if b then place_pixel c.args.self.now (cell_place c.args.i c.args.r.now (carried q c.args.to c.args.block.now.min)) else pixel_at c.args.plane.now q) (band_none c.args.block.now (carried q c.args.to c.args.block.now.min))); steps = omega arith }
+    record { within = omega arith; rect = refl; chan = refl; moment = refl; few = omega arith; shown = λ q. sym (ap (λ b. if b then place_pixel c.args.self.now (cell_place c.args.i c.args.r.now (carried q c.args.to c.args.block.now.min)) else pixel_at c.args.watched.now.plane q) (band_none c.args.block.now (carried q c.args.to c.args.block.now.min))); steps = omega arith }
 
 pub band_of-band-requires-clause-row : goal.band_of-band-requires-clause-row
 band_of-band-requires-clause-row g c =
@@ -96,7 +96,7 @@ show_band-requires-clause-inside g c p h =
     let lies = has_lies c.args.self.now c.args.i c.args.r.now c.args.block.now c.requires.also c.requires.ordered c.requires.some c.requires.has in
     let is = band_tells r whole piece at c.band_of-band.ensures (omega (arith, c.loop-row-test.true, c.height.ensures)) in
     let here = band_lies r whole piece at is lies in
-    ap (λ (s : Rect). holds s (carried p piece.min c.down-there.result)) c.loop-row.invariant.rect ∙ ap (holds (rect_of c.args.plane.now)) (ap (carried p piece.min) c.down-there.ensures ∙ band_carried r whole piece at p c.args.to is) ∙ c.requires.inside p (band_points r whole piece at is lies.ordered p h)
+    ap (λ (s : Rect). holds s (carried p piece.min c.down-there.result)) c.loop-row.invariant.rect ∙ ap (holds (rect_of c.args.watched.now.plane)) (ap (carried p piece.min) c.down-there.ensures ∙ band_carried r whole piece at p c.args.to is) ∙ c.requires.inside p (band_points r whole piece at is lies.ordered p h)
 
 pub show_band-requires-clause-to : goal.show_band-requires-clause-to
 show_band-requires-clause-to g c =
@@ -110,7 +110,7 @@ show_band-requires-clause-to g c =
     let first = first_point r piece here in
     let there : carried piece.min piece.min c.down-there.result ≡ carried piece.min whole.min c.args.to = (ap (carried piece.min piece.min) c.down-there.ensures ∙ band_carried r whole piece at piece.min c.args.to is) in
     let self : carried piece.min piece.min c.down-there.result ≡ c.down-there.result = same_point (carried piece.min piece.min c.down-there.result) c.down-there.result (omega (arith, ints)) (omega (arith, ints)) in
-    near_point (2 ^ 40) (rect_of c.args.plane.now) c.down-there.result c.args.plane.now.near (ap (holds (rect_of c.args.plane.now)) (sym self ∙ there) ∙ c.requires.inside piece.min (band_points r whole piece at is lies.ordered piece.min first))
+    near_point (2 ^ 40) (rect_of c.args.watched.now.plane) c.down-there.result c.args.watched.now.plane.near (ap (holds (rect_of c.args.watched.now.plane)) (sym self ∙ there) ∙ c.requires.inside piece.min (band_points r whole piece at is lies.ordered piece.min first))
 
 pub show_band-requires-clause-below : goal.show_band-requires-clause-below
 show_band-requires-clause-below g c p h =
@@ -169,17 +169,23 @@ loop-row-preserved g c =
       within = omega (arith, is.fits, c.height-row.ensures);
       rect = c.show_band.ensures.rect ∙ c.loop-row.invariant.rect;
       chan = c.show_band.ensures.chan ∙ c.loop-row.invariant.chan;
+      moment = c.show_band.ensures.moment ∙ c.loop-row.invariant.moment;
+      few = omega (arith, c.loop-row.invariant.few, c.show_band.ensures.few, c.show_band.ensures.steps);
       shown = λ q.
-          shown_more (band whole at) piece (band whole (at + height piece)) (carried q c.args.to whole.min) (pixel_at c.args.plane.now q) (pixel_at c.loop-row.plane q) (pixel_at c.show_band.new.plane q) (place_pixel c.args.self.now (cell_place c.args.i r (carried q c.args.to whole.min))) (band_next r whole piece at is) (c.loop-row.invariant.shown q)
-          (c.show_band.ensures.pixels q ∙ ap (λ (p : Point). if holds piece p then place_pixel c.args.self.now (cell_place c.args.i r p) else pixel_at c.loop-row.plane q) (ap (λ (t : Point). carried q t piece.min) c.down-there.ensures ∙ band_back r whole piece at q c.args.to is))
-          ∙ ap (λ n. if holds (band whole (at + n)) (carried q c.args.to whole.min) then (place_pixel c.args.self.now (cell_place c.args.i r (carried q c.args.to whole.min))) else pixel_at c.args.plane.now q) (sym c.height-row.ensures);
+          shown_more (band whole at) piece (band whole (at + height piece)) (carried q c.args.to whole.min) (pixel_at c.args.watched.now.plane q) (pixel_at c.loop-row.watched.plane q) (pixel_at c.show_band.new.watched.plane q) (place_pixel c.args.self.now (cell_place c.args.i r (carried q c.args.to whole.min))) (band_next r whole piece at is) (c.loop-row.invariant.shown q)
+          (c.show_band.ensures.pixels q ∙ ap (λ (p : Point). if holds piece p then place_pixel c.args.self.now (cell_place c.args.i r p) else pixel_at c.loop-row.watched.plane q) (ap (λ (t : Point). carried q t piece.min) c.down-there.ensures ∙ band_back r whole piece at q c.args.to is))
+          ∙ ap (λ n. if holds (band whole (at + n)) (carried q c.args.to whole.min) then (place_pixel c.args.self.now (cell_place c.args.i r (carried q c.args.to whole.min))) else pixel_at c.args.watched.now.plane q) (sym c.height-row.ensures);
       steps = more_rows r whole piece at c.height-row.result c.args.steps.now c.loop-row.steps c.show_band.new.steps is c.height-row.ensures c.loop-row.invariant.steps c.show_band.ensures.steps;
     }
 
 pub returns-clause-pixels : goal.returns-clause-pixels
 returns-clause-pixels g c q =
-    c.loop-row.invariant.shown q ∙ ap (λ (s : Rect). if holds s (carried q c.args.to c.args.block.now.min) then place_pixel c.args.self.now (cell_place c.args.i c.args.r.now (carried q c.args.to c.args.block.now.min)) else pixel_at c.args.plane.now q) (band_whole c.args.block.now c.loop-row.row c.requires.ordered c.loop-row.invariant.within (omega (arith, c.loop-row-test.false, c.height.ensures)))
+    c.loop-row.invariant.shown q ∙ ap (λ (s : Rect). if holds s (carried q c.args.to c.args.block.now.min) then place_pixel c.args.self.now (cell_place c.args.i c.args.r.now (carried q c.args.to c.args.block.now.min)) else pixel_at c.args.watched.now.plane q) (band_whole c.args.block.now c.loop-row.row c.requires.ordered c.loop-row.invariant.within (omega (arith, c.loop-row-test.false, c.height.ensures)))
 
 pub returns-clause-steps : goal.returns-clause-steps
 returns-clause-steps g c =
     every_row c.args.block.now c.loop-row.row c.args.steps.now c.loop-row.steps c.loop-row.invariant.within (omega (arith, c.loop-row-test.false, c.height.ensures)) c.loop-row.invariant.steps
+
+pub returns-clause-few : goal.returns-clause-few
+returns-clause-few g c =
+    omega (arith, c.loop-row.invariant.few, every_row c.args.block.now c.loop-row.row c.args.steps.now c.loop-row.steps c.loop-row.invariant.within (omega (arith, c.loop-row-test.false, c.height.ensures)) c.loop-row.invariant.steps)

@@ -41,7 +41,7 @@ place_at-requires g c =
 pub put_block-requires-clause-near : goal.put_block-requires-clause-near
 put_block-requires-clause-near g c =
     let to_is : c.at_min.result ≡ at_min c.args.part.now c.args.to = c.at_min.ensures in
-    subst IsRectNear (sym to_is) (near_within (rect_of c.args.plane.now) (at_min c.args.part.now c.args.to) c.args.plane.now.near (points_there c.args.part.now c.args.to c.requires.some) (λ (q : Point) (h : holds (at_min c.args.part.now c.args.to) q ≡ true). ap (holds (rect_of c.args.plane.now)) (sym (carried_back q c.args.to c.args.part.now.min)) ∙ c.requires.inside (carried q c.args.to c.args.part.now.min) (from_there c.args.part.now c.args.to q h)))
+    subst IsRectNear (sym to_is) (near_within (rect_of c.args.watched.now.plane) (at_min c.args.part.now c.args.to) c.args.watched.now.plane.near (points_there c.args.part.now c.args.to c.requires.some) (λ (q : Point) (h : holds (at_min c.args.part.now c.args.to) q ≡ true). ap (holds (rect_of c.args.watched.now.plane)) (sym (carried_back q c.args.to c.args.part.now.min)) ∙ c.requires.inside (carried q c.args.to c.args.part.now.min) (from_there c.args.part.now c.args.to q h)))
 
 pub put_block-requires-clause-ordered : goal.put_block-requires-clause-ordered
 put_block-requires-clause-ordered g c =
@@ -51,7 +51,7 @@ put_block-requires-clause-ordered g c =
 pub put_block-requires-clause-inside : goal.put_block-requires-clause-inside
 put_block-requires-clause-inside g c q h =
     let to_is : c.at_min.result ≡ at_min c.args.part.now c.args.to = c.at_min.ensures in
-    (λ (q : Point) (h : holds (at_min c.args.part.now c.args.to) q ≡ true). ap (holds (rect_of c.args.plane.now)) (sym (carried_back q c.args.to c.args.part.now.min)) ∙ c.requires.inside (carried q c.args.to c.args.part.now.min) (from_there c.args.part.now c.args.to q h)) q (ap (λ (s : Rect). holds s q) (sym to_is) ∙ h)
+    (λ (q : Point) (h : holds (at_min c.args.part.now c.args.to) q ≡ true). ap (holds (rect_of c.args.watched.now.plane)) (sym (carried_back q c.args.to c.args.part.now.min)) ∙ c.requires.inside (carried q c.args.to c.args.part.now.min) (from_there c.args.part.now c.args.to q h)) q (ap (λ (s : Rect). holds s q) (sym to_is) ∙ h)
 
 pub put_block-requires-clause-rows : goal.put_block-requires-clause-rows
 put_block-requires-clause-rows g c =
@@ -101,7 +101,7 @@ returns-clause-pixels g c q =
     ∙ ap (λ (s : Tiles). pixel s c.tile-tile.result (in_cell r p)) c.store.ensures
     ∙ sym (tile_pixel c.args.self.now c.args.i r part c.tile-tile.result p c.requires.part h tile) in
     let test : holds c.at_min.result q ≡ holds part (carried q c.args.to part.min) = ap (λ (s : Rect). holds s q) to_is ∙ holds-at_min part c.args.to q in
-    let old = pixel_at c.args.plane.now q in
+    let old = pixel_at c.args.watched.now.plane q in
     let raw = get_or pixels (number_in c.at_min.result c.place_at.result 32 q) 0 in
     c.put_block.ensures.pixels q
     ∙ ap (λ b. if b then raw else old) test
@@ -110,3 +110,7 @@ returns-clause-pixels g c q =
 pub returns-clause-steps : goal.returns-clause-steps
 returns-clause-steps g c =
     same_there c.args.part.now c.at_min.result c.args.to c.args.steps.now c.put_block.new.steps c.at_min.ensures c.put_block.ensures.steps
+
+pub returns-clause-few : goal.returns-clause-few
+returns-clause-few g c =
+    omega (arith, c.put_block.ensures.few, c.put_block.ensures.steps, same_there c.args.part.now c.at_min.result c.args.to c.args.steps.now c.put_block.new.steps c.at_min.ensures c.put_block.ensures.steps)

@@ -7,18 +7,18 @@ use Rattle.r9_desktop.specs.World.{desktop_of, parts_of}
 use Rattle.r9_desktop.proofs.Maps.{with-absent}
 use Rattle.r9_desktop.proofs.desktop.Desktop.set_snarf.Goals as goal
 
-pub returns-in_default : goal.returns-in_default
+pub returns-in_default-clause-snarf : goal.returns-in_default-clause-snarf
 unfolding desktop_of
-returns-in_default c =
+returns-in_default-clause-snarf c =
     let before = c.args.self.now.snarfs.entries in
     let none : lookup before c.args.host ≡ None = search rules in
     let kept : c.get_mut.follows.lender-at-none.entries ≡ before = search rules in
     let desktop : model.Desktop = parts_of c.args.self.now in
     ap (λ (es : List (ℕ × List ℕ)). (let left : model.Desktop = record desktop { snarfs = es } in left)) (kept ∙ sym (with-absent before c.args.host c.args.contents none))
 
-pub returns-in-Some : goal.returns-in-Some
+pub returns-in-Some-clause-snarf : goal.returns-in-Some-clause-snarf
 unfolding desktop_of
-returns-in-Some c =
+returns-in-Some-clause-snarf c =
     let before = c.args.self.now.snarfs.entries in
     let desktop : model.Desktop = parts_of c.args.self.now in
     ap (λ (es : List (ℕ × List ℕ)). (let left : model.Desktop = record desktop { snarfs = es } in left))

@@ -1,5 +1,6 @@
 use Rattle.std.proofs.Common.{sym}
-use Rattle.r9_device.proofs.Lookups.{shown-used}
+use Rattle.r9_layers.specs.Forest.{world}
+use Rattle.r9_device.proofs.Lookups.{display-lives, shown-used}
 use Rattle.r9_device.proofs.device.Device.image_shown.Goals as goal
 
 pub returns-in-Some-clause-live : goal.returns-in-Some-clause-live
@@ -10,4 +11,4 @@ returns-in-Some-clause-live c =
 pub returns-in-None-clause-live : goal.returns-in-None-clause-live
 returns-in-None-clause-live c =
     let before = c.args.self.now in
-    before.kept.live 0 (shown-used before.book.book 0 0 0 before.kept.display)
+    display-lives (world before.forest) before.book.book before.kept

@@ -10,6 +10,7 @@ use Rattle.r9_layers.specs.Forest.{numbers, world}
 use Rattle.r9_device.specs.World.{world_of}
 use Rattle.r9_device.specs.Gone.{CanRelease, images_without, numbers_without}
 use Rattle.r9_device.proofs.Kept.{can-release}
+use Rattle.r9_device.proofs.Lookups.{display-lives}
 use Rattle.r9_device.proofs.Worlds.{kept-after, left-world}
 use Rattle.r9_device.proofs.Manager.{manager-without, not_manager, not_owner}
 use Rattle.model_images.proofs.Complete.{LeavesNone}
@@ -18,6 +19,7 @@ use Rattle.r9_device.proofs.Spare.{spare-freed}
 use Rattle.model_images.specs.Ties.{HasTies}
 use Rattle.model_images.proofs.Ties.{HasTies-leave}
 use Rattle.r9_device.proofs.device.Device.leave.Goals as goal
+use Rattle.r9_device.proofs.device.Device.leave.Goals.{After-remove}
 
 pub release-requires : goal.release-requires
 release-requires g c =
@@ -78,3 +80,8 @@ returns-clause-steps g c =
     let gone : c.as_slice.result.now ≡ (leave c.args.self.now.book.book c.args.client).gone = c.as_slice.ensures ∙ sym (ap (λ (f : Freed). f.gone) c.in_ok-gone.ensures.left) in
     let same = ap (λ (things : List Thing). going_all images things) gone in
     omega (arith, same, c.release.ensures.steps)
+
+pub returns-clause-moment : goal.returns-clause-moment
+returns-clause-moment g c =
+    let kept = invariant_of-self-2-clause-kept g ((goal.at.returns-clause-moment g c).After-remove) in
+    c.release.ensures.moment 0 (display-lives (world c.release.new.forest) c.leave.new.self.book kept)

@@ -1,4 +1,4 @@
-use Rattle.std.proofs.Common.{◌<◌, Bool, length, refl, rules, tests, sym, subst, ℕ, List, ◌+◌, arith}
+use Rattle.std.proofs.Common.{◌<◌, Bool, length, refl, rules, tests, sym, subst, ℕ, List, ◌+◌, ◌∙◌, arith}
 use Rattle.r9_device.specs.World as device
 use Rattle.r9_draw.specs.World.{world_of}
 use Rattle.r9_draw.specs.Steps.{IsShortOf, IsDone}
@@ -7,7 +7,7 @@ use Rattle.r9_draw.proofs.Writing.{IsWriting, begins, refused, short-cause, rows
 use Rattle.r9_draw.proofs.draw.Draw.write.Goals as goal
 
 pub messages-init : goal.messages-init
-messages-init g c = (begins c.args.client (world_of c.args.self.now) c.args.bytes.now c.args.mark c.requires.live, c.new-rows.ensures, omega arith, λ _. refl)
+messages-init g c = (begins c.args.client (world_of c.args.self.now) c.args.bytes.now c.args.mark c.requires.live, c.new-rows.ensures, omega arith, λ _. refl, refl, refl)
 
 pub returns-in-Refused-clause-plain : goal.returns-in-Refused-clause-plain
 returns-in-Refused-clause-plain g c = λ _.
@@ -34,6 +34,8 @@ messages-preserved g c =
       rows-done c.args.client (world_of c.args.self.now) c.args.bytes.now (world_of c.messages.self) (device.world_of c.one_message.new.device) c.messages.rest.now c.messages.done c.in-Done.len c.is_marked-marked.result c.messages.rows c.one_message.new.rows c.messages.invariant.0.reaches c.in-Done.ensures.step c.messages.invariant.1 c.in-Done.ensures.rows,
       counted-more c.args.client (world_of c.args.self.now) (world_of c.messages.self) (device.world_of c.one_message.new.device) c.args.bytes.now c.messages.rest.now c.is_marked-marked.result c.messages.done c.in-Done.len c.args.pixels.now c.messages.pixels c.one_message.new.steps c.messages.invariant.0.reaches c.in-Done.ensures.step c.in-Done.ensures.steps c.messages.invariant.2,
       λ none. absurd (omega (arith, none)),
+      c.one_message.ensures.moment ∙ c.messages.invariant.4,
+      omega (arith, c.one_message.ensures.writes, c.messages.invariant.5),
     )
 
 pub returns-in-Refused-clause-pixels : goal.returns-in-Refused-clause-pixels

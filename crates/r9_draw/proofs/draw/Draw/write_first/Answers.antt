@@ -1,4 +1,4 @@
-use Rattle.std.proofs.Common.{false, ◌≡◌, ◌<◌, length, rules, tests, sym, ap, ◌∙◌, subst, ℕ, List, ◌+◌, ◌≤◌, arith, None}
+use Rattle.std.proofs.Common.{false, ◌≡◌, ◌<◌, length, rules, tests, sym, ap, ◌∙◌, subst, ℕ, List, ◌+◌, ◌≤◌, arith, None, refl}
 use Rattle.model_draw.specs.Act.{written_within}
 use Rattle.r9_device.specs.World as device
 use Rattle.r9_draw.specs.World.{world_of}
@@ -9,7 +9,7 @@ use Rattle.r9_draw.proofs.draw.Draw.write_first.Goals.{then-messages-test+else-n
 use Rattle.r9_draw.proofs.draw.Draw.write_first.Goals as goal
 
 pub messages-init : goal.messages-init
-messages-init g c = (none-done c.args.client (world_of c.args.self.now) c.args.bytes.now c.requires.live, omega arith, c.new-rows.ensures, omega arith)
+messages-init g c = (none-done c.args.client (world_of c.args.self.now) c.args.bytes.now c.requires.live, omega arith, c.new-rows.ensures, omega arith, refl, refl)
 
 pub returns-in-Refused-clause-plain : goal.returns-in-Refused-clause-plain
 returns-in-Refused-clause-plain g c = λ _.
@@ -35,6 +35,8 @@ messages-preserved g c =
       few,
       rows-done c.args.client (world_of c.args.self.now) c.args.bytes.now (world_of c.messages.self) (device.world_of c.one_message.new.device) c.messages.rest.now c.messages.done c.in-Done.len false c.messages.rows c.one_message.new.rows c.messages.invariant.0.reaches c.in-Done.ensures.step c.messages.invariant.2 c.in-Done.ensures.rows,
       counted-more c.args.client (world_of c.args.self.now) (world_of c.messages.self) (device.world_of c.one_message.new.device) c.args.bytes.now c.messages.rest.now false c.messages.done c.in-Done.len c.args.pixels.now c.messages.pixels c.one_message.new.steps c.messages.invariant.0.reaches c.in-Done.ensures.step c.in-Done.ensures.steps c.messages.invariant.3,
+      c.one_message.ensures.moment ∙ c.messages.invariant.4,
+      omega (arith, c.one_message.ensures.writes, c.messages.invariant.5),
     )
 
 pub returns-clause-plain : goal.returns-clause-plain

@@ -162,3 +162,15 @@ returns-clause-taken g c =
 
 pub returns-clause-later : goal.returns-clause-later
 returns-clause-later g c = c.in_ok-arrive.ensures.later
+
+pub returns-in_err-arrive-clause-moment : goal.returns-in_err-arrive-clause-moment
+returns-in_err-arrive-clause-moment g c = c.arrive.ensures.moment
+
+pub returns-in_err-arrive-clause-writes : goal.returns-in_err-arrive-clause-writes
+returns-in_err-arrive-clause-writes g c = c.arrive.ensures.writes
+
+pub returns-clause-moment : goal.returns-clause-moment
+returns-clause-moment g c = c.arrive.ensures.moment
+
+pub returns-clause-writes : goal.returns-clause-writes
+returns-clause-writes g c = c.arrive.ensures.writes

@@ -15,7 +15,7 @@ use Rattle.r9_locate.specs.declared.lists.Lists.{Lists}
 use Rattle.r9_locate.specs.Table.{shape, HasRoom}
 use Rattle.r9_locate.specs.Table as table
 use Rattle.r9_pixels.specs.declared.keeping.KeptPixels.{KeptPixels}
-use Rattle.r9_pixels.specs.Kept.{kept_at, room_of, spare_in, wanted_in}
+use Rattle.r9_pixels.specs.Kept.{kept_at, room_of, spare_in, wanted_in, moment, writes}
 use Rattle.r9_pixels.specs.Places.{StandsOn}
 use Rattle.r9_cells.specs.Fitting.{AreOne}
 use Rattle.r9_arrive.specs.Arriving.{after_coming, with_coming, IsLeft, IsLeftOf}
@@ -353,3 +353,15 @@ returns-in_err-come-clause-err g c =
       world = c.in_err-come.ensures.err.world ∙ still_world c.reserve_window.new.self c.given-given.new.self c.given-given.ensures.lists c.given-given.ensures.pixels ∙ c.in_ok-reserve_window.ensures.kept.world;
       numbers = c.in_err-come.ensures.err.numbers ∙ still_numbers c.reserve_window.new.self c.given-given.new.self c.given-given.ensures.lists c.given-given.ensures.spare ∙ c.in_ok-reserve_window.ensures.kept.numbers;
     })
+
+pub returns-in_err-come-clause-moment : goal.returns-in_err-come-clause-moment
+returns-in_err-come-clause-moment g c = c.come.ensures.moment ∙ ap moment c.given-given.ensures.pixels ∙ c.reserve_window.ensures.moment
+
+pub returns-in_err-come-clause-writes : goal.returns-in_err-come-clause-writes
+returns-in_err-come-clause-writes g c = let same = ap writes c.given-given.ensures.pixels in omega (arith, c.come.ensures.writes, same, c.reserve_window.ensures.writes)
+
+pub returns-clause-moment : goal.returns-clause-moment
+returns-clause-moment g c = c.move_away.ensures.moment ∙ c.come.ensures.moment ∙ ap moment c.given-given.ensures.pixels ∙ c.reserve_window.ensures.moment
+
+pub returns-clause-writes : goal.returns-clause-writes
+returns-clause-writes g c = let same = ap writes c.given-given.ensures.pixels in omega (arith, c.move_away.ensures.writes, c.come.ensures.writes, same, c.reserve_window.ensures.writes)

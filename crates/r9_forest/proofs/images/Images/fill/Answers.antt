@@ -50,3 +50,6 @@ returns-clause-world g c =
 pub returns-clause-numbers : goal.returns-clause-numbers
 unfolding numbers
 returns-clause-numbers g c = refl
+
+pub returns-clause-moment : goal.returns-clause-moment
+returns-clause-moment g c = c.fill_area.ensures.written.moment

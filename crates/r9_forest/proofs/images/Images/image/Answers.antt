@@ -1,10 +1,10 @@
 use Rattle.std.proofs.Common.{◌≡◌, ◌∙◌, ℕ, ◌+◌, ◌<◌, ◌^◌, Option, Some, lit≤, refl, sym, subst, ap, arith}
-use Rattle.std.specs.Prelude.{option_map}
+use Rattle.std.specs.Prelude.{is_some, option_map}
 use Rattle.r9_geom.proofs.GeometryLemmas.{rect_near_wider}
 use Rattle.model_pixel.specs.Channels.{is_descriptor}
 use Rattle.model_forest.specs.Numbers.{next_number, taken}
 use Rattle.model_forest.specs.Steps.{after_image}
-use Rattle.model_forest.specs.World.{Image, World, with_image, IsForest}
+use Rattle.model_forest.specs.World.{Image, World, with_image, IsForest, IsLive}
 use Rattle.model_kept.specs.Keeping.{with_kept}
 use Rattle.model_kept.specs.Restack.{with_own}
 use Rattle.model_kept.proofs.Once.{places-forest}
@@ -13,9 +13,12 @@ use Rattle.r9_plane.specs.Pixels.{pixel_at}
 use Rattle.r9_locate.specs.Forms.{form_of, Form}
 use Rattle.r9_locate.specs.Lists.{frame_image}
 use Rattle.r9_locate.specs.Table.{made, shape, HasRoom}
-use Rattle.r9_pixels.specs.Kept.{kept_at}
+use Rattle.r9_watched.specs.Moments.{moment_at, Moment}
+use Rattle.r9_pixels.specs.Kept.{kept_at, moment, writes}
 use Rattle.r9_forest.specs.Images.{numbers, world}
 use Rattle.r9_forest.specs.Numbered.{bare_image, numbers_of, IsTaken}
+use Rattle.r9_arrive.proofs.Canvases.{bare_canvas}
+use Rattle.r9_forest.proofs.Looking.{live-other, moment-other}
 use Rattle.r9_forest.proofs.Making.{made_world, with_made}
 use Rattle.r9_relist.proofs.Near.{nearby}
 use Rattle.r9_forest.proofs.Numbers.{taken_next, IsNext}
@@ -142,3 +145,19 @@ returns-clause-taken c =
     ap (λ (n : ℕ). numbers_of n c.take_number-number.new.spare.items) c.insert.ensures.made
     ∙ sym (next before).numbers
     ∙ ap taken c.in_ok-reserve.ensures.kept.numbers
+
+pub returns-in_err-reserve-clause-moment : goal.returns-in_err-reserve-clause-moment
+returns-in_err-reserve-clause-moment c j live = ap (λ (moments : ℕ → Option Moment). moments j) c.reserve.ensures.moment
+
+pub returns-clause-moment : goal.returns-clause-moment
+unfolding world
+returns-clause-moment c j live =
+    let before = (goal.at.returns-clause-moment c).After-whole_frame in
+    let lists = c.reserve.new.self.lists in
+    let pixels = c.reserve.new.self.pixels in
+    let i = c.take_number-number.result in
+    let there : IsLive (with_kept (shape lists) (kept_at pixels)) j = ap (λ (w : World). is_some (w j)) c.in_ok-reserve.ensures.kept.world ∙ live in
+    let other = live-other (shape lists) i j (next before).free ((bare_canvas (shape lists) (kept_at pixels)).live j ∙ there) in
+    ap (λ (moments : ℕ → Option Moment). moments j) c.insert_whole.ensures.moment
+    ∙ moment-other i j (Some (moment_at c.in_ok-plane.plane (writes pixels))) (moment pixels) other
+    ∙ ap (λ (moments : ℕ → Option Moment). moments j) c.reserve.ensures.moment

@@ -11,7 +11,7 @@ use Rattle.r9_locate.specs.declared.lists.Lists.{Lists}
 use Rattle.r9_locate.specs.Forms.{bits_in}
 use Rattle.r9_locate.specs.Table.{shape}
 use Rattle.r9_pixels.specs.declared.keeping.KeptPixels.{KeptPixels}
-use Rattle.r9_pixels.specs.Kept.{form_at, kept_at, spare_in, wanted_in}
+use Rattle.r9_pixels.specs.Kept.{form_at, kept_at, spare_in, wanted_in, moment, writes}
 use Rattle.r9_fills.specs.Content.{content}
 use Rattle.r9_fills.specs.Fills.{fill_at}
 use Rattle.r9_forest.specs.Given.{given_at, left_of}
@@ -187,3 +187,9 @@ returns-clause-steps g c =
     let here = ap area_of c.place_of-left.ensures.value in
     let window = ap area_of ((bare_canvas (shape was.lists) (kept_at was.pixels)).r c.args.i) in
     omega (arith, most, here, window, c.hide.ensures.steps)
+
+pub returns-clause-moment : goal.returns-clause-moment
+returns-clause-moment g c = c.hide.ensures.moment ∙ ap moment c.gather_left-fill.ensures.pixels
+
+pub returns-clause-writes : goal.returns-clause-writes
+returns-clause-writes g c = let same = ap writes c.gather_left-fill.ensures.pixels in omega (arith, c.hide.ensures.writes, same)

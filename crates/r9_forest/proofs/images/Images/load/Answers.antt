@@ -72,3 +72,6 @@ returns-clause-world g c =
 pub returns-clause-numbers : goal.returns-clause-numbers
 unfolding numbers
 returns-clause-numbers g c = refl
+
+pub returns-clause-moment : goal.returns-clause-moment
+returns-clause-moment g c = c.load_area.ensures.written.moment

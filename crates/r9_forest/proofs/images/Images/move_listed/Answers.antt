@@ -7,7 +7,7 @@ use Rattle.model_forest.specs.World.{World, image_at, IsForest}
 use Rattle.r9_locate.specs.declared.lists.Lists.{Lists}
 use Rattle.r9_locate.specs.Table.{shape}
 use Rattle.r9_pixels.specs.declared.keeping.KeptPixels.{KeptPixels}
-use Rattle.r9_pixels.specs.Kept.{kept_at, spare_in, wanted_in}
+use Rattle.r9_pixels.specs.Kept.{kept_at, spare_in, wanted_in, moment, writes}
 use Rattle.r9_fills.specs.Fills.{fill_at}
 use Rattle.r9_arrive.proofs.Entering.{on_err}
 use Rattle.r9_forest.specs.Given.{filled_at, left_of, IsEnough}
@@ -74,3 +74,15 @@ returns-in_err-fill-clause-numbers g c = still_numbers c.args.self.now c.fill_le
 
 pub returns-in_err-fill-clause-err : goal.returns-in_err-fill-clause-err
 returns-in_err-fill-clause-err g c = on_err c.from_residual.result (still_world c.args.self.now c.fill_left.new.self c.fill_left.ensures.lists c.fill_left.ensures.pixels)
+
+pub returns-clause-moment : goal.returns-clause-moment
+returns-clause-moment g c = c.take_place.ensures.moment ∙ ap moment c.fill_left.ensures.pixels
+
+pub returns-clause-writes : goal.returns-clause-writes
+returns-clause-writes g c = let same = ap writes c.fill_left.ensures.pixels in omega (arith, c.take_place.ensures.writes, same)
+
+pub returns-in_err-fill-clause-moment : goal.returns-in_err-fill-clause-moment
+returns-in_err-fill-clause-moment g c = ap moment c.fill_left.ensures.pixels
+
+pub returns-in_err-fill-clause-writes : goal.returns-in_err-fill-clause-writes
+returns-in_err-fill-clause-writes g c = let same = ap writes c.fill_left.ensures.pixels in omega (arith, same)

@@ -7,7 +7,7 @@ use Rattle.model_forest.specs.World.{World, image_at, IsForest}
 use Rattle.r9_locate.specs.declared.lists.Lists.{Lists}
 use Rattle.r9_locate.specs.Table.{shape}
 use Rattle.r9_pixels.specs.declared.keeping.KeptPixels.{KeptPixels}
-use Rattle.r9_pixels.specs.Kept.{kept_at, spare_in, wanted_in}
+use Rattle.r9_pixels.specs.Kept.{kept_at, spare_in, wanted_in, moment, writes}
 use Rattle.r9_fills.specs.Fills.{fill_at}
 use Rattle.r9_arrive.proofs.Canvases.{bare_canvas}
 use Rattle.r9_forest.specs.Given.{filled_at, left_of, IsEnough}
@@ -76,3 +76,9 @@ pub returns-clause-steps : goal.returns-clause-steps
 returns-clause-steps g c =
     let size = ap (λ (w : World). area_of (image_at w c.args.i).r) (same g (goal.at.returns-clause-steps g c).After-fill_rows-fill) in
     omega (arith, size, c.take_place.ensures.steps)
+
+pub returns-clause-moment : goal.returns-clause-moment
+returns-clause-moment g c = c.take_place.ensures.moment ∙ ap moment c.fill_rows-fill.ensures.pixels
+
+pub returns-clause-writes : goal.returns-clause-writes
+returns-clause-writes g c = let same = ap writes c.fill_rows-fill.ensures.pixels in omega (arith, c.take_place.ensures.writes, same)

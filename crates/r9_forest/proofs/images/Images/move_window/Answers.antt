@@ -211,3 +211,15 @@ returns-clause-still g c has =
     let to = place_is g at.After-carried_rect-place (rect g at.After-get) in
     let same = placed g at.After-place_among ∙ has ∙ sym to in
     absurd (false≢true (sym c.if-eq.false ∙ c.eq.ensures ∙ true_is_rect c.place_among.result c.carried_rect-place.result same))
+
+pub returns-in_err-reserve_move-clause-moment : goal.returns-in_err-reserve_move-clause-moment
+returns-in_err-reserve_move-clause-moment g c = c.reserve_move.ensures.kept.moment
+
+pub returns-in_err-reserve_move-clause-writes : goal.returns-in_err-reserve_move-clause-writes
+returns-in_err-reserve_move-clause-writes g c = let same = c.reserve_move.ensures.kept.writes in omega (arith, same)
+
+pub returns-clause-moment : goal.returns-clause-moment
+returns-clause-moment g c = c.move_listed.ensures.moment ∙ c.reserve_move.ensures.kept.moment
+
+pub returns-clause-writes : goal.returns-clause-writes
+returns-clause-writes g c = let same = c.reserve_move.ensures.kept.writes in omega (arith, c.move_listed.ensures.writes, same)

@@ -1,4 +1,4 @@
-use Rattle.std.proofs.Common.{◌≡◌, ◌∙◌, Option, Some, sym, subst, ap}
+use Rattle.std.proofs.Common.{◌≡◌, ◌∙◌, Option, Some, sym, subst, ap, arith}
 use Rattle.std.specs.Prelude.{IfSome, option_map}
 use Rattle.model_forest.specs.declared.Standing.{Standing}
 use Rattle.model_forest.specs.Stack.{moved}
@@ -63,3 +63,12 @@ returns-clause-still g c has =
     let r = (image_at (world c.args.self.now) c.args.i).r in
     let place = carried_rect r r.min c.args.corner in
     c.move_window.ensures.still (subst (λ (o : Option Standing). IfSome o (λ s. place_among (image_at (world c.args.self.now) s.parent).windows c.args.i ≡ place)) (stands g at.In-Some) has)
+
+pub returns-clause-moment : goal.returns-clause-moment
+returns-clause-moment g c = c.shift_own-2.ensures.moment ∙ c.move_window.ensures.moment
+
+pub returns-clause-writes : goal.returns-clause-writes
+returns-clause-writes g c = omega (arith, c.shift_own-2.ensures.writes, c.move_window.ensures.writes)
+
+pub returns-in_default-clause-writes : goal.returns-in_default-clause-writes
+returns-in_default-clause-writes g c = omega (arith, c.shift_own.ensures.writes)

@@ -1,7 +1,8 @@
-use Rattle.std.proofs.Common.{◌≡◌, ◌∙◌, ℕ, Some, None, sym, ap}
+use Rattle.std.proofs.Common.{◌≡◌, ◌∙◌, ℕ, Option, Some, None, sym, ap}
 use Rattle.std.specs.Prelude.{option_map}
 use Rattle.model_forest.specs.declared.Standing.{Standing}
 use Rattle.model_forest.specs.World.{Image}
+use Rattle.r9_watched.specs.Moments.{Moment}
 use Rattle.r9_locate.specs.Table.{shape}
 use Rattle.r9_pixels.specs.Kept.{kept_at}
 use Rattle.r9_forest.specs.Images.{world}
@@ -39,3 +40,6 @@ returns-in-Some-clause-bare g c nowhere =
     (sym ((bare_canvas (shape c.args.self.now.lists) (kept_at c.args.self.now.pixels)).standing c.args.i)
     ∙ ap (λ (image : Image). image.standing) c.get.ensures ∙ c.in-Some.is))
     ∙ nowhere))
+
+pub returns-in-Some-clause-moment : goal.returns-in-Some-clause-moment
+returns-in-Some-clause-moment g c j live = ap (λ (moments : ℕ → Option Moment). moments j) c.take_out.ensures.moment

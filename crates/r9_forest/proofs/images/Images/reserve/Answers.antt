@@ -13,7 +13,7 @@ pub invariant_of-self : goal.invariant_of-self
 invariant_of-self c =
     let was = c.args.self.now in
     record {
-      sound = sound_same was.lists c.reserve.new.self was.pixels was.pixels was.spare.items c.reserve.ensures.world c.reserve.ensures.made (record { kept = refl; has = refl; forms = refl }) was.sound;
+      sound = sound_same was.lists c.reserve.new.self was.pixels was.pixels was.spare.items c.reserve.ensures.world c.reserve.ensures.made (record { kept = refl; has = refl; forms = refl; moment = refl; writes = refl }) was.sound;
       back = omega (arith, c.reserve.ensures.made, was.back);
       fills = fills_same (shape was.lists) (shape c.reserve.new.self) was.room.len c.reserve.ensures.world was.fills;
     }
@@ -65,3 +65,21 @@ returns-clause-kept c = record {
   world = λ j. with_kept (c.reserve.ensures.world j) (c.make_room.ensures.kept.kept j);
   numbers = λ j. numbers_of (c.reserve.ensures.made j) (c.reserve-2.ensures.items j);
 }
+
+pub returns-in_err-make_room-clause-moment : goal.returns-in_err-make_room-clause-moment
+returns-in_err-make_room-clause-moment c = c.make_room.ensures.kept.moment
+
+pub returns-in_err-make_room-clause-writes : goal.returns-in_err-make_room-clause-writes
+returns-in_err-make_room-clause-writes c = c.make_room.ensures.kept.writes
+
+pub returns-in_err-reserve-2-clause-moment : goal.returns-in_err-reserve-2-clause-moment
+returns-in_err-reserve-2-clause-moment c = c.make_room.ensures.kept.moment
+
+pub returns-in_err-reserve-2-clause-writes : goal.returns-in_err-reserve-2-clause-writes
+returns-in_err-reserve-2-clause-writes c = c.make_room.ensures.kept.writes
+
+pub returns-clause-moment : goal.returns-clause-moment
+returns-clause-moment c = c.make_room.ensures.kept.moment
+
+pub returns-clause-writes : goal.returns-clause-writes
+returns-clause-writes c = c.make_room.ensures.kept.writes

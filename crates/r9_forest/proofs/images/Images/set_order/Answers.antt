@@ -114,3 +114,15 @@ unfolding world
 returns-clause-steps g c =
     let same = ap area_of ((bare_canvas (shape c.args.self.now.lists) (kept_at c.args.self.now.pixels)).r c.args.parent) in
     omega (arith, same, c.reorder_windows.ensures.steps)
+
+pub returns-in_err-reserve_hidden-clause-moment : goal.returns-in_err-reserve_hidden-clause-moment
+returns-in_err-reserve_hidden-clause-moment g c = c.reserve_hidden.ensures.kept.moment
+
+pub returns-in_err-reserve_hidden-clause-writes : goal.returns-in_err-reserve_hidden-clause-writes
+returns-in_err-reserve_hidden-clause-writes g c = let same = c.reserve_hidden.ensures.kept.writes in omega (arith, same)
+
+pub returns-clause-moment : goal.returns-clause-moment
+returns-clause-moment g c = c.reorder_windows.ensures.moment ∙ c.reserve_hidden.ensures.kept.moment
+
+pub returns-clause-writes : goal.returns-clause-writes
+returns-clause-writes g c = let same = c.reserve_hidden.ensures.kept.writes in omega (arith, c.reorder_windows.ensures.writes, same)

@@ -17,7 +17,7 @@ use Rattle.r9_plane.specs.Pixels.{number_of}
 use Rattle.r9_locate.specs.declared.lists.Lists.{Lists}
 use Rattle.r9_locate.specs.Forms.{bits_in}
 use Rattle.r9_locate.specs.Table.{made, shape}
-use Rattle.r9_pixels.specs.Kept.{form_at, kept_at}
+use Rattle.r9_pixels.specs.Kept.{form_at, kept_at, moment, writes}
 use Rattle.r9_fills.specs.Fills.{fill_at}
 use Rattle.r9_fills.specs.Gathered.{pictured}
 use Rattle.r9_relist.specs.Leaving.{gone, others, HasPlaceOf, IsGoing}
@@ -265,3 +265,9 @@ returns-clause-steps g c =
     let most = small g at.After-common-area (placed_is g at.Start) (place_is g at.After-place_among) in
     let rect = ap area_of ((bare_canvas (shape c.args.self.now.lists) (kept_at c.args.self.now.pixels)).r c.args.i) in
     omega (arith, most, rect, c.take_away.ensures.steps)
+
+pub returns-clause-moment : goal.returns-clause-moment
+returns-clause-moment g c = c.take_away.ensures.moment ∙ ap moment c.gather.ensures.pixels
+
+pub returns-clause-writes : goal.returns-clause-writes
+returns-clause-writes g c = let same = ap writes c.gather.ensures.pixels in omega (arith, c.take_away.ensures.writes, same)

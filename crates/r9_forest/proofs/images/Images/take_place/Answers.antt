@@ -12,7 +12,7 @@ use Rattle.r9_locate.specs.declared.lists.Lists.{Lists}
 use Rattle.r9_locate.specs.Forms.{bits_in}
 use Rattle.r9_locate.specs.Table.{shape}
 use Rattle.r9_pixels.specs.declared.keeping.KeptPixels.{KeptPixels}
-use Rattle.r9_pixels.specs.Kept.{form_at, kept_at, spare_in, wanted_in}
+use Rattle.r9_pixels.specs.Kept.{form_at, kept_at, spare_in, wanted_in, moment, writes}
 use Rattle.r9_fills.specs.Content.{content}
 use Rattle.r9_fills.specs.Fills.{fill_at}
 use Rattle.r9_fills.specs.Gathered.{pictured}
@@ -213,3 +213,9 @@ returns-clause-steps g c =
     let here = ap area_of (left g read) in
     let window = ap area_of ((bare_canvas (shape now.lists) (kept_at now.pixels)).r c.args.i) ∙ ap (λ (w : World). area_of (image_at w c.args.i).r) (same g read) in
     omega (arith, most, here, window, c.relist.ensures.steps)
+
+pub returns-clause-moment : goal.returns-clause-moment
+returns-clause-moment g c = c.relist.ensures.moment ∙ ap moment c.read_shown.ensures.pixels
+
+pub returns-clause-writes : goal.returns-clause-writes
+returns-clause-writes g c = let same = ap writes c.read_shown.ensures.pixels in omega (arith, c.relist.ensures.writes, same)

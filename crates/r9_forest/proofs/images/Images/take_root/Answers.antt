@@ -1,14 +1,17 @@
-use Rattle.std.proofs.Common.{◌≡◌, ◌∙◌, ◌++◌, ◌∷◌, [], None, refl, sym, subst, arith}
+use Rattle.std.proofs.Common.{◌≡◌, ◌∙◌, ℕ, ◌++◌, ◌∷◌, [], Option, None, refl, sym, subst, ap, arith}
+use Rattle.std.specs.Prelude.{is_some}
 use Rattle.model_forest.specs.Steps.{after_release}
-use Rattle.model_forest.specs.World.{World, with_image}
+use Rattle.model_forest.specs.World.{World, with_image, IsLive}
 use Rattle.model_kept.specs.Keeping.{with_kept}
 use Rattle.r9_locate.specs.Table.{made, shape}
-use Rattle.r9_pixels.specs.Kept.{kept_at}
+use Rattle.r9_watched.specs.Moments.{Moment}
+use Rattle.r9_pixels.specs.Kept.{kept_at, moment}
 use Rattle.r9_forest.specs.Images.{numbers, world}
 use Rattle.r9_forest.specs.Numbered.{numbers_of}
 use Rattle.r9_forest.specs.Sound.{IsSound}
 use Rattle.r9_forest.proofs.Backs.{back_numbers, back_room, pushed, IsBack}
 use Rattle.r9_forest.proofs.Going.{back_root, can_shape, gone_sound, parent_is, released_root}
+use Rattle.r9_forest.proofs.Looking.{gone-other, moment-other}
 use Rattle.r9_forest.proofs.Roomy.{fills_put, fills_same, needs_nothing}
 use Rattle.r9_forest.proofs.Sounding.{sound_forest}
 use Rattle.r9_forest.proofs.images.Images.take_root.Goals as goal
@@ -73,3 +76,11 @@ unfolding numbers
 returns-clause-back c =
     let was = c.args.self.now in
     (λ j. numbers_of (c.take_whole.ensures.made j) (spare (goal.at.returns-clause-back c).After-push j)) ∙ back_numbers (made was.lists) c.args.i was.spare.items
+
+pub returns-clause-moment : goal.returns-clause-moment
+unfolding world
+returns-clause-moment c j live =
+    let was = c.args.self.now in
+    let gone : IsLive (with_image (with_kept (shape was.lists) (kept_at was.pixels)) c.args.i None) j = ap (λ (w : World). is_some (w j)) (sym c.take_whole.ensures.world) ∙ live in
+    ap (λ (moments : ℕ → Option Moment). moments j) c.take_whole.ensures.moment
+    ∙ moment-other c.args.i j None (moment was.pixels) (gone-other (with_kept (shape was.lists) (kept_at was.pixels)) c.args.i j gone)

@@ -17,6 +17,7 @@ use Rattle.r9_pixels.specs.Places.{StandsOn}
 use Rattle.r9_arrive.specs.Arriving.{after_coming, with_coming, IsComing}
 use Rattle.r9_arrive.proofs.Canvases.{bare_canvas}
 use Rattle.r9_arrive.proofs.Coming.{on_top_comes}
+use Rattle.r9_arrive.proofs.Entering.{on_err}
 use Rattle.r9_forest.specs.Images.{numbers, world}
 use Rattle.r9_forest.specs.Numbered.{numbers_of}
 use Rattle.r9_forest.proofs.Numbers.{peeked}
@@ -171,3 +172,24 @@ returns-clause-made g c =
 pub returns-clause-taken : goal.returns-clause-taken
 unfolding numbers
 returns-clause-taken g c = c.in_ok-come.ensures.taken ∙ ap taken c.in_ok-reserve_window.ensures.kept.numbers
+
+pub returns-then-is_full-clause-moment : goal.returns-then-is_full-clause-moment
+returns-then-is_full-clause-moment g c = c.reserve_window.ensures.moment
+
+pub returns-then-is_full-clause-writes : goal.returns-then-is_full-clause-writes
+returns-then-is_full-clause-writes g c = omega (arith, c.reserve_window.ensures.writes)
+
+pub returns-clause-moment : goal.returns-clause-moment
+returns-clause-moment g c = c.come.ensures.moment ∙ c.reserve_window.ensures.moment
+
+pub returns-clause-writes : goal.returns-clause-writes
+returns-clause-writes g c = omega (arith, c.come.ensures.writes, c.reserve_window.ensures.writes)
+
+pub returns-in_err-come-clause-err : goal.returns-in_err-come-clause-err
+unfolding world numbers
+returns-in_err-come-clause-err g c =
+    on_err c.from_residual-in_err-come.result
+    (record {
+      world = c.in_err-come.ensures.err.world ∙ c.in_ok-reserve_window.ensures.kept.world;
+      numbers = c.in_err-come.ensures.err.numbers ∙ c.in_ok-reserve_window.ensures.kept.numbers;
+    })

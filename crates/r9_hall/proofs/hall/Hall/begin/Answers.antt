@@ -4,7 +4,7 @@ use Rattle.r9_event.specs.declared.ask.Answer.{Answer}
 use Rattle.r9_lock.specs.declared.chronicle.Acted.{Acted}
 use Rattle.r9_hall.specs.Acts.{IsAct}
 use Rattle.r9_hall.specs.HallView.{HallValue}
-use Rattle.r9_hall.proofs.Acting.{all_live_act, gave_up_act, gave_up_counted, made_counted, refused}
+use Rattle.r9_hall.proofs.Acting.{all_live_act, began_act, gave_up_act, gave_up_counted, made_counted, refused}
 use Rattle.r9_hall.proofs.hall.Hall.begin.Goals as goal
 
 pub returns-then-not-can-clause-history : goal.returns-then-not-can-clause-history
@@ -29,3 +29,7 @@ returns-in_default-event-clause-pixels g c =
 pub returns-clause-pixels : goal.returns-clause-pixels
 returns-clause-pixels g c =
     made_counted c.args.self.now c.event.new.self _ _ c.made.result _ _ (ap (λ (a : Acted Answer). a.entered) c.made.ensures) c.in-Ok.ensures.made c.requires.whole c.in-Ok.ensures.pixels
+
+pub returns-clause-history : goal.returns-clause-history
+returns-clause-history g c =
+    subst (λ (a : Acted Answer). IsAct c.args.self.now ask.Begin a c.event.new.self) (sym c.made.ensures) (began_act c.args.self.now c.event.new.self c.in-Some.session _ c.in-Ok.ensures.made)

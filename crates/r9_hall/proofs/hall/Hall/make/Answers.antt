@@ -1,4 +1,4 @@
-use Rattle.std.proofs.Common.{◌≡◌, ◌+◌, ◌<◌, ◌≤◌, ◌^◌, ℕ, false, arith, length-append, List, [], ◌∷◌, ◌++◌, length, IfSome, IsSome, refl, sym, ap, subst, ◌∙◌}
+use Rattle.std.proofs.Common.{◌≡◌, ◌+◌, ◌-◌, ◌<◌, ◌≤◌, ◌^◌, ℕ, true, false, arith, length-append, List, [], ◌∷◌, ◌++◌, length, IfSome, IsSome, refl, sym, ap, subst, ◌∙◌}
 use Rattle.r9_event.specs.declared.event.Event.{Event}
 use Rattle.r9_event.specs.declared.event.Entry.{Entry}
 use Rattle.r9_event.specs.declared.event.Reply.{Reply}
@@ -8,12 +8,14 @@ use Rattle.model_world.specs.Cut.{IsCutEvent, IsWantingEvent}
 use Rattle.model_world.specs.Replay.{marked, replay, step, waiting_after}
 use Rattle.model_world.specs.World.{World}
 use Rattle.model_world.proofs.Marks.{marked_allowed}
+use Rattle.r9_desktop.specs.Marks.{IsMarked}
 use Rattle.r9_hall.specs.Acts.{IsMadeOf}
 use Rattle.r9_hall.specs.HallView.{AllowedNext, HallValue, OfHistories, entries, value_of}
 use Rattle.r9_hall.specs.Outboxes.{taken, waiting}
-use Rattle.r9_hall.specs.WorldView.{world_in}
+use Rattle.r9_hall.specs.WorldView.{display_in, world_in}
 use Rattle.r9_hall.proofs.Halls.{HasTurned, begun_more, not_broken, of_histories, stands_more, stop_made, unbroken}
 use Rattle.r9_hall.proofs.Posts.{waiting_marked}
+use Rattle.r9_hall.proofs.Worlds.{marks_counted, marks_same}
 use Rattle.r9_hall.proofs.hall.Hall.make.Goals as goal
 
 pub returns-in-Stop-clause-made : goal.returns-in-Stop-clause-made
@@ -22,6 +24,10 @@ returns-in-Stop-clause-made g c =
     let after : HallValue = record (value_of c.self.inside) { stored = c.enter.new.stored.items; roll = c.enter.new.roll } in
     subst (λ (h : HallValue). IsMadeOf h c.args.event c.nothing.result.did after) c.self.view_is
     (stop_made (value_of c.self.inside) after c.args.event c.nothing.result.did c.in-Stop.is c.nothing.ensures.did allowed refl refl c.in_ok-enter.ensures.stored c.in_ok-enter.ensures.roll refl refl refl)
+
+pub returns-in-Stop-clause-marks : goal.returns-in-Stop-clause-marks
+returns-in-Stop-clause-marks g c = λ _ _.
+    subst (λ (h : HallValue). IsMarked (display_in h.world) (display_in c.self.inside.world) (c.args.pixels.now - c.args.pixels.now)) c.self.view_is (marks_same (display_in c.self.inside.world) _)
 
 pub invariant_of-self-2 : goal.invariant_of-self-2
 invariant_of-self-2 g c =
@@ -96,6 +102,8 @@ returns g c =
       err = tt;
       pixels = subst (λ (h : HallValue). OfHistories h (λ events. c.add.new.self ≤ c.args.pixels.now + (step (replay h.opening events) event).cost)) c.self.view_is
           (of_histories before (λ (w : World). c.add.new.self ≤ c.args.pixels.now + (step w event).cost) (omega (arith, c.add.ensures, c.in_ok-stepped.ensures.pixels)));
+      marks = subst (λ (h : HallValue). h.broken ≡ false → (display_in h.world).nowhere ≡ true → IsMarked (display_in h.world) (display_in c.make.new.self) (c.add.new.self - c.args.pixels.now)) c.self.view_is
+          (λ _. marks_counted (display_in before.world) (display_in c.make.new.self) c.in_ok-stepped.stepped.pixels c.args.pixels.now c.add.new.self c.add.ensures c.in_ok-stepped.ensures.marks);
       uncounted = tt;
       silent = λ is. absurd (c.in_default.not-Stop is);
     }

@@ -60,4 +60,4 @@ returns-clause-made c = λ opening.
     let mid : Sessions = record { live = c.answer_in.new.sessions; desktop = c.answer_in.new.desktop } in
     served_made opening before mid c.settle.new.self c.args.session (lookup before.live.entries c.args.session) c.args.bytes.now c.args.mark c.in-Some.own c.settle.new.replies c.in_ok-uses.uses refl
     (subst (λ (o : Option Own). IsServed c.args.session (lookup before.live.entries c.args.session) before.live.entries (desktop_of before.desktop) c.args.bytes.now c.args.mark o mid.live.entries (desktop_of mid.desktop)) c.in-Some.is c.in_ok-own.ensures.served)
-    (c.in_ok-settle.ensures opening)
+    (c.in_ok-settle.ensures.settled opening)

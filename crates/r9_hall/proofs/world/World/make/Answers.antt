@@ -1,10 +1,12 @@
-use Rattle.std.proofs.Common.{◌≡◌, ◌≤◌, false, IfSome, IsSome, refl, sym, ap, subst, ◌∙◌}
+use Rattle.std.proofs.Common.{◌≡◌, ◌≤◌, true, false, IfSome, IsSome, refl, sym, ap, subst, ◌∙◌}
 use Rattle.model_alone.specs.Uses.{event_used}
 use Rattle.model_world.specs.Cut.{IsCutEvent, IsWantingEvent}
 use Rattle.model_world.specs.Links.{IsNext, begun_after}
 use Rattle.model_world.specs.Replay.{marked, step}
+use Rattle.r9_desktop.specs.Marks.{IsMarked}
+use Rattle.r9_desktop.specs.World.{display_of}
 use Rattle.r9_hall.specs.StateView.{world_with}
-use Rattle.r9_hall.specs.WorldView.{WorldValue, world_in}
+use Rattle.r9_hall.specs.WorldView.{WorldValue, display_in, world_in}
 use Rattle.r9_hall.proofs.Worlds.{turn_begun, turn_known, turn_linked, turn_quiet}
 use Rattle.r9_hall.proofs.world.World.make.Goals as goal
 
@@ -52,5 +54,6 @@ returns c =
       closed = sym turn.closed_is ∙ ap (λ (w : WorldValue). (step (world_in w) event).closed) c.self.view_is;
       short = subst (λ (w : WorldValue). IfSome c.in_ok-stepped.stepped.did.short (λ k. IsCutEvent (world_in w) c.args.event.now k)) c.self.view_is (c.in_ok-stepped.ensures.short opening);
       told = subst (λ (w : WorldValue). IsWantingEvent (world_in w) event → IsSome c.in_ok-stepped.stepped.did.short) c.self.view_is (c.in_ok-stepped.ensures.told opening);
+      marks = subst (λ (w : WorldValue). (display_in w).nowhere ≡ true → IsMarked (display_in w) (display_of c.step.new.self.desktop) c.in_ok-stepped.stepped.pixels) c.self.view_is c.in_ok-stepped.ensures.marks;
       pixels = subst (λ (w : WorldValue). c.in_ok-stepped.stepped.pixels ≤ (step (world_in w) event).cost) c.self.view_is (c.in_ok-stepped.ensures.pixels opening);
     }

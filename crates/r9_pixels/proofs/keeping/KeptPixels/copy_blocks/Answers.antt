@@ -4,7 +4,7 @@ use Rattle.r9_pixels.proofs.Copied.{can_more, carried_more, carried_none, places
 use Rattle.r9_pixels.proofs.keeping.KeptPixels.copy_blocks.Goals as goal
 
 pub loop-done-init : goal.loop-done-init
-loop-done-init g c = record { within = omega arith; carried = carried_none c.args.self.now c.args.from c.args.at c.args.to c.args.p; steps = omega arith }
+loop-done-init g c = record { within = omega arith; carried = carried_none c.args.self.now c.args.from c.args.at c.args.to c.args.p; steps = omega arith; writes = omega arith }
 
 pub along-here-requires-clause-near : goal.along-here-requires-clause-near
 along-here-requires-clause-near g c =
@@ -39,6 +39,7 @@ loop-done-preserved g c = record {
   carried =
       carried_more c.args.self.now c.loop-done.self c.copy_through.new.self c.args.from c.args.at c.args.to c.args.p c.loop-done.done c.min-size.result c.along-here.result c.along-there.result c.along-here.ensures c.along-there.ensures c.requires.apart c.loop-done.invariant.carried c.copy_through.ensures.carried;
   steps = omega (arith, c.copy_through.ensures.steps, c.loop-done.invariant.steps);
+  writes = omega (arith, c.copy_through.ensures.writes, c.loop-done.invariant.writes);
 }
 
 pub returns-clause-carried : goal.returns-clause-carried

@@ -21,5 +21,6 @@ returns-clause-carried g c = record {
   others = λ place apart. c.put.ensures.others place (λ k lower. apart k (omega (arith, lower, c.load.auto.raws)));
   has = c.put.ensures.has;
   forms = c.put.ensures.forms;
+  moment = c.put.ensures.moment;
   spare = c.put.ensures.spare;
 }

@@ -13,6 +13,7 @@ pub loop-row-init : goal.loop-row-init
 loop-row-init g c = record {
   carried = rows_none c.args.self.now c.args.from c.args.r.now c.args.to c.args.p;
   steps = omega arith;
+  writes = omega arith;
 }
 
 pub point_at-requires-clause-row : goal.point_at-requires-clause-row
@@ -44,6 +45,7 @@ loop-row-preserved g c =
           rows_more c.args.self.now c.loop-row.self c.copy.new.self c.args.from r c.args.to c.args.p c.loop-row.row c.requires.ordered below c.requires.can.apart c.loop-row.invariant.carried
           (subst (λ (n : ℕ). IsCarried c.loop-row.self c.copy.new.self c.args.from (point_at r 0 c.loop-row.row) c.args.to there n) c.width-columns.ensures copied);
       steps = omega (arith, c.copy.ensures.steps, c.width-columns.ensures, c.loop-row.invariant.steps, mul-add (width r) c.loop-row.row 1);
+      writes = omega (arith, c.copy.ensures.writes, c.loop-row.invariant.writes);
     }
 
 pub returns-clause-carried : goal.returns-clause-carried

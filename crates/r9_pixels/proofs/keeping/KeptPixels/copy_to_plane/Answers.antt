@@ -18,7 +18,7 @@ pub show-requires-clause-hidden : goal.show-requires-clause-hidden
 show-requires-clause-hidden g c = c.extent.ensures.some c.in-Some.extent c.in-Some.is
 
 pub returns-in-Some-clause-carried : goal.returns-in-Some-clause-carried
-returns-in-Some-clause-carried g c = record { pixels = c.show.ensures.pixels; others = c.show.ensures.others; has = c.show.ensures.has; forms = c.show.ensures.forms; spare = c.show.ensures.spare }
+returns-in-Some-clause-carried g c = record { pixels = c.show.ensures.pixels; others = c.show.ensures.others; has = c.show.ensures.has; forms = c.show.ensures.forms; moment = c.show.ensures.moment; spare = c.show.ensures.spare }
 
 pub returns-in-None-clause-carried : goal.returns-in-None-clause-carried
 returns-in-None-clause-carried g c = c.copy_blocks.ensures.carried

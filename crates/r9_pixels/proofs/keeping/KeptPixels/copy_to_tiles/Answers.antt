@@ -18,4 +18,4 @@ pub returns-in-Some-clause-carried : goal.returns-in-Some-clause-carried
 returns-in-Some-clause-carried g c = c.copy_blocks.ensures.carried
 
 pub returns-in-None-clause-carried : goal.returns-in-None-clause-carried
-returns-in-None-clause-carried g c = record { pixels = c.hide.ensures.pixels; others = c.hide.ensures.others; has = c.hide.ensures.has; forms = c.hide.ensures.forms; spare = c.hide.ensures.spare }
+returns-in-None-clause-carried g c = record { pixels = c.hide.ensures.pixels; others = c.hide.ensures.others; has = c.hide.ensures.has; forms = c.hide.ensures.forms; moment = c.hide.ensures.moment; spare = c.hide.ensures.spare }

@@ -15,9 +15,9 @@ use Rattle.r9_pixels.proofs.keeping.KeptPixels.get.Goals as goal
 pub get_row-requires : goal.get_row-requires
 get_row-requires c = record {
   inside = λ p h.
-      let was : own_at c.args.self.now.owns.items c.args.i ≡ Some (Whole c.in-Whole.plane) = c.requires.is ∙ ap (λ o. Some o) c.in-Whole.is in
+      let was : own_at c.args.self.now.owns.items c.args.i ≡ Some (Whole c.in-Whole.watched) = c.requires.is ∙ ap (λ o. Some o) c.in-Whole.is in
       let found = strip_at c.args.from p (length c.args.raws.now) h in
-      ap (holds (rect_of c.in-Whole.plane)) found.2
+      ap (holds (rect_of c.in-Whole.watched.plane)) found.2
       ∙ sym (ap (λ o. option_map_or (has_in c.args.self.now.cells c.args.i (along c.args.from found.0)) o false) was) ∙ c.requires.has found.0 found.1;
 }
 
@@ -33,12 +33,12 @@ read-requires-clause-has c k below =
 
 pub returns-in-Whole-clause-pixels : goal.returns-in-Whole-clause-pixels
 returns-in-Whole-clause-pixels c k below =
-    let was : own_at c.args.self.now.owns.items c.args.i ≡ Some (Whole c.in-Whole.plane) = c.requires.is ∙ ap (λ o. Some o) c.in-Whole.is in
+    let was : own_at c.args.self.now.owns.items c.args.i ≡ Some (Whole c.in-Whole.watched) = c.requires.is ∙ ap (λ o. Some o) c.in-Whole.is in
     c.get_row.ensures.pixels k below ∙ sym (ap (λ o. option_map_or (kept_in c.args.self.now.cells c.args.i (along c.args.from k)) o 0) was)
 
 pub returns-in-Whole-clause-below : goal.returns-in-Whole-clause-below
 returns-in-Whole-clause-below c k below =
-    let was : own_at c.args.self.now.owns.items c.args.i ≡ Some (Whole c.in-Whole.plane) = c.requires.is ∙ ap (λ o. Some o) c.in-Whole.is in
+    let was : own_at c.args.self.now.owns.items c.args.i ≡ Some (Whole c.in-Whole.watched) = c.requires.is ∙ ap (λ o. Some o) c.in-Whole.is in
     subst (λ n. slice_index c.get_row.new.raws k < 2 ^ n) (sym (ap own_bits was)) (c.get_row.ensures.range k below)
 
 pub returns-in-Hidden-clause-pixels : goal.returns-in-Hidden-clause-pixels

@@ -7,7 +7,7 @@ use Rattle.r9_pixels.proofs.keeping.KeptPixels.get_block.Goals as goal
 
 pub get_block-requires-clause-inside : goal.get_block-requires-clause-inside
 get_block-requires-clause-inside c p h =
-    let was : own_at c.args.self.now.owns.items c.args.i ≡ Some (Whole c.in-Whole.plane) = c.requires.is ∙ ap (λ o. Some o) c.in-Whole.is in
+    let was : own_at c.args.self.now.owns.items c.args.i ≡ Some (Whole c.in-Whole.watched) = c.requires.is ∙ ap (λ o. Some o) c.in-Whole.is in
     sym (ap (λ o. option_map_or (has_in c.args.self.now.cells c.args.i p) o false) was) ∙ c.requires.has p h
 
 pub read_block-requires-clause-near : goal.read_block-requires-clause-near
@@ -22,7 +22,7 @@ read_block-requires-clause-has c p h =
 
 pub returns-in-Whole-clause-pixels : goal.returns-in-Whole-clause-pixels
 returns-in-Whole-clause-pixels c p h =
-    let was : own_at c.args.self.now.owns.items c.args.i ≡ Some (Whole c.in-Whole.plane) = c.requires.is ∙ ap (λ o. Some o) c.in-Whole.is in
+    let was : own_at c.args.self.now.owns.items c.args.i ≡ Some (Whole c.in-Whole.watched) = c.requires.is ∙ ap (λ o. Some o) c.in-Whole.is in
     c.get_block.ensures.pixels p h ∙ sym (ap (λ o. option_map_or (kept_in c.args.self.now.cells c.args.i p) o 0) was)
 
 pub returns-in-Hidden-clause-pixels : goal.returns-in-Hidden-clause-pixels

@@ -19,6 +19,7 @@ invariant_of-self c =
     record {
       tabled = given_tabled owns old new (shape c.args.lists.now) c.args.p c.args.windows.now c.give_shown.ensures.given c.give_shown.ensures.rows c.give_shown.ensures.lengths c.args.self.now.tabled;
       bounded = still_bounded owns old new (λ j l q. held_fewer (is_some (cell_at (all_rows new) j l)) (cell_pixel new j l q) (cell_pixel old j l q) (c.give_shown.ensures.pixels j l q)) c.args.self.now.bounded;
+      few = c.args.self.now.few;
     }
 
 pub returns-clause-kept : goal.returns-clause-kept

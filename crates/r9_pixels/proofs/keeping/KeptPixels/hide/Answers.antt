@@ -13,6 +13,8 @@ use Rattle.r9_pixels.specs.declared.own.Own.{Own}
 use Rattle.r9_pixels.specs.declared.own.Own.TheVariants.{Whole, Hidden}
 use Rattle.r9_pixels.specs.Owns.{has_in, kept_in, own_at, IsTabled}
 use Rattle.r9_pixels.proofs.Owning.{by_search, extent_is, is_place, own_bits, own_is, own_there, place_true, true_place, whole_of}
+use Rattle.r9_pixels.proofs.Areas.{tiles_has}
+use Rattle.r9_pixels.proofs.Few.{few_same}
 use Rattle.r9_pixels.proofs.keeping.KeptPixels.hide.Given.{Over}
 use Rattle.r9_pixels.proofs.keeping.KeptPixels.hide.Goals as goal
 use Rattle.r9_pixels.proofs.keeping.KeptPixels.hide.Goals.{Start}
@@ -40,16 +42,16 @@ pub hide-requires-clause-inside : goal.hide-requires-clause-inside
 hide-requires-clause-inside g c k lower =
     let at = goal.at.hide-requires-clause-inside g c in
     let there = below g at.Start in
-    let was : own_at c.args.self.now.owns.items c.args.from ≡ Some (Whole c.in-Whole.plane) = own_is c.args.self.now.owns.items c.args.from c.index.result.now there c.index.ensures ∙ c.in-Some.is ∙ ap (λ o. Some o) c.in-Whole.is in
+    let was : own_at c.args.self.now.owns.items c.args.from ≡ Some (Whole c.in-Whole.watched) = own_is c.args.self.now.owns.items c.args.from c.index.result.now there c.index.ensures ∙ c.in-Some.is ∙ ap (λ o. Some o) c.in-Whole.is in
     sym (ap (λ o. option_map_or (has_in c.args.self.now.cells c.args.from (along c.args.at k)) o false) was) ∙ c.requires.can.had k lower
 
 pub invariant_of-self : goal.invariant_of-self
 invariant_of-self g c =
     let at = goal.at.invariant_of-self g c in
     let there = below g at.Start in
-    let was : own_at c.args.self.now.owns.items c.args.from ≡ Some (Whole c.in-Whole.plane) = own_is c.args.self.now.owns.items c.args.from c.index.result.now there c.index.ensures ∙ c.in-Some.is ∙ ap (λ o. Some o) c.in-Whole.is in
+    let was : own_at c.args.self.now.owns.items c.args.from ≡ Some (Whole c.in-Whole.watched) = own_is c.args.self.now.owns.items c.args.from c.index.result.now there c.index.ensures ∙ c.in-Some.is ∙ ap (λ o. Some o) c.in-Whole.is in
     let self = c.args.self.now in
-    let plane = c.in-Whole.plane in
+    let plane = c.in-Whole.watched.plane in
     record {
       tabled = subst (IsTabled self.owns.items) (sym c.hide.ensures.rows) self.tabled;
       bounded = λ j l q extent is.
@@ -66,13 +68,14 @@ invariant_of-self g c =
           (λ none.
           let still : cell_pixel c.hide.new.self j l q ≡ cell_pixel self.cells j l q = c.hide.ensures.others place (λ k lower same. false≢true (sym (none k lower) ∙ true_place place (there k) same)) in
           omega (arith, still, self.bounded j l q extent is));
+      few = few_same c.args.self.now.owns.items c.args.self.now.owns.items c.args.self.now.writes.sum c.and-self.result.sum (omega (arith, c.and-self.ensures)) (λ j watched is. is) c.args.self.now.few;
     }
 
 pub returns-clause-pixels : goal.returns-clause-pixels
 returns-clause-pixels g c k lower =
     let at = goal.at.returns-clause-pixels g c in
     let there = below g at.Start in
-    let was : own_at c.args.self.now.owns.items c.args.from ≡ Some (Whole c.in-Whole.plane) = own_is c.args.self.now.owns.items c.args.from c.index.result.now there c.index.ensures ∙ c.in-Some.is ∙ ap (λ o. Some o) c.in-Whole.is in
+    let was : own_at c.args.self.now.owns.items c.args.from ≡ Some (Whole c.in-Whole.watched) = own_is c.args.self.now.owns.items c.args.from c.index.result.now there c.index.ensures ∙ c.in-Some.is ∙ ap (λ o. Some o) c.in-Whole.is in
     let self = c.args.self.now in
     let inside = (tile_parts (all_rows self.cells) c.args.to c.args.extent.r (along c.args.p k) (tiled g at.Start k lower)).0 in
     ap (λ o. option_map_or (kept_in c.hide.new.self c.args.to (along c.args.p k)) o 0) c.requires.hidden
@@ -86,7 +89,7 @@ returns-clause-others g c place apart =
   where
     by_own : (o : Option Own) → own_at c.args.self.now.owns.items place.image ≡ o → option_map_or (kept_in c.hide.new.self place.image place.at) o 0 ≡ option_map_or (kept_in c.args.self.now.cells place.image place.at) o 0
     by_own None is = refl
-    by_own (Some (Whole plane)) is = refl
+    by_own (Some (Whole watched)) is = refl
     by_own (Some (Hidden extent)) is =
         ⊎_elim
         (λ (inside : holds extent.r place.at ≡ true).
@@ -105,3 +108,6 @@ returns-clause-others g c place apart =
         ap (λ b. if b then place_pixel c.hide.new.self (cell_place place.image extent.r place.at) else 0) outside
         ∙ sym (ap (λ b. if b then place_pixel c.args.self.now.cells (cell_place place.image extent.r place.at) else 0) outside))
         (cases_Bool (holds extent.r place.at))
+
+pub returns-clause-has : goal.returns-clause-has
+returns-clause-has g c = λ j place. tiles_has c.args.self.now.owns.items c.args.self.now.cells c.hide.new.self c.hide.ensures.rows place j

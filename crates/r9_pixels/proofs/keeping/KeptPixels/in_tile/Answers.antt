@@ -70,7 +70,7 @@ returns-clause-alone c j q at = by_own (own_at owns j) refl at
 
     by_own : (o : Option Own) → own_at owns j ≡ o → option_map_or (tile_in c.args.self.now.cells j q) o None ≡ Some c.in_tile.result.tile → (j ≡ c.args.i) × (cell (own_at owns j) q ≡ cell (own_at owns c.args.i) c.args.p)
     by_own None e at = absurd cc
-    by_own (Some (Whole plane)) e at = absurd cc
+    by_own (Some (Whole watched)) e at = absurd cc
     by_own (Some (Hidden other)) e at =
         let both = c.in_tile.ensures.alone j (cell_of other.r q) at in
         (both.0, ap (λ o. cell o q) e ∙ ap (λ n. Some n) both.1 ∙ sym (ap (λ o. cell o c.args.p) was))

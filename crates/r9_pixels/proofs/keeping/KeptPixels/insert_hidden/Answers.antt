@@ -1,13 +1,14 @@
-use Rattle.std.proofs.Common.{◌≡◌, ◌∙◌, ℕ, replicate, set, Some, None}
-use Rattle.std.specs.Prelude.{option_map}
+use Rattle.std.proofs.Common.{◌≡◌, ◌∙◌, ℕ, replicate, set, Some, None, sym, ap}
+use Rattle.std.specs.Prelude.{option_and_then, option_map}
 use Rattle.r9_geom.specs.declared.Point.{Point}
 use Rattle.r9_cells.specs.Cells.{all_rows, cell_pixel}
 use Rattle.r9_cells.specs.Rows.{cell_at}
 use Rattle.r9_pixels.specs.declared.own.Own.TheVariants.{Hidden}
-use Rattle.r9_pixels.specs.Owns.{form_in, own_at}
+use Rattle.r9_pixels.specs.Owns.{form_in, moment_in, own_at}
 use Rattle.r9_pixels.proofs.Coming.{made_bounded, made_cells, made_tabled}
-use Rattle.r9_pixels.proofs.Owning.{form_none, none_window, set_each}
+use Rattle.r9_pixels.proofs.Owning.{form_none, none_window, set_each, set_still}
 use Rattle.r9_pixels.proofs.Telling.{hidden_kept, hidden_place, pixel_same}
+use Rattle.r9_pixels.proofs.Few.{few_window}
 use Rattle.r9_pixels.proofs.keeping.KeptPixels.insert_hidden.Goals as goal
 use Rattle.r9_pixels.proofs.keeping.KeptPixels.insert_hidden.Goals.{After-index_mut}
 
@@ -32,6 +33,7 @@ invariant_of-self-2 c =
     record {
       tabled = made_tabled c.args.self.now.owns.items c.args.i c.cell_count.result c.args.extent c.args.self.now.cells c.make.new.self c.requires.room (free at) (rows at) c.requires.near c.requires.ordered c.cell_count.ensures.value c.args.self.now.tabled;
       bounded = made_bounded c.args.self.now.owns.items c.args.i c.args.extent c.args.self.now.cells c.make.new.self c.requires.room (none at) (pixels at) c.args.self.now.bounded;
+      few = few_window c.args.self.now.owns.items c.args.i c.args.extent c.args.self.now.writes.sum c.requires.room c.args.self.now.few;
     }
 
 pub returns-clause-kept : goal.returns-clause-kept
@@ -46,3 +48,8 @@ returns-clause-has c =
 
 pub returns-clause-forms : goal.returns-clause-forms
 returns-clause-forms c = λ j n. set_each c.args.self.now.owns.items c.args.i (Some (Hidden c.args.extent)) (option_map form_in) c.requires.room n j
+
+pub returns-clause-moment : goal.returns-clause-moment
+returns-clause-moment c =
+    let at = (goal.at.returns-clause-moment c).After-index_mut in
+    λ j n. set_still c.args.self.now.owns.items c.args.i (Some (Hidden c.args.extent)) (option_and_then moment_in) c.requires.room (sym (ap (option_and_then moment_in) (free at))) n j

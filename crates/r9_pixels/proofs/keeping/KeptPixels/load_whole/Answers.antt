@@ -1,6 +1,6 @@
 use Rattle.std.proofs.Common.{◌≡◌, ◌∙◌, ℕ, ◌<◌, ◌*◌, false, length, Option, Some, refl, sym, subst, ap, arith}
 use Rattle.std.specs.Option.{option_map_or}
-use Rattle.r9_geom.specs.Geometry.{height, holds}
+use Rattle.r9_geom.specs.Geometry.{area_of, height, holds}
 use Rattle.model_pixel.specs.Channels.{depth}
 use Rattle.model_pixel.specs.Rows.{row_bytes, row_pixel}
 use Rattle.r9_plane.specs.Pixels.{chan_of}
@@ -9,7 +9,8 @@ use Rattle.r9_pixels.specs.declared.own.Own.{Own}
 use Rattle.r9_pixels.specs.declared.own.Own.TheVariants.{Whole}
 use Rattle.r9_pixels.specs.Owns.{has_in, own_at}
 use Rattle.r9_pixels.proofs.Owning.{hidden_set, no_window, own_bits, own_is, own_there, tabled_set, whole_of, IsNoWindow}
-use Rattle.r9_pixels.proofs.Wholes.{whole_at, whole_forms, whole_has, whole_others, IsPlaneWritten}
+use Rattle.r9_pixels.proofs.Wholes.{whole_at, whole_forms, whole_has, whole_others, IsPlaneWritten, whole_moments}
+use Rattle.r9_pixels.proofs.Few.{few_written}
 use Rattle.r9_pixels.proofs.keeping.KeptPixels.load_whole.Given.{Over}
 use Rattle.r9_pixels.proofs.keeping.KeptPixels.load_whole.Goals as goal
 use Rattle.r9_pixels.proofs.keeping.KeptPixels.load_whole.Goals.{Start, In-Some-Whole}
@@ -20,7 +21,7 @@ below g c =
     let found = whole_of (own_at owns c.args.i) c.requires.whole in
     own_there owns c.args.i (Whole found.0) found.1
 
-had : (g : Over) (c : In-Some-Whole g) → c.args.i < length c.args.self.now.owns.items → own_at c.args.self.now.owns.items c.args.i ≡ Some (Whole c.in-Some-Whole.plane)
+had : (g : Over) (c : In-Some-Whole g) → c.args.i < length c.args.self.now.owns.items → own_at c.args.self.now.owns.items c.args.i ≡ Some (Whole c.in-Some-Whole.watched)
 had g c there = own_is c.args.self.now.owns.items c.args.i c.index_mut.result.now there c.index_mut.ensures.value ∙ c.in-Some-Whole.is ∙ ap (λ o. Some o) c.in-Some-Whole.field-0-is
 
 pub index_mut-requires : goal.index_mut-requires
@@ -50,10 +51,11 @@ invariant_of-self g c =
     let was = had g at.In-Some-Whole below_owns in
     let rows = all_rows c.args.self.now.cells in
     let new : Option Own = Some (Whole c.load.new.self) in
-    let old_none : IsNoWindow (own_at owns c.args.i) = subst IsNoWindow (sym was) (no_window c.in-Some-Whole.plane) in
+    let old_none : IsNoWindow (own_at owns c.args.i) = subst IsNoWindow (sym was) (no_window c.in-Some-Whole.watched) in
     record {
       tabled = tabled_set owns c.args.i new rows below_owns old_none (no_window c.load.new.self) c.args.self.now.tabled;
       bounded = λ j l q extent is. c.args.self.now.bounded j l q extent (hidden_set owns c.args.i j new extent below_owns (no_window c.load.new.self) is).1;
+      few = few_written owns c.args.i c.in-Some-Whole.watched c.load.new.self c.args.self.now.writes.sum c.and-self.result.sum (area_of c.args.r) below_owns was c.load.ensures.moment c.load.ensures.few (omega (arith, c.and-self.ensures)) c.args.self.now.few;
     }
 
 pub returns-clause-at : goal.returns-clause-at
@@ -62,8 +64,8 @@ returns-clause-at g c p h =
     let at = goal.at.returns-clause-at g c in
     let below_owns = below g at.Start in
     let was = had g at.In-Some-Whole below_owns in
-    let written : IsPlaneWritten (holds c.args.r) (row_pixel c.args.r (depth (chan_of c.in-Some-Whole.plane)) c.args.rows.now) c.in-Some-Whole.plane c.load.new.self = record { rect = c.load.ensures.rect; chan = c.load.ensures.chan; pixels = c.load.ensures.pixels } in
-    whole_at owns c.args.self.now.cells c.args.i (holds c.args.r) (row_pixel c.args.r (depth (chan_of c.in-Some-Whole.plane)) c.args.rows.now) c.in-Some-Whole.plane c.load.new.self below_owns written p h
+    let written : IsPlaneWritten (holds c.args.r) (row_pixel c.args.r (depth (chan_of c.in-Some-Whole.watched.plane)) c.args.rows.now) c.in-Some-Whole.watched c.load.new.self = record { rect = c.load.ensures.rect; chan = c.load.ensures.chan; pixels = c.load.ensures.pixels; moment = c.load.ensures.moment } in
+    whole_at owns c.args.self.now.cells c.args.i (holds c.args.r) (row_pixel c.args.r (depth (chan_of c.in-Some-Whole.watched.plane)) c.args.rows.now) c.in-Some-Whole.watched c.load.new.self below_owns written p h
     ∙ sym (ap (λ n. row_pixel c.args.r n c.args.rows.now p) (ap own_bits was))
 
 pub returns-clause-others : goal.returns-clause-others
@@ -72,8 +74,8 @@ returns-clause-others g c place apart =
     let at = goal.at.returns-clause-others g c in
     let below_owns = below g at.Start in
     let was = had g at.In-Some-Whole below_owns in
-    let written : IsPlaneWritten (holds c.args.r) (row_pixel c.args.r (depth (chan_of c.in-Some-Whole.plane)) c.args.rows.now) c.in-Some-Whole.plane c.load.new.self = record { rect = c.load.ensures.rect; chan = c.load.ensures.chan; pixels = c.load.ensures.pixels } in
-    whole_others owns c.args.self.now.cells c.args.i (holds c.args.r) (row_pixel c.args.r (depth (chan_of c.in-Some-Whole.plane)) c.args.rows.now) c.in-Some-Whole.plane c.load.new.self below_owns was written place apart
+    let written : IsPlaneWritten (holds c.args.r) (row_pixel c.args.r (depth (chan_of c.in-Some-Whole.watched.plane)) c.args.rows.now) c.in-Some-Whole.watched c.load.new.self = record { rect = c.load.ensures.rect; chan = c.load.ensures.chan; pixels = c.load.ensures.pixels; moment = c.load.ensures.moment } in
+    whole_others owns c.args.self.now.cells c.args.i (holds c.args.r) (row_pixel c.args.r (depth (chan_of c.in-Some-Whole.watched.plane)) c.args.rows.now) c.in-Some-Whole.watched c.load.new.self below_owns was written place apart
 
 pub returns-clause-has : goal.returns-clause-has
 returns-clause-has g c =
@@ -81,8 +83,8 @@ returns-clause-has g c =
     let at = goal.at.returns-clause-has g c in
     let below_owns = below g at.Start in
     let was = had g at.In-Some-Whole below_owns in
-    let written : IsPlaneWritten (holds c.args.r) (row_pixel c.args.r (depth (chan_of c.in-Some-Whole.plane)) c.args.rows.now) c.in-Some-Whole.plane c.load.new.self = record { rect = c.load.ensures.rect; chan = c.load.ensures.chan; pixels = c.load.ensures.pixels } in
-    λ j place. whole_has owns c.args.self.now.cells c.args.i (holds c.args.r) (row_pixel c.args.r (depth (chan_of c.in-Some-Whole.plane)) c.args.rows.now) c.in-Some-Whole.plane c.load.new.self below_owns was written place j
+    let written : IsPlaneWritten (holds c.args.r) (row_pixel c.args.r (depth (chan_of c.in-Some-Whole.watched.plane)) c.args.rows.now) c.in-Some-Whole.watched c.load.new.self = record { rect = c.load.ensures.rect; chan = c.load.ensures.chan; pixels = c.load.ensures.pixels; moment = c.load.ensures.moment } in
+    λ j place. whole_has owns c.args.self.now.cells c.args.i (holds c.args.r) (row_pixel c.args.r (depth (chan_of c.in-Some-Whole.watched.plane)) c.args.rows.now) c.in-Some-Whole.watched c.load.new.self below_owns was written place j
 
 pub returns-clause-forms : goal.returns-clause-forms
 returns-clause-forms g c =
@@ -90,5 +92,14 @@ returns-clause-forms g c =
     let at = goal.at.returns-clause-forms g c in
     let below_owns = below g at.Start in
     let was = had g at.In-Some-Whole below_owns in
-    let written : IsPlaneWritten (holds c.args.r) (row_pixel c.args.r (depth (chan_of c.in-Some-Whole.plane)) c.args.rows.now) c.in-Some-Whole.plane c.load.new.self = record { rect = c.load.ensures.rect; chan = c.load.ensures.chan; pixels = c.load.ensures.pixels } in
-    λ j n. whole_forms owns c.args.i (holds c.args.r) (row_pixel c.args.r (depth (chan_of c.in-Some-Whole.plane)) c.args.rows.now) c.in-Some-Whole.plane c.load.new.self below_owns was written n j
+    let written : IsPlaneWritten (holds c.args.r) (row_pixel c.args.r (depth (chan_of c.in-Some-Whole.watched.plane)) c.args.rows.now) c.in-Some-Whole.watched c.load.new.self = record { rect = c.load.ensures.rect; chan = c.load.ensures.chan; pixels = c.load.ensures.pixels; moment = c.load.ensures.moment } in
+    λ j n. whole_forms owns c.args.i (holds c.args.r) (row_pixel c.args.r (depth (chan_of c.in-Some-Whole.watched.plane)) c.args.rows.now) c.in-Some-Whole.watched c.load.new.self below_owns was written n j
+
+pub returns-clause-moment : goal.returns-clause-moment
+returns-clause-moment g c =
+    let owns = c.args.self.now.owns.items in
+    let at = goal.at.returns-clause-moment g c in
+    let below_owns = below g at.Start in
+    let was = had g at.In-Some-Whole below_owns in
+    let written : IsPlaneWritten (holds c.args.r) (row_pixel c.args.r (depth (chan_of c.in-Some-Whole.watched.plane)) c.args.rows.now) c.in-Some-Whole.watched c.load.new.self = record { rect = c.load.ensures.rect; chan = c.load.ensures.chan; pixels = c.load.ensures.pixels; moment = c.load.ensures.moment } in
+    λ j n. whole_moments owns c.args.i (holds c.args.r) (row_pixel c.args.r (depth (chan_of c.in-Some-Whole.watched.plane)) c.args.rows.now) c.in-Some-Whole.watched c.load.new.self below_owns was written n j

@@ -7,6 +7,7 @@ use Rattle.r9_cells.specs.Rows.{has_tile}
 use Rattle.r9_pixels.specs.Owns.{has_in, IsTabled}
 use Rattle.r9_pixels.proofs.Areas.{tiles_bounded, tiles_has, tiles_kept, tiles_others, IsTilesWritten}
 use Rattle.r9_pixels.proofs.Owning.{own_bits}
+use Rattle.r9_pixels.proofs.Few.{few_same}
 use Rattle.r9_pixels.proofs.keeping.KeptPixels.paint_tiles.Goals as goal
 
 pub fill_block-requires-clause-near : goal.fill_block-requires-clause-near
@@ -27,6 +28,7 @@ invariant_of-self g c =
           tiles_bounded self.owns.items self.cells c.fill_block.new.self c.args.i extent c.args.r.now value c.requires.hidden written
           (λ p h. let small = c.requires.below in let bits = ap (λ o. 2 ^ own_bits o) c.requires.hidden in omega (arith, small, bits))
           self.bounded;
+      few = few_same c.args.self.now.owns.items c.args.self.now.owns.items c.args.self.now.writes.sum c.and-self.result.sum (omega (arith, c.and-self.ensures)) (λ j watched is. is) c.args.self.now.few;
     }
 
 pub returns-clause-at : goal.returns-clause-at

@@ -15,6 +15,7 @@ use Rattle.r9_pixels.specs.declared.own.Own.TheVariants.{Whole, Hidden}
 use Rattle.r9_pixels.specs.Kept.{form_at}
 use Rattle.r9_pixels.specs.Owns.{has_in, kept_in, own_at, IsTabled}
 use Rattle.r9_pixels.proofs.Owning.{by_search, extent_is, is_place, own_bits, place_true, true_place}
+use Rattle.r9_pixels.proofs.Few.{few_same}
 use Rattle.r9_pixels.proofs.keeping.KeptPixels.put_hidden.Given.{Over}
 use Rattle.r9_pixels.proofs.keeping.KeptPixels.put_hidden.Goals as goal
 use Rattle.r9_pixels.proofs.keeping.KeptPixels.put_hidden.Goals.{Start}
@@ -46,6 +47,7 @@ invariant_of-self g c = record {
       (λ none.
       let still : cell_pixel c.write.new.self j l q ≡ cell_pixel c.args.self.now.cells j l q = c.write.ensures.others place (λ k below same. false≢true (sym (none k below) ∙ true_place place (there k) same)) in
       omega (arith, still, c.args.self.now.bounded j l q extent is));
+  few = few_same c.args.self.now.owns.items c.args.self.now.owns.items c.args.self.now.writes.sum c.and-self.result.sum (omega (arith, c.and-self.ensures)) (λ j watched is. is) c.args.self.now.few;
 }
 
 pub returns-clause-at : goal.returns-clause-at
@@ -68,7 +70,7 @@ returns-clause-others g c place apart =
 
     by_own : (o : Option Own) → own_at c.args.self.now.owns.items place.image ≡ o → option_map_or (kept_in c.write.new.self place.image place.at) o 0 ≡ option_map_or (kept_in c.args.self.now.cells place.image place.at) o 0
     by_own None is = refl
-    by_own (Some (Whole plane)) is = refl
+    by_own (Some (Whole watched)) is = refl
     by_own (Some (Hidden extent)) is =
         ⊎_elim
         (λ (inside : holds extent.r place.at ≡ true).

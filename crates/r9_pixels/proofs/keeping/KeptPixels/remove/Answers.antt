@@ -1,9 +1,10 @@
 use Rattle.std.proofs.Common.{None, arith}
-use Rattle.std.specs.Prelude.{option_map}
-use Rattle.r9_pixels.specs.Owns.{form_in}
+use Rattle.std.specs.Prelude.{option_and_then, option_map}
+use Rattle.r9_pixels.specs.Owns.{form_in, moment_in}
 use Rattle.r9_pixels.proofs.Coming.{gone_bounded, gone_held, gone_pixel, gone_tabled, IsGone}
 use Rattle.r9_pixels.proofs.Owning.{set_each}
 use Rattle.r9_pixels.proofs.Telling.{removed_kept, removed_place}
+use Rattle.r9_pixels.proofs.Few.{few_gone}
 use Rattle.r9_pixels.proofs.keeping.KeptPixels.remove.Goals as goal
 use Rattle.r9_pixels.proofs.keeping.KeptPixels.remove.Goals.{After-index_mut}
 
@@ -25,6 +26,7 @@ invariant_of-self c =
     record {
       tabled = gone_tabled owns c.args.i c.args.self.now.cells c.give_all.new.self c.clear.new.self c.requires is c.args.self.now.tabled;
       bounded = gone_bounded owns c.args.i c.args.self.now.cells c.give_all.new.self c.clear.new.self c.requires is c.args.self.now.bounded;
+      few = few_gone owns c.args.i c.args.self.now.writes.sum c.requires c.args.self.now.few;
     }
 
 pub returns-clause-kept : goal.returns-clause-kept
@@ -39,3 +41,6 @@ returns-clause-has c =
 
 pub returns-clause-forms : goal.returns-clause-forms
 returns-clause-forms c = λ j n. set_each c.args.self.now.owns.items c.args.i None (option_map form_in) c.requires n j
+
+pub returns-clause-moment : goal.returns-clause-moment
+returns-clause-moment c = λ j n. set_each c.args.self.now.owns.items c.args.i None (option_and_then moment_in) c.requires n j

@@ -1,5 +1,5 @@
 use Rattle.std.proofs.Common.{◌≡◌, ◌∙◌, ◌<◌, Option, Some, length, sym, subst, ap, arith}
-use Rattle.std.specs.Prelude.{option_map}
+use Rattle.std.specs.Prelude.{option_and_then, option_map}
 use Rattle.std.specs.Option.{option_map_or}
 use Rattle.r9_geom.specs.declared.Rect.{Rect}
 use Rattle.r9_geom.specs.Geometry.{at_min, carried, IsRectNear}
@@ -10,11 +10,12 @@ use Rattle.r9_cells.specs.Cells.{all_rows}
 use Rattle.r9_locate.specs.Forms.{Form}
 use Rattle.r9_pixels.specs.declared.own.Own.{Own}
 use Rattle.r9_pixels.specs.Kept.{form_at, has_place, kept_at}
-use Rattle.r9_pixels.specs.Owns.{form_in, own_at}
+use Rattle.r9_pixels.specs.Owns.{form_in, moment_in, own_at}
 use Rattle.r9_pixels.specs.Places.{shifted_form, with_form, with_places}
-use Rattle.r9_pixels.proofs.Owning.{own_is, own_there, set_each}
+use Rattle.r9_pixels.proofs.Owning.{own_is, own_there, set_each, set_still, whole_own}
 use Rattle.r9_pixels.proofs.Shifted.{formed, shifted_bounded, shifted_each, shifted_tabled}
 use Rattle.r9_pixels.proofs.Telling.{kept_of, place_of}
+use Rattle.r9_pixels.proofs.Few.{few_set}
 use Rattle.r9_pixels.proofs.keeping.KeptPixels.shift.Goals as goal
 use Rattle.r9_pixels.proofs.keeping.KeptPixels.shift.Goals.{In-Some, Start}
 
@@ -55,6 +56,10 @@ invariant_of-self c =
           shifted_tabled self.owns.items (all_rows self.cells) c.args.i c.in-Some.own c.shift.new.self c.args.min there is c.shift.ensures.form
           (subst (λ (slot : Option Own). IsRectNear (at_min (rect_in slot) c.args.min)) is c.requires.near) self.tabled;
       bounded = shifted_bounded self.owns.items self.cells c.args.i c.in-Some.own c.shift.new.self c.args.min there is c.shift.ensures.form self.bounded;
+      few =
+          few_set self.owns.items c.args.i (Some c.shift.new.self) self.writes.sum self.writes.sum there (omega arith)
+          (λ watched same. c.shift.ensures.few self.writes.sum (λ old was. self.few c.args.i old (is ∙ ap (λ (o : Own). Some o) was)) watched (whole_own c.shift.new.self watched same))
+          self.few;
     }
 
 pub returns-clause-kept : goal.returns-clause-kept
@@ -84,3 +89,11 @@ returns-clause-forms c =
     (λ j n. set_each self.owns.items c.args.i (Some c.shift.new.self) (option_map form_in) there n j)
     ∙ ap (λ (form : Option Form). with_form c.args.i form (form_at self))
     (ap (λ (form : Form). Some form) c.shift.ensures.form ∙ sym (ap (λ (slot : Option Own). option_map (shifted_form c.args.min) (option_map form_in slot)) is))
+
+pub returns-clause-moment : goal.returns-clause-moment
+returns-clause-moment c =
+    let at = goal.at.returns-clause-moment c in
+    let self = c.args.self.now in
+    let there = below at.Start in
+    let is = was at.In-Some there in
+    λ j n. set_still self.owns.items c.args.i (Some c.shift.new.self) (option_and_then moment_in) there (c.shift.ensures.moment ∙ sym (ap (option_and_then moment_in) is)) n j

@@ -16,7 +16,8 @@ use Rattle.r9_pixels.specs.declared.own.Own.{Own}
 use Rattle.r9_pixels.specs.declared.own.Own.TheVariants.{Whole}
 use Rattle.r9_pixels.specs.Owns.{has_in, kept_in, own_at}
 use Rattle.r9_pixels.proofs.Owning.{hidden_set, no_window, own_bits, own_is, own_there, tabled_set, whole_of, IsNoWindow}
-use Rattle.r9_pixels.proofs.Wholes.{whole_at, whole_forms, whole_has, whole_others, IsPlaneWritten}
+use Rattle.r9_pixels.proofs.Wholes.{whole_at, whole_forms, whole_has, whole_others, IsPlaneWritten, whole_moments}
+use Rattle.r9_pixels.proofs.Few.{few_written}
 use Rattle.r9_pixels.proofs.keeping.KeptPixels.show.Given.{Over}
 use Rattle.r9_pixels.proofs.keeping.KeptPixels.show.Goals as goal
 use Rattle.r9_pixels.proofs.keeping.KeptPixels.show.Goals.{Start, In-Some-Whole}
@@ -27,7 +28,7 @@ below g c =
     let found = whole_of (own_at owns c.args.to) c.requires.whole in
     own_there owns c.args.to (Whole found.0) found.1
 
-was : (g : Over) (c : In-Some-Whole g) → c.args.to < length c.args.self.now.owns.items → own_at c.args.self.now.owns.items c.args.to ≡ Some (Whole c.in-Some-Whole.plane)
+was : (g : Over) (c : In-Some-Whole g) → c.args.to < length c.args.self.now.owns.items → own_at c.args.self.now.owns.items c.args.to ≡ Some (Whole c.in-Some-Whole.watched)
 was g c there = own_is c.args.self.now.owns.items c.args.to c.index_mut.result.now there c.index_mut.ensures.value ∙ c.in-Some-Whole.is ∙ ap (λ o. Some o) c.in-Some-Whole.field-0-is
 
 -- there is a tile for each
@@ -53,7 +54,7 @@ show-requires-clause-below g c k lower =
     let at = goal.at.show-requires-clause-below g c in
     let place : CellPlace = cell_place c.args.from c.args.extent.r (along c.args.at k) in
     let small = c.args.self.now.bounded c.args.from place.cell place.at c.args.extent c.requires.hidden in
-    let bits : depth c.args.extent.chan ≡ depth (chan_of c.in-Some-Whole.plane) = sym (ap own_bits c.requires.hidden) ∙ c.requires.can.bits ∙ ap own_bits (was g at.In-Some-Whole (below g at.Start)) in
+    let bits : depth c.args.extent.chan ≡ depth (chan_of c.in-Some-Whole.watched.plane) = sym (ap own_bits c.requires.hidden) ∙ c.requires.can.bits ∙ ap own_bits (was g at.In-Some-Whole (below g at.Start)) in
     omega (arith, small, ap (λ n. 2 ^ n) bits)
 
 pub invariant_of-self : goal.invariant_of-self
@@ -63,11 +64,12 @@ invariant_of-self g c =
     let owns = self.owns.items in
     let there = below g at.Start in
     let is = was g at.In-Some-Whole there in
-    let new : Option Own = Some (Whole c.show.new.plane) in
-    let old_none : IsNoWindow (own_at owns c.args.to) = subst IsNoWindow (sym is) (no_window c.in-Some-Whole.plane) in
+    let new : Option Own = Some (Whole c.show.new.watched) in
+    let old_none : IsNoWindow (own_at owns c.args.to) = subst IsNoWindow (sym is) (no_window c.in-Some-Whole.watched) in
     record {
-      tabled = tabled_set owns c.args.to new (all_rows self.cells) there old_none (no_window c.show.new.plane) self.tabled;
-      bounded = λ j l q extent is. self.bounded j l q extent (hidden_set owns c.args.to j new extent there (no_window c.show.new.plane) is).1;
+      tabled = tabled_set owns c.args.to new (all_rows self.cells) there old_none (no_window c.show.new.watched) self.tabled;
+      bounded = λ j l q extent is. self.bounded j l q extent (hidden_set owns c.args.to j new extent there (no_window c.show.new.watched) is).1;
+      few = few_written owns c.args.to c.in-Some-Whole.watched c.show.new.watched c.args.self.now.writes.sum c.and-self.result.sum (c.args.n) there is c.show.ensures.moment c.show.ensures.few (omega (arith, c.and-self.ensures)) c.args.self.now.few;
     }
 
 pub returns-clause-pixels : goal.returns-clause-pixels
@@ -76,11 +78,11 @@ returns-clause-pixels g c k lower =
     let self = c.args.self.now in
     let owns = self.owns.items in
     let there = below g now.Start in
-    let old = c.in-Some-Whole.plane in
-    let new = c.show.new.plane in
+    let old = c.in-Some-Whole.watched in
+    let new = c.show.new.watched in
     let area = holds (strip c.args.p c.args.n) in
     let f : Point → ℕ = λ q. place_pixel self.cells (cell_place c.args.from c.args.extent.r (carried q c.args.p c.args.at)) in
-    let written : IsPlaneWritten area f old new = record { rect = c.show.ensures.rect; chan = c.show.ensures.chan; pixels = c.show.ensures.pixels } in
+    let written : IsPlaneWritten area f old new = record { rect = c.show.ensures.rect; chan = c.show.ensures.chan; pixels = c.show.ensures.pixels; moment = c.show.ensures.moment } in
     let inside = (tile_parts (all_rows self.cells) c.args.from c.args.extent.r (along c.args.at k) (tiled g now.Start k lower)).0 in
     whole_at owns self.cells c.args.to area f old new there written (along c.args.p k) (along_holds c.args.p c.args.n k lower)
     ∙ ap (λ q. place_pixel self.cells (cell_place c.args.from c.args.extent.r q)) (carried_along c.args.p c.args.at k)
@@ -93,11 +95,11 @@ returns-clause-others g c place apart =
     let self = c.args.self.now in
     let owns = self.owns.items in
     let there = below g now.Start in
-    let old = c.in-Some-Whole.plane in
-    let new = c.show.new.plane in
+    let old = c.in-Some-Whole.watched in
+    let new = c.show.new.watched in
     let area = holds (strip c.args.p c.args.n) in
     let f : Point → ℕ = λ q. place_pixel self.cells (cell_place c.args.from c.args.extent.r (carried q c.args.p c.args.at)) in
-    let written : IsPlaneWritten area f old new = record { rect = c.show.ensures.rect; chan = c.show.ensures.chan; pixels = c.show.ensures.pixels } in
+    let written : IsPlaneWritten area f old new = record { rect = c.show.ensures.rect; chan = c.show.ensures.chan; pixels = c.show.ensures.pixels; moment = c.show.ensures.moment } in
     whole_others owns self.cells c.args.to area f old new there (was g now.In-Some-Whole there) written place
     (λ q h is. let found = strip_at c.args.p q c.args.n h in apart found.0 found.1 (is ∙ ap (own c.args.to) found.2))
 
@@ -107,11 +109,11 @@ returns-clause-has g c =
     let self = c.args.self.now in
     let owns = self.owns.items in
     let there = below g now.Start in
-    let old = c.in-Some-Whole.plane in
-    let new = c.show.new.plane in
+    let old = c.in-Some-Whole.watched in
+    let new = c.show.new.watched in
     let area = holds (strip c.args.p c.args.n) in
     let f : Point → ℕ = λ q. place_pixel self.cells (cell_place c.args.from c.args.extent.r (carried q c.args.p c.args.at)) in
-    let written : IsPlaneWritten area f old new = record { rect = c.show.ensures.rect; chan = c.show.ensures.chan; pixels = c.show.ensures.pixels } in
+    let written : IsPlaneWritten area f old new = record { rect = c.show.ensures.rect; chan = c.show.ensures.chan; pixels = c.show.ensures.pixels; moment = c.show.ensures.moment } in
     λ j place. whole_has owns self.cells c.args.to area f old new there (was g now.In-Some-Whole there) written place j
 
 pub returns-clause-forms : goal.returns-clause-forms
@@ -120,9 +122,22 @@ returns-clause-forms g c =
     let self = c.args.self.now in
     let owns = self.owns.items in
     let there = below g now.Start in
-    let old = c.in-Some-Whole.plane in
-    let new = c.show.new.plane in
+    let old = c.in-Some-Whole.watched in
+    let new = c.show.new.watched in
     let area = holds (strip c.args.p c.args.n) in
     let f : Point → ℕ = λ q. place_pixel self.cells (cell_place c.args.from c.args.extent.r (carried q c.args.p c.args.at)) in
-    let written : IsPlaneWritten area f old new = record { rect = c.show.ensures.rect; chan = c.show.ensures.chan; pixels = c.show.ensures.pixels } in
+    let written : IsPlaneWritten area f old new = record { rect = c.show.ensures.rect; chan = c.show.ensures.chan; pixels = c.show.ensures.pixels; moment = c.show.ensures.moment } in
     λ j n. whole_forms owns c.args.to area f old new there (was g now.In-Some-Whole there) written n j
+
+pub returns-clause-moment : goal.returns-clause-moment
+returns-clause-moment g c =
+    let now = goal.at.returns-clause-moment g c in
+    let self = c.args.self.now in
+    let owns = self.owns.items in
+    let there = below g now.Start in
+    let old = c.in-Some-Whole.watched in
+    let new = c.show.new.watched in
+    let area = holds (strip c.args.p c.args.n) in
+    let f : Point → ℕ = λ q. place_pixel self.cells (cell_place c.args.from c.args.extent.r (carried q c.args.p c.args.at)) in
+    let written : IsPlaneWritten area f old new = record { rect = c.show.ensures.rect; chan = c.show.ensures.chan; pixels = c.show.ensures.pixels; moment = c.show.ensures.moment } in
+    λ j n. whole_moments owns c.args.to area f old new there (was g now.In-Some-Whole there) written n j

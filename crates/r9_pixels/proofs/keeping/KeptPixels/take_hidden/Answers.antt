@@ -17,6 +17,7 @@ invariant_of-self c =
     record {
       tabled = taken_tabled owns old new (shape c.args.lists.now) c.args.p c.args.windows.now c.requires.forms c.requires.windows c.take_hidden.ensures.taken c.take_hidden.ensures.rows c.take_hidden.ensures.lengths c.args.self.now.tabled;
       bounded = still_bounded owns old new (λ j l q. omega (arith, c.take_hidden.ensures.pixels j l q)) c.args.self.now.bounded;
+      few = c.args.self.now.few;
     }
 
 pub returns-clause-has : goal.returns-clause-has

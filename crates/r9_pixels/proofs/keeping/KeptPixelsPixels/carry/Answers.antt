@@ -17,3 +17,6 @@ returns-clause-forms g c = c.copy.ensures.carried.forms
 
 pub returns-clause-spare : goal.returns-clause-spare
 returns-clause-spare g c = c.copy.ensures.carried.spare
+
+pub returns-clause-moment : goal.returns-clause-moment
+returns-clause-moment g c = c.copy.ensures.carried.moment
