@@ -25,7 +25,7 @@ use Rattle.model_world.specs.Whole.{client, desktop_for, host_by, view_of}
 use Rattle.model_shown.proofs.Tests.{find-passes}
 use Rattle.model_fitting.proofs.Lists.{each_found, each_of}
 use Rattle.model_orders.specs.Leading.{IsDrawn, Uses, begins, chooses, ends, reads, writes}
-use Rattle.model_orders.proofs.Leading.{led_beside, led_by, led_itself}
+use Rattle.model_orders.proofs.Leading.{IsLed, led_beside, led_by, led_itself, led_keeps}
 use Rattle.model_orders.proofs.Desktops.{choice_is, client_other, connect_drawn, leave_drawn, read_is, written_data_drawn}
 use Rattle.model_agreement.specs.Agreement.{Draws, IsDone, IsPlain, SameOutcome, SameView, TellsOf, is_plain}
 use Rattle.model_alone.specs.Lone as alone
@@ -265,12 +265,12 @@ module _ (c : ℕ) (begun : 0 < c) (Like : Option (ℕ × ℕ) → Option (ℕ �
 
   pub connect_same : (s : Desktop) (t : LoneDesktop) → Have s t → (n : ℕ) → HasConnection n → Have ((desktop_for c).connect s n) (lone_desktop.connect t n)
   connect_same s t same n few =
-      device_same s t (draw.after_connect s.device (client c n)) (draw.after_connect t.device (client 1 n)) s.cost same (connect_drawn s s (client c n) (led_itself s same.drawn)).drawn (begins (client c n))
+      device_same s t (draw.after_connect s.device (client c n)) (draw.after_connect t.device (client 1 n)) s.cost same (connect_drawn (IsLed s) (led_keeps s) s (client c n) (led_itself s same.drawn)).drawn (begins (client c n))
       (laws.connect (known_size s) (named_in s own) s.device t.device same.device n few)
 
   pub leave_same : (s : Desktop) (t : LoneDesktop) → Have s t → (n : ℕ) → HasConnection n → Have ((desktop_for c).leave s n) (lone_desktop.leave t n)
   leave_same s t same n few =
-      device_same s t (draw.after_leave s.device (client c n)) (draw.after_leave t.device (client 1 n)) _ same (leave_drawn s s (client c n) (client_other s c n begun) (led_itself s same.drawn)).drawn (ends (client c n) (client_other s c n begun))
+      device_same s t (draw.after_leave s.device (client c n)) (draw.after_leave t.device (client 1 n)) _ same (leave_drawn (IsLed s) (led_keeps s) s (client c n) (client_other c n begun) (led_itself s same.drawn)).drawn (ends (client c n) (client_other c n begun))
       (laws.leave (known_size s) (named_in s own) s.device t.device same.device n few)
 
   pub write_same : (s : Desktop) (t : LoneDesktop) → Have s t → (n : ℕ) (bytes : List ℕ) (mark told : Option ℕ) → HasConnection n → May c own s (Draws n bytes mark told)
@@ -280,9 +280,9 @@ module _ (c : ℕ) (begun : 0 < c) (Like : Option (ℕ × ℕ) → Option (ℕ �
       let after = written (client c n) s.device bytes mark in
       let law = laws.write (known_size s) (named_in s own) s.device t.device same.device n bytes mark few may.0 in
       let next : Desktop = ((desktop_for c).write_data s n bytes mark).0 in
-      let drawn : IsDrawn next = (written_data_drawn s (client c n) s bytes mark (client_other s c n begun) (led_itself s same.drawn)).drawn in
+      let drawn : IsDrawn next = (written_data_drawn (IsLed s) (led_keeps s) (client c n) s bytes mark (client_other c n begun) (led_itself s same.drawn)).drawn in
       subst (λ (m : Option ℕ). Have next (alone.with_device t (written_alone (client 1 n) t.device bytes m).0) × (after.refusal ≡ (written_alone (client 1 n) t.device bytes m).1)) (sym may.1)
-      (device_same s t after.world _ next.cost same drawn (writes (client c n) bytes mark (client_other s c n begun)) law.0, law.1)
+      (device_same s t after.world _ next.cost same drawn (writes (client c n) bytes mark (client_other c n begun)) law.0, law.1)
 
   pub read_same : (s : Desktop) (t : LoneDesktop) → Have s t → (n most : ℕ) → HasConnection n
       → SameOutcome (λ (a : List ℕ × Desktop) (b : List ℕ × LoneDesktop). (a.0 ≡ b.0) × Have a.1 b.1 × (a.1.notes ≡ s.notes)) ((desktop_for c).read_data s n most) (lone_desktop.read_data t n most)

@@ -32,7 +32,7 @@ use Rattle.model_fitting.proofs.Acts.{act_fits}
 use Rattle.model_fitting.proofs.Lists.{each_found, each_of, each_then}
 use Rattle.model_orders.specs.Leading.{IsDrawn}
 use Rattle.model_orders.proofs.Furnished.{finds_display}
-use Rattle.model_orders.proofs.Leading.{led_itself}
+use Rattle.model_orders.proofs.Leading.{IsLed, led_itself, led_keeps}
 use Rattle.model_orders.proofs.Desktops.{step_drawn}
 use Rattle.model_alone.specs.Lone.{LoneDesktop, noted_alone}
 use Rattle.model_told.specs.Telling.{IsBeside, Tells, begins, beside, drops, makes, notes_of, rect_in, replaces, small, told_image}
@@ -122,7 +122,7 @@ module _ (c : ℕ) (Like : Option (ℕ × ℕ) → Option (ℕ × List ℕ) → 
   kept_after : (s : Desktop) (a : Act) (step : Step) → IsKept s → IsSpelled a → rio s.table a ≡ Ok step → IsKept (stepped s step)
   unfolding stepped
   kept_after s a step is spelled e = record {
-    drawn = (step_drawn s s a step (led_itself s is.drawn) spelled e).drawn;
+    drawn = (step_drawn (IsLed s) (led_keeps s) s a step (led_itself s is.drawn) spelled e).drawn;
     order = all_order step.notes s.panes is.order;
     named = (names.acts s.device s.table s.panes a step is.drawn.sound is.drawn.orderly (all_fit s a step is.drawn spelled e) is.order is.named e).1;
   }

@@ -29,13 +29,10 @@ use Rattle.model_world.specs.Writing.{are_keys, file_written, line_of, raw_asked
 use Rattle.model_world.specs.Waiting.{answered_or, awaited, first_of, given_or_refused, one_answered, wait_answer}
 use Rattle.model_world.specs.Answer.{Taking, Ignored, TooLong, Closes, Reads, agreed_on, answer, answer_read, answer_to, asks_for_9p, clunk_answer, denied, is_version, read_or_not, replied, stat_answer, taken, taking, version_answer}
 use Rattle.model_world.proofs.Others.{after_if, after_step}
-use Rattle.model_orders.proofs.Leading.{IsLed, led_beside}
+use Rattle.model_orders.proofs.Leading.{Keeps}
 use Rattle.model_orders.proofs.Desktops.{IsMadeDrawn, IsReadDrawn, all_leave_drawn, all_let_go_drawn, attached_drawn, client_other, commanded_drawn, connect_drawn, ctl_written_drawn, data_read_drawn, device_commanded_drawn, held_drawn, left_drawn, moused_drawn, resized_drawn, typed_drawn, written_data_drawn}
 
-module _ (start : Desktop) where
-  abbrev Led : Desktop → Type 0
-  Led desktop = IsLed start desktop
-
+module _ (Led : Desktop → Type 0) (keep : Keeps Led) where
   abbrev IfLed : Outcome Desktop → Type 0
   IfLed o = IfOk o Led
 
@@ -59,8 +56,8 @@ module _ (start : Desktop) where
   text_drawn given (Some bytes) drawn = drawn bytes
 
   given_now_drawn : (c : ℕ) (desktop : Desktop) (fid : Fid) (count : ℕ) (k : Kind) → Led desktop → IsGivenDrawn (given_now (desktop_for c) desktop fid count k)
-  given_now_drawn c desktop fid count kind.Mouse is = text_drawn _ (answer_text ((desktop_for c).pane desktop fid.node.serial).mouse) (λ _. led_beside start desktop _ refl refl is)
-  given_now_drawn c desktop fid count kind.Cons is = text_drawn _ (console.read count ((desktop_for c).pane desktop fid.node.serial).console) (λ _. led_beside start desktop _ refl refl is)
+  given_now_drawn c desktop fid count kind.Mouse is = text_drawn _ (answer_text ((desktop_for c).pane desktop fid.node.serial).mouse) (λ _. keep.beside desktop _ refl refl refl is)
+  given_now_drawn c desktop fid count kind.Cons is = text_drawn _ (console.read count ((desktop_for c).pane desktop fid.node.serial).console) (λ _. keep.beside desktop _ refl refl refl is)
   given_now_drawn c desktop fid count kind.Wctl is = text_drawn _ (wctl_answer fid.told (wctl_text ((desktop_for c).pane desktop fid.node.serial).known)) (λ _. is)
   given_now_drawn c desktop fid count _ is = tt
 
@@ -69,7 +66,7 @@ module _ (start : Desktop) where
 
   file_read_drawn : (c : ℕ) (desktop : Desktop) (fid : Fid) (offset count : ℕ) (k : Kind) → Led desktop → IfOk (file_read (desktop_for c) desktop fid offset count k) IsGivenDrawn
   file_read_drawn c desktop fid offset count kind.Ctl is = after_step _ (ctl_read (desktop_for c) desktop fid.node offset count) _ (λ _ _. is)
-  file_read_drawn c desktop fid offset count kind.Data is = after_if _ (IsReadDrawn start) (data_read (client c fid.node.connection) desktop count) _ (data_read_drawn start (client c fid.node.connection) desktop count is) (λ got drawn. drawn)
+  file_read_drawn c desktop fid offset count kind.Data is = after_if _ (IsReadDrawn Led keep) (data_read (client c fid.node.connection) desktop count) _ (data_read_drawn Led keep (client c fid.node.connection) desktop count is) (λ got drawn. drawn)
   file_read_drawn c desktop fid offset count kind.Screen is = is
   file_read_drawn c desktop fid offset count kind.Snarf is = is
   file_read_drawn c desktop fid offset count kind.Label is = is
@@ -104,27 +101,27 @@ module _ (start : Desktop) where
 
   raw_drawn : (c : ℕ) (desktop : Desktop) (window : ℕ) (asked : Option Bool) → Led desktop → Led (with_raw_asked (desktop_for c) desktop window asked)
   raw_drawn c desktop window None is = is
-  raw_drawn c desktop window (Some raw) is = led_beside start desktop _ refl refl is
+  raw_drawn c desktop window (Some raw) is = keep.beside desktop _ refl refl refl is
 
   file_written_drawn : (c : ℕ) (desktop : Desktop) (node : Node) (offset : ℕ) (bytes : List ℕ) (mark : Option ℕ) (k : Kind) → 0 < c → Led desktop → IfOk (file_written (desktop_for c) desktop node offset bytes mark k) IsAfterDrawn
-  file_written_drawn c desktop node offset bytes mark kind.Ctl begun is = whole_drawn desktop (ctl_written (client c node.connection) desktop bytes) (ctl_written_drawn start (client c node.connection) desktop bytes is)
-  file_written_drawn c desktop node offset bytes mark kind.Data begun is = written_data_drawn start (client c node.connection) desktop bytes mark (client_other start c node.connection begun) is
+  file_written_drawn c desktop node offset bytes mark kind.Ctl begun is = whole_drawn desktop (ctl_written (client c node.connection) desktop bytes) (ctl_written_drawn Led keep (client c node.connection) desktop bytes is)
+  file_written_drawn c desktop node offset bytes mark kind.Data begun is = written_data_drawn Led keep (client c node.connection) desktop bytes mark (client_other c node.connection begun) is
   file_written_drawn c desktop node offset bytes mark kind.Mousein begun is =
-      whole_drawn desktop (value_or_refuse (pointer_of bytes) 51 >>= λ e. Ok (moused desktop e)) (after_step _ (value_or_refuse (pointer_of bytes) 51) _ (λ e _. moused_drawn start desktop e is))
+      whole_drawn desktop (value_or_refuse (pointer_of bytes) 51 >>= λ e. Ok (moused desktop e)) (after_step _ (value_or_refuse (pointer_of bytes) 51) _ (λ e _. moused_drawn Led keep desktop e is))
   file_written_drawn c desktop node offset bytes mark kind.Kbdin begun is =
-      whole_drawn desktop (refuse_if (not (are_keys bytes)) 51 >>= λ _. Ok (typed desktop bytes)) (after_step _ (refuse_if (not (are_keys bytes)) 51) _ (λ _ _. typed_drawn start desktop bytes is))
+      whole_drawn desktop (refuse_if (not (are_keys bytes)) 51 >>= λ _. Ok (typed desktop bytes)) (after_step _ (refuse_if (not (are_keys bytes)) 51) _ (λ _ _. typed_drawn Led keep desktop bytes is))
   file_written_drawn c desktop node offset bytes mark kind.Snarf begun is =
       let old = (desktop_for c).snarf desktop node.serial in
-      whole_drawn desktop (snarf_written old offset bytes >>= λ new. Ok ((desktop_for c).with_snarf desktop node.serial new)) (after_step _ (snarf_written old offset bytes) _ (λ _ _. led_beside start desktop _ refl refl is))
-  file_written_drawn c desktop node offset bytes mark kind.DeviceWctl begun is = whole_drawn desktop (device_commanded desktop bytes) (device_commanded_drawn start desktop bytes is)
-  file_written_drawn c desktop node offset bytes mark kind.Cons begun is = led_beside start desktop _ refl refl is
+      whole_drawn desktop (snarf_written old offset bytes >>= λ new. Ok ((desktop_for c).with_snarf desktop node.serial new)) (after_step _ (snarf_written old offset bytes) _ (λ _ _. keep.beside desktop _ refl refl refl is))
+  file_written_drawn c desktop node offset bytes mark kind.DeviceWctl begun is = whole_drawn desktop (device_commanded desktop bytes) (device_commanded_drawn Led keep desktop bytes is)
+  file_written_drawn c desktop node offset bytes mark kind.Cons begun is = keep.beside desktop _ refl refl refl is
   file_written_drawn c desktop node offset bytes mark kind.Consctl begun is =
       whole_drawn desktop (raw_asked (line_of bytes) >>= λ asked. Ok (with_raw_asked (desktop_for c) desktop node.serial asked)) (after_step _ (raw_asked (line_of bytes)) _ (λ asked _. raw_drawn c desktop node.serial asked is))
   file_written_drawn c desktop node offset bytes mark kind.Hwsize begun is =
-      whole_drawn desktop (value_or_refuse (sides_of (line_of bytes)) 51 >>= λ size. resized desktop size) (resized_drawn start desktop (line_of bytes) is)
+      whole_drawn desktop (value_or_refuse (sides_of (line_of bytes)) 51 >>= λ size. resized desktop size) (resized_drawn Led keep desktop (line_of bytes) is)
   file_written_drawn c desktop node offset bytes mark kind.Mouse begun is = is
-  file_written_drawn c desktop node offset bytes mark kind.Label begun is = led_beside start desktop _ refl refl is
-  file_written_drawn c desktop node offset bytes mark kind.Wctl begun is = whole_drawn desktop (commanded desktop node.serial bytes) (commanded_drawn start desktop node.serial bytes is)
+  file_written_drawn c desktop node offset bytes mark kind.Label begun is = keep.beside desktop _ refl refl refl is
+  file_written_drawn c desktop node offset bytes mark kind.Wctl begun is = whole_drawn desktop (commanded desktop node.serial bytes) (commanded_drawn Led keep desktop node.serial bytes is)
   file_written_drawn c desktop node offset bytes mark _ begun is = tt
 
   -- ---- messages that keep all fids
@@ -139,7 +136,7 @@ module _ (start : Desktop) where
       after_step _ (refuse_if (not (afid == no_fid)) 40) _ (λ _ _.
       after_step _ (refuse_if (is_bound session fid) 33) _ (λ _ _.
       after_step _ (refuse_if (is_full session) 44) _ (λ _ _.
-      after_if _ (IsMadeDrawn start) (attached c desktop (attach_of aname)) _ (attached_drawn start c desktop (attach_of aname) is) (λ root drawn. drawn))))
+      after_if _ (IsMadeDrawn Led keep) (attached c desktop (attach_of aname)) _ (attached_drawn Led keep c desktop (attach_of aname) is) (λ root drawn. drawn))))
 
   end_drawn : (session : Session) (desktop : Desktop) (tag number count : ℕ) (got : Option (Given Desktop)) → Led desktop → IsGivenDrawn got → LeavesDrawn (read_ended session desktop tag number count got)
   end_drawn session desktop tag number count (Some got) is drawn = drawn
@@ -172,7 +169,7 @@ module _ (start : Desktop) where
   gone_drawn c session desktop gone begun is =
       let ended : Desktop = fold (desktop_for c).leave desktop (filter (λ k. not (is_kept session k)) session.connections) in
       let let_all : Desktop = fold (let_go (desktop_for c)) ended gone in
-      left_drawn start c (left_by (settled (desktop_for c) session desktop).0 gone) let_all (all_let_go_drawn start c gone ended (all_leave_drawn start c (filter (λ k. not (is_kept session k)) session.connections) desktop begun is))
+      left_drawn Led keep c (left_by (settled (desktop_for c) session desktop).0 gone) let_all (all_let_go_drawn Led keep c gone ended (all_leave_drawn Led keep c (filter (λ k. not (is_kept session k)) session.connections) desktop begun is))
 
   pub cleared_drawn : (c : ℕ) (session : Session) (desktop : Desktop) → 0 < c → Led desktop → IsPairDrawn (cleared (desktop_for c) session desktop)
   cleared_drawn c session desktop begun is = gone_drawn c (record session { fids = []; waiting = [] }) desktop (map (λ entry. entry.1) session.fids) begun is
@@ -200,8 +197,8 @@ module _ (start : Desktop) where
   opened_drawn c session desktop tag number mode fid is = by (is_kind kind.New fid.node.kind) refl
     where
       by : (b : Bool) → is_kind kind.New fid.node.kind ≡ b → IsLeftDrawn (opened (desktop_for c) session desktop tag number mode fid)
-      by true at = rw at (connect_drawn start desktop (client c (session.made + 1)) is)
-      by false at = rw at (held_drawn start c true desktop fid.node is)
+      by true at = rw at (connect_drawn Led keep desktop (client c (session.made + 1)) is)
+      by false at = rw at (held_drawn Led keep c true desktop fid.node is)
 
   open_drawn : (c : ℕ) (session : Session) (desktop : Desktop) (tag number mode : ℕ) → Led desktop → LeavesDrawn (open_answer (desktop_for c) session desktop tag number mode)
   unfolding open_answer

@@ -11,8 +11,7 @@ use Rattle.model_fitting.specs.Fitting.{Shows}
 use Rattle.model_fitting.proofs.Stepping.{shows_follow}
 use Rattle.model_orders.specs.Leading.{IsDrawn, Leads, Uses, acts, begins, chooses, ends, reads, rests, there, uses, writes}
 use Rattle.model_orders.proofs.Furnished.{used_furnished}
-use Rattle.model_orders.proofs.Leading.{led_itself}
-use Rattle.model_orders.proofs.Desktops.{choice_is, read_is, step_drawn}
+use Rattle.model_orders.proofs.Desktops.{acted_drawn, choice_is, read_is}
 
 uses_still : (old new : World) → Uses old new → IsOrderly old → Still old new
 uses_still old new rests o = follows_itself none none old o
@@ -32,6 +31,6 @@ used_drawn desktop next is table used still = record {
 
 pub led_drawn : (start desktop : Desktop) → IsDrawn start → Leads start desktop → IsDrawn desktop
 led_drawn start desktop is there = is
-led_drawn start desktop is (acts before a step leads spelled e fit) = (step_drawn before before a step (led_itself before (led_drawn start before is leads)) spelled e).drawn
+led_drawn start desktop is (acts before a step leads spelled e fit) = acted_drawn before a step (led_drawn start before is leads) spelled e
 led_drawn start desktop is (uses before next leads table used) =
     let drawn = led_drawn start before is leads in used_drawn before next drawn table used (uses_still before.device next.device used drawn.orderly)

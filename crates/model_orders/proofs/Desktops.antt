@@ -33,9 +33,9 @@ use Rattle.model_shown.specs.Showing.{IsOrderly}
 use Rattle.model_others.specs.Others.{IsFurnished}
 use Rattle.model_fitting.specs.Fitting.{IsSpelled, Shows}
 use Rattle.model_orders.specs.Leading.{IsDrawn}
-use Rattle.model_orders.specs.Leading.{acts, begins, chooses, ends, reads, writes}
+use Rattle.model_orders.specs.Leading.{begins, chooses, ends, reads, writes}
 use Rattle.model_orders.proofs.Furnished.{finds_display, orders_furnished}
-use Rattle.model_orders.proofs.Leading.{IsLed, led_beside, led_by}
+use Rattle.model_orders.proofs.Leading.{Keeps}
 use Rattle.model_orders.proofs.Sides.{sides_spelled}
 use Rattle.model_fitting.proofs.Acts.{act_fits}
 use Rattle.model_lasting.proofs.Messages.{Still, StillIf, connect_still, leave_still, read_data_still, write_ctl_still, written_still}
@@ -47,26 +47,34 @@ read_is k device most got orderly e = subst (λ (o : Outcome (List ℕ × draw.W
 pub choice_is : (k : ℕ) (device : draw.World) (bytes : List ℕ) (next : draw.World) → IsOrderly device → write_ctl k device bytes ≡ Ok next → Still device next
 choice_is k device bytes next orderly e = subst (StillIf device) e (write_ctl_still k device bytes orderly)
 
-module _ (start : Desktop) where
-  abbrev Led : Desktop → Type 0
-  Led desktop = IsLed start desktop
+drawn_step : (desktop : Desktop) (step : Step) → IsSound step.table → IsOrderly (carried_out desktop.device step.orders) → IsFurnished (carried_out desktop.device step.orders) → Shows (carried_out desktop.device step.orders) step.table → IsDrawn (stepped desktop step)
+unfolding stepped
+drawn_step desktop step sound orderly furnished shows = record { sound = sound; orderly = orderly; furnished = furnished; shows = shows }
 
+-- sessions are numbered from 1, so that no connection of theirs is the manager
+pub client_other : (c n : ℕ) → 0 < c → (client c n == 0) ≡ false
+client_other c n begun = let some : 0 < 2 ^ 26 * c + n = omega (arith, begun) in apart (2 ^ 26 * c + n) some
+  where
+    apart : (m : ℕ) → 0 < m → (m == 0) ≡ false
+    apart m h = grind (arith, nat_tests)
+
+-- an act leaves a drawn desktop drawn
+pub acted_drawn : (desktop : Desktop) (a : Act) (step : Step) → IsDrawn desktop → IsSpelled a → rio desktop.table a ≡ Ok step → IsDrawn (stepped desktop step)
+acted_drawn desktop a step is spelled e =
+    let fits = act_fits desktop.device desktop.table a step is.sound is.orderly is.shows spelled (finds_display desktop.device a is.furnished) e in
+    drawn_step desktop step (step_sound desktop.table a step is.sound e) fits.orderly (orders_furnished step.orders desktop.device fits.all fits.before (acts_keep_connections desktop.table a step e) is.furnished) fits.shows
+
+module _ (Led : Desktop → Type 0) (keep : Keeps Led) where
   abbrev IfLed : Outcome Desktop → Type 0
   IfLed o = IfOk o Led
 
   -- ---- steps of the windows
 
-  drawn_step : (desktop : Desktop) (step : Step) → IsSound step.table → IsOrderly (carried_out desktop.device step.orders) → IsFurnished (carried_out desktop.device step.orders) → Shows (carried_out desktop.device step.orders) step.table → IsDrawn (stepped desktop step)
-  unfolding stepped
-  drawn_step desktop step sound orderly furnished shows = record { sound = sound; orderly = orderly; furnished = furnished; shows = shows }
-
   pub step_drawn : (desktop : Desktop) (a : Act) (step : Step) → Led desktop → IsSpelled a → rio desktop.table a ≡ Ok step → Led (stepped desktop step)
   step_drawn desktop a step is spelled e =
-      let fits = act_fits desktop.device desktop.table a step is.drawn.sound is.drawn.orderly is.drawn.shows spelled (finds_display desktop.device a is.drawn.furnished) e in
-      record {
-        drawn = drawn_step desktop step (step_sound desktop.table a step is.drawn.sound e) fits.orderly (orders_furnished step.orders desktop.device fits.all fits.before (acts_keep_connections desktop.table a step e) is.drawn.furnished) fits.shows;
-        leads = acts desktop a step is.leads spelled e fits.all;
-      }
+      let drawn = keep.drawn desktop is in
+      let fits = act_fits desktop.device desktop.table a step drawn.sound drawn.orderly drawn.shows spelled (finds_display desktop.device a drawn.furnished) e in
+      keep.acted desktop a step is spelled e fits.all (acted_drawn desktop a step drawn spelled e)
 
   or_drawn : (desktop : Desktop) (a : Act) → Led desktop → IsSpelled a → IfLed (stepped_or desktop (rio desktop.table a))
   or_drawn desktop a is spelled = by (rio desktop.table a) refl
@@ -131,7 +139,7 @@ module _ (start : Desktop) where
   IsMadeDrawn made = Led made.0
 
   with_users : (desktop : Desktop) (users : List (ℕ × List ℕ)) → Led desktop → Led (record desktop { users = users })
-  with_users desktop users is = led_beside start desktop (record desktop { users = users }) refl refl is
+  with_users desktop users is = keep.beside desktop (record desktop { users = users }) refl refl refl is
 
   window_made_drawn : (desktop : Desktop) (path text : List ℕ) → Led desktop → IfOk (window_made desktop path text) IsMadeDrawn
   unfolding window_made
@@ -164,7 +172,7 @@ module _ (start : Desktop) where
 
   pub moused_drawn : (desktop : Desktop) (e : Pointer) → Led desktop → Led (moused desktop e)
   unfolding moused
-  moused_drawn desktop e is = if_drawn desktop (act.Mouse e) is tt
+  moused_drawn desktop e is = keep.beside (stepped_if desktop (rio desktop.table (act.Mouse e))) (moused desktop e) refl refl refl (if_drawn desktop (act.Mouse e) is tt)
 
   pub typed_drawn : (desktop : Desktop) (keys : List ℕ) → Led desktop → Led (typed desktop keys)
   unfolding typed
@@ -174,8 +182,8 @@ module _ (start : Desktop) where
 
   pub held_drawn : (c : ℕ) (held : Bool) (desktop : Desktop) (node : Node) → Led desktop → Led (with_held (desktop_for c) held desktop node)
   held_drawn c held desktop node is =
-      cond_both (is_kind kind.Mouse node.kind) _ _ Led (λ _. led_beside start desktop _ refl refl is) (λ _.
-      cond_both (is_kind kind.Consctl node.kind) _ _ Led (λ _. led_beside start desktop _ refl refl is) (λ _. is))
+      cond_both (is_kind kind.Mouse node.kind) _ _ Led (λ _. keep.beside desktop _ refl refl refl is) (λ _.
+      cond_both (is_kind kind.Consctl node.kind) _ _ Led (λ _. keep.beside desktop _ refl refl refl is) (λ _. is))
 
   let_go_drawn : (c : ℕ) (desktop : Desktop) (fid : Fid) → Led desktop → Led (let_go (desktop_for c) desktop fid)
   let_go_drawn c desktop fid is = cond_both (is_some fid.mode) _ _ Led (λ _. held_drawn c false desktop fid.node is) (λ _. is)
@@ -186,33 +194,29 @@ module _ (start : Desktop) where
 
   -- ---- the draw device
 
-  -- sessions are numbered from 1, so that no connection of theirs is the manager
-  pub client_other : (c n : ℕ) → 0 < c → (client c n == 0) ≡ false
-  client_other c n begun = let some : 0 < 2 ^ 26 * c + n = omega (arith, begun) in apart (2 ^ 26 * c + n) some
-    where
-      apart : (m : ℕ) → 0 < m → (m == 0) ≡ false
-      apart m h = grind (arith, nat_tests)
+  orderly : (desktop : Desktop) → Led desktop → IsOrderly desktop.device
+  orderly desktop is = (let drawn = keep.drawn desktop is in drawn.orderly)
 
   pub written_data_drawn : (k : ℕ) (desktop : Desktop) (bytes : List ℕ) (mark : Option ℕ) → (k == 0) ≡ false → Led desktop → Led (written_data k desktop bytes mark).0
   unfolding written_data
-  written_data_drawn k desktop bytes mark other is = led_by start desktop _ _ is (writes k bytes mark other) (written_still k desktop.device bytes mark other is.drawn.orderly)
+  written_data_drawn k desktop bytes mark other is = keep.used desktop _ _ (omega arith) is (writes k bytes mark other) (written_still k desktop.device bytes mark other (orderly desktop is))
 
   abbrev pub IsReadDrawn : List ℕ × Desktop → Type 0
   IsReadDrawn got = Led got.1
 
   pub data_read_drawn : (k : ℕ) (desktop : Desktop) (most : ℕ) → Led desktop → IfOk (data_read k desktop most) IsReadDrawn
   unfolding data_read
-  data_read_drawn k desktop most is = after_step _ (read_data k desktop.device most) _ (λ got e. led_by start desktop got.1 desktop.cost is (reads k most got e) (read_is k desktop.device most got is.drawn.orderly e))
+  data_read_drawn k desktop most is = after_step _ (read_data k desktop.device most) _ (λ got e. keep.used desktop got.1 desktop.cost (omega arith) is (reads k most got e) (read_is k desktop.device most got (orderly desktop is) e))
 
   pub ctl_written_drawn : (k : ℕ) (desktop : Desktop) (bytes : List ℕ) → Led desktop → IfLed (ctl_written k desktop bytes)
   unfolding ctl_written
-  ctl_written_drawn k desktop bytes is = after_step _ (write_ctl k desktop.device bytes) _ (λ device e. led_by start desktop device desktop.cost is (chooses k bytes device e) (choice_is k desktop.device bytes device is.drawn.orderly e))
+  ctl_written_drawn k desktop bytes is = after_step _ (write_ctl k desktop.device bytes) _ (λ device e. keep.used desktop device desktop.cost (omega arith) is (chooses k bytes device e) (choice_is k desktop.device bytes device (orderly desktop is) e))
 
   pub connect_drawn : (desktop : Desktop) (k : ℕ) → Led desktop → Led (with_device desktop (draw.after_connect desktop.device k))
-  connect_drawn desktop k is = led_by start desktop _ desktop.cost is (begins k) (connect_still desktop.device k is.drawn.orderly)
+  connect_drawn desktop k is = keep.used desktop _ desktop.cost (omega arith) is (begins k) (connect_still desktop.device k (orderly desktop is))
 
   pub leave_drawn : (desktop : Desktop) (k : ℕ) → (k == 0) ≡ false → Led desktop → Led (connection_left k desktop)
-  leave_drawn desktop k other is = led_by start desktop _ _ is (ends k other) (leave_still desktop.device k other is.drawn.orderly)
+  leave_drawn desktop k other is = keep.used desktop _ _ (omega arith) is (ends k other) (leave_still desktop.device k other (orderly desktop is))
 
   pub all_leave_drawn : (c : ℕ) (gone : List ℕ) (desktop : Desktop) → 0 < c → Led desktop → Led (fold (desktop_for c).leave desktop gone)
   all_leave_drawn c [] desktop begun is = is

@@ -26,87 +26,108 @@ use Rattle.model_fitting.specs.Fitting.{AllFit, IsSpelled}
 use Rattle.model_orders.specs.Leading.{IsDrawn}
 use Rattle.model_orders.specs.Leading.{Leads}
 use Rattle.model_orders.proofs.Furnished.{finds_display}
-use Rattle.model_orders.proofs.Leading.{IsLed, led_beside, led_itself}
+use Rattle.model_orders.proofs.Leading.{IsLed, Keeps, led_beside, led_itself, led_keeps}
 use Rattle.model_fitting.proofs.Acts.{act_fits}
 use Rattle.model_fitting.proofs.Opening.{first_orderly, first_shows}
 use Rattle.model_orders.proofs.Answers.{answer_drawn, cleared_drawn, one_drawn}
 
--- its desktop is led to, and its sessions are numbered from 1
-record IsServed (start : Desktop) (world : World) : Type 0 where
-  drawn : IsLed start world.desktop
-  order : AreInOrder world
-  begun : lookup world.sessions 0 ≡ None
+-- so much is so of its desktop, and its sessions are numbered from 1
+pub record IsServed (Led : Desktop → Type 0) (world : World) : Type 0 where
+  pub led : Led world.desktop
+  pub order : AreInOrder world
+  pub begun : lookup world.sessions 0 ≡ None
 
-module _ (start : Desktop) where
-  -- a session that lives has not number 0
-  above : (sessions : List (ℕ × Session)) (c : ℕ) (session : Session) → lookup sessions 0 ≡ None → lookup sessions c ≡ Some session → 0 < c
-  above sessions zero session none at = absurd (let two : ◌≡◌ {A = Option Session} None (Some session) = sym none ∙ at in cc)
-  above sessions (suc c) session none at = omega arith
+-- a session that lives has not number 0
+above : (sessions : List (ℕ × Session)) (c : ℕ) (session : Session) → lookup sessions 0 ≡ None → lookup sessions c ≡ Some session → 0 < c
+above sessions zero session none at = absurd (let two : ◌≡◌ {A = Option Session} None (Some session) = sym none ∙ at in cc)
+above sessions (suc c) session none at = omega arith
 
-  left_served : (world : World) (c : ℕ) (session : Session) (left : Left Desktop) → IsServed start world → lookup world.sessions c ≡ Some session → IsLed start left.rest → IsServed start (with_left world c left)
-  left_served world c session left is at drawn =
+-- the world after a message, and after the end of a session, before the turn ends
+abbrev pub heard_in : World → (c : ℕ) → List ℕ → Option ℕ → Session → World
+heard_in world c bytes mark session = with_left world c (answer (desktop_for c) session world.desktop bytes mark)
+
+abbrev pub ended_in : World → (c : ℕ) → Session → World
+ended_in world c session = record world { desktop = (cleared (desktop_for c) session world.desktop).1; sessions = without world.sessions c }
+
+-- and when all reads were answered that can be
+abbrev pub settled_in : World → World
+settled_in world = (settled_within (waiting_in world) world).0
+
+module _ (Led : Desktop → Type 0) (keep : Keeps Led) where
+  left_served : (world : World) (c : ℕ) (session : Session) (left : Left Desktop) → IsServed Led world → lookup world.sessions c ≡ Some session → Led left.rest → IsServed Led (with_left world c left)
+  left_served world c session left is at led =
       let begun = above world.sessions c session is.begun at in
       record {
-        drawn = drawn;
+        led = led;
         order = ascend-with world.sessions c left.session is.order;
         begun = with-others world.sessions c 0 left.session (λ same. omega (arith, begun, same)) ∙ is.begun;
       }
 
-  late_served : (world : World) → IsServed start world → IfNext (IsServed start) (first_answered world world.sessions)
+  late_served : (world : World) → IsServed Led world → IfNext (IsServed Led) (first_answered world world.sessions)
   late_served world is =
-      first_leaves (IsServed start) world world.sessions (all_in world.sessions is.order) (λ c session after at answered. left_served world c session after is at (one_drawn start c session world.desktop after is.drawn answered))
+      first_leaves (IsServed Led) world world.sessions (all_in world.sessions is.order) (λ c session after at answered. left_served world c session after is at (one_drawn Led keep c session world.desktop after is.led answered))
 
-  settled_served : (most : ℕ) (world : World) → IsServed start world → IsServed start (settled_within most world).0
-  settled_served most world is = settled_keeps (IsServed start) late_served most world is
+  settled_served : (world : World) → IsServed Led world → IsServed Led (settled_in world)
+  settled_served world is = settled_keeps (IsServed Led) late_served (waiting_in world) world is
 
-  turned_served : (world after : World) → IsServed start after → world ≡ record after { desktop = record after.desktop { notes = []; cost = 0 } } → IsServed start world
-  turned_served world after is same = subst (IsServed start) (sym same) (record { drawn = led_beside start after.desktop (record after.desktop { notes = []; cost = 0 }) refl refl is.drawn; order = is.order; begun = is.begun })
+  pub heard_served : (world : World) (c : ℕ) (bytes : List ℕ) (mark : Option ℕ) (session : Session) → IsServed Led world → lookup world.sessions c ≡ Some session → IsServed Led (settled_in (heard_in world c bytes mark session))
+  heard_served world c bytes mark session is at =
+      let led = answer_drawn Led keep c session world.desktop bytes mark (above world.sessions c session is.begun at) is.led in
+      settled_served (heard_in world c bytes mark session) (left_served world c session (answer (desktop_for c) session world.desktop bytes mark) is at led)
 
-  served_served : (world : World) (c : ℕ) (bytes : List ℕ) (mark : Option ℕ) (found : Option Session) → IsServed start world → lookup world.sessions c ≡ found → IsServed start (served world c bytes mark found).world
-  served_served world c bytes mark None is at = turned_served (served world c bytes mark None).world world is refl
-  served_served world c bytes mark (Some session) is at =
-      let left = answer (desktop_for c) session world.desktop bytes mark in
-      let after = with_left world c left in
-      let drawn = answer_drawn start c session world.desktop bytes mark (above world.sessions c session is.begun at) is.drawn in
-      let settled = settled_served (waiting_in after) after (left_served world c session left is at drawn) in
-      turned_served (served world c bytes mark (Some session)).world (settled_within (waiting_in after) after).0 settled refl
-
-  ended_served : (world : World) (c : ℕ) (found : Option Session) → IsServed start world → lookup world.sessions c ≡ found → IsServed start (ended world c found).world
-  ended_served world c None is at = turned_served (ended world c None).world world is refl
-  ended_served world c (Some session) is at =
+  pub ended_served : (world : World) (c : ℕ) (session : Session) → IsServed Led world → lookup world.sessions c ≡ Some session → IsServed Led (settled_in (ended_in world c session))
+  ended_served world c session is at =
       let begun = above world.sessions c session is.begun at in
-      let after : World = record world { desktop = (cleared (desktop_for c) session world.desktop).1; sessions = without world.sessions c } in
-      let gone : IsServed start after = record {
-        drawn = cleared_drawn start c session world.desktop begun is.drawn;
+      settled_served (ended_in world c session) (record {
+        led = cleared_drawn Led keep c session world.desktop begun is.led;
         order = ascend-without world.sessions c is.order;
         begun = without-others world.sessions c 0 (λ same. omega (arith, begun, same)) ∙ is.begun;
-      } in
-      turned_served (ended world c (Some session)).world (settled_within (waiting_in after) after).0 (settled_served (waiting_in after) after gone) refl
+      })
 
-  step_served : (roll : Roll) (world : World) (event : Event) → AllowedTo roll event → IsServed start world → IsServed start (step world event).world
+module _ (start : Desktop) where
+  abbrev Served : World → Type 0
+  Served = IsServed (IsLed start)
+
+  turned_served : (world after : World) → Served after → world ≡ record after { desktop = record after.desktop { notes = []; cost = 0 } } → Served world
+  turned_served world after is same = subst Served (sym same) (record { led = led_beside start after.desktop (record after.desktop { notes = []; cost = 0 }) refl refl is.led; order = is.order; begun = is.begun })
+
+  message_served : (world : World) (c : ℕ) (bytes : List ℕ) (mark : Option ℕ) (found : Option Session) → Served world → lookup world.sessions c ≡ found → Served (served world c bytes mark found).world
+  message_served world c bytes mark None is at = turned_served (served world c bytes mark None).world world is refl
+  message_served world c bytes mark (Some session) is at =
+      turned_served (served world c bytes mark (Some session)).world (settled_in (heard_in world c bytes mark session)) (heard_served (IsLed start) (led_keeps start) world c bytes mark session is at) refl
+
+  end_served : (world : World) (c : ℕ) (found : Option Session) → Served world → lookup world.sessions c ≡ found → Served (ended world c found).world
+  end_served world c None is at = turned_served (ended world c None).world world is refl
+  end_served world c (Some session) is at =
+      turned_served (ended world c (Some session)).world (settled_in (ended_in world c session)) (ended_served (IsLed start) (led_keeps start) world c session is at) refl
+
+  step_served : (roll : Roll) (world : World) (event : Event) → AllowedTo roll event → Served world → Served (step world event).world
   step_served roll world (Begin c) allowed is = record {
-    drawn = led_beside start world.desktop (step world (Begin c)).world.desktop refl refl is.drawn;
+    led = led_beside start world.desktop (step world (Begin c)).world.desktop refl refl is.led;
     order = step_order world (Begin c) is.order;
     begun = (let next = allowed.0 in and-others world.sessions c 0 fresh (λ same. omega (arith, next, same)) ∙ is.begun);
   }
-  step_served roll world (Msg c bytes mark) allowed is = served_served world c bytes mark (lookup world.sessions c) is refl
+  step_served roll world (Msg c bytes mark) allowed is = message_served world c bytes mark (lookup world.sessions c) is refl
   step_served roll world (Take c) allowed is = turned_served (step world (Take c)).world world is refl
-  step_served roll world (End c) allowed is = ended_served world c (lookup world.sessions c) is refl
+  step_served roll world (End c) allowed is = end_served world c (lookup world.sessions c) is refl
   step_served roll world Stop allowed is = turned_served (step world Stop).world world is refl
 
-  world_served : (roll : Roll) (world : World) (events : List Event) → AllowedFrom roll events → IsServed start world → IsServed start (world_from world events)
+  world_served : (roll : Roll) (world : World) (events : List Event) → AllowedFrom roll events → Served world → Served (world_from world events)
   world_served roll world [] allowed is = is
   world_served roll world (event ∷ events) allowed is = world_served (roll_after roll event) (step world event).world events allowed.1 (step_served roll world event allowed.0.1 is)
 
-opened_served : (opening : Opening) → IsServed (opened opening).desktop (opened opening)
+opened_served : (opening : Opening) → IsServed (IsLed (opened opening).desktop) (opened opening)
 opened_served opening = record {
-  drawn = led_itself (opened opening).desktop (record { sound = opened_sound (display_of opening).r; orderly = first_orderly (display_of opening); furnished = first_furnished (display_of opening) refl; shows = first_shows (display_of opening) });
+  led = led_itself (opened opening).desktop (record { sound = opened_sound (display_of opening).r; orderly = first_orderly (display_of opening); furnished = first_furnished (display_of opening) refl; shows = first_shows (display_of opening) });
   order = tt;
   begun = refl;
 }
 
+pub history_served : (opening : Opening) (events : List Event) → IsLegal events → IsServed (IsLed (opened opening).desktop) (replay opening events)
+history_served opening events legal = world_served (opened opening).desktop no_sessions (opened opening) events legal (opened_served opening)
+
 history_led : (opening : Opening) (events : List Event) → IsLegal events → IsLed (opened opening).desktop (replay opening events).desktop
-history_led opening events legal = (world_served (opened opening).desktop no_sessions (opened opening) events legal (opened_served opening)).drawn
+history_led opening events legal = (history_served opening events legal).led
 
 pub history_drawn : (opening : Opening) (events : List Event) → IsLegal events → IsDrawn (replay opening events).desktop
 history_drawn opening events legal = (history_led opening events legal).drawn

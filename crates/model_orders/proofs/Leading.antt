@@ -1,17 +1,30 @@
 -- A desktop that is drawn, and to which another leads.
-use Rattle.std.proofs.Common.{◌≡◌, ℕ, refl, sym, subst}
+use Rattle.std.proofs.Common.{◌≡◌, ◌≤◌, ℕ, Ok, refl, sym, subst}
 use Rattle.model_rio.specs.Table.{Table}
 use Rattle.model_rio.specs.Sound.{IsSound}
 use Rattle.model_draw.specs.World.{World}
-use Rattle.model_world.specs.Desktop.{Desktop}
+use Rattle.model_rio.specs.Act.{Act}
+use Rattle.model_rio.specs.Rio.{rio}
+use Rattle.model_rio.specs.Step.{Step}
+use Rattle.model_world.specs.Desktop.{Desktop, stepped}
 use Rattle.model_shown.specs.Showing.{IsOrderly}
-use Rattle.model_fitting.specs.Fitting.{Shows}
+use Rattle.model_fitting.specs.Fitting.{AllFit, IsSpelled, Shows}
 use Rattle.model_orders.specs.Leading.{IsDrawn}
-use Rattle.model_orders.specs.Leading.{Leads, Uses, rests, there, uses}
+use Rattle.model_orders.specs.Leading.{Leads, Uses, acts, rests, there, uses}
 use Rattle.model_lasting.proofs.Messages.{Still}
 use Rattle.model_others.specs.Others.{IsFurnished}
 use Rattle.model_orders.proofs.Furnished.{used_furnished}
 use Rattle.model_fitting.proofs.Stepping.{shows_follow}
+
+-- What is so of a desktop and stays so of those to which a session leads: it is drawn, and an act whose orders all fit, a use of the device, and what
+-- touches neither the table nor the device nor what was asked for, keep it.
+pub record Keeps (Led : Desktop → Type 0) : Type 0 where
+  pub drawn : (desktop : Desktop) → Led desktop → IsDrawn desktop
+  pub acted : (desktop : Desktop) (a : Act) (step : Step) → Led desktop → IsSpelled a → rio desktop.table a ≡ Ok step → AllFit desktop.device step.orders → IsDrawn (stepped desktop step)
+      → Led (stepped desktop step)
+  pub beside : (desktop after : Desktop) → after.table ≡ desktop.table → after.device ≡ desktop.device → after.cost ≡ desktop.cost → Led desktop → Led after
+  pub used : (desktop : Desktop) (device : World) (cost : ℕ) → desktop.cost ≤ cost → Led desktop → Uses desktop.device device → Still desktop.device device
+      → Led (record desktop { device = device; cost = cost })
 
 pub record IsLed (start desktop : Desktop) : Type 0 where
   pub drawn : IsDrawn desktop
@@ -37,4 +50,12 @@ pub led_by : (start desktop : Desktop) (device : World) (cost : ℕ) → IsLed s
 led_by start desktop device cost is used still = record {
   drawn = record { sound = is.drawn.sound; orderly = still.orderly; furnished = used_furnished desktop.device device used is.drawn.orderly is.drawn.furnished; shows = shows_follow desktop.device device desktop.table still is.drawn.shows };
   leads = uses desktop (record desktop { device = device; cost = cost }) is.leads refl used;
+}
+
+pub led_keeps : (start : Desktop) → Keeps (IsLed start)
+led_keeps start = record {
+  drawn = λ desktop is. is.drawn;
+  acted = λ desktop a step is spelled e fit drawn. record { drawn = drawn; leads = acts desktop a step is.leads spelled e fit };
+  beside = λ desktop after table device cost is. led_beside start desktop after table device is;
+  used = λ desktop device cost more is used still. led_by start desktop device cost is used still;
 }

@@ -74,7 +74,7 @@ module _ (d : ℕ) (P : Desktop → Type 0) where
 
     moused_keeps : (s : Desktop) (e : Pointer) → P s → P (whole.moused s e)
     unfolding whole.moused
-    moused_keeps s e is = if_keeps keep.acts s (act.Mouse e) is
+    moused_keeps s e is = keep.beside (stepped_if s (rio s.table (act.Mouse e))) (whole.moused s e) refl refl refl (if_keeps keep.acts s (act.Mouse e) is)
 
     typed_keeps : (s : Desktop) (keys : List ℕ) → P s → P (whole.typed s keys)
     unfolding whole.typed

@@ -1,6 +1,7 @@
 -- What another session does keeps the server and a world of the session's own the same to it, once that world takes its notes.
 use Rattle.std.proofs.Common.{◌≡◌, ◌≢◌, ℕ, ◌+◌, ◌<◌, ◌≤◌, ◌^◌, true, false, List, fold, Option, Some, None, Ok, Err, refl, arith}
 use Rattle.std.specs.Prelude.{All, IfOk}
+use Rattle.r9_geom.specs.declared.Point.{Point}
 use Rattle.model_text.specs.Outcome.{Outcome, ◌>>=◌, value_or_refuse}
 use Rattle.model_words.specs.declared.Size.{Size}
 use Rattle.model_words.specs.Values.{sides_of}
@@ -26,7 +27,7 @@ use Rattle.model_world.proofs.Others.{after_if, after_step}
 use Rattle.model_fitting.specs.Fitting.{IsSpelled}
 use Rattle.model_fitting.proofs.Spelled.{command_spelled}
 use Rattle.model_orders.specs.Leading.{IsDrawn, Uses, begins, chooses, ends, reads, writes}
-use Rattle.model_orders.proofs.Leading.{led_beside, led_by, led_itself}
+use Rattle.model_orders.proofs.Leading.{IsLed, led_beside, led_by, led_itself, led_keeps}
 use Rattle.model_orders.proofs.Desktops.{choice_is, client_other, connect_drawn, leave_drawn, read_is, written_data_drawn}
 use Rattle.model_orders.proofs.Sides.{sides_spelled}
 use Rattle.model_agreement.specs.Agreement.{IsDone}
@@ -100,10 +101,10 @@ module _ (c : ℕ) (begin : 0 < c) (Like : Option (ℕ × ℕ) → Option (ℕ �
   pub heard_told : (s : Desktop) (window : ℕ) (h : Heard) → IsDone h → (own ≡ Some window → ⊥) → Told s → Told ((desktop_for d).hear s window h)
   heard_told s window h done away is = heard_elsewhere c begin Like Named laws names own s (fold noted_alone t (notes_of own s.notes)) window h done away is
 
-  -- the users and the snarfs make no difference
-  pub beside_told : (s : Desktop) (users snarfs : List (ℕ × List ℕ)) → Told s → Told (record s { users = users; snarfs = snarfs })
-  beside_told s users snarfs is = record {
-    drawn = (led_beside s s (record s { users = users; snarfs = snarfs }) refl refl (led_itself s is.drawn)).drawn;
+  -- the users, the snarfs, and where the mouse was last make no difference
+  pub beside_told : (s : Desktop) (users snarfs : List (ℕ × List ℕ)) (pointer : Option Point) → Told s → Told (record s { users = users; snarfs = snarfs; pointer = pointer })
+  beside_told s users snarfs pointer is = record {
+    drawn = (led_beside s s (record s { users = users; snarfs = snarfs; pointer = pointer }) refl refl (led_itself s is.drawn)).drawn;
     order = is.order;
     names = is.names;
     window = beside own is.window;
@@ -113,7 +114,7 @@ module _ (c : ℕ) (begin : 0 < c) (Like : Option (ℕ × ℕ) → Option (ℕ �
       u : LoneDesktop
       u = fold noted_alone t (notes_of own s.notes)
 
-      beside : (o : Option ℕ) → SameWindows s u o → SameWindows (record s { users = users; snarfs = snarfs }) u o
+      beside : (o : Option ℕ) → SameWindows s u o → SameWindows (record s { users = users; snarfs = snarfs; pointer = pointer }) u o
       beside None is = is
       beside (Some n) is = record { alone = is.alone; rect = is.rect; root = is.root; bare = is.bare; counted = is.counted }
 
@@ -171,7 +172,9 @@ module _ (c : ℕ) (begin : 0 < c) (Like : Option (ℕ × ℕ) → Option (ℕ �
 
   pub moused_reached : (s : Desktop) (e : Pointer) → Told s → IsGiven s → Reached (whole.moused s e)
   unfolding whole.moused
-  moused_reached s e is given = if_reached s (act.Mouse e) is given tt
+  moused_reached s e is given bare =
+      let next : Desktop = stepped_if s (rio s.table (act.Mouse e)) in
+      beside_told next next.users next.snarfs (whole.moused s e).pointer (if_reached s (act.Mouse e) is given tt bare)
 
   pub typed_reached : (s : Desktop) (keys : List ℕ) → Told s → IsGiven s → Reached (whole.typed s keys)
   unfolding whole.typed
@@ -206,7 +209,7 @@ module _ (c : ℕ) (begin : 0 < c) (Like : Option (ℕ × ℕ) → Option (ℕ �
       after_if IsMadeReached Reached (made_by s host command.what) _ (made_by_reached s host command.what is given) (λ next reached. reached)))
 
   users_reached : (s : Desktop) (users : List (ℕ × List ℕ)) → Reached s → Reached (record s { users = users })
-  users_reached s users reached bare = beside_told s users s.snarfs (reached bare)
+  users_reached s users reached bare = beside_told s users s.snarfs s.pointer (reached bare)
 
   pub attached_reached : (s : Desktop) (asked : Attach) → Told s → IsGiven s → IfOk (whole.attached d s asked) IsMadeReached
   unfolding whole.attached
@@ -240,21 +243,21 @@ module _ (c : ℕ) (begin : 0 < c) (Like : Option (ℕ × ℕ) → Option (ℕ �
 
   pub connect_told : (s : Desktop) (n : ℕ) → n < 2 ^ 26 → Told s → Told ((desktop_for d).connect s n)
   connect_told s n few is =
-      device_told s (draw.after_connect s.device (client d n)) s.cost is (connect_drawn s s (client d n) (led_itself s is.drawn)).drawn (begins (client d n))
+      device_told s (draw.after_connect s.device (client d n)) s.cost is (connect_drawn (IsLed s) (led_keeps s) s (client d n) (led_itself s is.drawn)).drawn (begins (client d n))
       (laws.others_connect (known_size s) (named_in s own) s.device _ is.device d n first other few)
 
   pub leave_told : (s : Desktop) (n : ℕ) → n < 2 ^ 26 → Told s → Told ((desktop_for d).leave s n)
   leave_told s n few is =
-      let apart = client_other s d n zero_below in
-      device_told s (draw.after_leave s.device (client d n)) _ is (leave_drawn s s (client d n) apart (led_itself s is.drawn)).drawn (ends (client d n) apart)
+      let apart = client_other d n zero_below in
+      device_told s (draw.after_leave s.device (client d n)) _ is (leave_drawn (IsLed s) (led_keeps s) s (client d n) apart (led_itself s is.drawn)).drawn (ends (client d n) apart)
       (laws.others_leave (known_size s) (named_in s own) s.device _ is.device d n first other few)
 
   pub write_told : (s : Desktop) (n : ℕ) (bytes : List ℕ) (mark : Option ℕ) → n < 2 ^ 26 → All (LeavesName (named_in s own)) (looked_at (client d n) s.device bytes mark) → Told s → Told ((desktop_for d).write_data s n bytes mark).0
   unfolding whole.written_data
   write_told s n bytes mark few leaves is =
-      let apart = client_other s d n zero_below in
+      let apart = client_other d n zero_below in
       let next : Desktop = ((desktop_for d).write_data s n bytes mark).0 in
-      let drawn : IsDrawn next = (written_data_drawn s (client d n) s bytes mark apart (led_itself s is.drawn)).drawn in
+      let drawn : IsDrawn next = (written_data_drawn (IsLed s) (led_keeps s) (client d n) s bytes mark apart (led_itself s is.drawn)).drawn in
       device_told s (written (client d n) s.device bytes mark).world next.cost is drawn (writes (client d n) bytes mark apart)
       (laws.others_write (known_size s) (named_in s own) s.device _ is.device d n bytes mark first other few leaves)
 

@@ -267,7 +267,7 @@ module _ (c : ℕ) (begin : 0 < c) (Like : Option (ℕ × ℕ) → Option (ℕ �
       whole_told (value_or_refuse (sides_of (line_of bytes)) 51 >>= λ size. whole.resized s size) (resized_reached c begin Like Named laws names own d first other t s (line_of bytes) is given)
   file_reached s node offset bytes mark kind.Snarf few leaves away given is =
       let old = (desktop_for d).snarf s node.serial in
-      whole_told (snarf_written old offset bytes >>= λ new. Ok ((desktop_for d).with_snarf s node.serial new)) (after_step Reaches (snarf_written old offset bytes) _ (λ new _ bare. beside_told c begin Like Named laws names own d first other t s s.users _ is))
+      whole_told (snarf_written old offset bytes >>= λ new. Ok ((desktop_for d).with_snarf s node.serial new)) (after_step Reaches (snarf_written old offset bytes) _ (λ new _ bare. beside_told c begin Like Named laws names own d first other t s s.users _ s.pointer is))
   file_reached s node offset bytes mark kind.DeviceWctl few leaves away given is = whole_told (whole.device_commanded s bytes) (device_commanded_reached c begin Like Named laws names own d first other t s bytes is given)
   file_reached s node offset bytes mark kind.Cons few leaves away given is = λ bare. heard_told c begin Like Named laws names own d first other t s node.serial (Written bytes) tt away.serial is
   file_reached s node offset bytes mark kind.Consctl few leaves away given is =

@@ -31,7 +31,7 @@ use Rattle.model_world.proofs.Answers.{answer_holds}
 use Rattle.model_world.proofs.Desktops.{device_of, keeps_connections}
 use Rattle.model_world.proofs.Steps.{linked_of}
 use Rattle.model_orders.proofs.Answers.{answer_drawn}
-use Rattle.model_orders.proofs.Leading.{led_itself}
+use Rattle.model_orders.proofs.Leading.{IsLed, led_itself, led_keeps}
 use Rattle.model_alone.specs.Isolated.{replies_to}
 use Rattle.model_alone.specs.Own.{Watched, after_use, judged, judged_by, noted, reasons_from}
 use Rattle.model_alone.specs.Uses.{bytes_used, event_used, new_hosts, read_used, session_used, window_at}
@@ -139,7 +139,7 @@ module _ (c : ℕ) (begin : 0 < c) (Like : Option (ℕ × ℕ) → Option (ℕ �
             zero_below = omega (arith, first)
 
             root : after.rest.table.root.host ≡ 0
-            root = (answer_drawn world.desktop d session world.desktop bytes mark zero_below (led_itself world.desktop is.with.same.drawn)).drawn.sound.root
+            root = (answer_drawn (IsLed world.desktop) (led_keeps world.desktop) d session world.desktop bytes mark zero_below (led_itself world.desktop is.with.same.drawn)).drawn.sound.root
 
             apart : (after.rest.table.root.host == window) ≡ false
             apart = not_key after.rest.table.root.host window (λ same. counted (its ∙ ap Some (sym same ∙ root)))

@@ -27,7 +27,7 @@ use Rattle.model_world.proofs.Settling.{IfNext, all_in, first_leaves, settled_ke
 use Rattle.model_world.proofs.Standing.{history_waits, step_waits}
 use Rattle.model_world.proofs.Steps.{opened_linked, step_known, step_linked}
 use Rattle.model_orders.specs.Leading.{IsDrawn}
-use Rattle.model_orders.proofs.Leading.{led_beside, led_itself}
+use Rattle.model_orders.proofs.Leading.{IsLed, led_beside, led_itself, led_keeps}
 use Rattle.model_orders.proofs.Answers.{answer_drawn, cleared_drawn, one_drawn}
 use Rattle.model_steady.proofs.Messages.{cleared_keeps, each_answer_keeps, one_keeps}
 use Rattle.model_steady.proofs.Desktops.{all_keep}
@@ -88,7 +88,7 @@ late_leaves : (d : ℕ) (session : Session) (s : Desktop) (after : Left Desktop)
 late_leaves d session s after drawn regular within is =
     let same = (one_same d s session after is).table in
     record {
-      drawn = (one_drawn s d session s after (led_itself s drawn) is).drawn;
+      drawn = (one_drawn (IsLed s) (led_keeps s) d session s after (led_itself s drawn) is).drawn;
       regular = one_keeps (desktop_for d) IsRegular (regular_all d) session s after regular is;
       within = subst (λ (t : Table). TellsOfMade t after.session) (sym same) (one_such (desktop_for d) (IsWithin s.table.serials) session s after within is);
       grown = subst (λ (t : Table). s.table.serials ≤ t.serials) (sym same) (omega arith);
@@ -115,7 +115,7 @@ turned_well world after is same = subst IsWell (sym same) (record {
 
 pub answer_leaves : (d : ℕ) (session : Session) (s : Desktop) (bytes : List ℕ) (mark : Option ℕ) → 0 < d → IsDrawn s → IsRegular s → TellsOfMade s.table session → LeavesWell s (answer (desktop_for d) session s bytes mark)
 answer_leaves d session s bytes mark begun drawn regular within = record {
-  drawn = (answer_drawn s d session s bytes mark begun (led_itself s drawn)).drawn;
+  drawn = (answer_drawn (IsLed s) (led_keeps s) d session s bytes mark begun (led_itself s drawn)).drawn;
   regular = each_answer_keeps (desktop_for d) IsRegular (regular_all d) (regular_attached d) session s bytes mark regular;
   within = answer_within d s drawn.sound session bytes mark within;
   grown = counts_answer d s.table.serials session s bytes mark (omega arith);
@@ -135,7 +135,7 @@ pub gone_well : (world : World) (d : ℕ) (session : Session) → IsWell world �
 gone_well world d session is at = record {
   order = ascend-without world.sessions d is.order;
   begun = without-others world.sessions d 0 (λ same. omega (arith, begun, same)) ∙ is.begun;
-  drawn = (cleared_drawn world.desktop d session world.desktop begun (led_itself world.desktop is.drawn)).drawn;
+  drawn = (cleared_drawn (IsLed world.desktop) (led_keeps world.desktop) d session world.desktop begun (led_itself world.desktop is.drawn)).drawn;
   regular = cleared_keeps (desktop_for d) IsRegular (regular_all d) session world.desktop is.regular;
   within = λ e other there. by e other there (eqb e d) refl;
 }

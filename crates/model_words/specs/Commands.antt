@@ -21,6 +21,17 @@ pub record AsksForReplay (words : List (List ℕ)) (opening : Opening) (screen :
   pub opened : AsksForOpening given opening
   pub shown : screen ≡ has_flag (codes "screen") given
 
+abbrev pub mirror_syntax : Syntax
+mirror_syntax = record { flags = []; valued = codes "size" ∷ codes "chan" ∷ [] }
+
+-- mirrors a record that stands in the input, on this display
+pub record AsksForMirror (words : List (List ℕ)) (opening : Opening) : Type 0 where
+  pub given : List Given
+  pub rest : List (List ℕ)
+  pub begins : words ≡ codes "mirror" ∷ rest
+  pub gives : GivesOptions mirror_syntax given rest
+  pub opened : AsksForOpening given opening
+
 abbrev pub serve_syntax : Syntax
 serve_syntax = record { flags = []; valued = codes "size" ∷ codes "chan" ∷ codes "listen" ∷ codes "workers" ∷ codes "conns" ∷ [] }
 

@@ -4,6 +4,7 @@ use Rattle.std.specs.Prelude.{◌+◌, ◌==◌, ◌||◌, is_some, IfOk}
 use Rattle.std.specs.List.{fold}
 use Rattle.std.specs.Option.{unwrap_or}
 use Rattle.std.proofs.lemmas.Bool.{cond_both, eqb-true, eqb-false}
+use Rattle.r9_geom.specs.declared.Point.{Point}
 use Rattle.r9_event.specs.declared.rio.Note.{Note}
 use Rattle.r9_event.specs.declared.rio.Note.TheVariants as note
 use Rattle.model_text.specs.Outcome.{Outcome, value_or_refuse}
@@ -169,6 +170,10 @@ cost_leaves desktop device cost = beside_leaves desktop device desktop.users des
 users_leaves : (desktop : Desktop) (users : List (ℕ × List ℕ)) → Leaves desktop (record desktop { users = users })
 users_leaves desktop users = beside_leaves desktop desktop.device users desktop.snarfs desktop.cost
 
+-- where the mouse was last makes none, either
+pointer_leaves : (desktop : Desktop) (pointer : Option Point) → Leaves desktop (record desktop { pointer = pointer })
+pointer_leaves desktop pointer window none = (none, record { lives = refl; known = refl; mouse = λ none. none; console = λ count none. none })
+
 -- ---- what is heard
 
 pub hear_quiet : (c : ℕ) (desktop : Desktop) (window : ℕ) (h : Heard) → stirs h ≡ false → IsQuiet desktop ((desktop_for c).hear desktop window h)
@@ -278,7 +283,9 @@ left_leaves session (window ∷ windows) desktop =
 
 pub moused_leaves : (desktop : Desktop) (e : Pointer) → Leaves desktop (moused desktop e)
 unfolding moused
-moused_leaves desktop e = stepped_if_leaves desktop (act.Mouse e)
+moused_leaves desktop e =
+    let next : Desktop = stepped_if desktop (rio desktop.table (act.Mouse e)) in
+    leaves_then desktop next (moused desktop e) (stepped_if_leaves desktop (act.Mouse e)) (pointer_leaves next (moused desktop e).pointer)
 
 pub typed_leaves : (desktop : Desktop) (keys : List ℕ) → Leaves desktop (typed desktop keys)
 unfolding typed

@@ -1,7 +1,8 @@
 -- What all sessions share: the draw device, and the windows with what their files have (draw(3), rio(4)).
-use Rattle.std.specs.Prelude.{ℕ, ◌+◌, ◌==◌, ◌&&◌, ◌||◌, Bool, false, not, List, [], ◌∷◌, ◌++◌, filter, is_some, Ok, Err, if◌then◌else◌}
+use Rattle.std.specs.Prelude.{ℕ, ◌+◌, ◌==◌, ◌&&◌, ◌||◌, Bool, false, not, List, [], ◌∷◌, ◌++◌, filter, is_some, Option, None, Ok, Err, if◌then◌else◌}
 use Rattle.std.specs.List.{fold, list_any}
 use Rattle.std.specs.Option.{unwrap_or}
+use Rattle.r9_geom.specs.declared.Point.{Point}
 use Rattle.r9_geom.specs.declared.Rect.{Rect}
 use Rattle.r9_geom.specs.Geometry.{width, height}
 use Rattle.r9_event.specs.declared.rio.Note.{Note}
@@ -21,8 +22,8 @@ use Rattle.model_world.specs.Fids.{put}
 
 -- The draw device; the windows of all rios; whether the display has changed its size; what the files of each live window have, by
 -- its serial; the sessions that have a fid whose attach named a window, in ascending order, by the window's serial; the snarf of
--- each rio, by the serial of its host; and of this turn what the windows were told, and what all that was asked of the draw device costs:
--- the most pixels that it may write.
+-- each rio, by the serial of its host; where the mouse was last, if it was anywhere; and of this turn what the windows were told, and
+-- what all that was asked of the draw device costs: the most pixels that it may write.
 pub record Desktop : Type 0 where
   pub device : draw.World
   pub table : rio.Table
@@ -30,6 +31,7 @@ pub record Desktop : Type 0 where
   pub panes : List (ℕ × Pane)
   pub users : List (ℕ × List ℕ)
   pub snarfs : List (ℕ × List ℕ)
+  pub pointer : Option Point
   pub notes : List (ℕ × Note)
   pub cost : ℕ
 
@@ -41,6 +43,7 @@ first_desktop opening = record {
   panes = [];
   users = [];
   snarfs = (0, []) ∷ [];
+  pointer = None;
   notes = [];
   cost = 0;
 }
@@ -87,6 +90,7 @@ stepped desktop step = record {
   panes = fold panes_told desktop.panes step.notes;
   users = fold users_told desktop.users step.notes;
   snarfs = fold snarfs_ordered desktop.snarfs step.orders;
+  pointer = desktop.pointer;
   notes = desktop.notes ++ step.notes;
   cost = desktop.cost + orders_cost desktop.device step.orders;
 }

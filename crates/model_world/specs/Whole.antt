@@ -1,5 +1,5 @@
 -- What a session of a whole server finds outside itself (attach(5), draw(3), rio(4)).
-use Rattle.std.specs.Prelude.{ℕ, ◌+◌, ◌*◌, ◌^◌, ◌==◌, true, false, not, List, [], ◌∷◌, length, map, is_some, Option, Ok, Err, if◌then◌else◌}
+use Rattle.std.specs.Prelude.{ℕ, ◌+◌, ◌*◌, ◌^◌, ◌==◌, true, false, not, List, [], ◌∷◌, length, map, is_some, Option, Some, Ok, Err, if◌then◌else◌}
 use Rattle.std.specs.List.{fold}
 use Rattle.std.specs.Option.{option_map_or, unwrap_or}
 use Rattle.model_text.specs.Map.{lookup, with}
@@ -86,9 +86,9 @@ device_commanded desktop text = do
 
 -- ---- input
 
--- an event of the mouse, and what is typed, which begin at the root rio
+-- an event of the mouse, which is where it was last then, and what is typed, which begin at the root rio
 unfoldable pub moused : Desktop → Pointer → Desktop
-moused desktop e = stepped_if desktop (rio desktop.table (act.Mouse e))
+moused desktop e = record (stepped_if desktop (rio desktop.table (act.Mouse e))) { pointer = Some (record { x = e.x; y = e.y }) }
 
 unfoldable pub typed : Desktop → (keys : List ℕ) → Desktop
 typed desktop keys = stepped_if desktop (rio desktop.table (act.Keys keys))

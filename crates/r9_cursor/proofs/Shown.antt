@@ -20,7 +20,7 @@ use Rattle.r9_cursor.specs.Bytes.{byte_under, old_bits}
 use Rattle.r9_cursor.proofs.Bytes.{over_is, under_small, under_whole}
 
 -- one of the pixels that are joined
-joined_digit : (depth : ℕ) (f : ℕ → ℕ) (n k j : ℕ) → ((i : ℕ) → f i < 2 ^ depth) → j < k → joined depth f n k / 2 ^ (depth * (k - 1 - j)) % 2 ^ depth ≡ f (n + j)
+pub joined_digit : (depth : ℕ) (f : ℕ → ℕ) (n k j : ℕ) → ((i : ℕ) → f i < 2 ^ depth) → j < k → joined depth f n k / 2 ^ (depth * (k - 1 - j)) % 2 ^ depth ≡ f (n + j)
 joined_digit depth f n zero j fits within = absurd (omega (arith, within))
 joined_digit depth f n (suc k) j fits within =
     let whole = joined depth f n k * 2 ^ depth + f (n + k) in
@@ -151,10 +151,3 @@ shown_is r chan at p rows new near ordered is whole fits dark light bytes inside
     ∙ ap (byte_under bits put k) (sym (get_or-drop (row * line) rows k 0)) in
     pixel_shown bits put (drop (row * line) new) (drop (row * line) rows) n line is low room each
     ∙ ap (λ (o : Option ℕ). unwrap_or o (raw_at bits (drop (row * line) rows) n)) here
-
--- a rectangle whose rows have no byte has no point
-pub no_point : (r : Rect) (bits : ℕ) (p : Point) → IsRectNear r → IsOrdered r → is_depth bits ≡ true → row_bytes r bits ≡ 0 → holds r p ≡ true → ⊥
-no_point r bits p near ordered is none inside =
-    let cell = cell_of r p inside in
-    let some : 1 ≤ bits = ⊎_elim (λ (small : bits < 8). by_depth (λ d. 1 ≤ d) bits is small (omega arith) (omega arith) (omega arith)) (λ (whole : 8 ≤ bits). omega (arith, whole)) (cases_lt bits 8) in
-    omega (arith, mul-le 1 1 (skip r bits + width r) bits (omega (arith, cell.column)) some, row_fits r bits near ordered is, none)

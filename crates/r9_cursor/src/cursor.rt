@@ -1,8 +1,8 @@
 // A cursor over the rows of a rectangle.
 
-ghost use Rattle.std.specs.Prelude.{◌≡◌, ◌+◌, ◌*◌, ◌/◌, ◌^◌, ◌<◌, ◌≤◌, ◌≤ℤ◌, ◌-ℤ◌, neg_ℤ, pos, IsTrue, IfSome};
+ghost use Rattle.std.specs.Prelude.{◌≡◌, ℕ, ◌+◌, ◌*◌, ◌/◌, ◌^◌, ◌<◌, ◌≤◌, ◌≤ℤ◌, ◌+ℤ◌, ◌-ℤ◌, min, neg_ℤ, pos, length, slice_index, IsTrue, IfSome, None};
 ghost use Rattle.std.specs.Option.{unwrap_or};
-ghost use Rattle.r9_geom.specs.Geometry.{height, width, IsNear, IsNearBy, IsOrdered, IsRectNear};
+ghost use Rattle.r9_geom.specs.Geometry.{distance, height, width, IsNear, IsNearBy, IsOrdered, IsRectNear};
 ghost use Rattle.model_pixel.specs.Channels as channels;
 ghost use Rattle.model_pixel.specs.Rows as spec;
 ghost use Rattle.model_cursor.specs.Cursor as model;
@@ -11,12 +11,15 @@ ghost use Rattle.model_cursor.specs.Rows.{put_in};
 ghost use Rattle.r9_cursor.specs.Bytes.{old_bits, byte_under};
 
 use r9_chan::{Chan, Colour};
-use r9_geom::{Point, Rect};
+use r9_geom::{Point, Rect, distance};
 
 /// The colours of the cursor.
 const BLACK: u32 = 0x0000_00FF;
 
 const WHITE: u32 = 0xFFFF_FFFF;
+
+/// How many columns and rows it has.
+const SIZE: i64 = 16;
 
 /// A cursor at a point, and the rectangle whose rows it is put over.
 #[derive(Drop)]
@@ -156,8 +159,8 @@ impl Cursor {
         byte as u8
     }
 
-    /// Byte k of a row, with the cursor over it.
-    pub fn row_byte(&self, row: u64, k: u64, old: u8) -> u8
+    // Byte k of a row, with the cursor over it.
+    fn row_byte(&self, row: u64, k: u64, old: u8) -> u8
         requires row { row < height self.now.r }
         requires place { k < 2 ^ 50 }
         ensures { result ≡ byte_under self.now.depth (put_in self.now.r self.now.chan self.now.at row) k old }
@@ -168,6 +171,55 @@ impl Cursor {
             self.whole_byte(row, k, old)
         }
     }
+
+    /// The rows of the rectangle that it may have a point in: from the first to below the second.
+    pub fn rows(&self) -> (u64, u64)
+        ensures above { (row n : ℕ) → row < result.0 → put_in self.now.r self.now.chan self.now.at row n ≡ None }
+        ensures below { (row n : ℕ) → result.1 ≤ row → row < height self.now.r → put_in self.now.r self.now.chan self.now.at row n ≡ None }
+        ensures end { result.1 ≤ height self.now.r }
+    {
+        own_places(self.r.min.y, self.r.height(), self.at.y)
+    }
+
+    // The bytes of a row that it may have a point in: from the first to below the second.
+    fn bytes(&self) -> (u64, u64)
+        ensures left { (row k old : ℕ) → old < 256 → k < result.0 → byte_under self.now.depth (put_in self.now.r self.now.chan self.now.at row) k old ≡ old }
+        ensures right { (row k old : ℕ) → old < 256 → result.1 ≤ k → byte_under self.now.depth (put_in self.now.r self.now.chan self.now.at row) k old ≡ old }
+        ensures end { result.1 ≤ spec.row_bytes self.now.r self.now.depth }
+        ensures range { result.1 < 2 ^ 45 }
+    {
+        let (first, end) = own_places(self.r.min.x, self.columns, self.at.x);
+        let depth = u64::from(self.depth);
+        (
+            (self.skip + first) * depth / 8,
+            ((self.skip + end) * depth + 7) / 8,
+        )
+    }
+
+    /// Puts it over a row.
+    pub fn over_row(&self, row: u64, line: &mut [u8])
+        requires row { row < height self.now.r }
+        requires line { length line.old ≡ spec.row_bytes self.now.r self.now.depth }
+        ensures { (k : ℕ) → k < length line.old → slice_index line.new k ≡ byte_under self.now.depth (put_in self.now.r self.now.chan self.now.at row) k (slice_index line.old k) }
+    {
+        let (first, end) = self.bytes();
+        for k in first as usize..end as usize {
+            line[k] = self.row_byte(row, k as u64, line[k]);
+        }
+    }
+}
+
+// Which of so many columns or rows, the first at `low`, are among the cursor's 16 from `at` on: from the first number to below
+// the second.
+fn own_places(low: i64, count: u64, at: i64) -> (u64, u64)
+    requires low { neg_ℤ (pos (2 ^ 40)) ≤ℤ low }
+    requires at { at ≤ℤ pos (2 ^ 40) }
+    ensures first { result.0 ≡ min (distance low at) count }
+    ensures end { result.1 ≡ min (distance low (at +ℤ pos 16)) count }
+{
+    let first = distance(low, at.max(low)).min(count);
+    let end = distance(low, (at + SIZE).max(low)).min(count);
+    (first, end)
 }
 
 // A number of the bits of i pixels, with one more pixel below them.

@@ -18,7 +18,8 @@ use r9_geom::{Point, Rect};
 use r9_plane::row_bytes;
 
 /// Puts the cursor at a point over the rows of a rectangle, in pixels of these channels (image(6)). Pixels that it does not
-/// cover, and bits beside the rectangle, stay as they are.
+/// cover, and bits beside the rectangle, stay as they are. Only the rows and columns of its own 16 by 16 pixels are gone
+/// over, however large the rectangle is.
 pub fn over(rows: &mut [u8], r: Rect, chan: Chan, at: Point)
     requires near { IsRectNear r }
     requires ordered { IsOrdered r }
@@ -28,11 +29,10 @@ pub fn over(rows: &mut [u8], r: Rect, chan: Chan, at: Point)
     ensures pixels { (p : Point) → IsTrue (holds r p) → row_pixel r (depth chan) rows.new p ≡ unwrap_or (cursor_at chan at p) (row_pixel r (depth chan) rows.old p) }
 {
     let line_len = row_bytes(r, chan.depth()) as usize;
-    if line_len == 0 {
-        return;
-    }
     let cursor = Cursor::new(r, chan, at);
-    for (k, byte) in rows.iter_mut().enumerate() {
-        *byte = cursor.row_byte((k / line_len) as u64, (k % line_len) as u64, *byte);
+    let (first, end) = cursor.rows();
+    for row in first..end {
+        let start = row as usize * line_len;
+        cursor.over_row(row, &mut rows[start..start + line_len]);
     }
 }

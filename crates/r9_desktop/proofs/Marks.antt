@@ -3,13 +3,15 @@ use Rattle.std.proofs.Common.{◌≡◌, ◌∙◌, ◌<◌, ◌≤◌, ◌+◌,
 use Rattle.std.specs.Prelude.{is_some, min, IsSome}
 use Rattle.std.proofs.lemmas.Bool.{false≢true}
 use Rattle.r9_geom.specs.Geometry.{height, width}
+use Rattle.model_pixel.specs.Channels.{depth}
+use Rattle.r9_marks.specs.Cells.{cells_over, count_cells}
 use Rattle.model_forest.specs.World.{parent_of}
 use Rattle.model_draw.specs.World.{at_number, World}
 use Rattle.r9_watched.specs.Moments.{IsFew, IsSince, Moment}
 use Rattle.r9_forest.specs.Marks.{shown_in, IsMoment}
 use Rattle.r9_draw.specs.declared.draw.Draw.{Draw}
 use Rattle.r9_draw.specs.World.{marked_in, marks_of, moment_of, world_of, writes_of}
-use Rattle.r9_desktop.specs.Marks.{display_in, AreCounted, IsBegun, IsMarked}
+use Rattle.r9_desktop.specs.Marks.{display_in, AreCounted, IsBegun, IsMarked, IsSound}
 
 -- none is written yet
 pub counted_none : (start pixels : ℕ) → min start (start + (2 ^ 64 - 1)) ≤ start + pixels
@@ -59,3 +61,17 @@ pub turn_marks : (then now : Draw) (pixels : ℕ) → IsBegun then now → AreCo
     → ((m : Moment) → moment_of now ≡ Some m → IsFew m (marks_of now) (writes_of now)) → marks_of now < 2 ^ 64
     → (display_in then).nowhere ≡ true → IsMarked (display_in then) (display_in now) pixels
 turn_marks then now pixels begun counted since few most nowhere = marked_after then now pixels (moment_of then) refl (begun.some nowhere) begun counted since few most
+
+-- what a moment tells of the marks and the pixels
+abbrev CountsAll : Draw → Type 0
+CountsAll now = (m : Moment) → moment_of now ≡ Some m → marks_of now ≡ count_cells (cells_over (width (at_number (world_of now) 0).r)) (cells_over (height (at_number (world_of now) 0).r)) (marked_in now)
+
+abbrev FitsAll : Draw → Type 0
+FitsAll now = (m : Moment) → moment_of now ≡ Some m → (column row : ℕ) → column < width (at_number (world_of now) 0).r → row < height (at_number (world_of now) 0).r → shown_in (world_of now).images 0 column row < 2 ^ depth (at_number (world_of now) 0).chan
+
+sound_then : (now : Draw) (o : Option Moment) → moment_of now ≡ o → is_some o ≡ true → CountsAll now → FitsAll now → IsSound (display_in now)
+sound_then now None is some counted fits = absurd (false≢true some)
+sound_then now (Some m) is some counted fits = record { counted = counted m is; fits = fits m is }
+
+pub sound_now : (now : Draw) → (parent_of (world_of now).images 0 ≡ None → IsSome (moment_of now)) → CountsAll now → FitsAll now → (display_in now).nowhere ≡ true → IsSound (display_in now)
+sound_now now some counted fits nowhere = sound_then now (moment_of now) refl (some (none_since (parent_of (world_of now).images 0) nowhere)) counted fits

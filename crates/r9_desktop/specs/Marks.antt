@@ -2,18 +2,20 @@
 use Rattle.std.specs.Prelude.{◌≡◌, ◌+◌, ◌-◌, ◌/◌, ◌^◌, ◌<◌, ◌≤◌, ℕ, Bool, true, false, not, is_some, min, Some}
 use Rattle.r9_geom.specs.declared.Rect.{Rect}
 use Rattle.r9_geom.specs.Geometry.{height, width}
-use Rattle.r9_marks.specs.Cells.{cells_over}
+use Rattle.model_pixel.specs.Channels.{depth}
+use Rattle.r9_marks.specs.Cells.{cells_over, count_cells}
 use Rattle.model_forest.specs.World.{parent_of}
-use Rattle.model_draw.specs.World.{at_number}
+use Rattle.model_draw.specs.World.{World, at_number}
 use Rattle.r9_watched.specs.Moments.{Moment}
 use Rattle.r9_forest.specs.Marks.{shown_in, IsMoment}
 use Rattle.r9_draw.specs.declared.draw.Draw.{Draw}
 use Rattle.r9_draw.specs.World.{marked_in, marks_of, moment_of, world_of, writes_of}
 
--- the display's rectangle, its pixels by column and row, which of its cells of 32 by 32 pixels are marked and how many, and whether it
--- stands nowhere
+-- the display's rectangle and its channels, its pixels by column and row, which of its cells of 32 by 32 pixels are marked and how many,
+-- and whether it stands nowhere
 pub record Display : Type 0 where
   pub r : Rect
+  pub chan : ℕ
   pub pixels : (column row : ℕ) → ℕ
   pub marked : (column row : ℕ) → Bool
   pub count : ℕ
@@ -22,6 +24,7 @@ pub record Display : Type 0 where
 abbrev pub display_in : Draw → Display
 display_in device = record {
   r = (at_number (world_of device) 0).r;
+  chan = (at_number (world_of device) 0).chan;
   pixels = shown_in (world_of device).images 0;
   marked = marked_in device;
   count = marks_of device;
@@ -45,9 +48,22 @@ pub record IsMarked (then now : Display) (pixels : ℕ) : Type 0 where
   pub kept : (column row : ℕ) → column < cells_over (width now.r) → row < cells_over (height now.r) → then.marked column row ≡ true → now.marked column row ≡ true
   pub few : now.count ≤ then.count + pixels
 
+-- but for its marks a display is that of the device
+pub record IsOf (device : World) (display : Display) : Type 0 where
+  pub r : display.r ≡ (at_number device 0).r
+  pub chan : display.chan ≡ (at_number device 0).chan
+  pub pixels : display.pixels ≡ shown_in device.images 0
+  pub nowhere : display.nowhere ≡ not (is_some (parent_of device.images 0))
+
+-- as many cells are marked as it says, and its pixels have no more bits than its channels
+pub record IsSound (display : Display) : Type 0 where
+  pub counted : display.count ≡ count_cells (cells_over (width display.r)) (cells_over (height display.r)) display.marked
+  pub fits : (column row : ℕ) → column < width display.r → row < height display.r → display.pixels column row < 2 ^ depth display.chan
+
 -- the same display without marks
 pub record IsCleared (before after : Display) : Type 0 where
   pub r : after.r ≡ before.r
+  pub chan : after.chan ≡ before.chan
   pub pixels : after.pixels ≡ before.pixels
   pub marked : (column row : ℕ) → after.marked column row ≡ false
   pub count : after.count ≡ 0

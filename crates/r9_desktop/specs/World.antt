@@ -1,4 +1,5 @@
 -- A desktop as the definitions have it.
+use Rattle.std.specs.Option.{option_map}
 use Rattle.r9_draw.specs.World.{world_of}
 use Rattle.model_world.specs.Desktop as model
 use Rattle.r9_desktop.specs.Marks.{Display, display_in}
@@ -13,6 +14,7 @@ parts_of d = record {
   panes = d.panes.entries;
   users = d.users.entries;
   snarfs = d.snarfs.entries;
+  pointer = option_map (λ e. record { x = e.x; y = e.y }) d.pointed;
   notes = d.notes;
   cost = d.spending.asked.sum;
 }

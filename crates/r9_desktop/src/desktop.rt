@@ -1,22 +1,29 @@
 //! The desktop as one value.
 
-ghost use Rattle.std.specs.Prelude.{◌≡◌, ◌≤◌, ◌<◌, ◌^◌, ◌∷◌, ◌<ℤ◌, pos, true, [], map, IfOk};
-ghost use Rattle.r9_geom.specs.Geometry.{height, width, IsOrdered};
+ghost use Rattle.std.specs.Prelude.{◌≡◌, ◌≤◌, ◌<◌, ◌^◌, ◌∷◌, ◌<ℤ◌, pos, true, [], map, IfOk, IfSome, IsTrue};
+ghost use Rattle.r9_geom.specs.declared.Point.{Point as Spot};
+ghost use Rattle.r9_geom.specs.Geometry.{height, holds, width, HasPoints, IsNear, IsOrdered, IsRectNearBy};
 ghost use Rattle.r9_marks.specs.Cells.{cells_over};
 ghost use Rattle.model_cost.specs.Cells.{cells};
+ghost use Rattle.model_pixel.specs.Channels.{depth};
+ghost use Rattle.model_pixel.specs.Rows.{rows_of};
+ghost use Rattle.model_forest.specs.Paint.{paint};
+ghost use Rattle.model_forest.specs.World.{IsForest};
 ghost use Rattle.model_draw.specs.Files.{screen_file};
 ghost use Rattle.model_draw.specs.Orders.{picture_of};
+ghost use Rattle.model_draw.specs.World.{at_number};
 ghost use Rattle.model_rio.specs.Table.{window_of};
 ghost use Rattle.model_world.specs.Desktop.{first_desktop};
-ghost use Rattle.r9_desktop.specs.Marks.{AreCounted, IsBegun, IsCleared, IsMarked};
+ghost use Rattle.r9_desktop.specs.Marks.{AreCounted, IsBegun, IsCleared, IsMarked, IsOf, IsSound};
 
 use crate::spending::Spending;
 use crate::telling::{Panes, Snarfs, Users};
 use r9_chan::Chan;
-use r9_draw::Draw;
+use r9_draw::{Draw, Shown};
 use r9_event::{Note, Notes};
-use r9_geom::Rect;
+use r9_geom::{Point, Rect};
 use r9_memory::Memory;
+use r9_mouse::Mouse;
 use r9_pane::Pane;
 use r9_text::Bytes;
 use r9_window::Window;
@@ -27,7 +34,7 @@ use std::snapshot::Snapshot;
 
 /// What all sessions share: the draw device; the windows of all rios; whether the display has changed its size; by a window's
 /// serial what its files have, and which sessions have a fid whose attach named it, in ascending order; by the serial of its host
-/// the snarf of each rio; and of this turn what windows were told, and what was asked of the draw device.
+/// the snarf of each rio; where the mouse was last; and of this turn what windows were told, and what was asked of the draw device.
 #[derive(Drop)]
 pub struct Desktop {
     pub(crate) alloc: Global,
@@ -37,6 +44,7 @@ pub struct Desktop {
     pub(crate) panes: Panes,
     pub(crate) users: Users,
     pub(crate) snarfs: Snarfs,
+    pub(crate) pointed: Option<Mouse>,
     pub(crate) notes: Notes,
     pub(crate) spending: Spending,
     // The moment of the display is the beginning of the turn, and what was written since then is counted.
@@ -78,6 +86,7 @@ impl Desktop {
             panes: BTreeMap::new(alloc),
             users: BTreeMap::new(alloc),
             snarfs,
+            pointed: None,
             notes: Notes::new(alloc),
             spending,
         })
@@ -142,6 +151,51 @@ impl Desktop {
     {
         self.device.clear_marks();
         self.spending.began = Snapshot::of(&self.device);
+    }
+
+    /// What is known of the display and its marks. Nothing is done.
+    #[tactic(auto, unfolding(crate::specs::World::desktop_of, crate::specs::World::display_of))]
+    pub fn sound(&self)
+        ensures shows { IsOf (desktop_of self.now).device (display_of self.now) }
+        ensures forest { IsForest (desktop_of self.now).device.images }
+        ensures sound { (display_of self.now).nowhere ≡ true → IsSound (display_of self.now) }
+    {
+        self.device.since();
+    }
+
+    /// The rectangle of the display, in pixels.
+    #[tactic(auto, unfolding(crate::specs::World::display_of))]
+    pub fn display(&self) -> Rect
+        ensures r { result ≡ (display_of self.now).r }
+        ensures near { IsRectNearBy (2 ^ 33) result }
+        ensures ordered { IsOrdered result }
+    {
+        self.device.info(Shown::Display).r
+    }
+
+    /// The rows of a part of the display (image(6)): what is painted from back to front, on it and on all that stands on it.
+    #[tactic(auto, unfolding(crate::specs::World::desktop_of, crate::specs::World::display_of))]
+    pub fn rows(&self, r: Rect) -> Result<Bytes, Memory>
+        requires points { HasPoints r }
+        requires inside { (p : Spot) → IsTrue (holds r p) → IsTrue (holds (display_of self.now).r p) }
+        ensures { IfOk result (λ rows. rows ≡ rows_of r (depth (at_number (desktop_of self.now).device 0).chan) (paint (desktop_of self.now).device.images 0)) }
+    {
+        // A part of the display is as near as that.
+        self.display();
+        self.device.unload(Shown::Display, r)
+    }
+
+    /// Where the mouse was last, in pixels of the display: the point of the last event that was written to `mousein`. None before any.
+    #[tactic(auto, unfolding(crate::specs::World::desktop_of))]
+    pub fn pointer(&self) -> Option<Point>
+        ensures pointer { result ≡ (desktop_of self.now).pointer }
+        ensures near { IfSome result IsNear }
+    {
+        let e = self.pointed?;
+        Some(Point {
+            x: i64::from(e.x),
+            y: i64::from(e.y),
+        })
     }
 
     /// What the files of windows have, by the windows' serials.

@@ -19,13 +19,16 @@ use r9_text::Bytes;
 use r9_wmgr::Act;
 
 impl Desktop {
-    /// The mouse does something, a point in pixels of the display. Nothing is said of the desktop where memory ran out.
+    /// The mouse does something, at a point in pixels of the display, where it was last then. Nothing is said of the desktop where memory
+    /// ran out.
     #[tactic(auto, unfolding(crate::specs::World::desktop_of, crate::specs::World::began_of, model_world::specs::Whole::moused))]
     pub fn mouse(&mut self, e: Mouse) -> Result<(), Memory>
         ensures heard { OnOk result (desktop_of self.new ≡ moused (desktop_of self.old) e) }
         ensures began { began_of self.new ≡ began_of self.old }
     {
-        self.step_if(Act::Mouse(e))
+        self.step_if(Act::Mouse(e))?;
+        self.pointed = Some(e);
+        Ok(())
     }
 
     /// Characters are typed. Nothing is said of the desktop where memory ran out.

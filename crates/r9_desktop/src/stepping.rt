@@ -58,6 +58,7 @@ impl Desktop {
           panes = fold panes_told (parts_of self.old).panes step.notes;
           users = fold users_told (parts_of self.old).users step.notes;
           snarfs = fold snarfs_ordered (parts_of self.old).snarfs step.orders;
+          pointer = (parts_of self.old).pointer;
           notes = (parts_of self.old).notes ++ step.notes;
           cost = (parts_of self.old).cost + orders_cost (parts_of self.old).device step.orders;
         }) }

@@ -2,9 +2,10 @@
 
 ghost use Rattle.std.specs.Prelude.{◌≡◌, ◌^◌, ◌<◌, ℕ, Some, None, false, IsSome};
 ghost use Rattle.r9_geom.specs.Geometry.{height, width};
-ghost use Rattle.r9_marks.specs.Cells.{cells_over};
+ghost use Rattle.model_pixel.specs.Channels.{depth};
+ghost use Rattle.r9_marks.specs.Cells.{cells_over, count_cells};
 ghost use Rattle.model_draw.specs.World.{at_number};
-ghost use Rattle.model_forest.specs.World.{parent_of};
+ghost use Rattle.model_forest.specs.World.{parent_of, IsForest};
 ghost use Rattle.r9_forest.specs.Marks.{shown_in, IsMoment};
 ghost use Rattle.r9_watched.specs.Moments.{IsFew, IsSince, Moment};
 
@@ -54,7 +55,12 @@ impl Draw {
         ensures since { (then : Moment) → moment_of self.now ≡ Some then → IsSince then (at_number (world_of self.now) 0).r (shown_in (world_of self.now).images 0) (marked_in self.now) }
         ensures few { (then : Moment) → moment_of self.now ≡ Some then → IsFew then (marks_of self.now) (writes_of self.now) }
         ensures most { marks_of self.now < 2 ^ 64 }
+        ensures forest { IsForest (world_of self.now).images }
+        ensures nowhere { parent_of (world_of self.now).images 0 ≡ None → IsSome (moment_of self.now) }
+        ensures counted { (then : Moment) → moment_of self.now ≡ Some then → marks_of self.now ≡ count_cells (cells_over (width (at_number (world_of self.now) 0).r)) (cells_over (height (at_number (world_of self.now) 0).r)) (marked_in self.now) }
+        ensures fits { (then : Moment) → moment_of self.now ≡ Some then → (column row : ℕ) → column < width (at_number (world_of self.now) 0).r → row < height (at_number (world_of self.now) 0).r → shown_in (world_of self.now).images 0 column row < 2 ^ depth (at_number (world_of self.now) 0).chan }
     {
+        self.device.forest.keeps();
         self.device.forest.since(ImageNo(DISPLAY));
     }
 }

@@ -1,5 +1,5 @@
 -- The marks of images, and what an image that stands nowhere is at a moment.
-use Rattle.std.proofs.Common.{◌≡◌, ◌≢◌, ◌∙◌, ℕ, ◌<◌, true, false, List, Option, Some, None, refl, sym, ap, subst, eq-eqb}
+use Rattle.std.proofs.Common.{◌≡◌, ◌≢◌, ◌∙◌, ℕ, ◌^◌, ◌<◌, true, false, List, Option, Some, None, refl, sym, ap, subst, eq-eqb}
 use Rattle.std.specs.Prelude.{is_some, option_and_then, option_map, unwrap_or, if◌then◌else◌}
 use Rattle.std.specs.Option.{option_map_or}
 use Rattle.std.proofs.lemmas.Bool.{ne_eqb, true≢false}
@@ -7,6 +7,7 @@ use Rattle.r9_geom.specs.declared.Point.{Point}
 use Rattle.r9_geom.specs.declared.Rect.{Rect}
 use Rattle.r9_geom.specs.Geometry.{height, point_at, width}
 use Rattle.r9_geom.proofs.GeometryLemmas.{point_holds}
+use Rattle.model_pixel.specs.Channels.{depth}
 use Rattle.model_forest.specs.World.{World, image_at, no_rect, parent_of, with_image, IsForest, IsLive}
 use Rattle.model_forest.proofs.Changes.{with_image-at}
 use Rattle.model_kept.specs.Keeping.{own, with_kept, Place}
@@ -16,7 +17,7 @@ use Rattle.r9_plane.specs.Marks.{marked_at}
 use Rattle.r9_plane.specs.Pixels.{pixel_at, rect_of}
 use Rattle.r9_watched.specs.Moments.{moment_at, pixel_in, with_moment, IsSince, Moment}
 use Rattle.r9_locate.specs.declared.lists.Lists.{Lists}
-use Rattle.r9_locate.specs.Forms.{form_of, Form}
+use Rattle.r9_locate.specs.Forms.{bits_in, form_of, Form}
 use Rattle.r9_locate.specs.Table.{shape}
 use Rattle.r9_locate.proofs.Locating.{keeping-root}
 use Rattle.r9_pixels.specs.declared.keeping.KeptPixels.{KeptPixels}
@@ -29,7 +30,7 @@ use Rattle.r9_put.proofs.Forms.{form_live, nowhere_none, standing_nowhere}
 use Rattle.r9_arrive.proofs.Canvases.{bare_canvas, parent_same}
 use Rattle.r9_forest.specs.Marks.{shown_in, IsMoment}
 use Rattle.r9_forest.specs.Sound.{IsSound}
-use Rattle.r9_forest.proofs.Showing.{shown_kept}
+use Rattle.r9_forest.proofs.Showing.{bits_of, shown_kept}
 
 -- the moment of one image is another
 pub moment-here : (i : ℕ) (was : Option Moment) (moments : ℕ → Option Moment) → with_moment i was moments i ≡ was
@@ -142,6 +143,22 @@ module _ (lists : Lists) (pixels : KeptPixels) (spare : List ℕ) (i : ℕ) (sou
       at None e = absurd (true≢false (sym (ap is_some e)))
       at (Some (Hidden extent)) e = absurd (true≢false (ap (λ o. unwrap_or o true) e))
       at (Some (Whole watched)) e = refl
+
+  pub moment_kept : parent_of world i ≡ None → is_some (moment pixels i) ≡ true
+  moment_kept nowhere = same (own_at pixels.owns.items i) ∙ moment_there nowhere
+    where
+      same : (o : Option Own) → is_some (option_and_then moment_in o) ≡ is_some (option_map (λ (plane : Plane). moment_at plane (writes pixels)) (option_and_then plane_in o))
+      same None = refl
+      same (Some (Hidden extent)) = refl
+      same (Some (Whole watched)) = refl
+
+  -- what it shows fits its channels
+  pub shown_fits : (was : Moment) → moment pixels i ≡ Some was → ((p : Point) → kept_at pixels (own i p) < 2 ^ bits_in (form_at pixels) i)
+      → (column row : ℕ) → column < width (image_at world i).r → row < height (image_at world i).r → shown_in world i column row < 2 ^ depth (image_at world i).chan
+  shown_fits was is fits column row right below =
+      let p = point_at (image_at world i).r column row in
+      subst (λ (n : ℕ). n < 2 ^ depth (image_at world i).chan) (root_shown column row (momented pixels i was is) right below)
+      (subst (λ (bits : ℕ). kept_at pixels (own i p) < 2 ^ bits) (bits_of lists pixels spare i sound live) (fits p))
 
   -- and what has changed of it since then is what it shows otherwise
   pub since_shown : (was : Moment) → moment pixels i ≡ Some was → IsSince was (rect_at pixels i) (λ column row. kept_at pixels (own i (point_at (rect_at pixels i) column row))) (marked pixels i) → IsSince was (image_at world i).r (shown_in world i) (marked pixels i)

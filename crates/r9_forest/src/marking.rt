@@ -2,7 +2,8 @@
 
 ghost use Rattle.std.specs.Prelude.{◌≡◌, ◌≢◌, ◌^◌, ◌<◌, ℕ, Some, None, false, IsSome};
 ghost use Rattle.r9_geom.specs.Geometry.{height, width};
-ghost use Rattle.r9_marks.specs.Cells.{cells_over};
+ghost use Rattle.model_pixel.specs.Channels.{depth};
+ghost use Rattle.r9_marks.specs.Cells.{cells_over, count_cells};
 ghost use Rattle.model_forest.specs.World.{image_at, parent_of, IsLive};
 ghost use Rattle.r9_watched.specs.Moments.{IsFew, IsSince, Moment};
 
@@ -60,6 +61,9 @@ impl Images {
         ensures since { (then : Moment) → moment self.now i ≡ Some then → IsSince then (image_at (world self.now) i).r (shown_in (world self.now) i) (marked self.now i) }
         ensures few { (then : Moment) → moment self.now i ≡ Some then → IsFew then (mark_count self.now i) (writes self.now) }
         ensures most { mark_count self.now i < 2 ^ 64 }
+        ensures nowhere { parent_of (world self.now) i ≡ None → IsSome (moment self.now i) }
+        ensures counted { (then : Moment) → moment self.now i ≡ Some then → mark_count self.now i ≡ count_cells (cells_over (width (image_at (world self.now) i).r)) (cells_over (height (image_at (world self.now) i).r)) (marked self.now i) }
+        ensures fits { (then : Moment) → moment self.now i ≡ Some then → (column row : ℕ) → column < width (image_at (world self.now) i).r → row < height (image_at (world self.now) i).r → shown_in (world self.now) i column row < 2 ^ depth (image_at (world self.now) i).chan }
     {
         self.pixels.since(i);
     }

@@ -7,3 +7,4 @@ mod Waits
 mod Cuts
 pub mod Stored
 mod Watched
+mod Displays

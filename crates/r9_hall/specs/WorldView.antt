@@ -2,6 +2,9 @@
 use Rattle.std.specs.Prelude.{◌≡◌, ℕ, Bool, false}
 use Rattle.r9_event.specs.declared.event.Event.{Event}
 use Rattle.r9_event.specs.declared.event.Opening.{Opening}
+use Rattle.r9_geom.specs.declared.Rect.{Rect}
+use Rattle.r9_geom.specs.Geometry.{height, width}
+use Rattle.model_words.specs.declared.Size.{Size}
 use Rattle.model_world.specs.Links.{AreKnown, AreLinked, begun_after}
 use Rattle.model_world.specs.Replay.{step}
 use Rattle.model_world.specs.World.{World, opened}
@@ -28,6 +31,10 @@ world_in w = world_with w.opening w.sessions
 -- the display with its marks
 abbrev pub display_in : WorldValue → Display
 display_in w = display_of w.sessions.desktop
+
+-- these are the sides of a rectangle
+abbrev pub IsSizeOf : Rect → Size → Type 0
+IsSizeOf r size = (size.width ≡ width r) × (size.height ≡ height r)
 
 -- nothing has happened yet
 pub record IsFirst (opening : Opening) (w : WorldValue) : Type 0 where

@@ -1,25 +1,33 @@
 //! The hall: what its history led to, and the entries of it that are still stored.
 
-ghost use Rattle.std.specs.Prelude.{◌≡◌, ◌<◌, ◌≤◌, ◌+◌, ◌-◌, ◌^◌, ◌++◌, ◌∷◌, ◌↔◌, [], true, false, length, None, IsTrue, IfOk, OnOk, OnErr, IsOk};
+ghost use Rattle.std.specs.Prelude.{◌≡◌, ◌<◌, ◌≤◌, ◌+◌, ◌-◌, ◌^◌, ◌++◌, ◌∷◌, ◌↔◌, [], true, false, length, None, IsTrue, IfOk, IfSome, OnOk, OnErr, IsOk};
 ghost use Rattle.std.specs.Vec.{vec_len, vec_capacity};
 ghost use Rattle.r9_event.specs.declared.event.Event.{Event};
 ghost use Rattle.model_cost.specs.Cells.{cells};
 ghost use Rattle.model_draw.specs.Files.{screen_file};
-ghost use Rattle.model_draw.specs.Orders.{picture_of};
+ghost use Rattle.model_draw.specs.Orders.{is_side, picture_of};
+ghost use Rattle.model_draw.specs.World.{at_number};
 ghost use Rattle.model_event.specs.Legal.{roll_after};
 ghost use Rattle.model_served.specs.Served.{journal_of};
 ghost use Rattle.model_world.specs.Replay.{marked, outbox, replay, step};
-ghost use Rattle.r9_geom.specs.Geometry.{height, width};
+ghost use Rattle.r9_geom.specs.declared.Point.{Point as Spot};
+ghost use Rattle.r9_geom.specs.Geometry.{height, holds, width, HasPoints, IsNear};
+ghost use Rattle.model_pixel.specs.Channels.{depth};
+ghost use Rattle.model_pixel.specs.Rows.{rows_of};
+ghost use Rattle.model_forest.specs.Paint.{paint};
 ghost use Rattle.r9_marks.specs.Cells.{cells_over};
 ghost use Rattle.r9_desktop.specs.Marks.{IsCleared, IsMarked};
 ghost use Rattle.r9_hall.specs.Acts.{IsMadeOf};
 ghost use Rattle.r9_hall.specs.HallView.{AllowedNext, IsAsStored, OfHistories, StandsFor, StandsOn, entries};
 ghost use Rattle.r9_hall.specs.Outboxes.{taken};
-ghost use Rattle.r9_hall.specs.WorldView.{display_in, world_in};
+ghost use Rattle.r9_hall.specs.WorldView.{IsSizeOf, display_in, world_in};
 
 use crate::outboxes::{post, waiting_for};
 use crate::world::World;
+use model_sides::each_history_has_a_display;
+use model_words::Size;
 use r9_event::{Did, Entry, Event, Notes, Opening, Replies, Uses};
+use r9_geom::{Point, Rect};
 use r9_journal::Roll;
 use r9_memory::Memory;
 use r9_steps::Steps;
@@ -114,6 +122,13 @@ fn nothing(alloc: Global) -> Given
         },
         taken: Bytes::new(alloc),
     }
+}
+
+/// A side of the display as its size has it, in pixels. Only in a broken hall can it be longer than that.
+fn side(pixels: u64) -> u32
+    ensures { pixels < 2 ^ 32 → result ≡ pixels }
+{
+    pixels.min(u64::from(u32::MAX)) as u32
 }
 
 impl Hall {
@@ -220,6 +235,38 @@ impl Hall {
         self.world.marked(column, row)
     }
 
+    /// The sides of the display, in pixels. Nothing is said of those of a broken hall.
+    pub fn size(&self) -> Size
+        ensures { is_side self.now.opening.width ≡ true → is_side self.now.opening.height ≡ true → OfHistories self.now (λ events. IsSizeOf (at_number (replay self.now.opening events).desktop.device 0).r result) }
+    {
+        each_history_has_a_display();
+        self.world.sound();
+        let r = self.world.display();
+        Size {
+            width: side(r.width()),
+            height: side(r.height()),
+        }
+    }
+
+    /// The rows of a part of the display (image(6)): what is painted from back to front, on it and on all that stands on it. Nothing is
+    /// said of those of a broken hall.
+    pub fn rows(&self, r: Rect) -> Result<Bytes, Memory>
+        requires points { HasPoints r }
+        requires inside { (p : Spot) → IsTrue (holds r p) → IsTrue (holds (display_in self.now.world).r p) }
+        ensures { IfOk result (λ rows. OfHistories self.now (λ events. rows ≡ rows_of r (depth (at_number (replay self.now.opening events).desktop.device 0).chan) (paint (replay self.now.opening events).desktop.device.images 0))) }
+    {
+        self.world.rows(r)
+    }
+
+    /// Where the mouse was last, in pixels of the display: the point of the last event that was written to `mousein`. None before any.
+    /// Nothing is said of that of a broken hall.
+    pub fn pointer(&self) -> Option<Point>
+        ensures pointer { OfHistories self.now (λ events. result ≡ (replay self.now.opening events).desktop.pointer) }
+        ensures near { IfSome result IsNear }
+    {
+        self.world.pointer()
+    }
+
     /// Clears the marks of the display. The history that the hall stands for stays, and all else.
     pub fn clear_marks(&mut self)
         ensures opening { self.new.opening ≡ self.old.opening }
@@ -258,7 +305,7 @@ impl Hall {
         ensures stopped { event ≡ Event.Stop → IfOk result (λ given. given.did ≡ record { replies = []; notes = []; uses = []; short = None; closed = None }) }
         ensures err { OnErr result (IsAsStored self.old self.new) }
         ensures pixels { IfOk result (λ given. OfHistories self.old (λ events. pixels.new ≤ pixels.old + (step (replay self.old.opening events) (marked event given.did.short)).cost)) }
-        ensures marks { IfOk result (λ _. self.old.broken ≡ false → (display_in self.old.world).nowhere ≡ true → IsMarked (display_in self.old.world) (display_in self.new.world) (pixels.new - pixels.old)) }
+        ensures marks { IfOk result (λ _. OfHistories self.old (λ _. IsMarked (display_in self.old.world) (display_in self.new.world) (pixels.new - pixels.old))) }
         ensures uncounted { OnErr result (pixels.new ≡ pixels.old) }
         ensures silent { event ≡ Event.Stop → pixels.new ≡ pixels.old }
     {
@@ -268,6 +315,8 @@ impl Hall {
         }
         self.stored.reserve(2)?;
         self.broken = true;
+        each_history_has_a_display();
+        self.world.sound();
         let stepped = self.world.make(&event)?;
         let taken = post(
             self.alloc,
@@ -304,7 +353,7 @@ impl Hall {
         ensures pixels { IfOk result (λ did. OfHistories self.old (λ events. pixels.new ≤ pixels.old + (step (replay self.old.opening events) (marked event did.short)).cost)) }
         // Each cell of the display in which a pixel has changed was marked, none has lost its mark, and no more were marked than pixels were
         // written.
-        ensures marks { IfOk result (λ _. self.old.broken ≡ false → (display_in self.old.world).nowhere ≡ true → IsMarked (display_in self.old.world) (display_in self.new.world) (pixels.new - pixels.old)) }
+        ensures marks { IfOk result (λ _. OfHistories self.old (λ _. IsMarked (display_in self.old.world) (display_in self.new.world) (pixels.new - pixels.old))) }
         ensures uncounted { OnErr result (pixels.new ≡ pixels.old) }
         ensures silent { event ≡ Event.Stop → pixels.new ≡ pixels.old }
     {

@@ -1,6 +1,6 @@
 //! The sessions that live and what they share, and what an event makes of them.
 
-ghost use Rattle.std.specs.Prelude.{◌≡◌, ◌≤◌, ℕ, [], true, length, None, Option, IfOk, OnOk, IfSome, IsSome, ◌<◌};
+ghost use Rattle.std.specs.Prelude.{◌≡◌, ◌≤◌, ◌^◌, ℕ, [], true, length, None, Option, IfOk, OnOk, IfSome, IsSome, IsTrue, ◌<◌};
 ghost use Rattle.model_text.specs.Map.{lookup};
 ghost use Rattle.model_cost.specs.Cells.{cells};
 ghost use Rattle.model_draw.specs.Files.{screen_file};
@@ -10,9 +10,15 @@ ghost use Rattle.model_world.specs.Desktop.{first_desktop};
 ghost use Rattle.model_world.specs.Links.{AreLinked, IsLinked};
 ghost use Rattle.model_world.specs.Replay.{marked, step};
 ghost use Rattle.model_world.specs.World.{display_of as display_opened, opened};
-ghost use Rattle.r9_geom.specs.Geometry.{height, width};
+ghost use Rattle.r9_geom.specs.declared.Point.{Point as Spot};
+ghost use Rattle.r9_geom.specs.Geometry.{height, holds, width, HasPoints, IsNear, IsOrdered, IsRectNearBy};
+ghost use Rattle.model_pixel.specs.Channels.{depth};
+ghost use Rattle.model_pixel.specs.Rows.{rows_of};
+ghost use Rattle.model_forest.specs.Paint.{paint};
+ghost use Rattle.model_forest.specs.World.{IsForest};
+ghost use Rattle.model_draw.specs.World.{at_number};
 ghost use Rattle.r9_marks.specs.Cells.{cells_over};
-ghost use Rattle.r9_desktop.specs.Marks.{IsCleared, IsMarked};
+ghost use Rattle.r9_desktop.specs.Marks.{IsCleared, IsMarked, IsOf, IsSound};
 ghost use Rattle.r9_desktop.specs.World.{began_of, desktop_of, display_of};
 ghost use Rattle.r9_event.specs.declared.event.Event.{Event};
 ghost use Rattle.r9_event.specs.declared.event.Opening.{Opening};
@@ -325,6 +331,41 @@ impl Sessions {
         ensures { result ≡ (display_of self.now.desktop).marked column row }
     {
         self.desktop.marked(column, row)
+    }
+
+    /// What is known of the display and its marks. Nothing is done.
+    pub(crate) fn sound(&self)
+        ensures shows { IsOf (desktop_of self.now.desktop).device (display_of self.now.desktop) }
+        ensures forest { IsForest (desktop_of self.now.desktop).device.images }
+        ensures sound { (display_of self.now.desktop).nowhere ≡ true → IsSound (display_of self.now.desktop) }
+    {
+        self.desktop.sound();
+    }
+
+    /// The rectangle of the display, in pixels.
+    pub(crate) fn display(&self) -> Rect
+        ensures r { result ≡ (display_of self.now.desktop).r }
+        ensures near { IsRectNearBy (2 ^ 33) result }
+        ensures ordered { IsOrdered result }
+    {
+        self.desktop.display()
+    }
+
+    /// The rows of a part of the display (image(6)).
+    pub(crate) fn rows(&self, r: Rect) -> Result<Bytes, Memory>
+        requires points { HasPoints r }
+        requires inside { (p : Spot) → IsTrue (holds r p) → IsTrue (holds (display_of self.now.desktop).r p) }
+        ensures { IfOk result (λ rows. rows ≡ rows_of r (depth (at_number (desktop_of self.now.desktop).device 0).chan) (paint (desktop_of self.now.desktop).device.images 0)) }
+    {
+        self.desktop.rows(r)
+    }
+
+    /// Where the mouse was last, in pixels of the display. None before it was anywhere.
+    pub(crate) fn pointer(&self) -> Option<Point>
+        ensures pointer { result ≡ (desktop_of self.now.desktop).pointer }
+        ensures near { IfSome result IsNear }
+    {
+        self.desktop.pointer()
     }
 
     /// Clears the marks of the display.

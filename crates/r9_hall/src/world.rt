@@ -1,23 +1,30 @@
 //! The world, without the history that led to it.
 
-ghost use Rattle.std.specs.Prelude.{◌≡◌, ◌≤◌, ◌<◌, ◌+◌, ◌-◌, true, false, None, option_map, IfOk, OnErr, IfSome, IsSome};
+ghost use Rattle.std.specs.Prelude.{◌≡◌, ◌≤◌, ◌<◌, ◌+◌, ◌-◌, ◌^◌, true, false, None, option_map, IfOk, OnErr, IfSome, IsSome, IsTrue};
 ghost use Rattle.std.specs.Option.{option_map_or};
 ghost use Rattle.model_text.specs.Map.{lookup};
 ghost use Rattle.model_cost.specs.Cells.{cells};
 ghost use Rattle.model_draw.specs.Files.{screen_file};
 ghost use Rattle.model_draw.specs.Orders.{picture_of};
+ghost use Rattle.model_draw.specs.World.{at_number};
 ghost use Rattle.model_alone.specs.Uses.{event_used};
 ghost use Rattle.model_world.specs.Cut.{IsCutEvent, IsWantingEvent};
 ghost use Rattle.model_world.specs.Links.{IsNext, begun_after};
 ghost use Rattle.model_world.specs.Replay.{marked, step};
-ghost use Rattle.r9_geom.specs.Geometry.{height, width};
+ghost use Rattle.r9_geom.specs.declared.Point.{Point as Spot};
+ghost use Rattle.r9_geom.specs.Geometry.{height, holds, width, HasPoints, IsNear, IsOrdered, IsRectNearBy};
+ghost use Rattle.model_pixel.specs.Channels.{depth};
+ghost use Rattle.model_pixel.specs.Rows.{rows_of};
+ghost use Rattle.model_forest.specs.Paint.{paint};
+ghost use Rattle.model_forest.specs.World.{IsForest};
 ghost use Rattle.r9_marks.specs.Cells.{cells_over};
-ghost use Rattle.r9_desktop.specs.Marks.{IsCleared, IsMarked};
+ghost use Rattle.r9_desktop.specs.Marks.{IsCleared, IsMarked, IsOf, IsSound};
 ghost use Rattle.r9_hall.specs.StateView.{IsWhole};
 ghost use Rattle.r9_hall.specs.WorldView.{IsFirst, IsStepped, display_in, world_in};
 
 use crate::sessions::{Sessions, Stepped};
 use r9_event::{Did, Event, Opening};
+use r9_geom::{Point, Rect};
 use r9_memory::Memory;
 use r9_steps::Steps;
 use r9_text::Bytes;
@@ -172,6 +179,41 @@ impl World {
         ensures { result ≡ (display_in self.now).marked column row }
     {
         self.sessions.marked(column, row)
+    }
+
+    /// What is known of the display and its marks. Nothing is done.
+    pub fn sound(&self)
+        ensures shows { IsOf (world_in self.now).desktop.device (display_in self.now) }
+        ensures forest { IsForest (world_in self.now).desktop.device.images }
+        ensures sound { (display_in self.now).nowhere ≡ true → IsSound (display_in self.now) }
+    {
+        self.sessions.sound();
+    }
+
+    /// The rectangle of the display, in pixels.
+    pub fn display(&self) -> Rect
+        ensures r { result ≡ (display_in self.now).r }
+        ensures near { IsRectNearBy (2 ^ 33) result }
+        ensures ordered { IsOrdered result }
+    {
+        self.sessions.display()
+    }
+
+    /// The rows of a part of the display (image(6)): what is painted from back to front, on it and on all that stands on it.
+    pub fn rows(&self, r: Rect) -> Result<Bytes, Memory>
+        requires points { HasPoints r }
+        requires inside { (p : Spot) → IsTrue (holds r p) → IsTrue (holds (display_in self.now).r p) }
+        ensures { IfOk result (λ rows. rows ≡ rows_of r (depth (at_number (world_in self.now).desktop.device 0).chan) (paint (world_in self.now).desktop.device.images 0)) }
+    {
+        self.sessions.rows(r)
+    }
+
+    /// Where the mouse was last, in pixels of the display: the point of the last event that was written to `mousein`. None before any.
+    pub fn pointer(&self) -> Option<Point>
+        ensures pointer { result ≡ (world_in self.now).desktop.pointer }
+        ensures near { IfSome result IsNear }
+    {
+        self.sessions.pointer()
     }
 
     /// Clears the marks of the display.

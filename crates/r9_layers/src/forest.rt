@@ -18,7 +18,7 @@ ghost use Rattle.model_exchanged.specs.Exchanged.{after_put_on, after_put_over, 
 ghost use Rattle.model_resize.specs.Resize.{after_resize, CanResize};
 ghost use Rattle.model_kept.specs.Cells.{cell_of, cells_below, in_cell};
 ghost use Rattle.model_kept.specs.Keeping.{is_hidden, is_shown, outward, place_among};
-ghost use Rattle.r9_marks.specs.Cells.{cells_over};
+ghost use Rattle.r9_marks.specs.Cells.{cells_over, count_cells};
 ghost use Rattle.r9_plane.specs.Pixels.{chan_of, pixel_at, rect_of};
 ghost use Rattle.r9_store.specs.Tiles.{held, is_held};
 ghost use Rattle.r9_forest.specs.Groups.{group_area};
@@ -428,6 +428,9 @@ impl Forest {
         ensures since { (then : Moment) → moment self.now i.0 ≡ Some then → IsSince then (image_at (world self.now) i.0).r (shown_in (world self.now) i.0) (marked self.now i.0) }
         ensures few { (then : Moment) → moment self.now i.0 ≡ Some then → IsFew then (mark_count self.now i.0) (writes self.now) }
         ensures most { mark_count self.now i.0 < 2 ^ 64 }
+        ensures nowhere { parent_of (world self.now) i.0 ≡ None → IsSome (moment self.now i.0) }
+        ensures counted { (then : Moment) → moment self.now i.0 ≡ Some then → mark_count self.now i.0 ≡ count_cells (cells_over (width (image_at (world self.now) i.0).r)) (cells_over (height (image_at (world self.now) i.0).r)) (marked self.now i.0) }
+        ensures fits { (then : Moment) → moment self.now i.0 ≡ Some then → (column row : ℕ) → column < width (image_at (world self.now) i.0).r → row < height (image_at (world self.now) i.0).r → shown_in (world self.now) i.0 column row < 2 ^ channels.depth (image_at (world self.now) i.0).chan }
     {
         self.images.since(i.0);
     }

@@ -25,7 +25,7 @@ pub struct Marks {
     ghost sized: { vec_len bits ≡ down * across },
 }
 
-ghost use Rattle.r9_marks.specs.Cells.{cells_over, touches};
+ghost use Rattle.r9_marks.specs.Cells.{cells_over, count_cells, touches};
 
 impl Marks {
     ghost use Rattle.r9_marks.specs.Marks.{across_of, down_of, marked, marked_count};
@@ -50,6 +50,11 @@ impl Marks {
     {
         self.bits[row * self.across + column]
     }
+
+    /// How many cells are marked is how many of the table's cells are. Nothing is done.
+    pub fn sound(&self)
+        ensures { marked_count self.now ≡ count_cells (across_of self.now) (down_of self.now) (marked self.now) }
+    {}
 
     // Marks a cell.
     fn mark_cell(&mut self, column: usize, row: usize)

@@ -3,7 +3,7 @@
 ghost use Rattle.std.specs.Prelude.{◌≡◌, ◌≢◌, ◌+◌, ◌^◌, ◌<◌, ℕ, Some, None, true, false, option_map, IsTrue};
 ghost use Rattle.r9_geom.specs.declared.Point.{Point as Spot};
 ghost use Rattle.r9_geom.specs.Geometry.{area_of, height, holds, point_at, width};
-ghost use Rattle.r9_marks.specs.Cells.{cells_over};
+ghost use Rattle.r9_marks.specs.Cells.{cells_over, count_cells};
 ghost use Rattle.model_kept.specs.Keeping.{own, Place};
 ghost use Rattle.r9_locate.specs.Forms.{bits_in};
 ghost use Rattle.r9_watched.specs.Moments.{moment_at, with_moment, IsFew, IsSince, Moment};
@@ -98,6 +98,8 @@ impl KeptPixels {
         ensures since { (then : Moment) → moment self.now i ≡ Some then → IsSince then (rect_at self.now i) (λ column row. kept_at self.now (own i (point_at (rect_at self.now i) column row))) (marked self.now i) }
         ensures few { (then : Moment) → moment self.now i ≡ Some then → IsFew then (mark_count self.now i) (writes self.now) }
         ensures most { mark_count self.now i < 2 ^ 64 }
+        ensures counted { (then : Moment) → moment self.now i ≡ Some then → mark_count self.now i ≡ count_cells (cells_over (width (rect_at self.now i))) (cells_over (height (rect_at self.now i))) (marked self.now i) }
+        ensures fits { (then : Moment) → moment self.now i ≡ Some then → (p : Spot) → kept_at self.now (own i p) < 2 ^ bits_in (form_at self.now) i }
     {
         if self.owns.len() <= i as usize {
             return;

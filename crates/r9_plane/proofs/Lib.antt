@@ -7,3 +7,4 @@ pub mod Marking
 pub mod Moving
 pub mod Rectangles
 pub mod Among
+pub mod Fitting

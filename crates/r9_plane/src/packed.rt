@@ -51,6 +51,12 @@ fn read_whole(bytes: &[u8], depth: u32, n: usize) -> u32
     }
 }
 
+/// Each packed pixel fits the depth. Nothing is done.
+pub fn sound(bytes: &[u8], depth: u32)
+    requires { IsTrue (is_depth depth) }
+    ensures { (n : ℕ) → raw_at depth bytes.now n < 2 ^ depth }
+{}
+
 /// Raw pixel number n of packed pixels.
 #[inline(always)]
 pub fn read(bytes: &[u8], depth: u32, n: usize) -> u32

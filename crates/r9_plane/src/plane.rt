@@ -1,7 +1,7 @@
 ghost use Rattle.std.specs.Prelude.{◌≡◌, ◌+◌, ◌*◌, ◌/◌, ◌^◌, ◌<◌, ◌≤◌, ◌||◌, ℕ, false, IsTrue, IfOk, length, slice_index, vec_len, if◌then◌else◌};
 ghost use Rattle.r9_geom.specs.Geometry.{IsOrdered, IsRectNear, width, height};
 ghost use Rattle.model_pixel.specs.Channels as channels;
-ghost use Rattle.r9_marks.specs.Cells.{cells_over};
+ghost use Rattle.r9_marks.specs.Cells.{cells_over, count_cells};
 ghost use Rattle.r9_marks.specs.Marks as table;
 ghost use Rattle.model_pixel.specs.Rows.{byte_at, raw_at, row_bytes, row_pixel, row_place, rows_of};
 
@@ -111,6 +111,15 @@ impl Plane {
         ensures { result ≡ marked_at self.now column row }
     {
         self.marks.is_marked(column as usize, row as usize)
+    }
+
+    /// How many cells are marked is how many of its cells are, and each pixel has no more bits than its channels. Nothing is done.
+    pub fn sound(&self)
+        ensures counted { mark_count self.now ≡ count_cells (cells_over (width (rect_of self.now))) (cells_over (height (rect_of self.now))) (marked_at self.now) }
+        ensures fits { (p : Point) → pixel_at self.now p < 2 ^ channels.depth (chan_of self.now) }
+    {
+        self.marks.sound();
+        packed::sound(&self.bytes, self.depth);
     }
 
     /// Clears all marks.

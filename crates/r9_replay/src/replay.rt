@@ -1,14 +1,15 @@
 //! The command `replay`.
 
-ghost use Rattle.std.specs.Prelude.{◌≡◌, ◌≤◌, ◌<◌, ◌+◌, ◌++◌, ℕ, Bool, true, false, IsTrue, IfOk, OnOk, IsErrOf, Err};
+ghost use Rattle.std.specs.Prelude.{◌≡◌, ◌≤◌, ◌<◌, ◌+◌, ◌-◌, ◌++◌, ℕ, Bool, true, false, IsTrue, IfOk, OnOk, IsErrOf, Err};
 ghost use Rattle.r9_outside.specs.Count.{Rose};
 ghost use Rattle.model_alone.specs.Uses.{event_used};
 ghost use Rattle.model_event.specs.Legal.{IsLegal};
 ghost use Rattle.model_world.specs.Links.{IsNext};
 ghost use Rattle.model_world.specs.Replay.{marked, step, replay, replies};
 ghost use Rattle.model_record.specs.Record.{IsBadAt, IsLate};
+ghost use Rattle.r9_desktop.specs.Marks.{IsMarked};
 ghost use Rattle.r9_hall.specs.StateView.{IsWhole};
-ghost use Rattle.r9_hall.specs.WorldView.{IsStepped, world_in};
+ghost use Rattle.r9_hall.specs.WorldView.{IsStepped, display_in, world_in};
 ghost use Rattle.r9_replay.specs.Replays.{WasBadAt, WasLate, WasRead, AreReplyLines};
 ghost use Rattle.r9_replay.specs.Replayed.{output, AreRepliesTo};
 
@@ -91,6 +92,7 @@ pub fn make_seen<L: Ledger>(
     ensures notes { IfOk result (λ did. did.notes ≡ (step (world_in world.old) event.now).notes) }
     ensures uses { world.old.watches ≡ true → IfOk result (λ did. did.uses ≡ event_used (world_in world.old) (step (world_in world.old) event.now).world event.now) }
     ensures pixels { OnOk result (pixels.new ≤ pixels.old + (step (world_in world.old) event.now).cost) }
+    ensures marks { OnOk result ((display_in world.old).nowhere ≡ true → IsMarked (display_in world.old) (display_in world.new) (pixels.new - pixels.old)) }
 {
     let did = world.step(event, pixels)?;
     if !is_as_made(event, did.short) {
@@ -112,6 +114,7 @@ pub fn make_event<L: Ledger>(
     ensures world { OnOk result (IsStepped world.old event world.new) }
     ensures replies { IfOk result (λ replies. replies ≡ (step (world_in world.old) event).replies) }
     ensures pixels { OnOk result (pixels.new ≤ pixels.old + (step (world_in world.old) event).cost) }
+    ensures marks { OnOk result ((display_in world.old).nowhere ≡ true → IsMarked (display_in world.old) (display_in world.new) (pixels.new - pixels.old)) }
 {
     let did = make_seen(world, &event, pixels)?;
     Ok(did.replies)

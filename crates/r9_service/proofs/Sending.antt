@@ -45,7 +45,10 @@ desktop_send =
                 search (sendable, crosses, maps.crosses) depth 40 fits 20000,
                 (
                   search (sendable, crosses, maps.crosses) depth 40 fits 20000,
-                  (search (sendable, crosses, maps.crosses) depth 40 fits 20000, (spending_send, tt)),
+                  (
+                    search (sendable, crosses, maps.crosses) depth 40 fits 20000,
+                    (search (sendable, crosses, maps.crosses) depth 40 fits 20000, (spending_send, tt)),
+                  ),
                 ),
               ),
             ),

@@ -6,7 +6,7 @@ ghost use Rattle.r9_geom.specs.declared.Point.{Point as Spot};
 ghost use Rattle.r9_geom.specs.Geometry.{area_of, at_min, carried, distance, height, holds, strip, width, IsNear, IsOrdered, IsRectNear};
 ghost use Rattle.model_pixel.specs.Channels as channels;
 ghost use Rattle.model_pixel.specs.Rows.{row_bytes, row_pixel};
-ghost use Rattle.r9_marks.specs.Cells.{cells_over};
+ghost use Rattle.r9_marks.specs.Cells.{cells_over, count_cells};
 ghost use Rattle.r9_plane.specs.Blocks.{number_in, HasRows};
 ghost use Rattle.r9_plane.specs.Marks.{mark_count, marked_at};
 ghost use Rattle.r9_plane.specs.Pixels.{chan_of, pixel_at, rect_of};
@@ -46,7 +46,11 @@ impl Watched {
     pub fn since(&self)
         ensures since { IsSince (moment_of self.now) (rect_of self.now.plane) (pixel_in self.now.plane) (marked_at self.now.plane) }
         ensures most { count_of self.now < 2 ^ 64 }
-    {}
+        ensures counted { count_of self.now ≡ count_cells (cells_over (width (rect_of self.now.plane))) (cells_over (height (rect_of self.now.plane))) (marked_at self.now.plane) }
+        ensures fits { (p : Spot) → pixel_at self.now.plane p < 2 ^ channels.depth (chan_of self.now.plane) }
+    {
+        self.plane.sound();
+    }
 
     /// The plane, whose moment is forgotten.
     pub fn into_plane(self) -> Plane

@@ -13,9 +13,10 @@ use Rattle.r9_hall.specs.Acts.{IsMadeOf}
 use Rattle.r9_hall.specs.HallView.{AllowedNext, HallValue, OfHistories, entries, value_of}
 use Rattle.r9_hall.specs.Outboxes.{taken, waiting}
 use Rattle.r9_hall.specs.WorldView.{display_in, world_in}
+use Rattle.r9_hall.proofs.Displays.{marked_in}
 use Rattle.r9_hall.proofs.Halls.{HasTurned, begun_more, not_broken, of_histories, stands_more, stop_made, unbroken}
 use Rattle.r9_hall.proofs.Posts.{waiting_marked}
-use Rattle.r9_hall.proofs.Worlds.{marks_counted, marks_same}
+use Rattle.r9_hall.proofs.Worlds.{marks_same}
 use Rattle.r9_hall.proofs.hall.Hall.make.Goals as goal
 
 pub returns-in-Stop-clause-made : goal.returns-in-Stop-clause-made
@@ -26,7 +27,7 @@ returns-in-Stop-clause-made g c =
     (stop_made (value_of c.self.inside) after c.args.event c.nothing.result.did c.in-Stop.is c.nothing.ensures.did allowed refl refl c.in_ok-enter.ensures.stored c.in_ok-enter.ensures.roll refl refl refl)
 
 pub returns-in-Stop-clause-marks : goal.returns-in-Stop-clause-marks
-returns-in-Stop-clause-marks g c = λ _ _.
+returns-in-Stop-clause-marks g c = λ _ _ _.
     subst (λ (h : HallValue). IsMarked (display_in h.world) (display_in c.self.inside.world) (c.args.pixels.now - c.args.pixels.now)) c.self.view_is (marks_same (display_in c.self.inside.world) _)
 
 pub invariant_of-self-2 : goal.invariant_of-self-2
@@ -102,8 +103,8 @@ returns g c =
       err = tt;
       pixels = subst (λ (h : HallValue). OfHistories h (λ events. c.add.new.self ≤ c.args.pixels.now + (step (replay h.opening events) event).cost)) c.self.view_is
           (of_histories before (λ (w : World). c.add.new.self ≤ c.args.pixels.now + (step w event).cost) (omega (arith, c.add.ensures, c.in_ok-stepped.ensures.pixels)));
-      marks = subst (λ (h : HallValue). h.broken ≡ false → (display_in h.world).nowhere ≡ true → IsMarked (display_in h.world) (display_in c.make.new.self) (c.add.new.self - c.args.pixels.now)) c.self.view_is
-          (λ _. marks_counted (display_in before.world) (display_in c.make.new.self) c.in_ok-stepped.stepped.pixels c.args.pixels.now c.add.new.self c.add.ensures c.in_ok-stepped.ensures.marks);
+      marks = subst (λ (h : HallValue). OfHistories h (λ _. IsMarked (display_in h.world) (display_in c.make.new.self) (c.add.new.self - c.args.pixels.now))) c.self.view_is
+          (marked_in before (display_in c.make.new.self) c.in_ok-stepped.stepped.pixels c.args.pixels.now c.add.new.self c.sound.ensures.shows c.each_history_has_a_display.ensures.nowhere c.add.ensures c.in_ok-stepped.ensures.marks);
       uncounted = tt;
       silent = λ is. absurd (c.in_default.not-Stop is);
     }

@@ -1,0 +1,4 @@
+pub mod Rows
+pub mod Pictures
+pub mod Lists
+pub mod Entries
