@@ -19,8 +19,8 @@ pub fn frames_show_what_they_send()
         → 0 < number → number < 10 ^ 18 → viewer chan frames ≡ Ok (Some before) → IsEntry chan number false after sent entry → viewer chan (frames ++ entry) ≡ Ok (Some after) }
 {}
 
-/// Where the display has the size that it had, no more cells are sent than are marked, and 8; and each cell that is not sent is not marked,
-/// and where the cursor has moved neither its old square nor its new one meets it.
+/// Where the display has the size that it had, no more cells are sent than are marked, and 8: the cursor's square of 16 by 16 meets at most
+/// 4 cells where it was, and 4 where it is.
 pub fn few_cells_meet_the_cursor()
     ensures few { (across down : ℕ) (old new : Option Point) (marked : (column row : ℕ) → Bool) → count_cells across down (sent_after false old new marked) ≤ count_cells across down marked + 8 }
 {}

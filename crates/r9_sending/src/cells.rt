@@ -14,8 +14,8 @@ use r9_marks::cells_over;
 use r9_memory::Memory;
 use std::alloc::Global;
 
-/// What an entry did, as far as it says which cells are sent: whether the display has another size, and where the cursor was and is, in
-/// pixels of the display.
+/// What an entry did, as far as it says which cells are sent: whether the display has another size, and where the cursor was and is, None
+/// where it is nowhere. Both points are in pixels of the display, and within 2^40 of 0.
 #[derive(Clone, Copy, Debug)]
 pub struct Sending {
     pub resized: bool,

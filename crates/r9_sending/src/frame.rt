@@ -161,7 +161,9 @@ fn push_head(
     Ok(())
 }
 
-/// The text that a mirror puts out after the entry of this number: a frame, or nothing where no cell is sent.
+/// The text that a mirror puts out after the entry of this number: a frame (docs/FORMATS.md), or nothing where no cell is sent. The cells have
+/// the display's pixels, with the cursor over them where the mouse was last. A frame takes at most 4,160 bytes for each cell besides its
+/// head; for want of memory there is none.
 pub fn entry_text(
     alloc: Global,
     world: &World,
