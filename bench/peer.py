@@ -10,8 +10,8 @@ both read: for `replay` where nothing else is said.
 
 The programs take turns, N times each, 5 where nothing is said. Printed are the least user and system seconds of each, the ratio of the
 user seconds, the peak memory of each in MB with its ratio, and whether both print the same, the screen at the end too: where `differ`
-stands they do not. The records of `text` and `desk` may be others; there the peer is asked by `--check RECORD` whether the program's is
-right. Of `gen` the numbers of events and replies are compared. `refused` tells how many of the replies are errors. The kernel tells
+stands they do not. The records of `text` and `desk`, and the frames of `mirror`, may be others; there the peer is asked by `--check FILE`
+whether the program's are right. Of `gen` the numbers of events and replies are compared. `refused` tells how many of the replies are errors. The kernel tells
 user and system apart by its ticks, and the memory is looked at each millisecond: of less than 0.02 s neither tells much. Last stands
 what a small message costs, by how many there are, without what a record costs that has none: it is to be the same.
 
@@ -75,13 +75,13 @@ def verdict(ours, theirs):
     mine, others = ours.output(), theirs.output()
     if mine != others and ours.work.checked:
         said = checked(ours, theirs)
-        return said != "ok", f"other records, checked: {said}"
+        return said != "ok", f"others, checked: {said}"
     refused = len(REFUSAL.findall(mine))
     return mine != others, ("equal" if mine == others else "differ") + (f", {refused:,} refused" if refused else "")
 
 
 def checked(ours, theirs):
-    """What the peer says of the program's record for the input that it is asked about."""
+    """What the peer says of the program's output for the input that it is asked about."""
     given = ours.work.checked
     with open(ours.path, "wb") as out:
         run.use(ours.command, given, out)

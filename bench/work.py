@@ -378,6 +378,25 @@ def handled(levels, repeats):
             yield command(f"resize -dx {60 + at % 2} -id {path}")
 
 
+# Mirrors.
+
+
+def dragged(count):
+    """A window of 200 by 150 pixels that is moved a little, so many times."""
+    yield from commanding(0)
+    yield command("new -r 20 20 220 170")
+    yield from (command(f"move -minx {20 + 3 * at % 400} -miny {20 + 2 * at % 300} -id 1") for at in range(count))
+
+
+def mirrored(messages):
+    """The mirror of a session. A right one may send other cells than another."""
+    record = text(messages)
+    return Work(record, ("mirror",), checked=record)
+
+
+ROWS["the generator's record, 2,000: mirror"] = lambda: mirrored(generated(2_000))
+ROWS["a window of 200x150 dragged, 2,000: mirror"] = lambda: mirrored(dragged(2_000))
+
 # What other benches make.
 
 

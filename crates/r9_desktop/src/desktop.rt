@@ -1,6 +1,6 @@
 //! The desktop as one value.
 
-ghost use Rattle.std.specs.Prelude.{◌≡◌, ◌≤◌, ◌<◌, ◌^◌, ◌∷◌, ◌<ℤ◌, pos, true, [], map, IfOk, IfSome, IsTrue};
+ghost use Rattle.std.specs.Prelude.{◌≡◌, ◌≤◌, ◌<◌, ◌^◌, ◌++◌, ◌∷◌, ◌<ℤ◌, pos, true, [], map, IfOk, IfSome, IsTrue};
 ghost use Rattle.r9_geom.specs.declared.Point.{Point as Spot};
 ghost use Rattle.r9_geom.specs.Geometry.{height, holds, width, HasPoints, IsNear, IsOrdered, IsRectNearBy};
 ghost use Rattle.r9_marks.specs.Cells.{cells_over};
@@ -173,16 +173,17 @@ impl Desktop {
         self.device.info(Shown::Display).r
     }
 
-    /// The rows of a part of the display (image(6)): what is painted from back to front, on it and on all that stands on it.
+    /// Bytes with the rows of a part of the display behind them (image(6)): of what is painted from back to front, on it and on all that
+    /// stands on it. For want of memory there are none.
     #[tactic(auto, unfolding(crate::specs::World::desktop_of, crate::specs::World::display_of))]
-    pub fn rows(&self, r: Rect) -> Result<Bytes, Memory>
+    pub fn with_rows(&self, r: Rect, front: Vec<u8>) -> Result<Vec<u8>, Memory>
         requires points { HasPoints r }
         requires inside { (p : Spot) → IsTrue (holds r p) → IsTrue (holds (display_of self.now).r p) }
-        ensures { IfOk result (λ rows. rows ≡ rows_of r (depth (at_number (desktop_of self.now).device 0).chan) (paint (desktop_of self.now).device.images 0)) }
+        ensures { IfOk result (λ all. all.items ≡ front.items ++ rows_of r (depth (at_number (desktop_of self.now).device 0).chan) (paint (desktop_of self.now).device.images 0)) }
     {
         // A part of the display is as near as that.
         self.display();
-        self.device.unload(Shown::Display, r)
+        self.device.with_rows(Shown::Display, r, front)
     }
 
     /// Where the mouse was last, in pixels of the display: the point of the last event that was written to `mousein`. None before any.

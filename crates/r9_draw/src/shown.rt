@@ -1,6 +1,6 @@
 //! What the display and the windows show, to be looked at from outside of any connection (image(6)).
 
-ghost use Rattle.std.specs.Prelude.{◌≡◌, ◌^◌, ◌≤◌, length, IfOk, IsTrue};
+ghost use Rattle.std.specs.Prelude.{◌≡◌, ◌++◌, ◌^◌, ◌≤◌, length, IfOk, IsTrue};
 ghost use Rattle.r9_geom.specs.declared.Point.{Point};
 ghost use Rattle.r9_geom.specs.Geometry.{holds, IsOrdered, IsRectNearBy};
 ghost use Rattle.model_pixel.specs.Channels.{depth};
@@ -60,6 +60,17 @@ impl Draw {
         ensures { IfOk result (λ rows. rows ≡ rows_of r (depth (at_number (world_of self.now) (shown_in (world_of self.now) image)).chan) (paint (world_of self.now).images (shown_in (world_of self.now) image))) }
     {
         self.device.forest.unload(self.image_of(image), r)
+    }
+
+    /// Bytes with the rows of a part of an image behind them (image(6)): of what is painted from back to front, on it and on all that
+    /// stands on it. For want of memory there are none.
+    pub fn with_rows(&self, image: Shown, r: Rect, front: Vec<u8>) -> Result<Vec<u8>, Memory>
+        requires near { IsRectNearBy (2 ^ 34) r }
+        requires ordered { IsOrdered r }
+        requires inside { (p : Point) → IsTrue (holds r p) → IsTrue (holds (at_number (world_of self.now) (shown_in (world_of self.now) image)).r p) }
+        ensures { IfOk result (λ all. all.items ≡ front.items ++ rows_of r (depth (at_number (world_of self.now) (shown_in (world_of self.now) image)).chan) (paint (world_of self.now).images (shown_in (world_of self.now) image))) }
+    {
+        self.device.forest.with_rows(self.image_of(image), r, front)
     }
 
     /// How many tiles keep hidden pixels: one for each pair of a window and a cell of it, of 32 by 32 points counted from the window's

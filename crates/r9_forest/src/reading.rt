@@ -1,12 +1,12 @@
 //! What images show, read where it is kept.
 
-ghost use Rattle.std.specs.Prelude.{◌≡◌, ◌*◌, ◌^◌, ◌<◌, ◌≤◌, ℕ, None, true, length, slice_index, IfOk, IfSome, IsTrue, OnOk};
+ghost use Rattle.std.specs.Prelude.{◌≡◌, ◌++◌, ◌*◌, ◌^◌, ◌<◌, ◌≤◌, ℕ, None, true, length, slice_index, IfOk, IfSome, IsTrue};
 ghost use Rattle.r9_geom.specs.declared.Point.{Point as Spot};
 ghost use Rattle.r9_geom.specs.Geometry as geometry;
 ghost use Rattle.r9_geom.specs.Geometry.{height, holds, reduced, strip, width, IsNearBy, IsOrdered, IsRectNear, IsRectNearBy};
 ghost use Rattle.r9_plane.specs.Pixels.{along, chan_of, number_of, pixel_at, rect_of};
 ghost use Rattle.model_pixel.specs.Channels as channels;
-ghost use Rattle.model_pixel.specs.Rows.{row_bytes, rows_of};
+ghost use Rattle.model_pixel.specs.Rows.{rows_of};
 ghost use Rattle.model_forest.specs.World.{image_at, parent_of, IsLive};
 ghost use Rattle.model_forest.specs.View as model;
 ghost use Rattle.model_forest.specs.View.{at, is_bare};
@@ -17,7 +17,7 @@ use super::images::Images;
 use r9_geom::{Point, Rect, distance};
 use r9_locate::{along, read_view};
 use r9_memory::Memory;
-use r9_plane::{Plane, row_bytes};
+use r9_plane::Plane;
 use r9_shown::read_area;
 use r9_steps::Steps;
 use r9_text::Bytes;
@@ -192,21 +192,34 @@ impl Images {
         Ok(plane)
     }
 
-    // Writes the rows of what an image shows in a rectangle.
-    fn unload_rows(&self, i: u32, r: Rect, rows: &mut [u8]) -> Result<(), Memory>
+    // Bytes with the rows of what an image shows in a rectangle behind them.
+    fn with_view(&self, i: u32, r: Rect, front: Vec<u8>) -> Result<Vec<u8>, Memory>
         requires live { IsLive (world self.now) i }
         requires near { IsRectNearBy (2 ^ 36) r }
         requires ordered { IsOrdered r }
         requires inside { (p : Spot) → IsTrue (holds r p) → IsTrue (holds (image_at (world self.now) i).r p) }
-        requires rows { length rows.old ≡ row_bytes r (channels.depth (image_at (world self.now) i).chan) * height r }
-        ensures { OnOk result (rows.new ≡ rows_of r (channels.depth (image_at (world self.now) i).chan) (model.view (world self.now) i)) }
+        ensures { IfOk result (λ all. all.items ≡ front.items ++ rows_of r (channels.depth (image_at (world self.now) i).chan) (model.view (world self.now) i)) }
     {
         if self.lists.get(i).standing.is_none() {
-            self.plane(i).unload(r, rows);
+            self.plane(i).with_rows(r, front)
         } else {
-            self.shown::<Brand>(i, r, Blank::new(1))?.unload(r, rows);
+            self.shown::<Brand>(i, r, Blank::new(1))?
+                .with_rows(r, front)
         }
-        Ok(())
+    }
+
+    /// Bytes with the rows of what an image shows in a rectangle behind them (image(6)): of the picture that is painted from back to
+    /// front, too. For want of memory there are none.
+    pub fn with_rows(&self, i: u32, r: Rect, front: Vec<u8>) -> Result<Vec<u8>, Memory>
+        requires live { IsLive (world self.now) i }
+        requires near { IsRectNearBy (2 ^ 36) r }
+        requires ordered { IsOrdered r }
+        requires inside { (p : Spot) → IsTrue (holds r p) → IsTrue (holds (image_at (world self.now) i).r p) }
+        ensures view { IfOk result (λ all. all.items ≡ front.items ++ rows_of r (channels.depth (image_at (world self.now) i).chan) (model.view (world self.now) i)) }
+        ensures paint { IfOk result (λ all. all.items ≡ front.items ++ rows_of r (channels.depth (image_at (world self.now) i).chan) (paint (world self.now) i)) }
+    {
+        let all = self.with_view(i, r, front)?;
+        Ok(all)
     }
 
     /// The rows of what an image shows in a rectangle (image(6)): the picture that is painted from back to front, too.
@@ -218,13 +231,7 @@ impl Images {
         ensures view { IfOk result (λ rows. rows ≡ rows_of r (channels.depth (image_at (world self.now) i).chan) (model.view (world self.now) i)) }
         ensures paint { IfOk result (λ rows. rows ≡ rows_of r (channels.depth (image_at (world self.now) i).chan) (paint (world self.now) i)) }
     {
-        let depth = self.lists.get(i).chan.depth();
-        let size = match row_bytes(r, depth).checked_mul(r.height()) {
-            Some(size) => size as usize,
-            None => return Err(Memory),
-        };
-        let mut rows = vec![in self.alloc; 0; size]?;
-        self.unload_rows(i, r, &mut rows)?;
+        let rows = self.with_rows(i, r, Vec::new(self.alloc))?;
         Ok(Bytes::from(rows))
     }
 }

@@ -1,17 +1,19 @@
 //! Pixels that are put on an image.
 
-ghost use Rattle.std.specs.Prelude.{◌≡◌, ◌+◌, ◌*◌, ◌^◌, ◌<◌, ◌≤◌, length, slice_index, EachIndex, IsTrue};
+ghost use Rattle.std.specs.Prelude.{◌≡◌, ◌+◌, ◌*◌, ◌^◌, ◌<◌, ◌≤◌, true, false, length, slice_index, EachIndex, IsTrue};
+ghost use Rattle.std.specs.Int.Bits.{bit_and};
 ghost use Rattle.r9_geom.specs.declared.Point.{Point as Spot};
-ghost use Rattle.r9_geom.specs.Geometry.{area_of, height, holds, width, IsOrdered, IsRectNear};
+ghost use Rattle.r9_geom.specs.Geometry.{area_of, carried, height, holds, is_empty, width, IsOrdered, IsRectNear};
 ghost use Rattle.model_pixel.specs.Channels as channels;
 ghost use Rattle.model_pixel.specs.Rows.{row_bytes, row_pixel};
 ghost use Rattle.r9_plane.specs.Pixels.{number_of};
 ghost use Rattle.model_forest.specs.Draw.{after_fill, after_load, with_canvas};
+ghost use Rattle.model_forest.specs.View.{view};
 ghost use Rattle.model_forest.specs.World.{image_at, IsLive};
 
 use super::images::Images;
-use r9_geom::Rect;
-use r9_put::{fill_area, load_area, put_rows};
+use r9_geom::{Point, Rect};
+use r9_put::{fill_area, load_area, move_area, put_rows};
 use r9_steps::Steps;
 use std::sync::ledger::Ledger;
 
@@ -49,6 +51,34 @@ impl Images {
         ensures writes { writes self.new + steps.old ≡ writes self.old + steps.new }
     {
         fill_area(&self.lists, &mut self.pixels, i, &r, raw, steps);
+    }
+
+    /// Moves pixels within an image: a rectangle takes these bits of what the image shows in the one of its size whose min
+    /// stands at `from`, at most one pixel for each point, where one plane keeps both and nothing stands on the first one.
+    /// Otherwise nothing is done, and it tells so. It takes no memory.
+    pub fn move_within<L: Ledger>(
+        &mut self,
+        i: u32,
+        r: &Rect,
+        from: Point,
+        bits: u32,
+        steps: &mut Steps<L>,
+    ) -> bool
+        requires live { IsLive (world self.old) i }
+        requires near { IsRectNear r.now }
+        requires ordered { IsOrdered r.now }
+        requires some { is_empty r.now ≡ false }
+        requires inside { (p : Spot) → IsTrue (holds r.now p) → IsTrue (holds (image_at (world self.old) i).r p) }
+        requires inside_from { (p : Spot) → IsTrue (holds r.now p) → IsTrue (holds (image_at (world self.old) i).r (carried p r.now.min from)) }
+        ensures world { result ≡ true → world self.new ≡ with_canvas (world self.old) i (holds r.now) (λ p. bit_and (view (world self.old) i (carried p r.now.min from)) bits) }
+        ensures numbers { numbers self.new ≡ numbers self.old }
+        ensures steps { result ≡ true → steps.new ≤ steps.old + area_of r.now }
+        ensures unmoved { result ≡ false → world self.new ≡ world self.old }
+        ensures uncounted { result ≡ false → steps.new ≡ steps.old }
+        ensures moment { moment self.new ≡ moment self.old }
+        ensures writes { writes self.new + steps.old ≡ writes self.old + steps.new }
+    {
+        move_area(&self.lists, &mut self.pixels, i, r, from, bits, steps)
     }
 
     /// Takes the pixels of a rectangle of an image from its rows (image(6)). At most one is written for each.

@@ -255,7 +255,8 @@ impl Hall {
         requires inside { (p : Spot) → IsTrue (holds r p) → IsTrue (holds (display_in self.now.world).r p) }
         ensures { IfOk result (λ rows. OfHistories self.now (λ events. rows ≡ rows_of r (depth (at_number (replay self.now.opening events).desktop.device 0).chan) (paint (replay self.now.opening events).desktop.device.images 0))) }
     {
-        self.world.rows(r)
+        let rows = self.world.with_rows(r, Vec::new(self.alloc))?;
+        Ok(Bytes::from(rows))
     }
 
     /// Where the mouse was last, in pixels of the display: the point of the last event that was written to `mousein`. None before any.

@@ -1,6 +1,6 @@
 //! The sessions that live and what they share, and what an event makes of them.
 
-ghost use Rattle.std.specs.Prelude.{◌≡◌, ◌≤◌, ◌^◌, ℕ, [], true, length, None, Option, IfOk, OnOk, IfSome, IsSome, IsTrue, ◌<◌};
+ghost use Rattle.std.specs.Prelude.{◌≡◌, ◌≤◌, ◌^◌, ◌++◌, ℕ, [], true, length, None, Option, IfOk, OnOk, IfSome, IsSome, IsTrue, ◌<◌};
 ghost use Rattle.model_text.specs.Map.{lookup};
 ghost use Rattle.model_cost.specs.Cells.{cells};
 ghost use Rattle.model_draw.specs.Files.{screen_file};
@@ -351,13 +351,13 @@ impl Sessions {
         self.desktop.display()
     }
 
-    /// The rows of a part of the display (image(6)).
-    pub(crate) fn rows(&self, r: Rect) -> Result<Bytes, Memory>
+    /// Bytes with the rows of a part of the display behind them (image(6)).
+    pub(crate) fn with_rows(&self, r: Rect, front: Vec<u8>) -> Result<Vec<u8>, Memory>
         requires points { HasPoints r }
         requires inside { (p : Spot) → IsTrue (holds r p) → IsTrue (holds (display_of self.now.desktop).r p) }
-        ensures { IfOk result (λ rows. rows ≡ rows_of r (depth (at_number (desktop_of self.now.desktop).device 0).chan) (paint (desktop_of self.now.desktop).device.images 0)) }
+        ensures { IfOk result (λ all. all.items ≡ front.items ++ rows_of r (depth (at_number (desktop_of self.now.desktop).device 0).chan) (paint (desktop_of self.now.desktop).device.images 0)) }
     {
-        self.desktop.rows(r)
+        self.desktop.with_rows(r, front)
     }
 
     /// Where the mouse was last, in pixels of the display. None before it was anywhere.

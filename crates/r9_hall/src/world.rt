@@ -1,6 +1,6 @@
 //! The world, without the history that led to it.
 
-ghost use Rattle.std.specs.Prelude.{◌≡◌, ◌≤◌, ◌<◌, ◌+◌, ◌-◌, ◌^◌, true, false, None, option_map, IfOk, OnErr, IfSome, IsSome, IsTrue};
+ghost use Rattle.std.specs.Prelude.{◌≡◌, ◌≤◌, ◌<◌, ◌+◌, ◌-◌, ◌^◌, ◌++◌, true, false, None, option_map, IfOk, OnErr, IfSome, IsSome, IsTrue};
 ghost use Rattle.std.specs.Option.{option_map_or};
 ghost use Rattle.model_text.specs.Map.{lookup};
 ghost use Rattle.model_cost.specs.Cells.{cells};
@@ -199,13 +199,14 @@ impl World {
         self.sessions.display()
     }
 
-    /// The rows of a part of the display (image(6)): what is painted from back to front, on it and on all that stands on it.
-    pub fn rows(&self, r: Rect) -> Result<Bytes, Memory>
+    /// Bytes with the rows of a part of the display behind them (image(6)): of what is painted from back to front, on it and on all that
+    /// stands on it. For want of memory there are none.
+    pub fn with_rows(&self, r: Rect, front: Vec<u8>) -> Result<Vec<u8>, Memory>
         requires points { HasPoints r }
         requires inside { (p : Spot) → IsTrue (holds r p) → IsTrue (holds (display_in self.now).r p) }
-        ensures { IfOk result (λ rows. rows ≡ rows_of r (depth (at_number (world_in self.now).desktop.device 0).chan) (paint (world_in self.now).desktop.device.images 0)) }
+        ensures { IfOk result (λ all. all.items ≡ front.items ++ rows_of r (depth (at_number (world_in self.now).desktop.device 0).chan) (paint (world_in self.now).desktop.device.images 0)) }
     {
-        self.sessions.rows(r)
+        self.sessions.with_rows(r, front)
     }
 
     /// Where the mouse was last, in pixels of the display: the point of the last event that was written to `mousein`. None before any.

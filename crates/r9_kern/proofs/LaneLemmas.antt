@@ -2,10 +2,10 @@
 use Rattle.std.proofs.Common.{◌≡◌, ℕ, zero, suc, ◌+◌, ◌-◌, ◌*◌, ◌/◌, ◌%◌, ◌^◌, min, ◌<◌, ◌≤◌, Bool, true, false, cond, ltb, List, [], ◌∷◌, ◌++◌, map, length, get_or, replicate, Fits, w16, refl, sym, ap, ap₂, ◌∙◌, subst, arith, inl, inr}
 use Rattle.std.proofs.Math.Nat.{mul-le-mul, mul_assoc}
 use Rattle.std.proofs.lemmas.Bool.{cases_lt, lt-ltb, le-ltb}
-use Rattle.std.proofs.lemmas.Simd.{Each1-zip2, Each2-of, Each2-all, length-zip2, get_or-zip2, get_or-replicate, get_or_narrower, length-chunk, get_or-chunk, Each1-chunk}
+use Rattle.std.proofs.lemmas.Simd.{Each1-zip2, Each2-of, Each2-all, length-zip2, get_or-zip2, get_or-replicate, get_or_narrower, get_or_wider, length-chunk, get_or-chunk, Each1-chunk}
 use lib.Lanes.{Each1, zip2, chunk, number_l, digits_l, sel_l, top, pick_l}
 use Rattle.model_pixel.specs.Channels.{colour_of}
-use Rattle.model_pixel.specs.Composition.{mul, share}
+use Rattle.model_pixel.specs.Composition.{mul, share, composed}
 
 abbrev pub Bytes : List ℕ → Type 0
 Bytes xs = Each1 (λ x. x < 256) xs
@@ -146,6 +146,44 @@ sums-small xs ys h k =
     Each1-zip2 (λ x y. min 255 (x + y)) (λ z. z < 256) xs ys
     (Each2-of (λ x. x < 256) (λ y. y < 256) (λ x y. min 255 (x + y) < 256) (λ x y h k. omega arith) xs ys h k)
 
+abbrev add_bytes : ℕ → ℕ → ℕ
+add_bytes x y = (x + y) % 256
+
+abbrev not_byte : ℕ → ℕ
+not_byte x = 255 - x
+
+abbrev below_mask : ℕ → ℕ → ℕ
+below_mask x y = cond (ltb x y) 255 0
+
+saturated : (x y : ℕ) → x < 256 → y < 256 → add_bytes x (cond (top 7 (below_mask y (not_byte x))) y (not_byte x)) ≡ min 255 (x + y)
+saturated x y h k =
+    elim (cases_lt y (not_byte x)) [
+      | inl less ↦ ap (λ b. add_bytes x (cond (top 7 (cond b 255 0)) y (not_byte x))) (lt-ltb y (not_byte x) less) ∙ omega arith
+      | inr most ↦ ap (λ b. add_bytes x (cond (top 7 (cond b 255 0)) y (not_byte x))) (le-ltb y (not_byte x) most) ∙ omega arith
+    ]
+
+-- what a sum of bytes that saturates has at one of them
+pub saturated_at : (xs ys : List ℕ) (n : ℕ) → n < length xs → n < length ys → get_or xs n 0 < 256 → get_or ys n 0 < 256
+    → get_or (zip2 add_bytes xs (sel_l (map (top 7) (zip2 below_mask ys (map not_byte xs))) ys (map not_byte xs))) n 0 ≡ min 255 (get_or xs n 0 + get_or ys n 0)
+saturated_at [] ys n p q h k = absurd (omega arith)
+saturated_at (x ∷ xs) [] n p q h k = absurd (omega arith)
+saturated_at (x ∷ xs) (y ∷ ys) zero p q h k = saturated x y h k
+saturated_at (x ∷ xs) (y ∷ ys) (suc n) p q h k = saturated_at xs ys n (omega arith) (omega arith) h k
+
+pub of_two : (P : ℕ → Type 0) → P 0 → P 1 → (k : ℕ) → k < 2 → P k
+of_two P a b zero h = a
+of_two P a b (suc zero) h = b
+of_two P a b (suc (suc k)) h = absurd (omega arith)
+
+-- ---- SoverD through a full mask
+
+full_mask : (x : ℕ) → mul x 255 ≡ x
+full_mask x = omega arith
+
+pub over_is : (s sa d da : ℕ) → min 255 (s + mul d (255 - sa)) ≡ composed 11 (mul s 255) (mul sa 255) d da
+unfolding composed
+over_is s sa d da = λ i. min 255 (sym (full_mask s) i + mul d (255 - sym (full_mask sa) i))
+
 -- ---- chosen lanes
 
 byte_at : (xs : List ℕ) → Bytes xs → (k : ℕ) → get_or xs k 0 < 256
@@ -192,7 +230,40 @@ pair_is xs ys j k n here e f less small =
     (get_or-zip2 add xs high j 0 0 0 (omega arith) (omega (arith, long))
     ∙ ap (add (get_or xs j 0)) (get_or-zip2 up ys (replicate 8 8) j 0 0 0 (omega arith) less ∙ ap (up (get_or ys j 0)) (get_or-replicate 8 j 8 0 less)))
 
+-- the higher of two bytes side by side
+two : (ys : List ℕ) → length ys ≡ 2 → Bytes ys → number_l 256 ys / 2 ^ 8 ≡ get_or ys 1 0
+two [] e h = absurd (omega arith)
+two (a ∷ []) e h = absurd (omega arith)
+two (a ∷ b ∷ []) e h = let A : a < 256 = h.0 in omega (arith, A)
+two (a ∷ b ∷ c ∷ ys) e h = absurd (omega arith)
+
+higher_is : (xs : List ℕ) (j : ℕ) → j + 2 ≤ length xs → Bytes xs → number_l 256 (chunk j 2 xs) / 2 ^ 8 ≡ get_or xs (j + 1) 0
+higher_is xs j room h = two (chunk j 2 xs) (length-chunk j 2 xs room) (Each1-chunk (λ x. x < 256) j 2 xs h) ∙ get_or-chunk j 2 xs 1 0 (omega arith)
+
+abbrev higher : ℕ → ℕ → List ℕ
+higher n x = zip2 shr (digits_l 65536 n x) (replicate n 8)
+
+higher_at : (n x j : ℕ) → j < n → get_or (higher n x) j 0 ≡ get_or (digits_l 65536 n x) j 0 / 2 ^ 8
+higher_at zero x j less = absurd (omega arith)
+higher_at (suc n) x zero less = refl
+higher_at (suc n) x (suc j) less = higher_at n (x / 65536) j (omega arith)
+
+pub higher_of : (n : ℕ) (xs : List ℕ) (j : ℕ) → length xs ≡ 2 * n → Bytes xs → j < n → get_or (higher n (number_l 256 xs)) j 0 ≡ get_or xs (2 * j + 1) 0
+higher_of n xs j e h less =
+    higher_at n (number_l 256 xs) j less
+    ∙ ap (λ z. z / 2 ^ 8) (get_or_wider 256 2 65536 n xs j refl h less)
+    ∙ higher_is xs (2 * j) (omega (arith, e)) h
+
+pub higher_small : (n x : ℕ) → Bytes (higher n x)
+higher_small zero x = tt
+higher_small (suc n) x = (omega arith, higher_small n (x / 65536))
+
 -- ---- pixels
+
+pub words_small : (n x i : ℕ) → get_or (digits_l 4294967296 n x) i 0 < 4294967296
+words_small zero x i = omega arith
+words_small (suc n) x zero = omega arith
+words_small (suc n) x (suc i) = words_small n (x / 4294967296) i
 
 four : (ys : List ℕ) → length ys ≡ 4 → Bytes ys
     → colour_of (number_l 256 ys) ≡ record { r = get_or ys 3 0; g = get_or ys 2 0; b = get_or ys 1 0; a = get_or ys 0 0 }

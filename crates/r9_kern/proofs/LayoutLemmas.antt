@@ -6,7 +6,7 @@ use Rattle.std.proofs.lemmas.Simd.{get_or-zip2, get_or-replicate, length-zip2, E
 use lib.Lanes.{zip2, Each1}
 use Rattle.model_pixel.specs.Channels.{colour_of, channels, expand, grey_of, mask, pack, promoted}
 
-whole : (v : ℕ) → v < 256 → v ≡ promoted 8 v
+pub whole : (v : ℕ) → v < 256 → v ≡ promoted 8 v
 unfolding promoted
 whole v h = eqb-true _ _ (agree_below_at (λ v. v == promoted 8 v) (λ _. true) 256 v refl h)
 
@@ -140,6 +140,15 @@ to_argb_lanes xs i e less h = two_shifts shr shl xs 8 24 i e less ∙ to_argb_la
 pub to_xrgb_lanes : (xs : List ℕ) (i : ℕ) → length xs ≡ 4 → i < 4 → get_or xs i 0 < 4294967296
     → get_or (zip2 shr xs (replicate 4 8)) i 0 ≡ pack 0x68081828 (colour_of (get_or xs i 0))
 to_xrgb_lanes xs i e less h = with_splat shr xs 8 i e less ∙ pack_xrgb (get_or xs i 0) h
+
+low_lane : (word : ℕ) → shr (shl word 8) 8 ≡ word % 2 ^ 24
+low_lane word = omega arith
+
+pub low_lanes : (xs : List ℕ) (i : ℕ) → length xs ≡ 4 → i < 4 → get_or (zip2 shr (zip2 shl xs (replicate 4 8)) (replicate 4 8)) i 0 ≡ get_or xs i 0 % 2 ^ 24
+low_lanes xs i e less =
+    let up = zip2 shl xs (replicate 4 8) in
+    let up_long = length-zip2 shl xs (replicate 4 8) (e ∙ refl) ∙ e in
+    with_splat shr up 8 i up_long less ∙ ap (λ v. shr v 8) (with_splat shl xs 8 i e less) ∙ low_lane (get_or xs i 0)
 
 bit_lane : (raw : ℕ) → raw < 4294967296 → times (shr (shl raw 31) 31) 255 ≡ raw % 2 * 255
 bit_lane raw h = omega arith

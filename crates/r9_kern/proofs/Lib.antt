@@ -1,2 +1,3 @@
 mod LaneLemmas
 pub mod LayoutLemmas
+mod OverLemmas

@@ -1,9 +1,10 @@
 // One block of pixels. Its components stand in two vectors of 16-bit lanes, since a product needs 16 bits: the even
 // bytes of the pixels, which are the alpha and the green of each, and the odd ones, the blue and the red.
-ghost use Rattle.std.specs.Prelude.{◌≡◌, ℕ, ◌+◌, ◌*◌, ◌<◌, ◌/◌, ◌%◌, ◌^◌, min, slice_index};
+ghost use Rattle.std.specs.Prelude.{◌≡◌, ℕ, ◌+◌, ◌-◌, ◌*◌, ◌<◌, ◌/◌, ◌%◌, ◌^◌, min, slice_index};
 ghost use Rattle.std.specs.Simd.Lanes.{Each1, zip2};
 ghost use Rattle.model_pixel.specs.Channels.{colour_of};
 ghost use Rattle.model_pixel.specs.Composition.{mul, share, composed, comp};
+ghost use Rattle.r9_kern.specs.Over.{over_raw};
 
 use std::simd::prelude::*;
 
@@ -87,9 +88,7 @@ fn odd(components: u8x16) -> u16x8
     ensures value { (j : ℕ) → j < 8 → slice_index result j ≡ slice_index components (2 * j + 1) }
     ensures range { Each1 (λ x. x < 256) result }
 {
-    components
-        .swizzle([1, 3, 5, 7, 9, 11, 13, 15])
-        .cast::<u16>()
+    u16x8::from_le_bytes(components) >> 8
 }
 
 #[inline(always)]
@@ -104,7 +103,8 @@ fn joined(even: u16x8, odd: u16x8) -> u8x16
 
 #[inline(always)]
 fn pixels(components: u8x16) -> u32x4
-    ensures { (i : ℕ) → i < 4 → colour_of (slice_index result i) ≡ record { r = slice_index components (4 * i + 3); g = slice_index components (4 * i + 2); b = slice_index components (4 * i + 1); a = slice_index components (4 * i) } }
+    ensures value { (i : ℕ) → i < 4 → colour_of (slice_index result i) ≡ record { r = slice_index components (4 * i + 3); g = slice_index components (4 * i + 2); b = slice_index components (4 * i + 1); a = slice_index components (4 * i) } }
+    ensures range { (i : ℕ) → slice_index result i < 2 ^ 32 }
 {
     u32x4::from_le_bytes(components)
 }
@@ -117,6 +117,16 @@ fn alphas(even: u16x8) -> u16x8
     ensures range { Each1 (λ x. x < 256) result }
 {
     even.swizzle([0, 0, 2, 2, 4, 4, 6, 6])
+}
+
+// The highest component of each pixel, which the odd ones end with, at both of them.
+#[inline(always)]
+fn highest(odd: u16x8) -> u16x8
+    requires { Each1 (λ x. x < 256) odd }
+    ensures value { (i k : ℕ) → i < 4 → k < 2 → slice_index result (2 * i + k) ≡ slice_index odd (2 * i + 1) }
+    ensures range { Each1 (λ x. x < 256) result }
+{
+    odd.swizzle([1, 1, 3, 3, 5, 5, 7, 7])
 }
 
 // The mask value of each pixel at its even components, and so at its odd ones.
@@ -141,4 +151,36 @@ pub(crate) fn comp_block(op: u8, d: u32x4, s: u32x4, m: u8x4) -> u32x4
     let even = comp_lanes(op, s_even, sa, d_even, da);
     let odd = comp_lanes(op, s_odd, sa, d_odd, da);
     pixels(joined(even, odd))
+}
+
+// What SoverD gives of unmasked components of a source and those of a destination, beside the source's alphas.
+#[inline(always)]
+fn over_components(s: u8x16, alphas: u16x8, d: u8x16) -> u8x16
+    requires { Each1 (λ x. x < 256) alphas }
+    ensures { (j k : ℕ) → j < 8 → k < 2 → slice_index result (2 * j + k) ≡ min 255 (slice_index s (2 * j + k) + mul (slice_index d (2 * j + k)) (255 - slice_index alphas j)) }
+{
+    let even = share_lanes(false, true, even(d), alphas);
+    let odd = share_lanes(false, true, odd(d), alphas);
+    s.saturating_add(joined(even, odd))
+}
+
+/// The composition of a block of packed colours onto another by SoverD, through a full mask.
+#[inline(always)]
+pub(crate) fn over_block(d: u32x4, s: u32x4) -> u32x4
+    ensures { (i : ℕ) → i < 4 → colour_of (slice_index result i) ≡ comp 11 (colour_of (slice_index s i)) 255 (colour_of (slice_index d i)) }
+{
+    let s = components(s);
+    let alphas = alphas(even(s));
+    pixels(over_components(s, alphas, components(d)))
+}
+
+/// The same of raw pixels of `a8r8g8b8`, with no change of their layout. Without the highest byte it is what `x8r8g8b8` gets.
+#[inline(always)]
+pub(crate) fn over_argb_block(d: u32x4, s: u32x4) -> u32x4
+    ensures argb { (i : ℕ) → i < 4 → slice_index result i ≡ over_raw 0x48081828 0x48081828 (slice_index s i) (slice_index d i) }
+    ensures xrgb { (i : ℕ) → i < 4 → slice_index result i % 2 ^ 24 ≡ over_raw 0x68081828 0x48081828 (slice_index s i) (slice_index d i) }
+{
+    let s = components(s);
+    let alphas = highest(odd(s));
+    pixels(over_components(s, alphas, components(d)))
 }

@@ -1,5 +1,5 @@
 // Raw pixels as packed colours, and back, one at a time and a block at a time.
-ghost use Rattle.std.specs.Prelude.{◌≡◌, ℕ, ◌<◌, ◌*◌, ◌%◌, slice_index};
+ghost use Rattle.std.specs.Prelude.{◌≡◌, ℕ, ◌<◌, ◌*◌, ◌%◌, ◌^◌, slice_index};
 ghost use Rattle.model_pixel.specs.Channels.{colour_of, expand, mask, pack};
 ghost use Rattle.r9_kern.specs.Layouts.{chan_of, mask_chan_of};
 
@@ -78,6 +78,14 @@ pub(crate) fn write_lanes(layout: Layout, words: u32x4) -> u32x4
         Layout::Argb => (words >> 8) + (words << 24),
         Layout::Xrgb => words >> 8,
     }
+}
+
+// All but the highest bytes.
+#[inline(always)]
+pub(crate) fn without_highest(words: u32x4) -> u32x4
+    ensures { (i : ℕ) → i < 4 → slice_index result i ≡ slice_index words i % 2 ^ 24 }
+{
+    (words << 8) >> 8
 }
 
 #[inline(always)]

@@ -8,5 +8,5 @@ mod raw;
 mod row;
 
 pub use layout::{Layout, MaskLayout, read, write};
-pub use raw::comp_raw_row;
+pub use raw::{comp_raw_row, over_raw_row};
 pub use row::comp_row;

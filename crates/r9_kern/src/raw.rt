@@ -2,10 +2,12 @@ ghost use Rattle.std.specs.Prelude.{◌≡◌, ℕ, ◌*◌, ◌/◌, ◌<◌, �
 ghost use Rattle.model_pixel.specs.Composition.{composed_raw};
 ghost use Rattle.r9_chan.specs.Op.{number};
 ghost use Rattle.r9_kern.specs.Layouts.{chan_of, mask_chan_of};
+ghost use Rattle.r9_kern.specs.Over.{over_raw};
 
-use super::block::{PIXELS, comp_block};
+use super::block::{PIXELS, comp_block, over_argb_block, over_block};
 use super::layout::{
-    Layout, MaskLayout, read, read_lanes, read_mask, read_mask_lanes, write, write_lanes,
+    Layout, MaskLayout, read, read_lanes, read_mask, read_mask_lanes, without_highest, write,
+    write_lanes,
 };
 use super::row::comp_word;
 use r9_chan::Op;
@@ -119,5 +121,70 @@ pub fn comp_raw_row(
     comp_raw_blocks_by(dst, src, mask, op, d, s, m);
     for i in d.len() / PIXELS * PIXELS..d.len() {
         d[i] = comp_raw(dst, src, mask, op, d[i], s[i], m[i]);
+    }
+}
+
+#[inline(always)]
+fn over_raw_block(dst: Layout, src: Layout, d: u32x4, s: u32x4) -> u32x4
+    ensures { (i : ℕ) → i < 4 → slice_index result i ≡ over_raw (chan_of dst) (chan_of src) (slice_index s i) (slice_index d i) }
+{
+    match (dst, src) {
+        (Layout::Argb, Layout::Argb) => over_argb_block(d, s),
+        (Layout::Xrgb, Layout::Argb) => without_highest(over_argb_block(d, s)),
+        _ => write_lanes(dst, over_block(read_lanes(dst, d), read_lanes(src, s))),
+    }
+}
+
+// Composes as many whole blocks as there are.
+#[inline(always)]
+fn over_raw_blocks(dst: Layout, src: Layout, d: &mut [u32], s: &[u32])
+    requires { length s.now ≡ length d.old }
+    ensures blocks { (i : ℕ) → i < length d.old / 4 * 4 → slice_index d.new i ≡ over_raw (chan_of dst) (chan_of src) (slice_index s.now i) (slice_index d.old i) }
+    ensures rest { (i : ℕ) → length d.old / 4 * 4 ≤ i → slice_index d.new i ≡ slice_index d.old i }
+{
+    let end = d.len() / PIXELS * PIXELS;
+    let mut at = 0;
+    while at < end {
+        let block = over_raw_block(
+            dst,
+            src,
+            u32x4::from_slice(&d[at..]),
+            u32x4::from_slice(&s[at..]),
+        );
+        block.copy_to_slice(&mut d[at..]);
+        at += PIXELS;
+    }
+}
+
+// The layouts that displays use most are told before the loop, so that no block asks for them.
+fn over_raw_blocks_by(dst: Layout, src: Layout, d: &mut [u32], s: &[u32])
+    requires { length s.now ≡ length d.old }
+    ensures blocks { (i : ℕ) → i < length d.old / 4 * 4 → slice_index d.new i ≡ over_raw (chan_of dst) (chan_of src) (slice_index s.now i) (slice_index d.old i) }
+    ensures rest { (i : ℕ) → length d.old / 4 * 4 ≤ i → slice_index d.new i ≡ slice_index d.old i }
+{
+    match (dst, src) {
+        (Layout::Xrgb, Layout::Argb) => over_raw_blocks(Layout::Xrgb, Layout::Argb, d, s),
+        (Layout::Argb, Layout::Argb) => over_raw_blocks(Layout::Argb, Layout::Argb, d, s),
+        (Layout::Rgba, Layout::Rgba) => over_raw_blocks(Layout::Rgba, Layout::Rgba, d, s),
+        _ => over_raw_blocks(dst, src, d, s),
+    }
+}
+
+fn over_raw_pixel(dst: Layout, src: Layout, d: u32, s: u32) -> u32
+    ensures { result ≡ over_raw (chan_of dst) (chan_of src) s d }
+{
+    let word = comp_word(Op::SoverD, read(dst, d), read(src, s), 255);
+    write(dst, word)
+}
+
+/// Composes each raw pixel of `s` onto that of `d` by SoverD through a full mask, under the layouts of target and source.
+/// Only `d` is written.
+pub fn over_raw_row(dst: Layout, src: Layout, d: &mut [u32], s: &[u32])
+    requires { length s.now ≡ length d.old }
+    ensures { EachIndex d.new (λ i. slice_index d.new i ≡ over_raw (chan_of dst) (chan_of src) (slice_index s.now i) (slice_index d.old i)) }
+{
+    over_raw_blocks_by(dst, src, d, s);
+    for i in d.len() / PIXELS * PIXELS..d.len() {
+        d[i] = over_raw_pixel(dst, src, d[i], s[i]);
     }
 }

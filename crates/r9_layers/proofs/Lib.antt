@@ -2,4 +2,5 @@ mod Areas
 mod Blocks
 mod Carrying
 mod Drawings
+mod Moved
 mod Rows

@@ -13,6 +13,7 @@ ghost use Rattle.r9_forest.specs.Images.{moment, numbers, world, writes};
 ghost use Rattle.r9_layers.specs.Apart.{IsAhead, IsApart, IsSteady};
 ghost use Rattle.r9_layers.specs.Area.{drawing_of, IsTaskOf};
 ghost use Rattle.r9_layers.specs.Bands.{rows_of};
+ghost use Rattle.r9_layers.specs.Moved.{IsMoved};
 ghost use Rattle.r9_layers.specs.Way.{IsWayOf};
 
 use super::composing::{Way, chan_of_mask, compose_area, is_apart, single_mask, way_of};
@@ -20,7 +21,7 @@ use super::task::Task;
 use r9_forest::Images;
 use r9_geom::{Point, Rect};
 use r9_lists::carried_rect;
-use r9_mem::solid;
+use r9_mem::{Through, solid};
 use r9_steps::Steps;
 use std::sync::ledger::Ledger;
 
@@ -94,6 +95,49 @@ pub fn draw_solid<L: Ledger>(
     ensures writes { writes images.new + steps.old ≡ writes images.old + steps.new }
 {
     images.fill(task.dst, *area, raw, steps);
+}
+
+// The bits of a pixel that stay where an image is drawn onto itself and the source alone decides.
+fn moved_bits(images: &Images, task: &Task) -> Option<u32>
+    requires { IsTaskOf (world images.now) task.now }
+    ensures { IfSome result (IsMoved (world images.now) task.now) }
+{
+    if task.src != task.dst {
+        return None;
+    }
+    let info = images.info(task.dst);
+    if info.repl {
+        return None;
+    }
+    let m = single_mask(images, task)?;
+    let mask = chan_of_mask(images, task.mask);
+    Through::of(info.chan, info.chan, mask, task.op, m).moved_bits()
+}
+
+/// Draws an image onto itself on the points of an area, where the source alone decides and its pixels are only to be moved on one
+/// plane. Otherwise nothing is done, and it tells so. It takes no memory.
+pub fn draw_moved<L: Ledger>(
+    images: &mut Images,
+    task: &Task,
+    area: &Rect,
+    steps: &mut Steps<L>,
+) -> bool
+    requires live { IsTaskOf (world images.old) task.now }
+    requires area { area.now ≡ cost.area (world images.old) (drawing_of task.now) }
+    requires some { is_empty area.now ≡ false }
+    ensures world { result ≡ true → world images.new ≡ after_draw (world images.old) (drawing_of task.now) }
+    ensures numbers { numbers images.new ≡ numbers images.old }
+    ensures steps { result ≡ true → steps.new ≤ steps.old + area_of area.now }
+    ensures unmoved { result ≡ false → world images.new ≡ world images.old }
+    ensures uncounted { result ≡ false → steps.new ≡ steps.old }
+    ensures moment { moment images.new ≡ moment images.old }
+    ensures writes { writes images.new + steps.old ≡ writes images.old + steps.new }
+{
+    let Some(bits) = moved_bits(images, task) else {
+        return false;
+    };
+    let from = area.min.carried(task.r.min, task.sp);
+    images.move_within(task.dst, area, from, bits, steps)
 }
 
 // Draws on the points of a rectangle of the area. What they get stands in `pixels` first, since the target may be the source.

@@ -1,8 +1,8 @@
 //! A forest of images: every call is one step of the world that it stands for.
 
-ghost use Rattle.std.specs.Prelude.{◌≡◌, ◌+◌, ◌*◌, ◌^◌, ◌<◌, ◌≤◌, ◌↔◌, ◌≢◌, ℕ, None, Some, false, true, length, map, pos, All, IfOk, IfSome, IsOk, IsSome, IsTrue, OnErr, OnOk};
+ghost use Rattle.std.specs.Prelude.{◌≡◌, ◌+◌, ◌++◌, ◌*◌, ◌^◌, ◌<◌, ◌≤◌, ◌↔◌, ◌≢◌, ℕ, None, Some, false, true, length, map, pos, All, IfOk, IfSome, IsOk, IsSome, IsTrue, OnErr, OnOk};
 ghost use Rattle.r9_geom.specs.declared.Point.{Point as Spot};
-ghost use Rattle.r9_geom.specs.Geometry.{area_of, height, holds, meet, width, HasPoints, IsNearBy, IsOrdered, IsRectNearBy};
+ghost use Rattle.r9_geom.specs.Geometry.{area_of, height, holds, is_empty, meet, width, HasPoints, IsNearBy, IsOrdered, IsRectNearBy};
 ghost use Rattle.model_pixel.specs.Channels as channels;
 ghost use Rattle.model_pixel.specs.Rows.{row_bytes, row_pixel, rows_of};
 ghost use Rattle.r9_chan.specs.Op.{number};
@@ -572,12 +572,38 @@ impl Forest {
             drawing::draw_solid(&mut self.images, task, &area, raw, steps);
             return Ok(());
         }
+        if drawing::draw_moved(&mut self.images, task, &area, steps) {
+            return Ok(());
+        }
+        self.compose(task, &area, steps)
+    }
+
+    // One drawing on the points of an area, whose pixels stand beside the images first.
+    fn compose<L: Ledger>(
+        &mut self,
+        task: &Task,
+        area: &Rect,
+        steps: &mut Steps<L>,
+    ) -> Result<(), Memory>
+        requires live { IsTaskOf (world self.old) task.now }
+        requires area { area.now ≡ cost.area (world self.old) (drawing_of task.now) }
+        requires some { is_empty area.now ≡ false }
+        ensures ok { OnOk result (world self.new ≡ after_draw (world self.old) (drawing_of task.now)) }
+        ensures numbers { numbers self.new ≡ numbers self.old }
+        ensures room { room self.old ≤ room self.new }
+        ensures err { OnErr result (world self.new ≡ world self.old) }
+        ensures memory { area_of area.now ≤ room self.old → IsOk result }
+        ensures steps { steps.new ≤ steps.old + area_of area.now }
+        ensures uncounted { OnErr result (steps.new ≡ steps.old) }
+        ensures moment { moment self.new ≡ moment self.old }
+        ensures writes { writes self.new + steps.old ≡ writes self.old + steps.new }
+    {
         let points = match area.width().checked_mul(area.height()) {
             Some(points) => points,
             None => return Err(Memory),
         };
         self.room(points)?;
-        drawing::draw(&mut self.images, task, &area, &mut self.pixels, steps);
+        drawing::draw(&mut self.images, task, area, &mut self.pixels, steps);
         Ok(())
     }
 
@@ -634,6 +660,18 @@ impl Forest {
         ensures paint { IfOk result (λ rows. rows ≡ rows_of r (channels.depth (image_at (world self.now) i.0).chan) (paint (world self.now) i.0)) }
     {
         self.images.unload(i.0, r)
+    }
+
+    /// Bytes with the rows of what an image shows in a rectangle behind them (image(6)): of the picture that is painted from back to
+    /// front, too. For want of memory there are none.
+    pub fn with_rows(&self, i: ImageNo, r: Rect, front: Vec<u8>) -> Result<Vec<u8>, Memory>
+        requires live { IsLive (world self.now) i.0 }
+        requires near { IsRectNearBy (2 ^ 34) r }
+        requires ordered { IsOrdered r }
+        requires inside { (p : Spot) → IsTrue (holds r p) → IsTrue (holds (image_at (world self.now) i.0).r p) }
+        ensures paint { IfOk result (λ all. all.items ≡ front.items ++ rows_of r (channels.depth (image_at (world self.now) i.0).chan) (paint (world self.now) i.0)) }
+    {
+        self.images.with_rows(i.0, r, front)
     }
 
     /// The raw pixel that an image shows at a point.

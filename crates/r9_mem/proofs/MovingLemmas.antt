@@ -229,6 +229,11 @@ taken dst src chan op s m d is h full =
     ap (λ (m : ℕ). pack dst (comp op (expand src s) m (expand dst d))) full
     ∙ ap (pack dst) (comp_taken op (expand src s) (expand dst d) h (expand-small src s is))
 
+-- Through a full mask SoverD does not look at it.
+pub over_full : (dst src chan s m d : ℕ) → mask chan m ≡ 255 → pack dst (comp 11 (expand src s) 255 (expand dst d)) ≡ composed_raw dst src chan 11 s m d
+unfolding composed_raw
+over_full dst src chan s m d full = ap (λ (m : ℕ). pack dst (comp 11 (expand src s) m (expand dst d))) (sym full)
+
 pub opaque_takes : (w s : ℕ) → count_of 4 w ≡ 0 → takes 11 (expand w s).a ≡ true
 unfolding expand
 opaque_takes w s none = ap (λ (a : ℕ). takes 11 a) (level-absent 4 255 (channels w) s none)

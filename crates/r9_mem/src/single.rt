@@ -1,14 +1,17 @@
 // Rows seen through one mask pixel.
-ghost use Rattle.std.specs.Prelude.{◌≡◌, ◌≤◌, ℕ, true, length, slice_index, EachIndex};
+ghost use Rattle.std.specs.Prelude.{◌≡◌, ◌≤◌, ℕ, true, length, slice_index, EachIndex, IfSome};
+ghost use Rattle.std.specs.Int.Bits.{bit_and};
 ghost use Rattle.std.proofs.Props.{props};
 ghost use Rattle.model_pixel.specs.Composition.{composed_raw};
 ghost use Rattle.r9_chan.specs.Op.{number};
 ghost use Rattle.r9_mem.specs.Kept.{AreKept};
 
 use super::kind::GREY_BYTE;
+use super::layout::layout_of;
 use super::moving::{change, gives_source, kept_bits};
 use super::rows::compose_row;
 use r9_chan::{Chan, Op};
+use r9_kern::over_raw_row;
 
 // The masks that stand side by side at a time.
 const BLOCK: usize = 256;
@@ -26,6 +29,7 @@ pub struct Through {
     moved: bool,
     // The bits of a source pixel that stay, where the target has its channels.
     kept: Option<u32>,
+    ghost is_grey: { grey ≡ 0x38 },
     ghost are_kept: { AreKept kept dst src } by { Prim.hlevel props },
 }
 
@@ -39,8 +43,8 @@ fn grey_byte() -> Chan
     }
 }
 
-// Composes at most a block of pixels through one mask value.
-fn compose_block(dst: &Chan, src: &Chan, grey: &Chan, value: u8, op: Op, d: &mut [u32], s: &[u32])
+// Composes at most a block of pixels through one mask value, by any operator.
+fn compose_masked(dst: &Chan, src: &Chan, grey: &Chan, value: u8, op: Op, d: &mut [u32], s: &[u32])
     requires few { length d.old ≤ 256 }
     requires sources { length s.now ≡ length d.old }
     ensures { EachIndex d.new (λ i. slice_index d.new i ≡ composed_raw dst.now src.now grey.now (number op) (slice_index s.now i) value (slice_index d.old i)) }
@@ -50,9 +54,25 @@ fn compose_block(dst: &Chan, src: &Chan, grey: &Chan, value: u8, op: Op, d: &mut
     compose_row(dst, src, grey, op, d, s, &masks[..len]);
 }
 
+// The same with no look at the mask where it is full, under the operator and the channels that r9_kern composes so.
+fn compose_block(dst: &Chan, src: &Chan, grey: &Chan, value: u8, op: Op, d: &mut [u32], s: &[u32])
+    requires grey { grey.now ≡ 0x38 }
+    requires few { length d.old ≤ 256 }
+    requires sources { length s.now ≡ length d.old }
+    ensures { EachIndex d.new (λ i. slice_index d.new i ≡ composed_raw dst.now src.now grey.now (number op) (slice_index s.now i) value (slice_index d.old i)) }
+{
+    match (op, layout_of(dst), layout_of(src)) {
+        (Op::SoverD, Some(below), Some(above)) if value == 255 => {
+            over_raw_row(below, above, d, s);
+        }
+        _ => compose_masked(dst, src, grey, value, op, d, s),
+    }
+}
+
 // The same of any number of pixels.
 fn compose_blocks(dst: &Chan, src: &Chan, grey: &Chan, value: u8, op: Op, d: &mut [u32], s: &[u32])
-    requires { length s.now ≡ length d.old }
+    requires grey { grey.now ≡ 0x38 }
+    requires sources { length s.now ≡ length d.old }
     ensures { EachIndex d.new (λ i. slice_index d.new i ≡ composed_raw dst.now src.now grey.now (number op) (slice_index s.now i) value (slice_index d.old i)) }
 {
     let mut at = 0;
@@ -65,15 +85,15 @@ fn compose_blocks(dst: &Chan, src: &Chan, grey: &Chan, value: u8, op: Op, d: &mu
 
 // The same from one source pixel.
 fn fill_blocks(dst: &Chan, src: &Chan, grey: &Chan, value: u8, op: Op, d: &mut [u32], s: u32)
+    requires { grey.now ≡ 0x38 }
     ensures { EachIndex d.new (λ i. slice_index d.new i ≡ composed_raw dst.now src.now grey.now (number op) s value (slice_index d.old i)) }
 {
     let sources = [s; BLOCK];
-    let masks = [u32::from(value); BLOCK];
     let mut at = 0;
     while at < d.len() {
         let len = (d.len() - at).min(BLOCK);
         let part = &mut d[at..at + len];
-        compose_row(dst, src, grey, op, part, &sources[..len], &masks[..len]);
+        compose_block(dst, src, grey, value, op, part, &sources[..len]);
         at += len;
     }
 }
@@ -103,6 +123,17 @@ impl Through {
         ensures { result ≡ self.now.moved }
     {
         self.moved
+    }
+
+    /// The bits of a source pixel that a target gets of it, whatever that has, where the source alone decides and has the
+    /// target's channels.
+    pub fn moved_bits(&self) -> Option<u32>
+        ensures { IfSome result (λ bits. (dst src mask op m : ℕ) → IsThrough self.now dst src mask op m → (s d : ℕ) → bit_and s bits ≡ composed_raw dst src mask op s m d) }
+    {
+        match self.kept {
+            Some(bits) if self.moved => Some(bits),
+            _ => None,
+        }
     }
 
     /// Makes raw pixels of the source what a target gets, whatever it has, where the source alone decides.

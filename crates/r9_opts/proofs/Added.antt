@@ -1,5 +1,5 @@
 -- A command with one option or one command more.
-use Rattle.std.proofs.Common.{◌≡◌, ◌∙◌, false, ap, ap₂}
+use Rattle.std.proofs.Common.{◌≡◌, ◌∙◌, ◌||◌, Bool, false, ap, ap₂}
 use Rattle.clap.specs.Walk.{Rule}
 use Rattle.clap.specs.Words.{App, AddsArg, AddsSubcommand, app_of, rule_of, with_rule, with_subcommand}
 use Rattle.clap.specs.declared.builder.arg.Arg.{Arg}
@@ -12,3 +12,7 @@ ruled old arg new app rule adds old_is arg_is local = adds.shape local ∙ ap₂
 pub commanded : (old sub new : Command) (app sub_app : App) → AddsSubcommand old sub new → app_of old ≡ app → app_of sub ≡ sub_app → (out-Command sub).has_globals ≡ false
     → app_of new ≡ with_subcommand app sub_app.top
 commanded old sub new app sub_app adds old_is sub_is local = adds.shape local ∙ ap₂ with_subcommand old_is (ap (λ (a : App). a.top) sub_is)
+
+-- and no option of it holds in commands below
+pub still_local : (old sub new : Command) → AddsSubcommand old sub new → (out-Command old).has_globals ≡ false → (out-Command sub).has_globals ≡ false → (out-Command new).has_globals ≡ false
+still_local old sub new adds old_is sub_is = adds.globals ∙ ap₂ (λ (p q : Bool). p || q) old_is sub_is

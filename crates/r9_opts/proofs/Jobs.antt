@@ -10,24 +10,25 @@ use Rattle.model_text.specs.Field.{value}
 use Rattle.model_text.specs.Reading.{◌>>=◌}
 use Rattle.model_words.specs.Options.{is_value}
 use Rattle.model_words.specs.Values.{counted}
-use Rattle.model_words.specs.Commands.{AsksToGenerate, alone_syntax, desk_syntax, replay_syntax, serve_syntax, text_syntax}
+use Rattle.model_words.specs.Commands.{AsksToGenerate, alone_syntax, desk_syntax, mirror_syntax, replay_syntax, serve_syntax, text_syntax}
 use Rattle.r9_opts.specs.declared.job.Job.{Job}
-use Rattle.r9_opts.specs.declared.job.Job.TheVariants.{Replay, Serve, Alone, Text as Texts, Desk, Gen}
+use Rattle.r9_opts.specs.declared.job.Job.TheVariants.{Replay, Mirror, Serve, Alone, Text as Texts, Desk, Gen}
 use Rattle.r9_opts.specs.App.{rio9_app}
 use Rattle.r9_opts.specs.Asked.{AskFor, JobOf}
 use Rattle.r9_opts.specs.Fit.{is_fit}
-use Rattle.r9_opts.specs.Rows.{IsAloneOf, IsCountOf, IsReplayOf, IsServeOf, IsTextOf}
+use Rattle.r9_opts.specs.Rows.{IsAloneOf, IsCountOf, IsDisplay, IsReplayOf, IsServeOf, IsTextOf}
 use Rattle.r9_opts.proofs.Options.{both, none_some, some_inj}
 use Rattle.r9_opts.proofs.Given.{value_fits}
-use Rattle.r9_opts.proofs.Levels.{Command, replays, serves, alones, texts, desks, generates, Front, begins, other, fault_behind, fault_in, front, gen_rules, is_word, leaf_takes, leaf_took, rows_in, rules_of, sub_behind, word_of}
-use Rattle.r9_opts.proofs.Tables.{alone_names, desk_names, gen_defaults, gen_optional, replay_names, serve_names, text_names}
+use Rattle.r9_opts.proofs.Levels.{Command, replays, mirrors, serves, alones, texts, desks, generates, Front, begins, other, fault_behind, fault_in, front, gen_rules, is_word, leaf_takes, leaf_took, rows_in, rules_of, sub_behind, word_of}
+use Rattle.r9_opts.proofs.Tables.{alone_names, desk_names, gen_defaults, gen_optional, mirror_names, replay_names, serve_names, text_names}
 use Rattle.r9_opts.proofs.Number.{alone as one_word, alone_fits, alone_run, number_rows}
-use Rattle.r9_opts.proofs.Matched.{Matches, alone_asked, alone_found, desk_found, matched, matches, replay_asked, replay_found, serve_asked, serve_found, text_asked, text_found}
+use Rattle.r9_opts.proofs.Matched.{Matches, alone_asked, alone_found, desk_found, matched, matches, mirror_asked, mirror_found, replay_asked, replay_found, serve_asked, serve_found, text_asked, text_found}
 
 -- ---- commands and jobs
 
 abbrev pub command_of : Job → Command
 command_of (Replay opening screen) = replays
+command_of (Mirror opening) = mirrors
 command_of (Serve opening listen workers conns) = serves
 command_of (Alone opening session) = alones
 command_of (Texts columns lines) = texts
@@ -37,6 +38,7 @@ command_of (Gen n) = generates
 -- the matches give the job, whatever the command
 abbrev pub AreOf : List Row → Job → Type 0
 AreOf rows (Replay opening screen) = IsReplayOf rows opening screen
+AreOf rows (Mirror opening) = IsDisplay rows opening
 AreOf rows (Serve opening listen workers conns) = IsServeOf rows opening (string_bytes listen) workers conns
 AreOf rows (Alone opening session) = IsAloneOf rows opening session
 AreOf rows (Texts columns lines) = IsTextOf rows columns lines
@@ -45,6 +47,7 @@ AreOf rows (Gen n) = IsCountOf rows (codes "number") 100000 n
 
 job_of : (name : Text) (rows : List Row) (job : Job) → JobOf name rows job → (name ≡ word_of (command_of job)) × AreOf rows job
 job_of name rows (Replay opening screen) of = of
+job_of name rows (Mirror opening) of = of
 job_of name rows (Serve opening listen workers conns) of = of
 job_of name rows (Alone opening session) of = of
 job_of name rows (Texts columns lines) of = of
@@ -54,6 +57,7 @@ job_of name rows (Gen n) of = of
 abbrev command_by : Text → Option Command
 command_by word =
     if is_word replays word then Some replays
+    else if is_word mirrors word then Some mirrors
     else if is_word serves word then Some serves
     else if is_word alones word then Some alones
     else if is_word texts word then Some texts
@@ -63,6 +67,7 @@ command_by word =
 
 known : (command : Command) → command_by (word_of command) ≡ Some command
 known replays = refl
+known mirrors = refl
 known serves = refl
 known alones = refl
 known texts = refl
@@ -114,6 +119,8 @@ by_job : (rest : List Text) (rows : List Row) (job : Job) → list_all is_fit re
     → rows ≡ rows_in (rules_of (command_of job)) rest → AreOf rows job → AskFor (word_of (command_of job) ∷ rest) job
 by_job rest rows (Replay opening screen) fit fault are of =
     replay_found rest rows opening screen (subst (Matches replay_syntax rest) (sym are) (matches (codes "replay") replay_syntax replay_names rest fit fault)) of
+by_job rest rows (Mirror opening) fit fault are of =
+    mirror_found rest rows opening (subst (Matches mirror_syntax rest) (sym are) (matches (codes "mirror") mirror_syntax mirror_names rest fit fault)) of
 by_job rest rows (Serve opening listen workers conns) fit fault are of =
     serve_found rest rows opening (string_bytes listen) workers conns (subst (Matches serve_syntax rest) (sym are) (matches (codes "serve") serve_syntax serve_names rest fit fault)) of
 by_job rest rows (Alone opening session) fit fault are of =
@@ -153,6 +160,7 @@ pub record IsTaken (words : List Text) (job : Job) : Type 0 where
 
 word_fits : (command : Command) → is_fit (word_of command) ≡ true
 word_fits replays = refl
+word_fits mirrors = refl
 word_fits serves = refl
 word_fits alones = refl
 word_fits texts = refl
@@ -180,6 +188,10 @@ taken words (Replay opening screen) asks =
     subst (λ w. IsTaken w (Replay opening screen)) (sym asks.begins)
     (by_rest asks.rest (Replay opening screen) got.0 got.1
     (refl, replay_asked asks.rest (rows_in (rules_of replays) asks.rest) asks.given opening screen asks.gives got.2 asks.opened asks.shown))
+taken words (Mirror opening) asks =
+    let got = matched (codes "mirror") mirror_syntax mirror_names asks.rest asks.given asks.gives in
+    subst (λ w. IsTaken w (Mirror opening)) (sym asks.begins)
+    (by_rest asks.rest (Mirror opening) got.0 got.1 (refl, mirror_asked words (rows_in (rules_of mirrors) asks.rest) opening asks got.2))
 taken words (Serve opening listen workers conns) asks =
     let got = matched (codes "serve") serve_syntax serve_names asks.rest asks.given asks.gives in
     subst (λ w. IsTaken w (Serve opening listen workers conns)) (sym asks.begins)

@@ -17,7 +17,7 @@ use Rattle.clap.proofs.FaultLemmas.{stopped_fault}
 use Rattle.clap.specs.declared.error.kind.ErrorKind.TheVariants as kind
 use Rattle.clap.specs.declared.error.kind.ErrorKind.{ErrorKind}
 use Rattle.model_words.specs.Options.{Syntax, ending, dashed}
-use Rattle.model_words.specs.Commands.{alone_syntax, desk_syntax, replay_syntax, serve_syntax, text_syntax}
+use Rattle.model_words.specs.Commands.{alone_syntax, desk_syntax, mirror_syntax, replay_syntax, serve_syntax, text_syntax}
 use Rattle.r9_opts.specs.App.{rio9_app}
 use Rattle.r9_opts.specs.Fit.{is_fit}
 use Rattle.r9_opts.proofs.Walks.{View, ends, long, plain, view, at, built_flag, built_valued, goes_on, leaf, no_short, run}
@@ -111,6 +111,7 @@ gen_rules = built_word (codes "number") ∷ []
 
 pub data Command : Type 0 where
   replays : Command
+  mirrors : Command
   serves : Command
   alones : Command
   texts : Command
@@ -119,6 +120,7 @@ pub data Command : Type 0 where
 
 abbrev pub word_of : Command → Text
 word_of replays = codes "replay"
+word_of mirrors = codes "mirror"
 word_of serves = codes "serve"
 word_of alones = codes "alone"
 word_of texts = codes "text"
@@ -127,6 +129,7 @@ word_of generates = codes "gen"
 
 abbrev pub rules_of : Command → List Rule
 rules_of replays = rules_with replay_syntax
+rules_of mirrors = rules_with mirror_syntax
 rules_of serves = rules_with serve_syntax
 rules_of alones = rules_with alone_syntax
 rules_of texts = rules_with text_syntax
@@ -142,7 +145,7 @@ top = record (leaf (codes "rio9") []) { is_leaf = false }
 abbrev built_app : App
 built_app = record {
   top = top;
-  subs = leaf_of replays ∷ leaf_of serves ∷ leaf_of alones ∷ leaf_of texts ∷ leaf_of desks ∷ leaf_of generates ∷ [];
+  subs = leaf_of replays ∷ leaf_of mirrors ∷ leaf_of serves ∷ leaf_of alones ∷ leaf_of texts ∷ leaf_of desks ∷ leaf_of generates ∷ [];
 }
 
 app_is : built rio9_app ≡ built_app
@@ -175,6 +178,7 @@ sub_is words = refl
 entered_is : (command : Command) (rest : List Text) → top_fault [] (stopped (word_of command) rest) ≡ fault_in (word_of command) (rules_of command) rest
 unfolding defaults_fault
 entered_is replays rest = or_nothing (fault_in (word_of replays) (rules_of replays) rest)
+entered_is mirrors rest = or_nothing (fault_in (word_of mirrors) (rules_of mirrors) rest)
 entered_is serves rest = or_nothing (fault_in (word_of serves) (rules_of serves) rest)
 entered_is alones rest = or_nothing (fault_in (word_of alones) (rules_of alones) rest)
 entered_is texts rest = or_nothing (fault_in (word_of texts) (rules_of texts) rest)
@@ -183,6 +187,7 @@ entered_is generates rest = or_nothing (fault_in (word_of generates) (rules_of g
 
 rows_are : (command : Command) (rest : List Text) → entered built_app (Some (word_of command, rest)) ≡ Some (word_of command, rows_in (rules_of command) rest)
 rows_are replays rest = refl
+rows_are mirrors rest = refl
 rows_are serves rest = refl
 rows_are alones rest = refl
 rows_are texts rest = refl
@@ -192,6 +197,7 @@ rows_are generates rest = refl
 walked_is : (command : Command) → walked [] names start (word_of command) ≡ stopped (word_of command) []
 unfolding walked
 walked_is replays = refl
+walked_is mirrors = refl
 walked_is serves = refl
 walked_is alones = refl
 walked_is texts = refl
@@ -200,6 +206,7 @@ walked_is generates = refl
 
 no_fault : (command : Command) → turn_fault top names start (word_of command) ≡ []
 no_fault replays = refl
+no_fault mirrors = refl
 no_fault serves = refl
 no_fault alones = refl
 no_fault texts = refl
@@ -283,17 +290,21 @@ is_word command word = bytes_eq (word_of command) word
 
 pub front : (words : List Text) → list_all is_fit words ≡ true → Front words
 front [] fit = other [] no_words
-front (word ∷ rest) fit = go (is_word replays word) (is_word serves word) (is_word alones word) (is_word texts word) (is_word desks word) (is_word generates word) refl refl refl refl refl refl
+front (word ∷ rest) fit =
+    go (is_word replays word) (is_word mirrors word) (is_word serves word) (is_word alones word) (is_word texts word) (is_word desks word) (is_word generates word)
+    refl refl refl refl refl refl refl
   where
     same : (command : Command) → is_word command word ≡ true → Front (word ∷ rest)
     same command e = subst (λ (w : Text). Front (w ∷ rest)) ((bytes_eq-Decides (word_of command) word).0 e) (begins command rest)
 
-    go : (p q r s t u : Bool) → is_word replays word ≡ p → is_word serves word ≡ q → is_word alones word ≡ r → is_word texts word ≡ s → is_word desks word ≡ t → is_word generates word ≡ u → Front (word ∷ rest)
-    go true q r s t u e f g h i j = same replays e
-    go false true r s t u e f g h i j = same serves f
-    go false false true s t u e f g h i j = same alones g
-    go false false false true t u e f g h i j = same texts h
-    go false false false false true u e f g h i j = same desks i
-    go false false false false false true e f g h i j = same generates j
-    go false false false false false false e f g h i j =
-        other (word ∷ rest) (nothing_first word rest (view word (both _ _ fit).0) (rw e (rw f (rw g (rw h (rw i (rw j refl)))))))
+    go : (p m q r s t u : Bool) → is_word replays word ≡ p → is_word mirrors word ≡ m → is_word serves word ≡ q → is_word alones word ≡ r → is_word texts word ≡ s → is_word desks word ≡ t
+        → is_word generates word ≡ u → Front (word ∷ rest)
+    go true m q r s t u e d f g h i j = same replays e
+    go false true q r s t u e d f g h i j = same mirrors d
+    go false false true r s t u e d f g h i j = same serves f
+    go false false false true s t u e d f g h i j = same alones g
+    go false false false false true t u e d f g h i j = same texts h
+    go false false false false false true u e d f g h i j = same desks i
+    go false false false false false false true e d f g h i j = same generates j
+    go false false false false false false false e d f g h i j =
+        other (word ∷ rest) (nothing_first word rest (view word (both _ _ fit).0) (rw e (rw d (rw f (rw g (rw h (rw i (rw j refl))))))))

@@ -7,9 +7,9 @@ use Rattle.clap.specs.Walk.{Row, Rule, Text, first_of, one_of}
 use Rattle.r9_event.specs.declared.event.Opening.{Opening}
 use Rattle.model_words.specs.Options.{Given, Syntax, GivesOptions, has_flag, is_allowed, is_among, or, value_of}
 use Rattle.model_words.specs.Values.{IsOpening, counted}
-use Rattle.model_words.specs.Commands.{AsksForAlone, AsksForDesk, AsksForOpening, AsksForReplay, AsksForText, AsksToServe, GivesNumber, alone_syntax, desk_syntax, replay_syntax, serve_syntax, text_syntax}
+use Rattle.model_words.specs.Commands.{AsksForAlone, AsksForDesk, AsksForMirror, AsksForOpening, AsksForReplay, AsksForText, AsksToServe, GivesNumber, alone_syntax, desk_syntax, mirror_syntax, replay_syntax, serve_syntax, text_syntax}
 use Rattle.r9_opts.specs.Fit.{is_fit}
-use Rattle.r9_opts.specs.Rows.{IsAloneOf, IsNumberOf, IsReplayOf, IsServeOf, IsTextOf, Tells}
+use Rattle.r9_opts.specs.Rows.{IsAloneOf, IsDisplay, IsNumberOf, IsReplayOf, IsServeOf, IsTextOf, Tells}
 use Rattle.r9_opts.proofs.Walks.{built_flag, reads}
 use Rattle.r9_opts.proofs.Options.{IsSyntax, gives, row_of, some_inj}
 use Rattle.r9_opts.proofs.Given.{all_fit, all_fresh, different, flag_reads, flag_row, given_read, value_is}
@@ -121,6 +121,23 @@ only_value : (names : List Text) (name : Text) (given : List Given) (rows : List
     → rows ≡ with_defaults (rules_with (valued_syntax names)) (map row_of given) → first_of name rows ≡ value_of name given
 only_value names name given rows allowed e =
     ap (first_of name) (e ∙ defaults_behind names [] (map row_of given)) ∙ value_is (valued_syntax names) name (λ other e. absurd (true≢false (sym e))) given allowed
+
+pub mirror_found : (rest : List Text) (rows : List Row) (opening : Opening) → Matches mirror_syntax rest rows → IsDisplay rows opening → AsksForMirror (codes "mirror" ∷ rest) opening
+mirror_found rest rows opening got job =
+    let value : (name : Text) → first_of name rows ≡ value_of name got.given = λ name. only_value mirror_syntax.valued name got.given rows got.gives.allowed got.are in
+    record {
+      given = got.given;
+      rest = rest;
+      begins = refl;
+      gives = got.gives;
+      opened = opened_as _ _ _ _ opening (value (codes "size")) (value (codes "chan")) job;
+    }
+
+pub mirror_asked : (words : List Text) (rows : List Row) (opening : Opening) → (asks : AsksForMirror words opening)
+    → rows ≡ with_defaults (rules_with mirror_syntax) (map row_of asks.given) → IsDisplay rows opening
+mirror_asked words rows opening asks are =
+    let value : (name : Text) → first_of name rows ≡ value_of name asks.given = λ name. only_value mirror_syntax.valued name asks.given rows asks.gives.allowed are in
+    opened_as _ _ _ _ opening (sym (value (codes "size"))) (sym (value (codes "chan"))) asks.opened
 
 pub serve_found : (rest : List Text) (rows : List Row) (opening : Opening) (listen : Text) (workers conns : ℕ) → Matches serve_syntax rest rows → IsServeOf rows opening listen workers conns
     → AsksToServe (codes "serve" ∷ rest) opening listen workers conns

@@ -11,7 +11,7 @@ use Rattle.clap.specs.Takes.{is_given}
 use Rattle.clap.specs.declared.builder.value_parser.Reading.TheVariants as reading
 use Rattle.clap.specs.declared.parser.matches.ValueSource.TheVariants as source
 use Rattle.model_words.specs.Options.{Syntax, is_among}
-use Rattle.model_words.specs.Commands.{alone_syntax, desk_syntax, replay_syntax, serve_syntax, text_syntax}
+use Rattle.model_words.specs.Commands.{alone_syntax, desk_syntax, mirror_syntax, replay_syntax, serve_syntax, text_syntax}
 use Rattle.r9_opts.proofs.Walks.{IsTable, built_flag, built_valued}
 use Rattle.r9_opts.proofs.Options.{IsNamed, IsSyntax, has_sign, or_false}
 use Rattle.r9_opts.proofs.Levels.{IsOptional, built_word, gen_rules, rules_with, with_defaults}
@@ -73,6 +73,13 @@ serve_names = record {
   apart = λ name _. refl;
   flags = λ name e. absurd (true≢false (sym e));
   valued = each IsNamed serve_syntax.valued (size, (chan, (listen, (workers, (conns, tt)))));
+}
+
+pub mirror_names : IsSyntax mirror_syntax
+mirror_names = record {
+  apart = λ name _. refl;
+  flags = λ name e. absurd (true≢false (sym e));
+  valued = each IsNamed mirror_syntax.valued (size, (chan, tt));
 }
 
 pub alone_names : IsSyntax alone_syntax

@@ -17,7 +17,7 @@ use Rattle.clap.specs.declared.parser.matches.ArgMatches.{ArgMatches}
 use Rattle.clap.specs.declared.parser.matches.ArgMatches.TheViews.{out-ArgMatches, out-SubCommand}
 use Rattle.clap.specs.declared.parser.matches.SubCommand.{SubCommand}
 use Rattle.r9_opts.specs.declared.job.Job.{Job}
-use Rattle.r9_opts.specs.declared.job.Job.TheVariants.{Replay, Serve, Alone, Text as Texts, Desk, Gen}
+use Rattle.r9_opts.specs.declared.job.Job.TheVariants.{Replay, Mirror, Serve, Alone, Text as Texts, Desk, Gen}
 use Rattle.r9_opts.specs.declared.job.OptsFault.{OptsFault}
 use Rattle.r9_opts.specs.declared.job.OptsFault.TheVariants.{Usage, Memory}
 use Rattle.r9_opts.specs.App.{rio9_app}
@@ -25,7 +25,7 @@ use Rattle.r9_opts.specs.Asked.{AskFor, IfUsage, JobOf, texts_of}
 use Rattle.r9_opts.specs.Fit.{is_fit}
 use Rattle.r9_opts.specs.Rows.{IsCountOf, IsNumberOf}
 use Rattle.r9_opts.proofs.Options.{none_some, some_inj}
-use Rattle.r9_opts.proofs.Levels.{Command, replays, serves, alones, texts, desks, generates, word_of}
+use Rattle.r9_opts.proofs.Levels.{Command, replays, mirrors, serves, alones, texts, desks, generates, word_of}
 use Rattle.r9_opts.proofs.Jobs.{AreOf, command_of, job_by, job_found, taken}
 
 abbrev pub AskForNothing : List Text → Type 0
@@ -36,6 +36,7 @@ AskForNothing words = (job : Job) → AskFor words job → ⊥
 -- what the matches of a command give, whatever the job
 abbrev Given : Command → List Row → Type 0
 Given replays rows = Unit {0}
+Given mirrors rows = Unit {0}
 Given serves rows = (conns : ℕ) × IsCountOf rows (codes "conns") 100000 conns
 Given alones rows = (session : ℕ) × IsCountOf rows (codes "conn") 4294967295 session
 Given texts rows = ((columns : ℕ) × IsNumberOf rows (codes "cols") 4 200 columns) × ((lines : ℕ) × IsNumberOf rows (codes "rows") 4 100 lines)
@@ -44,6 +45,7 @@ Given generates rows = (n : ℕ) × IsCountOf rows (codes "number") 100000 n
 
 given_by : (rows : List Row) (job : Job) → AreOf rows job → Given (command_of job) rows
 given_by rows (Replay opening screen) of = tt
+given_by rows (Mirror opening) of = tt
 given_by rows (Serve opening listen workers conns) of = (conns, of.connections)
 given_by rows (Alone opening session) of = (session, of.chosen)
 given_by rows (Texts columns lines) of = ((columns, of.wide), (lines, of.high))

@@ -20,6 +20,9 @@ sized_app name = with_rule (with_rule (new_app name) (valued_rule (codes "size")
 abbrev pub replay_app : App
 replay_app = with_rule (sized_app (codes "replay")) (flag_rule (codes "screen"))
 
+abbrev pub mirror_app : App
+mirror_app = sized_app (codes "mirror")
+
 abbrev pub serve_app : App
 serve_app =
     with_rule (with_rule (with_rule (sized_app (codes "serve")) (valued_rule (codes "listen"))) (valued_rule (codes "workers"))) (valued_rule (codes "conns"))
@@ -46,7 +49,8 @@ bare_app = on_top (λ s. record s {
 }) (new_app (codes "rio9"))
 
 abbrev pub answering_app : App
-answering_app = with_subcommand (with_subcommand (with_subcommand bare_app replay_app.top) serve_app.top) alone_app.top
+answering_app =
+    with_subcommand (with_subcommand (with_subcommand (with_subcommand bare_app replay_app.top) mirror_app.top) serve_app.top) alone_app.top
 
 abbrev pub rio9_app : App
 rio9_app = with_subcommand (with_subcommand (with_subcommand answering_app text_app.top) desk_app.top) gen_app.top

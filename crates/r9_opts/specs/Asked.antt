@@ -6,8 +6,8 @@ use Rattle.r9_opts.specs.declared.job.Job.{Job}
 use Rattle.r9_opts.specs.declared.job.Job.TheVariants as job
 use Rattle.r9_opts.specs.declared.job.OptsFault.{OptsFault}
 use Rattle.r9_opts.specs.declared.job.OptsFault.TheVariants as fault
-use Rattle.model_words.specs.Commands.{AsksForAlone, AsksForDesk, AsksForReplay, AsksForText, AsksToServe, AsksToGenerate}
-use Rattle.r9_opts.specs.Rows.{IsAloneOf, IsReplayOf, IsServeOf, IsTextOf, IsCountOf}
+use Rattle.model_words.specs.Commands.{AsksForAlone, AsksForDesk, AsksForMirror, AsksForReplay, AsksForText, AsksToServe, AsksToGenerate}
+use Rattle.r9_opts.specs.Rows.{IsAloneOf, IsDisplay, IsReplayOf, IsServeOf, IsTextOf, IsCountOf}
 
 -- the bytes of words
 abbrev pub texts_of : List (Bor (List ℕ)) → List (List ℕ)
@@ -16,6 +16,7 @@ texts_of words = map (λ word. word.now) words
 -- the words ask for this job
 abbrev pub AskFor : List (List ℕ) → Job → Type 0
 AskFor words (job.Replay opening screen) = AsksForReplay words opening screen
+AskFor words (job.Mirror opening) = AsksForMirror words opening
 AskFor words (job.Serve opening listen workers conns) = AsksToServe words opening (string_bytes listen) workers conns
 AskFor words (job.Alone opening session) = AsksForAlone words opening session
 AskFor words (job.Text columns rows) = AsksForText words columns rows
@@ -25,6 +26,7 @@ AskFor words (job.Gen number) = AsksToGenerate words number
 -- the matches of a command give this job
 abbrev pub JobOf : (command : List ℕ) → List Row → Job → Type 0
 JobOf command rows (job.Replay opening screen) = (command ≡ codes "replay") × IsReplayOf rows opening screen
+JobOf command rows (job.Mirror opening) = (command ≡ codes "mirror") × IsDisplay rows opening
 JobOf command rows (job.Serve opening listen workers conns) = (command ≡ codes "serve") × IsServeOf rows opening (string_bytes listen) workers conns
 JobOf command rows (job.Alone opening session) = (command ≡ codes "alone") × IsAloneOf rows opening session
 JobOf command rows (job.Text columns lines) = (command ≡ codes "text") × IsTextOf rows columns lines

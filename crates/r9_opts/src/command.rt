@@ -3,7 +3,7 @@
 ghost use Rattle.std.specs.Prelude.{◌≡◌, codes, false, IfOk};
 ghost use Rattle.clap.specs.Words.{app_of, rule_of};
 ghost use Rattle.clap.specs.declared.builder.command.Command.TheViews.{out-Command};
-ghost use Rattle.r9_opts.specs.App.{valued_rule, flag_rule, word_rule, sized_app, replay_app, serve_app, alone_app, text_app, desk_app, gen_app, bare_app, answering_app, rio9_app};
+ghost use Rattle.r9_opts.specs.App.{valued_rule, flag_rule, word_rule, sized_app, replay_app, mirror_app, serve_app, alone_app, text_app, desk_app, gen_app, bare_app, answering_app, rio9_app};
 
 use clap::{Arg, ArgAction, Command};
 use std::alloc::{AllocError, Global};
@@ -39,6 +39,13 @@ fn replay<'a>(alloc: Global) -> Result<Command<'a>, AllocError>
     ensures local { IfOk result (λ c. (out-Command c).has_globals ≡ false) }
 {
     sized(alloc, "replay")?.arg(flag(alloc, "screen"))
+}
+
+fn mirror<'a>(alloc: Global) -> Result<Command<'a>, AllocError>
+    ensures app { IfOk result (λ c. app_of c ≡ mirror_app) }
+    ensures local { IfOk result (λ c. (out-Command c).has_globals ≡ false) }
+{
+    sized(alloc, "mirror")
 }
 
 fn serve<'a>(alloc: Global) -> Result<Command<'a>, AllocError>
@@ -94,13 +101,14 @@ fn bare<'a>(alloc: Global) -> Command<'a>
         .disable_version_flag(true)
 }
 
-/// The program with the commands that answer sessions.
+/// The program with the commands that answer sessions, or show what they drew.
 fn answering<'a>(alloc: Global) -> Result<Command<'a>, AllocError>
     ensures app { IfOk result (λ c. app_of c ≡ answering_app) }
     ensures local { IfOk result (λ c. (out-Command c).has_globals ≡ false) }
 {
     bare(alloc)
         .subcommand(replay(alloc)?)?
+        .subcommand(mirror(alloc)?)?
         .subcommand(serve(alloc)?)?
         .subcommand(alone(alloc)?)
 }

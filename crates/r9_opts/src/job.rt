@@ -12,6 +12,10 @@ pub enum Job {
         opening: Opening,
         screen: bool,
     },
+    /// Mirrors a record: puts out what changes of the display after each entry, with a cursor over it.
+    Mirror {
+        opening: Opening,
+    },
     /// Serves so many connections at an address, by so many workers.
     Serve {
         opening: Opening,

@@ -129,6 +129,15 @@ fn replay(given: &ArgMatches<'_>) -> Option<Job>
     })
 }
 
+fn mirror(given: &ArgMatches<'_>) -> Option<Job>
+    ensures { IsFound (JobOf (codes "mirror") (rows_of (found_of given.now))) result }
+{
+    let Some(opening) = display(given) else {
+        return None;
+    };
+    Some(Job::Mirror { opening })
+}
+
 fn serve(alloc: Global, given: &ArgMatches<'_>) -> Result<Option<Job>, Memory>
     ensures { IfOk result (λ job. IsFound (JobOf (codes "serve") (rows_of (found_of given.now))) job) }
 {
@@ -192,6 +201,9 @@ fn job_of(alloc: Global, command: &str, given: &ArgMatches<'_>) -> Result<Option
 {
     if command == "replay" {
         return Ok(replay(given));
+    }
+    if command == "mirror" {
+        return Ok(mirror(given));
     }
     if command == "serve" {
         return serve(alloc, given);

@@ -1,8 +1,9 @@
 //! The planes of images that stand nowhere.
 
 ghost use Rattle.std.specs.Prelude.{◌≡◌, ◌≢◌, ◌+◌, ◌*◌, ◌^◌, ◌<◌, true, false, Some, length, option_map, vec_len, IsTrue};
+ghost use Rattle.std.specs.Int.Bits.{bit_and};
 ghost use Rattle.r9_geom.specs.declared.Point.{Point as Spot};
-ghost use Rattle.r9_geom.specs.Geometry.{area_of, height, holds, IsOrdered, IsRectNear};
+ghost use Rattle.r9_geom.specs.Geometry.{area_of, carried, height, holds, IsNear, IsOrdered, IsRectNear};
 ghost use Rattle.model_pixel.specs.Rows.{row_bytes, row_pixel};
 ghost use Rattle.r9_plane.specs.Pixels.{chan_of, pixel_at, rect_of};
 ghost use Rattle.model_kept.specs.Keeping.{own, Place};
@@ -16,7 +17,7 @@ ghost use Rattle.r9_watched.specs.Watched.{count_of, moment_of};
 use super::counted::Area;
 use super::keeping::KeptPixels;
 use super::own::Own;
-use r9_geom::Rect;
+use r9_geom::{Point, Rect};
 use r9_plane::Plane;
 use r9_steps::Steps;
 use r9_watched::Watched;
@@ -56,6 +57,37 @@ impl KeptPixels {
         self.writes = self.writes.and(&Area(r));
         match &mut self.owns[i as usize] {
             Some(Own::Whole(watched)) => watched.load(r, rows, steps),
+            _ => unreachable!(),
+        }
+    }
+
+    /// Moves pixels of an image that stands nowhere: a rectangle takes these bits of those of the one of its size whose min stands
+    /// at `from`, a step for each pixel. It takes no memory.
+    pub fn move_whole<L: Ledger>(
+        &mut self,
+        i: u32,
+        r: Rect,
+        from: Point,
+        bits: u32,
+        steps: &mut Steps<L>,
+    )
+        requires whole { option_map (λ form. form.is_window) (form_at self.old i) ≡ Some false }
+        requires near { IsRectNear r }
+        requires ordered { IsOrdered r }
+        requires near_from { IsNear from }
+        requires has { (p : Spot) → IsTrue (holds r p) → has_place self.old (own i p) ≡ true }
+        requires had { (p : Spot) → IsTrue (holds r p) → has_place self.old (own i (carried p r.min from)) ≡ true }
+        ensures at { (p : Spot) → IsTrue (holds r p) → kept_at self.new (own i p) ≡ bit_and (kept_at self.old (own i (carried p r.min from))) bits }
+        ensures others { (place : Place) → ((p : Spot) → IsTrue (holds r p) → place ≢ own i p) → kept_at self.new place ≡ kept_at self.old place }
+        ensures has { has_place self.new ≡ has_place self.old }
+        ensures forms { form_at self.new ≡ form_at self.old }
+        ensures moment { moment self.new ≡ moment self.old }
+        ensures steps { steps.new ≡ steps.old + area_of r }
+        ensures writes { writes self.new + steps.old ≡ writes self.old + steps.new }
+    {
+        self.writes = self.writes.and(&Area(r));
+        match &mut self.owns[i as usize] {
+            Some(Own::Whole(watched)) => watched.move_kept(r, from, bits, steps),
             _ => unreachable!(),
         }
     }

@@ -8,3 +8,5 @@ pub mod Moving
 pub mod Rectangles
 pub mod Among
 pub mod Fitting
+pub mod OneRun
+pub mod Reading

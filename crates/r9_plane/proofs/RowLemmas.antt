@@ -124,3 +124,24 @@ whole_inner r depth k near ordered is whole below =
     let across : width r ≡ high - low = distance_from r.min.x r.max.x (2 ^ 40) low high (sym left) (sym right) order in
     let inner = (inner_at depth low high k is whole order).inner (omega (arith, below, bytes)) in
     omega (arith, inner, across)
+
+-- a row of whole pixels has their bytes
+record Exact (depth low high : ℕ) : Type 0 where
+  pub exact : (high * depth + 7) / 8 - low * depth / 8 ≡ (high - low) * (depth / 8)
+
+exact_at : (depth low high : ℕ) → is_depth depth ≡ true → 8 ≤ depth → Exact depth low high
+exact_at depth low high is whole =
+    by_whole (λ d. Exact d low high) depth is whole
+    (record { exact = omega arith }) (record { exact = omega arith }) (record { exact = omega arith }) (record { exact = omega arith })
+
+pub whole_row : (r : Rect) (depth : ℕ) → IsRectNear r → IsOrdered r → is_depth depth ≡ true → 8 ≤ depth → row_bytes r depth ≡ width r * (depth / 8)
+whole_row r depth near ordered is whole =
+    let low = natural (r.min.x +ℤ pos (2 ^ 40)) in
+    let high = natural (r.max.x +ℤ pos (2 ^ 40)) in
+    let left : pos low ≡ r.min.x +ℤ pos (2 ^ 40) = natural_is (r.min.x +ℤ pos (2 ^ 40)) (omega (arith, ints, near.min.left)) in
+    let right : pos high ≡ r.max.x +ℤ pos (2 ^ 40) = natural_is (r.max.x +ℤ pos (2 ^ 40)) (omega (arith, ints, near.max.left)) in
+    let order : low ≤ high = omega (arith, ints, left, right, ordered.across) in
+    let across : width r ≡ high - low = distance_from r.min.x r.max.x (2 ^ 40) low high (sym left) (sym right) order in
+    row_bytes_is r depth low high left right order
+    ∙ (exact_at depth low high is whole).exact
+    ∙ ap (λ n. n * (depth / 8)) (sym across)

@@ -58,7 +58,7 @@ copied_thrice depth first head whole rest from_first from old a b new begun more
     })
 
 -- the bytes of a whole pixel, wherever they stand
-little-moved : (k : ℕ) (bytes others : List ℕ) (at to : ℕ) → ((j : ℕ) → j < k → get_or bytes (at + j) 0 ≡ get_or others (to + j) 0) → little k bytes at ≡ little k others to
+pub little-moved : (k : ℕ) (bytes others : List ℕ) (at to : ℕ) → ((j : ℕ) → j < k → get_or bytes (at + j) 0 ≡ get_or others (to + j) 0) → little k bytes at ≡ little k others to
 little-moved zero bytes others at to same = refl
 little-moved (suc k) bytes others at to same =
     let first : get_or bytes at 0 ≡ get_or others to 0 =

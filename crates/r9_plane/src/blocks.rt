@@ -199,6 +199,11 @@ pub fn fill_packed(bytes: &mut [u8], depth: u32, first: usize, width: usize, r: 
     ensures pixels { (p : Point) → IsTrue (holds r.now p) → raw_at depth bytes.new (number_in r.now first width p) ≡ raw }
     ensures others { (n : ℕ) → ((p : Point) → IsTrue (holds r.now p) → n ≢ number_in r.now first width p) → raw_at depth bytes.new n ≡ raw_at depth bytes.old n }
 {
+    if depth >= 8 && width == r.width() as usize && !r.is_empty() {
+        // Nothing stands between its rows. Small pixels take longer where their depth is no constant.
+        fill_run(bytes, depth, first, r.height() as usize * width, raw);
+        return;
+    }
     match depth {
         1 => fill_packed_of::<1>(bytes, first, width, r, raw),
         2 => fill_packed_of::<2>(bytes, first, width, r, raw),

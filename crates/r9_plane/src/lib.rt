@@ -3,6 +3,7 @@
 
 mod blocks;
 mod counting;
+mod keeping;
 mod moves;
 mod packed;
 mod plane;

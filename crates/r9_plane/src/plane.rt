@@ -7,6 +7,7 @@ ghost use Rattle.model_pixel.specs.Rows.{byte_at, raw_at, row_bytes, row_pixel, 
 
 mod blocks;
 mod moving;
+mod reading;
 
 use super::counting::count_points;
 use super::packed;
@@ -379,8 +380,8 @@ impl Plane {
         }
     }
 
-    /// Writes the rows of the pixels of a rectangle. Bits outside it become 0.
-    pub fn unload(&self, r: Rect, rows: &mut [u8])
+    // Writes the rows of the pixels of a rectangle. Bits outside it become 0.
+    fn unload(&self, r: Rect, rows: &mut [u8])
         requires near { IsRectNear r }
         requires ordered { IsOrdered r }
         requires inside { (p : Point) → IsTrue (holds r p) → IsTrue (holds (rect_of self.now) p) }

@@ -17,8 +17,11 @@ const BLOCK: usize = 256;
 // The bytes of a block of such pixels.
 const BLOCK_BYTES: usize = 128;
 
-// How many pixels of 24 bits and of one raw value are written at a time.
-const TRIPLES: usize = 64;
+// How many pixels of whole bytes are written one by one, before they are copied to those behind them.
+const WRITTEN: usize = 64;
+
+// The most bytes that are copied at a time: one copy of many is faster than some of few, while they stay in the nearest cache.
+const COPIED: usize = 12288;
 
 /// Raw pixels of so many bits from number `first` on.
 #[inline(always)]
@@ -284,21 +287,23 @@ fn fill_small(bytes: &mut [u8], depth: u32, first: usize, count: usize, raw: u32
     }
 }
 
-// Pixels of 24 bits become as those of a block of them: their bytes are none of one word, so that a block is copied faster than
-// they are written.
-fn fill_triples(bytes: &mut [u8], first: usize, count: usize, raw: u32)
+// The first pixels are written, and copied to those behind them, ever more at a time: no word holds pixels of 24 bits alone, and
+// a copy of many bytes stores them faster than words do.
+fn fill_copied<const DEPTH: u32>(bytes: &mut [u8], first: usize, count: usize, raw: u32)
+    requires depth { IsTrue (is_depth DEPTH) }
+    requires whole { 8 ≤ DEPTH }
     requires numbers { first + count < 2 ^ 63 }
-    requires within { (first + count) * 24 ≤ 8 * length bytes.old }
-    requires raw { raw < 2 ^ 24 }
-    ensures written { (i : ℕ) → i < count → raw_at 24 bytes.new (first + i) ≡ raw }
-    ensures others { (n : ℕ) → ((i : ℕ) → i < count → n ≢ first + i) → raw_at 24 bytes.new n ≡ raw_at 24 bytes.old n }
+    requires within { (first + count) * DEPTH ≤ 8 * length bytes.old }
+    requires raw { raw < 2 ^ DEPTH }
+    ensures written { (i : ℕ) → i < count → raw_at DEPTH bytes.new (first + i) ≡ raw }
+    ensures others { (n : ℕ) → ((i : ℕ) → i < count → n ≢ first + i) → raw_at DEPTH bytes.new n ≡ raw_at DEPTH bytes.old n }
 {
-    let mut block = [0; 3 * TRIPLES];
-    fill_whole::<24>(&mut block, 0, TRIPLES, raw);
-    let mut done = 0;
+    let most = COPIED / (DEPTH as usize / 8);
+    let mut done = count.min(WRITTEN);
+    fill_whole::<DEPTH>(bytes, first, done, raw);
     while done < count {
-        let size = (count - done).min(TRIPLES);
-        copy_run(bytes, 24, first + done, size, &block, 0);
+        let size = done.min(most).min(count - done);
+        repeat_run(bytes, DEPTH, first + done, size, first);
         done += size;
     }
 }
@@ -315,9 +320,9 @@ pub fn fill_run(bytes: &mut [u8], depth: u32, first: usize, count: usize, raw: u
 {
     match depth {
         8 => fill_whole::<8>(bytes, first, count, raw),
-        16 => fill_whole::<16>(bytes, first, count, raw),
-        24 => fill_triples(bytes, first, count, raw),
-        32 => fill_whole::<32>(bytes, first, count, raw),
+        16 => fill_copied::<16>(bytes, first, count, raw),
+        24 => fill_copied::<24>(bytes, first, count, raw),
+        32 => fill_copied::<32>(bytes, first, count, raw),
         _ => fill_small(bytes, depth, first, count, raw),
     }
 }

@@ -1,5 +1,5 @@
 -- Cells one after the other, and their text.
-use Rattle.std.proofs.Common.{◌≡◌, ◌∙◌, ℕ, zero, suc, ◌+◌, ◌-◌, ◌*◌, ◌<◌, ◌≤◌, Bool, true, false, List, [], ◌∷◌, ◌++◌, cond, map, take, get_or, length, refl, ap, sym, subst, append-nil, append_assoc, arith, Result, Ok, Err, OnOk}
+use Rattle.std.proofs.Common.{◌≡◌, ◌∙◌, ℕ, zero, suc, ◌+◌, ◌-◌, ◌*◌, ◌<◌, ◌≤◌, Bool, true, false, List, [], ◌∷◌, ◌++◌, cond, map, take, get_or, length, refl, ap, sym, subst, append-nil, append_assoc, arith}
 use Rattle.std.specs.Prelude.{filter}
 use Rattle.std.specs.List.{flat_map, range_with_len}
 use Rattle.std.proofs.lemmas.Grind.{flat_map-append}
@@ -11,7 +11,7 @@ use Rattle.r9_marks.specs.Cells.{cells_in}
 use Rattle.model_mirror.specs.Picture.{Picture}
 use Rattle.model_mirrored.specs.Frame.{AreCells, AreRows, place_of, rect_of}
 use Rattle.r9_sending.specs.declared.cells.Cell.{Cell}
-use Rattle.r9_sending.specs.Cells.{pairs_of, place_line, AreAdded, IsCellAdded}
+use Rattle.r9_sending.specs.Cells.{pairs_of, place_line, AreAdded, AreRowsAdded, IsCellAdded}
 
 -- what is gathered for one number more
 range_more : (f : ℕ → List (ℕ × ℕ)) (n : ℕ) → flat_map f (range_with_len 0 (n + 1)) ≡ flat_map f (range_with_len 0 n) ++ f n
@@ -80,8 +80,7 @@ pub all_added : (chan : ℕ) (picture : Picture) (cells : List Cell) (i : ℕ) (
 all_added chan picture cells i old new all so_far = subst (λ (some : List Cell). AreAdded chan picture (pairs_of some) old new) (take_all i cells all) so_far
 
 -- a cell is added by its line and its rows
-pub cell_added : {X E : Type 0} (r : Result X E) (chan : ℕ) (picture : Picture) (cell : ℕ × ℕ) (old mid new rows : List ℕ) → AreRows chan picture (rect_of (place_of picture cell)) rows
-    → mid ≡ old ++ place_line (place_of picture cell) → OnOk r (new ≡ mid ++ rows) → OnOk r (IsCellAdded chan picture cell old new)
-cell_added (Ok x) chan picture cell old mid new rows are line text =
-    record { rows = rows; are_rows = are; text = text ∙ ap (λ (t : List ℕ). t ++ rows) line }
-cell_added (Err x) chan picture cell old mid new rows are line text = tt
+pub cell_added : (chan : ℕ) (picture : Picture) (cell : ℕ × ℕ) (old mid new : List ℕ) → mid ≡ old ++ place_line (place_of picture cell) → AreRowsAdded chan picture (rect_of (place_of picture cell)) mid new
+    → IsCellAdded chan picture cell old new
+cell_added chan picture cell old mid new line added =
+    record { rows = added.rows; are_rows = added.are_rows; text = added.text ∙ ap (λ (t : List ℕ). t ++ added.rows) line }

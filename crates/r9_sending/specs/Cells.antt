@@ -36,6 +36,12 @@ pub record IsPartOf (display r : Rect) : Type 0 where
 abbrev pub place_line : Place → List ℕ
 place_line place = numbers_line 67 (place.x ∷ place.y ∷ place.width ∷ place.height ∷ [])
 
+-- a text to which the rows of a part of a picture were added
+pub record AreRowsAdded (chan : ℕ) (picture : Picture) (r : Rect) (old new : List ℕ) : Type 0 where
+  pub rows : List ℕ
+  pub are_rows : AreRows chan picture r rows
+  pub text : new ≡ old ++ rows
+
 -- a text to which the text of a cell, or of some, was added
 pub record IsCellAdded (chan : ℕ) (picture : Picture) (cell : ℕ × ℕ) (old new : List ℕ) : Type 0 where
   pub rows : List ℕ

@@ -7,12 +7,12 @@ ghost use Rattle.r9_geom.specs.declared.Point.{Point as Spot};
 ghost use Rattle.r9_geom.specs.Geometry.{height, holds, width, IsNear, IsOrdered, IsRectNear, IsRectNearBy};
 ghost use Rattle.model_pixel.specs.Channels.{depth};
 ghost use Rattle.model_pixel.specs.Rows.{row_bytes, row_pixel};
-ghost use Rattle.model_mirrored.specs.Frame.{AreRows, IsEntry, numbers_line, rect_of};
+ghost use Rattle.model_mirrored.specs.Frame.{IsEntry, numbers_line, rect_of};
 ghost use Rattle.model_mirrored.specs.Sent.{sent_after};
 ghost use Rattle.model_mirrored.specs.Shown.{mirrored, under_cursor};
 ghost use Rattle.model_sides.specs.Display.{HasDisplay};
 ghost use Rattle.r9_hall.specs.WorldView.{display_in, world_in};
-ghost use Rattle.r9_sending.specs.Cells.{pairs_of, place_in, AreAdded, IsCellAdded, IsCellOf, IsPartOf};
+ghost use Rattle.r9_sending.specs.Cells.{pairs_of, place_in, AreAdded, AreRowsAdded, IsCellAdded, IsCellOf, IsPartOf};
 
 use crate::cells::{Cell, Sending};
 use r9_chan::Chan;
@@ -97,28 +97,29 @@ fn put_cursor(rows: &mut [u8], r: Rect, chan: Chan, at: Option<Point>)
     }
 }
 
-// The rows of a part of the display, with the cursor over them.
-fn rows_of(world: &World, chan: Chan, r: Rect) -> Result<Vec<u8>, Memory>
+// Bytes with the rows of a part of the display behind them, with the cursor over these.
+fn with_rows(front: Vec<u8>, world: &World, chan: Chan, r: Rect) -> Result<Vec<u8>, Memory>
     requires display { HasDisplay chan (world_in world.now).desktop.device }
     requires part { IsPartOf (display_in world.now).r r }
-    ensures { IfOk result (λ rows. AreRows chan (mirrored (world_in world.now)) r rows.items) }
+    ensures { IfOk result (λ all. AreRowsAdded chan (mirrored (world_in world.now)) r front.items all.items) }
 {
     world.sound();
-    let mut rows = world.rows(r)?.into_vec();
-    put_cursor(&mut rows, r, chan, world.pointer());
-    Ok(rows)
+    let begun = front.len();
+    let mut all = world.with_rows(r, front)?;
+    put_cursor(&mut all[begun..], r, chan, world.pointer());
+    Ok(all)
 }
 
-// Adds the line of a cell and its rows.
-fn push_cell(text: &mut Bytes, world: &World, chan: Chan, cell: Cell) -> Result<(), Memory>
+// A text with the line of a cell behind it, and its rows.
+fn with_cell(mut text: Bytes, world: &World, chan: Chan, cell: Cell) -> Result<Bytes, Memory>
     requires display { HasDisplay chan (world_in world.now).desktop.device }
     requires cell { IsCellOf (display_in world.now).r cell }
-    ensures { OnOk result (IsCellAdded chan (mirrored (world_in world.now)) (cell.column, cell.row) text.old text.new) }
+    ensures { IfOk result (λ all. IsCellAdded chan (mirrored (world_in world.now)) (cell.column, cell.row) text all) }
 {
     world.sound();
     let r = cell_rect(world.display(), cell);
     push_line(
-        text,
+        &mut text,
         b'C',
         &[
             cell_start(cell.column),
@@ -127,20 +128,20 @@ fn push_cell(text: &mut Bytes, world: &World, chan: Chan, cell: Cell) -> Result<
             r.height(),
         ],
     )?;
-    let rows = rows_of(world, chan, r)?;
-    text.push_all(&rows)
+    let all = with_rows(text.into_vec(), world, chan, r)?;
+    Ok(Bytes::from(all))
 }
 
-// Adds the text of cells.
-fn push_cells(text: &mut Bytes, world: &World, chan: Chan, cells: &[Cell]) -> Result<(), Memory>
+// A text with the text of cells behind it.
+fn with_cells(mut text: Bytes, world: &World, chan: Chan, cells: &[Cell]) -> Result<Bytes, Memory>
     requires display { HasDisplay chan (world_in world.now).desktop.device }
     requires cells { All (IsCellOf (display_in world.now).r) cells.now }
-    ensures { OnOk result (AreAdded chan (mirrored (world_in world.now)) (pairs_of cells.now) text.old text.new) }
+    ensures { IfOk result (λ all. AreAdded chan (mirrored (world_in world.now)) (pairs_of cells.now) text all) }
 {
     for cell in cells {
-        push_cell(text, world, chan, *cell)?;
+        text = with_cell(text, world, chan, *cell)?;
     }
-    Ok(())
+    Ok(text)
 }
 
 // Adds the line of a frame of so many cells, and where the size is told its line.
@@ -183,6 +184,5 @@ pub fn entry_text(
     text.reserve(cells.len().saturating_mul(CELL_LEN))?;
     let r = world.display();
     push_head(&mut text, number, cells.len() as u64, sending.resized, r)?;
-    push_cells(&mut text, world, chan, &cells)?;
-    Ok(text)
+    with_cells(text, world, chan, &cells)
 }

@@ -7,15 +7,16 @@ use Rattle.model_record.specs.Record.{IsRecord}
 use Rattle.model_alone.specs.Own.{not_alone}
 use Rattle.r9_replay.specs.Replays.{HadRecord, WasBadAt, WasLate}
 use Rattle.r9_opts.specs.declared.job.Job.{Job}
-use Rattle.r9_opts.specs.declared.job.Job.TheVariants.{Replay, Serve, Alone, Text, Desk, Gen}
+use Rattle.r9_opts.specs.declared.job.Job.TheVariants.{Replay, Mirror, Serve, Alone, Text, Desk, Gen}
 use Rattle.r9_opts.proofs.Options.{none_some, some_inj}
 use Rattle.r9_journal.proofs.Headers.{record_not_late}
 use Rattle.r9_journal.proofs.Records.{not_both}
 use Rattle.r9_serve.specs.declared.status.Status.{Status}
 use Rattle.r9_serve.specs.declared.status.Status.TheVariants as status
-use Rattle.r9_serve.specs.Run.{Ask, AskForAlone, IsOutAfter, IsOutput, IsToldNotAlone, WasAskedNotAlone}
+use Rattle.r9_serve.specs.Run.{Ask, AskForAlone, IsFirstOutput, IsOutAfter, IsToldNotAlone, WasAskedNotAlone}
 use Rattle.r9_serve.proofs.Asking.{alone_not_replay, alone_of_record, desk_not_record, gen_not_record, serve_not_record, text_not_record}
 use Rattle.r9_serve.proofs.Displays.{asked_once}
+use Rattle.r9_serve.proofs.Statuses.{is_first}
 
 module _ (words : List (Bor (List ℕ))) (left : Option (List ℕ)) (text : List ℕ) (events : List Event) (opening : Opening) (session : ℕ) where
   -- the record of an input is that of these events
@@ -40,10 +41,11 @@ module _ (words : List (Bor (List ℕ))) (left : Option (List ℕ)) (text : List
 
   -- there is no output where the session is not alone
   no_lines : (job : Job) (lines : List ℕ) (entry reason : ℕ) → left ≡ Some text → IsRecord text events → AskForAlone words opening session → not_alone opening session events ≡ Some (entry, reason)
-      → Ask words job → IsOutput job left lines → ⊥
+      → Ask words job → IsFirstOutput job left lines → ⊥
   no_lines (Alone other d) lines entry reason told is asks from ask out =
       none_some _ (sym (of_asked other d out.are.events None told is asks ask out.are.had out.are.alone) ∙ from)
   no_lines (Replay o screen) lines entry reason told is asks from ask out = alone_not_replay words opening session asks (Replay o screen, ask, tt)
+  no_lines (Mirror o) lines entry reason told is asks from ask out = alone_not_replay words opening session asks (Mirror o, ask, tt)
   no_lines (Gen number) lines entry reason told is asks from ask out = gen_not_record words number (alone_of_record words opening session asks) ask
   no_lines (Serve o listen workers conns) lines entry reason told is asks from ask out = serve_not_record words (alone_of_record words opening session asks) (Serve o listen workers conns, ask, tt)
   no_lines (Text columns rows) lines entry reason told is asks from ask out = text_not_record words (Text columns rows, ask, tt) (alone_of_record words opening session asks)
@@ -55,7 +57,7 @@ pub accompanied_by : (words : List (Bor (List ℕ))) (found : Status) (left befo
     → ((first : ℕ) → found ≡ status.LateRecord first → WasLate left first) → ((place : ℕ) → found ≡ status.BadInput place → ⊥)
     → ((n why : ℕ) → found ≡ status.NotAlone n why → WasAskedNotAlone words left n why) → (found ≡ status.ReadFault → ⊥) → IsToldNotAlone found entry reason
 accompanied_by words status.Done left before after text events opening session entry reason told is asks from usage out bad late input alone read =
-    absurd (no_lines words left text events opening session out.job out.lines entry reason told is asks from out.is_asked out.are_lines)
+    absurd (no_lines words left text events opening session out.job out.lines entry reason told is asks from out.is_asked (is_first out.job left out.lines out.are_lines))
 accompanied_by words status.Usage left before after text events opening session entry reason told is asks from usage out bad late input alone read = absurd (usage refl)
 accompanied_by words (status.BadRecord place) left before after text events opening session entry reason told is asks from usage out bad late input alone read =
     absurd (not_both text place events (subst (λ (l : Option (List ℕ)). WasBadAt l place) told (bad place refl)) is)

@@ -2,7 +2,7 @@
 use Rattle.std.proofs.Common.{◌≡◌, ◌∙◌, ◌⊎◌, inl, inr, ℕ, sym, ap, List, ◌∷◌, Option, Bool, Bor, String, Global, arith}
 use Rattle.r9_event.specs.declared.event.Opening.{Opening}
 use Rattle.r9_opts.specs.declared.job.Job.{Job}
-use Rattle.r9_opts.specs.declared.job.Job.TheVariants.{Replay, Serve, Alone, Text, Desk, Gen}
+use Rattle.r9_opts.specs.declared.job.Job.TheVariants.{Replay, Mirror, Serve, Alone, Text, Desk, Gen}
 use Rattle.r9_opts.specs.Asked.{AskFor, texts_of}
 use Rattle.r9_serve.specs.Run.{Ask, AskForAlone, AskForDesk, AskForRecord, AskForReplay, AskForText, AskToRead, AskToServe, WasAskedNotAlone, WasBadEvents, WasBadInput, WasRefused}
 
@@ -13,6 +13,7 @@ first_letter words = 0
 
 abbrev letter_of : Job → ℕ
 letter_of (Replay opening screen) = 114
+letter_of (Mirror opening) = 109
 letter_of (Serve opening listen workers conns) = 115
 letter_of (Alone opening session) = 97
 letter_of (Text columns rows) = 116
@@ -21,31 +22,36 @@ letter_of (Gen number) = 103
 
 asked_letter : (words : List (List ℕ)) (job : Job) → AskFor words job → first_letter words ≡ letter_of job
 asked_letter words (Replay opening screen) asked = ap first_letter asked.begins
+asked_letter words (Mirror opening) asked = ap first_letter asked.begins
 asked_letter words (Serve opening listen workers conns) asked = ap first_letter asked.begins
 asked_letter words (Alone opening session) asked = ap first_letter asked.begins
 asked_letter words (Text columns rows) asked = ap first_letter asked.begins
 asked_letter words Desk asked = ap first_letter asked.begins
 asked_letter words (Gen number) asked = ap first_letter asked.begins
 
-replay_letter : (words : List (Bor (List ℕ))) → AskForReplay words → first_letter (texts_of words) ≡ 114
-replay_letter words (Replay opening screen, ask, is) = asked_letter (texts_of words) (Replay opening screen) ask
+-- a record is replayed by two commands
+replay_letter : (words : List (Bor (List ℕ))) → AskForReplay words → (first_letter (texts_of words) ≡ 114) ⊎ (first_letter (texts_of words) ≡ 109)
+replay_letter words (Replay opening screen, ask, is) = inl (asked_letter (texts_of words) (Replay opening screen) ask)
+replay_letter words (Mirror opening, ask, is) = inr (asked_letter (texts_of words) (Mirror opening) ask)
 replay_letter words (Serve opening listen workers conns, ask, is) = absurd is
 replay_letter words (Alone opening session, ask, is) = absurd is
 replay_letter words (Text columns rows, ask, is) = absurd is
 replay_letter words (Desk, ask, is) = absurd is
 replay_letter words (Gen number, ask, is) = absurd is
 
--- the input of two commands is a record
-record_letter : (words : List (Bor (List ℕ))) → AskForRecord words → (first_letter (texts_of words) ≡ 114) ⊎ (first_letter (texts_of words) ≡ 97)
+-- the input of three commands is a record
+record_letter : (words : List (Bor (List ℕ))) → AskForRecord words → (first_letter (texts_of words) ≡ 114) ⊎ (first_letter (texts_of words) ≡ 109) ⊎ (first_letter (texts_of words) ≡ 97)
 record_letter words (Replay opening screen, ask, is) = inl (asked_letter (texts_of words) (Replay opening screen) ask)
+record_letter words (Mirror opening, ask, is) = inr (inl (asked_letter (texts_of words) (Mirror opening) ask))
 record_letter words (Serve opening listen workers conns, ask, is) = absurd is
-record_letter words (Alone opening session, ask, is) = inr (asked_letter (texts_of words) (Alone opening session) ask)
+record_letter words (Alone opening session, ask, is) = inr (inr (asked_letter (texts_of words) (Alone opening session) ask))
 record_letter words (Text columns rows, ask, is) = absurd is
 record_letter words (Desk, ask, is) = absurd is
 record_letter words (Gen number, ask, is) = absurd is
 
 serve_letter : (words : List (Bor (List ℕ))) → AskToServe words → first_letter (texts_of words) ≡ 115
 serve_letter words (Replay opening screen, ask, is) = absurd is
+serve_letter words (Mirror opening, ask, is) = absurd is
 serve_letter words (Serve opening listen workers conns, ask, is) = asked_letter (texts_of words) (Serve opening listen workers conns) ask
 serve_letter words (Alone opening session, ask, is) = absurd is
 serve_letter words (Text columns rows, ask, is) = absurd is
@@ -54,6 +60,7 @@ serve_letter words (Gen number, ask, is) = absurd is
 
 text_letter : (words : List (Bor (List ℕ))) → AskForText words → first_letter (texts_of words) ≡ 116
 text_letter words (Replay opening screen, ask, is) = absurd is
+text_letter words (Mirror opening, ask, is) = absurd is
 text_letter words (Serve opening listen workers conns, ask, is) = absurd is
 text_letter words (Alone opening session, ask, is) = absurd is
 text_letter words (Text columns rows, ask, is) = asked_letter (texts_of words) (Text columns rows) ask
@@ -62,6 +69,7 @@ text_letter words (Gen number, ask, is) = absurd is
 
 desk_letter : (words : List (Bor (List ℕ))) → AskForDesk words → first_letter (texts_of words) ≡ 100
 desk_letter words (Replay opening screen, ask, is) = absurd is
+desk_letter words (Mirror opening, ask, is) = absurd is
 desk_letter words (Serve opening listen workers conns, ask, is) = absurd is
 desk_letter words (Alone opening session, ask, is) = absurd is
 desk_letter words (Text columns rows, ask, is) = absurd is
@@ -69,24 +77,25 @@ desk_letter words (Desk, ask, is) = asked_letter (texts_of words) Desk ask
 desk_letter words (Gen number, ask, is) = absurd is
 
 -- a command with another letter
-other_letter : {A : Type 0} (words : List (Bor (List ℕ))) (letter : ℕ) → AskForRecord words → first_letter (texts_of words) ≡ letter → (114 ≡ letter → ⊥) → (97 ≡ letter → ⊥) → A
-other_letter words letter records is no_replay no_alone = absurd (by (record_letter words records))
+other_letter : {A : Type 0} (words : List (Bor (List ℕ))) (letter : ℕ) → AskForRecord words → first_letter (texts_of words) ≡ letter → (114 ≡ letter → ⊥) → (109 ≡ letter → ⊥) → (97 ≡ letter → ⊥) → A
+other_letter words letter records is no_replay no_mirror no_alone = absurd (by (record_letter words records))
   where
-    by : (first_letter (texts_of words) ≡ 114) ⊎ (first_letter (texts_of words) ≡ 97) → ⊥
+    by : (first_letter (texts_of words) ≡ 114) ⊎ (first_letter (texts_of words) ≡ 109) ⊎ (first_letter (texts_of words) ≡ 97) → ⊥
     by (inl replays) = no_replay (sym replays ∙ is)
-    by (inr alone) = no_alone (sym alone ∙ is)
+    by (inr (inl mirrors)) = no_mirror (sym mirrors ∙ is)
+    by (inr (inr alone)) = no_alone (sym alone ∙ is)
 
 pub gen_not_record : {A : Type 0} (words : List (Bor (List ℕ))) (number : ℕ) → AskForRecord words → Ask words (Gen number) → A
-gen_not_record words number records made = other_letter words 103 records (asked_letter (texts_of words) (Gen number) made) (λ e. omega (arith, e)) (λ e. omega (arith, e))
+gen_not_record words number records made = other_letter words 103 records (asked_letter (texts_of words) (Gen number) made) (λ e. omega (arith, e)) (λ e. omega (arith, e)) (λ e. omega (arith, e))
 
 pub serve_not_record : {A : Type 0} (words : List (Bor (List ℕ))) → AskForRecord words → AskToServe words → A
-serve_not_record words records serves = other_letter words 115 records (serve_letter words serves) (λ e. omega (arith, e)) (λ e. omega (arith, e))
+serve_not_record words records serves = other_letter words 115 records (serve_letter words serves) (λ e. omega (arith, e)) (λ e. omega (arith, e)) (λ e. omega (arith, e))
 
 pub serve_not_gen : {A : Type 0} (words : List (Bor (List ℕ))) (number : ℕ) → Ask words (Gen number) → AskToServe words → A
 serve_not_gen words number made serves = absurd (omega (arith, asked_letter (texts_of words) (Gen number) made, serve_letter words serves))
 
 pub text_not_record : {A : Type 0} (words : List (Bor (List ℕ))) → AskForText words → AskForRecord words → A
-text_not_record words shows records = other_letter words 116 records (text_letter words shows) (λ e. omega (arith, e)) (λ e. omega (arith, e))
+text_not_record words shows records = other_letter words 116 records (text_letter words shows) (λ e. omega (arith, e)) (λ e. omega (arith, e)) (λ e. omega (arith, e))
 
 pub text_not_serve : {A : Type 0} (words : List (Bor (List ℕ))) → AskForText words → AskToServe words → A
 text_not_serve words shows serves = absurd (omega (arith, text_letter words shows, serve_letter words serves))
@@ -95,7 +104,7 @@ pub text_not_gen : {A : Type 0} (words : List (Bor (List ℕ))) (number : ℕ) �
 text_not_gen words number shows made = absurd (omega (arith, text_letter words shows, asked_letter (texts_of words) (Gen number) made))
 
 pub desk_not_record : {A : Type 0} (words : List (Bor (List ℕ))) → AskForDesk words → AskForRecord words → A
-desk_not_record words points records = other_letter words 100 records (desk_letter words points) (λ e. omega (arith, e)) (λ e. omega (arith, e))
+desk_not_record words points records = other_letter words 100 records (desk_letter words points) (λ e. omega (arith, e)) (λ e. omega (arith, e)) (λ e. omega (arith, e))
 
 pub desk_not_serve : {A : Type 0} (words : List (Bor (List ℕ))) → AskForDesk words → AskToServe words → A
 desk_not_serve words points serves = absurd (omega (arith, desk_letter words points, serve_letter words serves))
@@ -107,11 +116,16 @@ pub desk_not_text : {A : Type 0} (words : List (Bor (List ℕ))) → AskForDesk 
 desk_not_text words points shows = absurd (omega (arith, desk_letter words points, text_letter words shows))
 
 pub alone_not_replay : {A : Type 0} (words : List (Bor (List ℕ))) (opening : Opening) (session : ℕ) → Ask words (Alone opening session) → AskForReplay words → A
-alone_not_replay words opening session asks replays = absurd (omega (arith, asked_letter (texts_of words) (Alone opening session) asks, replay_letter words replays))
+alone_not_replay words opening session asks replays = absurd (by (replay_letter words replays))
+  where
+    by : (first_letter (texts_of words) ≡ 114) ⊎ (first_letter (texts_of words) ≡ 109) → ⊥
+    by (inl letter) = omega (arith, asked_letter (texts_of words) (Alone opening session) asks, letter)
+    by (inr letter) = omega (arith, asked_letter (texts_of words) (Alone opening session) asks, letter)
 
 -- what asks for a record
 pub replay_of_record : (words : List (Bor (List ℕ))) → AskForReplay words → AskForRecord words
 replay_of_record words (Replay opening screen, ask, is) = (Replay opening screen, ask, tt)
+replay_of_record words (Mirror opening, ask, is) = (Mirror opening, ask, tt)
 replay_of_record words (Serve opening listen workers conns, ask, is) = absurd is
 replay_of_record words (Alone opening session, ask, is) = absurd is
 replay_of_record words (Text columns rows, ask, is) = absurd is
@@ -162,6 +176,9 @@ asks_for_desk words asked = (Desk, asked, tt)
 
 pub asks_for_replay : (words : List (Bor (List ℕ))) (opening : Opening) (screen : Bool) → AskFor (texts_of words) (Replay opening screen) → AskForRecord words
 asks_for_replay words opening screen asked = (Replay opening screen, asked, tt)
+
+pub asks_for_mirror : (words : List (Bor (List ℕ))) (opening : Opening) → AskFor (texts_of words) (Mirror opening) → AskForRecord words
+asks_for_mirror words opening asked = (Mirror opening, asked, tt)
 
 pub asks_for_alone : (words : List (Bor (List ℕ))) (opening : Opening) (session : ℕ) → AskFor (texts_of words) (Alone opening session) → AskForRecord words
 asks_for_alone words opening session asked = (Alone opening session, asked, tt)

@@ -1,4 +1,4 @@
--- A count in words is from 1 to its most.
+-- A count in words is from 1 to its most, as are the sides of a display.
 use Rattle.std.proofs.Common.{◌≡◌, ◌≤◌, ◌+◌, ◌-◌, ◌*◌, ◌==◌, ◌&&◌, ◌||◌, ℕ, Bool, true, false, refl, subst, List, [], ◌∷◌, codes, length, Some, None, cond, arith}
 use Rattle.std.specs.Prelude.{nat_le, nat_lt}
 use Rattle.std.specs.List.{fold}
@@ -10,7 +10,9 @@ use Rattle.model_text.specs.Reading.{◌>>=◌}
 use Rattle.r9_event.specs.declared.event.Opening.{Opening}
 use Rattle.model_words.specs.Options.{or, value_of}
 use Rattle.model_words.specs.Values.{counted}
-use Rattle.model_words.specs.Commands.{AsksForText, AsksToServe}
+use Rattle.model_words.specs.Commands.{AsksForMirror, AsksForText, AsksToServe}
+use Rattle.model_draw.specs.Orders.{is_side}
+use Rattle.model_orders.proofs.Sides.{sides_spelled}
 use Rattle.r9_opts.proofs.Options.{none_some, some_inj}
 
 both : (p q : Bool) → (p && q) ≡ true → (p ≡ true) × (q ≡ true)
@@ -59,3 +61,10 @@ columns_within words columns rows asked = (asked.wide.enough, (counts 200 asked.
 
 pub rows_within : (words : List (List ℕ)) (columns rows : ℕ) → AsksForText words columns rows → (4 ≤ rows) × (rows ≤ 100)
 rows_within words columns rows asked = (asked.high.enough, (counts 100 asked.high.text rows asked.high.counts).1)
+
+-- words that ask for a mirror name a display of 1 to 2,048 pixels across and down
+pub mirror_wide : (words : List (List ℕ)) (opening : Opening) → AsksForMirror words opening → is_side opening.width ≡ true
+mirror_wide words opening asked = (sides_spelled (or (value_of (codes "size") asked.given) (codes "640x480")) _ asked.opened.sized).0
+
+pub mirror_high : (words : List (List ℕ)) (opening : Opening) → AsksForMirror words opening → is_side opening.height ≡ true
+mirror_high words opening asked = (sides_spelled (or (value_of (codes "size") asked.given) (codes "640x480")) _ asked.opened.sized).1

@@ -9,8 +9,8 @@ use Rattle.r9_deskfile.specs.Events.{events_of, limit}
 use Rattle.r9_deskfile.proofs.Limit.{too_long}
 use Rattle.r9_pointing.specs.Record.{IsDeskRecord}
 use Rattle.r9_opts.specs.declared.job.Job.{Job}
-use Rattle.r9_opts.specs.declared.job.Job.TheVariants.{Replay, Serve, Alone, Text, Desk, Gen}
-use Rattle.r9_serve.specs.Run.{Ask, AskForDesk, IsOutput, WasPiloted}
+use Rattle.r9_opts.specs.declared.job.Job.TheVariants.{Replay, Mirror, Serve, Alone, Text, Desk, Gen}
+use Rattle.r9_serve.specs.Run.{Ask, AskForDesk, IsFirstOutput, WasPiloted}
 use Rattle.r9_serve.proofs.Asking.{desk_not_gen, desk_not_record, desk_not_serve, desk_not_text}
 use Rattle.r9_serve.proofs.Refusing.{not_bad}
 
@@ -28,12 +28,13 @@ piloted left read seen after (Err fault) has same is = tt
 
 -- an input that is none gave no output, and no other job was asked for
 pub had_no_events : (words : List (Bor (List ℕ))) (job : Job) (left : Option (List ℕ)) (bytes lines : List ℕ) (place : ℕ) → left ≡ Some bytes → events_of bytes ≡ Err place → AskForDesk words
-    → Ask words job → IsOutput job left lines → ⊥
+    → Ask words job → IsFirstOutput job left lines → ⊥
 had_no_events words Desk left bytes lines place told is points ask out =
     let same : bytes ≡ out.bytes = subst (λ (l : Option (List ℕ)). IfSome l (λ all. all ≡ out.bytes)) told out.told in
     not_bad events_of bytes out.piloted.events place (ap events_of same ∙ out.piloted.read) is
 had_no_events words (Text columns rows) left bytes lines place told is points ask out = desk_not_text words points (Text columns rows, ask, tt)
 had_no_events words (Replay opening screen) left bytes lines place told is points ask out = desk_not_record words points (Replay opening screen, ask, tt)
+had_no_events words (Mirror opening) left bytes lines place told is points ask out = desk_not_record words points (Mirror opening, ask, tt)
 had_no_events words (Gen number) left bytes lines place told is points ask out = desk_not_gen words number points ask
 had_no_events words (Serve opening listen workers conns) left bytes lines place told is points ask out = desk_not_serve words points (Serve opening listen workers conns, ask, tt)
 had_no_events words (Alone opening session) left bytes lines place told is points ask out = desk_not_record words points (Alone opening session, ask, tt)

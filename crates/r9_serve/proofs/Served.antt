@@ -9,7 +9,7 @@ use Rattle.r9_service.specs.declared.outcome.Outcome.{Outcome}
 use Rattle.r9_service.specs.declared.outcome.Outcome.TheVariants as outcome
 use Rattle.r9_service.specs.Serving.{IsCaused, Serving, Side, kept_record}
 use Rattle.r9_opts.specs.declared.job.Job.{Job}
-use Rattle.r9_opts.specs.declared.job.Job.TheVariants.{Alone, Desk, Gen, Replay, Serve, Text}
+use Rattle.r9_opts.specs.declared.job.Job.TheVariants.{Alone, Desk, Gen, Mirror, Replay, Serve, Text}
 use Rattle.r9_serve.specs.declared.status.Status.{Status}
 use Rattle.r9_serve.specs.declared.status.Status.TheVariants as status
 use Rattle.r9_service.proofs.Whole.{not_started}
@@ -168,6 +168,7 @@ module _ {D I O : Type 0} (doors : Doors D I O) where
     serving = not_started doors opening conns workers old out err;
   }
   none_served words old out err (Replay opening screen, asked, is) = absurd is
+  none_served words old out err (Mirror opening, asked, is) = absurd is
   none_served words old out err (Gen number, asked, is) = absurd is
   none_served words old out err (Text columns rows, asked, is) = absurd is
   none_served words old out err (Desk, asked, is) = absurd is

@@ -1,14 +1,14 @@
 -- What follows from a status.
-use Rattle.std.proofs.Common.{◌≡◌, inl, inr, ℕ, List, Option, Some, refl, sym, ap, subst, Bor}
+use Rattle.std.proofs.Common.{◌≡◌, inl, inr, ℕ, List, [], Option, Some, refl, sym, ap, subst, append-nil, Bor}
 use Rattle.std.specs.Prelude.{IfSome}
 use Rattle.r9_event.specs.declared.event.Event.{Event}
 use Rattle.model_record.specs.Record.{IsRecord, IsLate, IsNeither}
 use Rattle.r9_serve.specs.declared.status.Status.{Status}
 use Rattle.r9_serve.specs.declared.status.Status.TheVariants as status
 use Rattle.r9_opts.specs.declared.job.Job.{Job}
-use Rattle.r9_opts.specs.declared.job.Job.TheVariants.{Replay, Serve, Alone, Text, Desk, Gen}
+use Rattle.r9_opts.specs.declared.job.Job.TheVariants.{Replay, Mirror, Serve, Alone, Text, Desk, Gen}
 use Rattle.r9_replay.specs.Replays.{HadRecord, WasBadAt, WasLate}
-use Rattle.r9_serve.specs.Run.{Ask, AskForRecord, AskToRead, AskToServe, IsOutput, LeftInput, WasAskedNotAlone, WrotePart, IsInputAfter, IsOutAfter, IsDone, IsRefused, IsToldBad, IsToldLate}
+use Rattle.r9_serve.specs.Run.{Ask, AskForRecord, AskToRead, AskToServe, IsFirstOutput, IsOutput, LeftInput, WasAskedNotAlone, WrotePart, IsInputAfter, IsOutAfter, IsDone, IsRefused, IsToldBad, IsToldLate}
 use Rattle.r9_journal.proofs.Headers.{late_once, record_not_late}
 use Rattle.r9_journal.proofs.Records.{bad_not_late, not_both}
 use Rattle.r9_serve.proofs.Asking.{desk_not_record, gen_not_record, gen_reads_not, serve_not_gen, serve_not_record, text_not_record}
@@ -37,10 +37,26 @@ had_none left text events told none had =
     let same : text ≡ had.text = subst (λ (l : Option (List ℕ)). IfSome l (λ bytes. bytes ≡ had.text)) told had.told in
     none events (subst (λ (t : List ℕ). IsRecord t events) (sym same) had.is_record)
 
+-- what is the output of a job is that of a first part of it
+pub is_first : (job : Job) (left : Option (List ℕ)) (lines : List ℕ) → IsOutput job left lines → IsFirstOutput job left lines
+is_first (Mirror opening) left lines out = record {
+  events = out.events;
+  later = [];
+  had = subst (λ (events : List Event). HadRecord left events) (sym (append-nil out.events)) out.had;
+  are = out.are;
+}
+is_first (Replay opening screen) left lines out = out
+is_first (Gen number) left lines out = out
+is_first (Serve opening listen workers conns) left lines out = out
+is_first (Text columns rows) left lines out = out
+is_first Desk left lines out = out
+is_first (Alone opening session) left lines out = out
+
 -- what is no record is refused: no job of a record gave an output, and no other was asked for
 had_no_output : (words : List (Bor (List ℕ))) (job : Job) (left : Option (List ℕ)) (text lines : List ℕ) → left ≡ Some text → ((events : List Event) → IsRecord text events → ⊥)
-    → AskForRecord words → Ask words job → IsOutput job left lines → ⊥
+    → AskForRecord words → Ask words job → IsFirstOutput job left lines → ⊥
 had_no_output words (Replay opening screen) left text lines told none records ask out = had_none left text _ told none out.had
+had_no_output words (Mirror opening) left text lines told none records ask out = had_none left text _ told none out.had
 had_no_output words (Gen number) left text lines told none records ask out = gen_not_record words number records ask
 had_no_output words (Serve opening listen workers conns) left text lines told none records ask out = serve_not_record words records (Serve opening listen workers conns, ask, tt)
 had_no_output words (Text columns rows) left text lines told none records ask out = text_not_record words (Text columns rows, ask, tt) records
@@ -50,7 +66,8 @@ had_no_output words (Alone opening session) left text lines told none records as
 pub refused_by : (words : List (Bor (List ℕ))) (found : Status) (left before after : Option (List ℕ)) (text : List ℕ) → left ≡ Some text → IsNeither text
     → AskForRecord words → (found ≡ status.Usage → ⊥) → IsOutAfter (Ask words) found left before after → ((first : ℕ) → found ≡ status.LateRecord first → WasLate left first)
     → ((place : ℕ) → found ≡ status.BadInput place → ⊥) → ((entry reason : ℕ) → found ≡ status.NotAlone entry reason → WasAskedNotAlone words left entry reason) → (found ≡ status.ReadFault → ⊥) → IsRefused found
-refused_by words status.Done left before after text told none records usage out late input alone read = absurd (had_no_output words out.job left text out.lines told none.no_record records out.is_asked out.are_lines)
+refused_by words status.Done left before after text told none records usage out late input alone read =
+    absurd (had_no_output words out.job left text out.lines told none.no_record records out.is_asked (is_first out.job left out.lines out.are_lines))
 refused_by words status.Usage left before after text told none records usage out late input alone read = absurd (usage refl)
 refused_by words (status.BadRecord place) left before after text told none records usage out late input alone read = inl (place, refl)
 refused_by words (status.LateRecord first) left before after text told none records usage out late input alone read =
@@ -68,7 +85,7 @@ pub late_by : (words : List (Bor (List ℕ))) (found : Status) (left before afte
     → AskForRecord words → (found ≡ status.Usage → ⊥) → IsOutAfter (Ask words) found left before after → ((place : ℕ) → found ≡ status.BadRecord place → WasBadAt left place)
     → ((first : ℕ) → found ≡ status.LateRecord first → WasLate left first) → ((place : ℕ) → found ≡ status.BadInput place → ⊥) → ((entry reason : ℕ) → found ≡ status.NotAlone entry reason → WasAskedNotAlone words left entry reason) → (found ≡ status.ReadFault → ⊥) → IsToldLate found n
 late_by words status.Done left before after text n told is records usage out bad late input alone read =
-    absurd (had_no_output words out.job left text out.lines told (λ events a. record_not_late text events n a is) records out.is_asked out.are_lines)
+    absurd (had_no_output words out.job left text out.lines told (λ events a. record_not_late text events n a is) records out.is_asked (is_first out.job left out.lines out.are_lines))
 late_by words status.Usage left before after text n told is records usage out bad late input alone read = absurd (usage refl)
 late_by words (status.BadRecord place) left before after text n told is records usage out bad late input alone read =
     absurd (bad_not_late text place n (subst (λ (l : Option (List ℕ)). WasBadAt l place) told (bad place refl)) is)
@@ -118,10 +135,10 @@ done_unless (status.DoorFault worker) usage bad late input alone read write door
 done_unless (status.Spent count) usage bad late input alone read write door spent = absurd (spent count refl)
 
 -- and where there is no output the input is told to be bad at the one place where it is
-pub bad_unless : (asked : Job → Type 0) (found : Status) (left before after : Option (List ℕ)) (place : ℕ) → ((job : Job) (lines : List ℕ) → asked job → IsOutput job left lines → ⊥)
+pub bad_unless : (asked : Job → Type 0) (found : Status) (left before after : Option (List ℕ)) (place : ℕ) → ((job : Job) (lines : List ℕ) → asked job → IsFirstOutput job left lines → ⊥)
     → (found ≡ status.Usage → ⊥) → IsOutAfter asked found left before after → ((at : ℕ) → found ≡ status.BadRecord at → ⊥) → ((first : ℕ) → found ≡ status.LateRecord first → ⊥)
     → ((at : ℕ) → found ≡ status.BadInput at → at ≡ place) → ((entry reason : ℕ) → found ≡ status.NotAlone entry reason → ⊥) → (found ≡ status.ReadFault → ⊥) → IsToldBad found place
-bad_unless asked status.Done left before after place none usage out bad late input alone read = absurd (none out.job out.lines out.is_asked out.are_lines)
+bad_unless asked status.Done left before after place none usage out bad late input alone read = absurd (none out.job out.lines out.is_asked (is_first out.job left out.lines out.are_lines))
 bad_unless asked status.Usage left before after place none usage out bad late input alone read = absurd (usage refl)
 bad_unless asked (status.BadRecord at) left before after place none usage out bad late input alone read = absurd (bad at refl)
 bad_unless asked (status.LateRecord first) left before after place none usage out bad late input alone read = absurd (late first refl)

@@ -7,8 +7,8 @@ use Rattle.r9_textfile.specs.Input.{input_of, limit}
 use Rattle.r9_textfile.proofs.Sizes.{input_is}
 use Rattle.r9_typing.specs.Record.{IsTextRecord}
 use Rattle.r9_opts.specs.declared.job.Job.{Job}
-use Rattle.r9_opts.specs.declared.job.Job.TheVariants.{Replay, Serve, Alone, Text, Desk, Gen}
-use Rattle.r9_serve.specs.Run.{Ask, AskForText, IsOutput, WasTextShown}
+use Rattle.r9_opts.specs.declared.job.Job.TheVariants.{Replay, Mirror, Serve, Alone, Text, Desk, Gen}
+use Rattle.r9_serve.specs.Run.{Ask, AskForText, IsFirstOutput, WasTextShown}
 use Rattle.r9_serve.proofs.Asking.{desk_not_text, text_not_gen, text_not_record, text_not_serve}
 use Rattle.r9_serve.proofs.Refusing.{not_bad}
 
@@ -22,11 +22,12 @@ text_shown columns rows left read seen after (Err fault) has same shown = tt
 
 -- an input that is none gave no output, and no other job was asked for
 pub had_no_text : (words : List (Bor (List ℕ))) (job : Job) (left : Option (List ℕ)) (bytes lines : List ℕ) (place : ℕ) → left ≡ Some bytes → input_of bytes ≡ Err place → AskForText words
-    → Ask words job → IsOutput job left lines → ⊥
+    → Ask words job → IsFirstOutput job left lines → ⊥
 had_no_text words (Text columns rows) left bytes lines place told is shows ask out =
     let same : bytes ≡ out.bytes = subst (λ (l : Option (List ℕ)). IfSome l (λ all. all ≡ out.bytes)) told out.told in
     not_bad input_of bytes out.shown.input place (ap input_of same ∙ out.shown.read) is
 had_no_text words (Replay opening screen) left bytes lines place told is shows ask out = text_not_record words shows (Replay opening screen, ask, tt)
+had_no_text words (Mirror opening) left bytes lines place told is shows ask out = text_not_record words shows (Mirror opening, ask, tt)
 had_no_text words (Gen number) left bytes lines place told is shows ask out = text_not_gen words number shows ask
 had_no_text words (Serve opening listen workers conns) left bytes lines place told is shows ask out = text_not_serve words shows (Serve opening listen workers conns, ask, tt)
 had_no_text words Desk left bytes lines place told is shows ask out = desk_not_text words (Desk, ask, tt) shows

@@ -2,6 +2,7 @@
 #![tactic(auto)]
 
 ghost use Rattle.std.specs.Prelude.{◌≡◌, ◌+◌, ◌*◌, ◌^◌, ◌<◌, ◌≤◌, ℕ, true, false, length, slice_index, IsTrue, if◌then◌else◌};
+ghost use Rattle.std.specs.Int.Bits.{bit_and};
 ghost use Rattle.r9_geom.specs.declared.Point.{Point as Spot};
 ghost use Rattle.r9_geom.specs.Geometry.{area_of, at_min, carried, distance, height, holds, strip, width, IsNear, IsOrdered, IsRectNear};
 ghost use Rattle.model_pixel.specs.Channels as channels;
@@ -185,6 +186,24 @@ impl Watched {
         ensures steps { steps.new ≡ steps.old + area_of r }
     {
         self.plane.copy(r, other, from, steps);
+    }
+
+    /// Moves pixels within the plane: a rectangle takes these bits of those of the one of its size whose min stands at `from`, a
+    /// step for each pixel.
+    pub fn move_kept<L: Ledger>(&mut self, r: Rect, from: Point, bits: u32, steps: &mut Steps<L>)
+        requires near { IsRectNear r }
+        requires ordered { IsOrdered r }
+        requires near_from { IsNear from }
+        requires inside { (p : Spot) → IsTrue (holds r p) → IsTrue (holds (rect_of self.old.plane) p) }
+        requires inside_from { (p : Spot) → IsTrue (holds r p) → IsTrue (holds (rect_of self.old.plane) (carried p r.min from)) }
+        ensures rect { rect_of self.new.plane ≡ rect_of self.old.plane }
+        ensures chan { chan_of self.new.plane ≡ chan_of self.old.plane }
+        ensures pixels { (q : Spot) → pixel_at self.new.plane q ≡ (if holds r q then bit_and (pixel_at self.old.plane (carried q r.min from)) bits else pixel_at self.old.plane q) }
+        ensures moment { moment_of self.new ≡ moment_of self.old }
+        ensures few { count_of self.new ≤ count_of self.old + area_of r }
+        ensures steps { steps.new ≡ steps.old + area_of r }
+    {
+        self.plane.move_kept(r, from, bits, steps);
     }
 
     /// Takes the pixels of a rectangle from its rows, a step for each. Bits outside it are not looked at.

@@ -1,14 +1,16 @@
 //! Runs the cases of standard input one after the other, and prints what `run` puts into out and err, and the exit status. A
 //! case is two equals signs and a blank, a line that says what it shows, a line with the words of the command, and the input. Cases
-//! of `text` and `desk` have an input of their own, and print what the record that they put out shows; those of `gen` have bounds of what
-//! they count.
+//! of `text` and `desk` have an input of their own, and print what the record that they put out shows; those of `mirror` tell what the frames
+//! have; those of `gen` have bounds of what they count.
 #![tactic(auto)]
 
 mod counted;
+mod mirrored;
 mod pointed;
 mod shown;
 
 use counted::count_case;
+use mirrored::mirror_case;
 use pointed::point_case;
 use r9_outside::{MemSink, MemSource, Sink, SureDoor, SureSource, WriteSink};
 use r9_serve::{DOORS, run};
@@ -48,6 +50,11 @@ fn main(rt: HostRuntime) -> io::Result<()> {
             print!(rt; "{}", show_case(&rt, rt.alloc(), &words, input, &mut err)?)?;
         } else if command.starts_with("gen ") {
             print!(rt; "{}", count_case(&rt, rt.alloc(), &words, input, &mut err)?)?;
+        } else if command.starts_with("mirror ") {
+            print!(rt;
+                "{}",
+                mirror_case(&rt, rt.alloc(), &words, input, &mut err)?
+            )?;
         } else if command == "desk" {
             print!(rt; "{}", point_case(&rt, rt.alloc(), &words, input, &mut err)?)?;
         } else {

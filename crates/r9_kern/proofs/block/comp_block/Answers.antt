@@ -47,7 +47,7 @@ returns c i less =
     let a = moved c.joined.result (4 * i) _ (omega arith) ∙ c.joined.ensures.even (2 * i + 0) (lane 0 (omega arith)) ∙ even 0 (omega arith) in
     let s0 : s 0 ≡ get_or c.args.s i 0 % 256 = omega arith in
     let d0 : d 0 ≡ get_or c.args.d i 0 % 256 = omega arith in
-    c.pixels.ensures i less
+    c.pixels.ensures.value i less
     ∙ (λ j. record { r = r j; g = g j; b = b j; a = a j })
     ∙ (λ j. record {
       r = composed op (mul (s 3) m) (mul (s0 j) m) (d 3) (d0 j);

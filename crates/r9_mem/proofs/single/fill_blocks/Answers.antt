@@ -10,12 +10,12 @@ pub loop-at-preserved : goal.loop-at-preserved
 loop-at-preserved c =
     let d = c.loop-at.d in
     let at = c.loop-at.at in
-    let new = c.compose_row.new.d in
+    let new = c.compose_block.new.d in
     let size = at + c.min-len.result - at in
     let within : at ≤ length d = c.loop-at.invariant.inside in
     let fits : at + size ≤ length d = omega (arith, c.min-len.ensures, within) in
     let part_long = length-part d at size fits in
-    let long : length new ≡ size = c.compose_row.auto.d ∙ part_long in
+    let long : length new ≡ size = c.compose_block.auto.d ∙ part_long in
     record {
       inside = omega (arith, length-put_mid at size d new fits long, fits);
       written = λ k below.
@@ -29,10 +29,10 @@ loop-at-preserved c =
           let few : c.min-len.result ≤ 256 = omega (arith, c.min-len.ensures) in
           ap (λ n. get_or (put_mid at size d new) n 0) place
           ∙ put_mid_inside at size d new j within long part
-          ∙ c.compose_row.ensures j (omega (arith, part, long))
+          ∙ c.compose_block.ensures j (omega (arith, part, long))
           ∙ (λ i. composed_raw c.args.dst.now c.args.src.now c.args.grey.now (number c.args.op)
           (repeated 256 c.min-len.result j c.args.s inside few i)
-          ((repeated 256 c.min-len.result j c.from-masks.result inside few ∙ c.from-masks.ensures) i)
+          c.args.value
           ((get_or-part d at size j part ∙ c.loop-at.invariant.left (at + j) (omega arith) ∙ ap (λ n. get_or c.args.d.now n 0) (sym place)) i)))
           (cases_lt k at);
       left = λ k above.

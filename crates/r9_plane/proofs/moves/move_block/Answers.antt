@@ -7,7 +7,7 @@ copy_run-requires-clause-within c =
     let most = mul-le (c.args.from_first % 8 + c.args.count) c.args.depth 1024 c.args.depth (omega (arith, c.requires.count)) (omega arith) in
     omega (arith, most, c.requires.room)
 
-pub copy_run-requires-2-clause-from : goal.copy_run-requires-2-clause-from
-copy_run-requires-2-clause-from c =
+pub copy_kept-requires-clause-from : goal.copy_kept-requires-clause-from
+copy_kept-requires-clause-from c =
     let most = mul-le (c.args.from_first % 8 + c.args.count) c.args.depth 1024 c.args.depth (omega (arith, c.requires.count)) (omega arith) in
     omega (arith, most, c.requires.room, c.copy_run.auto.bytes)

@@ -1,4 +1,5 @@
 use Rattle.std.proofs.Common.{◌≡◌, ◌+◌, ◌∙◌, ap, arith}
+use Rattle.std.specs.Int.Bits.{bit_and}
 use Rattle.std.proofs.lemmas.Nat.{mul-le}
 use Rattle.model_pixel.specs.Rows.{raw_at}
 use Rattle.r9_plane.proofs.RunLemmas.{copied_joined, copied_none}
@@ -7,7 +8,7 @@ use Rattle.r9_plane.proofs.moves.move_down.Goals as goal
 pub loop-done-init : goal.loop-done-init
 loop-done-init c = record {
   within = omega arith;
-  copied = copied_none c.args.depth c.args.first (λ i. raw_at c.args.depth c.args.bytes.now (c.args.from_first + i)) c.args.bytes.now;
+  copied = copied_none c.args.depth c.args.first (λ i. bit_and (raw_at c.args.depth c.args.bytes.now (c.args.from_first + i)) c.args.bits) c.args.bytes.now;
 }
 
 pub move_block-requires-clause-within : goal.move_block-requires-clause-within
@@ -31,15 +32,14 @@ loop-done-preserved c =
     record {
       within = omega (arith, c.min-size.ensures, inv.within);
       copied =
-          copied_joined c.args.depth c.args.first done size (λ i. raw_at c.args.depth c.args.bytes.now (from + i))
+          copied_joined c.args.depth c.args.first done size (λ i. bit_and (raw_at c.args.depth c.args.bytes.now (from + i)) c.args.bits)
           c.args.bytes.now c.loop-done.bytes c.move_block.new.bytes
           inv.copied
           (record {
             written = λ i h.
                 let at : from + done + i ≡ from + (done + i) = omega arith in
                 c.move_block.ensures.written i h
-                ∙ inv.copied.others (from + done + i) (λ j l. omega (arith, l, c.requires.order))
-                ∙ ap (raw_at c.args.depth c.args.bytes.now) at;
+                ∙ ap (λ raw. bit_and raw c.args.bits) (inv.copied.others (from + done + i) (λ j l. omega (arith, l, c.requires.order)) ∙ ap (raw_at c.args.depth c.args.bytes.now) at);
             others = c.move_block.ensures.others;
           });
     }

@@ -1,4 +1,5 @@
 use Rattle.std.proofs.Common.{◌≡◌, ◌+◌, ◌-◌, ◌∙◌, ap, arith}
+use Rattle.std.specs.Int.Bits.{bit_and}
 use Rattle.std.proofs.lemmas.Nat.{mul-le}
 use Rattle.model_pixel.specs.Rows.{raw_at}
 use Rattle.r9_plane.proofs.Moving.{copied_before, copied_nothing}
@@ -7,7 +8,7 @@ use Rattle.r9_plane.proofs.moves.move_up.Goals as goal
 pub loop-left-init : goal.loop-left-init
 loop-left-init c = record {
   within = omega arith;
-  copied = copied_nothing c.args.depth (c.args.first + c.args.count) (c.args.count - c.args.count) (λ i. raw_at c.args.depth c.args.bytes.now (c.args.from_first + (c.args.count + i))) c.args.bytes.now (omega arith);
+  copied = copied_nothing c.args.depth (c.args.first + c.args.count) (c.args.count - c.args.count) (λ i. bit_and (raw_at c.args.depth c.args.bytes.now (c.args.from_first + (c.args.count + i))) c.args.bits) c.args.bytes.now (omega arith);
 }
 
 pub move_block-requires-clause-within : goal.move_block-requires-clause-within
@@ -35,15 +36,14 @@ loop-left-preserved c =
     record {
       within = omega (arith, inv.within);
       copied =
-          copied_before c.args.depth c.args.first left low size (c.args.count - left) (c.args.count - low) (λ i. raw_at c.args.depth c.args.bytes.now (from + i))
+          copied_before c.args.depth c.args.first left low size (c.args.count - left) (c.args.count - low) (λ i. bit_and (raw_at c.args.depth c.args.bytes.now (from + i)) c.args.bits)
           c.args.bytes.now c.loop-left.bytes c.move_block.new.bytes
           whole (omega (arith, whole, inv.within)) inv.copied
           (record {
             written = λ i h.
                 let at : from + low + i ≡ from + (low + i) = omega arith in
                 c.move_block.ensures.written i h
-                ∙ inv.copied.others (from + low + i) (λ j l. omega (arith, h, whole, c.requires.order))
-                ∙ ap (raw_at c.args.depth c.args.bytes.now) at;
+                ∙ ap (λ raw. bit_and raw c.args.bits) (inv.copied.others (from + low + i) (λ j l. omega (arith, h, whole, c.requires.order)) ∙ ap (raw_at c.args.depth c.args.bytes.now) at);
             others = c.move_block.ensures.others;
           });
     }
@@ -54,7 +54,7 @@ returns-clause-written c i h =
     let end : c.loop-left.left ≡ 0 = omega (arith, c.loop-left-test.false) in
     let at : c.args.first + i ≡ c.args.first + c.loop-left.left + i = omega (arith, end) in
     let from : c.args.from_first + (c.loop-left.left + i) ≡ c.args.from_first + i = omega (arith, end) in
-    ap (raw_at c.args.depth c.loop-left.bytes) at ∙ inv.copied.written i (omega (arith, end, h)) ∙ ap (raw_at c.args.depth c.args.bytes.now) from
+    ap (raw_at c.args.depth c.loop-left.bytes) at ∙ inv.copied.written i (omega (arith, end, h)) ∙ ap (λ n. bit_and (raw_at c.args.depth c.args.bytes.now n) c.args.bits) from
 
 pub returns-clause-others : goal.returns-clause-others
 returns-clause-others c n apart =

@@ -1,5 +1,6 @@
 use Rattle.std.proofs.Common.{◌≡◌, ◌∙◌, ◌<◌, List, length, subst, sym, arith}
 use Rattle.std.proofs.lemmas.Bool.{eqb-false, eqb-true}
+use Rattle.std.proofs.lemmas.Result.{IfOk-weaker}
 use Rattle.model_mirrored.specs.Sent.{sent_after}
 use Rattle.model_mirrored.specs.Shown.{mirrored}
 use Rattle.r9_hall.specs.WorldView.{display_in, world_in}
@@ -22,7 +23,9 @@ returns c =
     let display = display_in c.args.world.now in
     let cells = c.in_ok-cells.cells in
     let some : 0 < length cells.items = omega (arith, cells.ok.0, eqb-false cells.len 0 (sym c.is_empty.ensures ∙ c.if-is_empty.false)) in
-    let added : AreAdded c.args.chan (mirrored (world_in c.args.world.now)) (pairs_of cells.items) c.push_head.new.text c.push_cells.new.text =
-    subst (λ (all : List Cell). AreAdded c.args.chan (mirrored (world_in c.args.world.now)) (pairs_of all) c.push_head.new.text c.push_cells.new.text) c.deref.ensures.value c.in_ok-push_cells.ensures in
+    IfOk-weaker c.with_cells.result _ _
+    (λ text added.
     some_sent c.args.chan c.args.number c.len-2.result sending.resized (world_in c.args.world.now) display c.display-r.result (sent_after sending.resized sending.old sending.new display.marked) cells.items
-    c.reserve.new.self c.push_head.new.text c.push_cells.new.text c.sound.ensures.shows c.display-r.ensures.r c.in_ok-cells.ensures.cells (c.len-2.ensures ∙ cells.ok.0) some (c.reserve.ensures ∙ c.new-text.ensures) c.in_ok-push_head.ensures added
+    c.reserve.new.self c.push_head.new.text text c.sound.ensures.shows c.display-r.ensures.r c.in_ok-cells.ensures.cells (c.len-2.ensures ∙ cells.ok.0) some (c.reserve.ensures ∙ c.new-text.ensures) c.in_ok-push_head.ensures
+    (subst (λ (all : List Cell). AreAdded c.args.chan (mirrored (world_in c.args.world.now)) (pairs_of all) c.push_head.new.text text) c.deref.ensures.value added))
+    c.with_cells.ensures

@@ -1,6 +1,6 @@
 use Rattle.std.proofs.Common.{◌⊎◌, inl, inr, sym, subst, arith}
 use Rattle.r9_opts.specs.Asked.{AskFor, texts_of}
-use Rattle.r9_opts.specs.declared.job.Job.TheVariants.{Gen, Serve}
+use Rattle.r9_opts.specs.declared.job.Job.TheVariants.{Gen, Mirror, Serve}
 use Rattle.r9_attend.specs.Calls.{told_ends}
 use Rattle.r9_workers.specs.Shifts.{told_doors}
 use Rattle.r9_service.specs.Serving.{side}
@@ -8,7 +8,7 @@ use Rattle.r9_serve.specs.declared.call.Ending.{Ending}
 use Rattle.r9_serve.specs.declared.status.Status.TheVariants as status
 use Rattle.r9_serve.specs.Run.{Ask, IsOutAfter, WasServed}
 use Rattle.r9_serve.proofs.Asking.{asks_to_serve}
-use Rattle.r9_serve.proofs.Counts.{workers_within}
+use Rattle.r9_serve.proofs.Counts.{mirror_high, mirror_wide, workers_within}
 use Rattle.r9_serve.proofs.Served.{none_served, served_fault, served_flushed, served_input, served_other, served_out, served_under}
 use Rattle.r9_serve.proofs.Statuses.{out_under}
 use Rattle.r9_serve.proofs.call.do_job.Goals as goal
@@ -25,6 +25,12 @@ returns-in-Gen-clause-out g c =
     let asked : AskFor (texts_of c.args.words.now) (Gen c.in-Gen.number) = subst (AskFor (texts_of c.args.words.now)) c.in-Gen.is c.in-Ok.ensures.found in
     subst (λ (e : Ending). IsOutAfter (Ask c.args.words.now) e.status (g.S.Source.left c.args.input.now) (g.O.Sink.held c.args.out.now) (g.O.Sink.held c.generate.new.out)) (sym c.with_line-in-Gen.ensures)
     (out_under (Ask c.args.words.now) (Gen c.in-Gen.number) c.generate.result _ _ _ asked (c.generate.ensures.out (g.S.Source.left c.args.input.now)))
+
+pub mirror-requires-clause-wide : goal.mirror-requires-clause-wide
+mirror-requires-clause-wide g c = mirror_wide (texts_of c.args.words.now) c.in-Mirror.opening (subst (AskFor (texts_of c.args.words.now)) c.in-Mirror.is c.in-Ok.ensures.found)
+
+pub mirror-requires-clause-high : goal.mirror-requires-clause-high
+mirror-requires-clause-high g c = mirror_high (texts_of c.args.words.now) c.in-Mirror.opening (subst (AskFor (texts_of c.args.words.now)) c.in-Mirror.is c.in-Ok.ensures.found)
 
 pub returns-in-Err-Memory-clause-serves : goal.returns-in-Err-Memory-clause-serves
 returns-in-Err-Memory-clause-serves g c =

@@ -1,6 +1,7 @@
 use Rattle.std.proofs.Common.{◌≡◌, ◌∙◌, ◌<◌, ◌^◌, ◌+◌, ◌-◌, ap, sym, refl, subst, arith, true}
 use Rattle.std.specs.Prelude.{if◌then◌else◌}
 use Rattle.std.proofs.lemmas.Int.{ints}
+use Rattle.std.specs.Int.Bits.{bit_and}
 use Rattle.r9_geom.specs.declared.Point.{Point}
 use Rattle.r9_geom.specs.Geometry.{carried, distance, height, holds, strip, width, IsNearBy}
 use Rattle.r9_geom.proofs.GeometryLemmas.{band, distance_below, height_most, row_inside}
@@ -19,7 +20,7 @@ loop-row-init c =
       chan = refl;
       marks = refl;
       pixels = λ q.
-          let value = pixel_at plane (carried q r.min c.args.from) in
+          let value = bit_and (pixel_at plane (carried q r.min c.args.from)) c.args.bits in
           band_left r q value (pixel_at plane q) c.requires.ordered
           ∙ ap (λ n. below_of (holds (band r n) q) (holds r q) value (pixel_at plane q)) (sym c.height-row.ensures);
     }
@@ -87,22 +88,23 @@ loop-row-preserved c =
       chan = c.move_row.ensures.chan ∙ inv.chan;
       marks = c.move_row.ensures.marks ∙ inv.marks;
       pixels = λ q.
-          let shown = pixel_at mid (along c.carried.result (distance at.x q.x)) in
+          let shown = bit_and (pixel_at mid (along c.carried.result (distance at.x q.x))) c.args.bits in
           let there = carried q r.min from in
-          band_shrinks r at q row c.loop-row.row shown (pixel_at plane there) (pixel_at plane q)
+          band_shrinks r at q row c.loop-row.row shown (bit_and (pixel_at plane there) c.args.bits) (pixel_at plane q)
           (pixel_at mid q) (pixel_at c.move_row.new.self q)
           c.requires.ordered next below (omega (arith, ints, x)) y
           (c.move_row.ensures.pixels q ∙ ap (λ n. if holds (strip at n) q then shown else pixel_at mid q) c.width-width.ensures)
           (inv.pixels q)
           (λ h.
-          ap (pixel_at mid) (ap (λ (p : Point). along p (distance at.x q.x)) c.carried.ensures ∙ carried_along at q r.min from (width r) h)
+          ap (λ raw. bit_and raw c.args.bits)
+          (ap (pixel_at mid) (ap (λ (p : Point). along p (distance at.x q.x)) c.carried.ensures ∙ carried_along at q r.min from (width r) h)
           ∙ inv.pixels there
-          ∙ below_kept (holds (band r c.loop-row.row) there) (holds r there) (pixel_at plane (carried there r.min from)) (pixel_at plane there)
-          (from_above r at q from row c.loop-row.row next y c.requires.order h));
+          ∙ below_kept (holds (band r c.loop-row.row) there) (holds r there) (bit_and (pixel_at plane (carried there r.min from)) c.args.bits) (pixel_at plane there)
+          (from_above r at q from row c.loop-row.row next y c.requires.order h)));
     }
 
 pub returns-clause-pixels : goal.returns-clause-pixels
 returns-clause-pixels c q =
     let r = c.args.r in
     c.loop-row.invariant.pixels q
-    ∙ band_moved r q c.loop-row.row (pixel_at c.args.self.now (carried q r.min c.args.from)) (pixel_at c.args.self.now q) (omega (arith, c.loop-row-test.false))
+    ∙ band_moved r q c.loop-row.row (bit_and (pixel_at c.args.self.now (carried q r.min c.args.from)) c.args.bits) (pixel_at c.args.self.now q) (omega (arith, c.loop-row-test.false))

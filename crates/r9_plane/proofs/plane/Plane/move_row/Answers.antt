@@ -1,4 +1,5 @@
 use Rattle.std.proofs.Common.{◌≡◌, ◌+◌, ◌∙◌, ap, sym, length, arith}
+use Rattle.std.specs.Int.Bits.{bit_and}
 use Rattle.std.proofs.lemmas.List.{with_items_is}
 use Rattle.model_pixel.specs.Rows.{raw_at}
 use Rattle.r9_plane.specs.Pixels.{along, pixel_at, pixel_of}
@@ -41,13 +42,14 @@ returns-clause-pixels c q =
     let bytes = c.move_run.new.bytes in
     let size : length bytes ≡ plane.bytes.len = omega arith in
     ap (λ items. pixel_of plane.r plane.chan items q) (with_items_is plane.bytes bytes size)
-    ∙ row_written plane.r plane.chan plane.bytes.items bytes c.args.at c.args.width (λ i. pixel_at plane (along c.args.from i)) c.requires.inside
+    ∙ row_written plane.r plane.chan plane.bytes.items bytes c.args.at c.args.width (λ i. bit_and (pixel_at plane (along c.args.from i)) c.args.bits) c.requires.inside
     (record {
       written = λ i h.
           (λ t. raw_at (sym plane.depth_is t) bytes (sym first t + i))
           ∙ c.move_run.ensures.written i h
-          ∙ (λ t. raw_at (plane.depth_is t) (c.deref_mut.ensures.value t) (c.number-from_first.ensures.value t + i))
-          ∙ row_read plane.r plane.chan plane.bytes.items c.args.from c.args.width i c.requires.inside_from h;
+          ∙ ap (λ raw. bit_and raw c.args.bits)
+          ((λ t. raw_at (plane.depth_is t) (c.deref_mut.ensures.value t) (c.number-from_first.ensures.value t + i))
+          ∙ row_read plane.r plane.chan plane.bytes.items c.args.from c.args.width i c.requires.inside_from h);
       others = λ n apart.
           ap (λ d. raw_at d bytes n) (sym plane.depth_is)
           ∙ c.move_run.ensures.others n (λ i h same. apart i h (same ∙ ap (λ f. f + i) first))

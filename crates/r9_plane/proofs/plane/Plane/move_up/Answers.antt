@@ -2,6 +2,7 @@ use Rattle.std.proofs.Common.{◌≡◌, ◌∙◌, ◌<◌, ◌^◌, ap, sym, r
 use Rattle.std.specs.Prelude.{if◌then◌else◌}
 use Rattle.std.proofs.lemmas.Int.{ints}
 use Rattle.std.proofs.lemmas.Bool.{cond-false}
+use Rattle.std.specs.Int.Bits.{bit_and}
 use Rattle.r9_geom.specs.declared.Point.{Point}
 use Rattle.r9_geom.specs.Geometry.{carried, distance, height, holds, strip, width, IsNearBy}
 use Rattle.r9_geom.proofs.GeometryLemmas.{band, band_all, distance_below, height_most, row_inside}
@@ -15,7 +16,7 @@ loop-row-init c = record {
   rect = refl;
   chan = refl;
   marks = refl;
-  pixels = λ q. band_begins c.args.r q (pixel_at c.args.self.now (carried q c.args.r.min c.args.from)) (pixel_at c.args.self.now q);
+  pixels = λ q. band_begins c.args.r q (bit_and (pixel_at c.args.self.now (carried q c.args.r.min c.args.from)) c.args.bits) (pixel_at c.args.self.now q);
 }
 
 pub point_at-at-requires-clause-row : goal.point_at-at-requires-clause-row
@@ -78,22 +79,23 @@ loop-row-preserved c =
       chan = c.move_row.ensures.chan ∙ inv.chan;
       marks = c.move_row.ensures.marks ∙ inv.marks;
       pixels = λ q.
-          let shown = pixel_at mid (along c.carried.result (distance at.x q.x)) in
-          band_grows r at q row shown (pixel_at plane (carried q r.min from))
+          let shown = bit_and (pixel_at mid (along c.carried.result (distance at.x q.x))) c.args.bits in
+          band_grows r at q row shown (bit_and (pixel_at plane (carried q r.min from)) c.args.bits)
           (pixel_at mid q) (pixel_at plane q) (pixel_at c.move_row.new.self q)
           c.requires.ordered (omega (arith, ints, x)) y
           (c.move_row.ensures.pixels q ∙ ap (λ n. if holds (strip at n) q then shown else pixel_at mid q) c.width-width.ensures)
           (inv.pixels q)
           (λ h.
-          ap (pixel_at mid) (ap (λ (p : Point). along p (distance at.x q.x)) c.carried.ensures ∙ carried_along at q r.min from (width r) h)
+          ap (λ raw. bit_and raw c.args.bits)
+          (ap (pixel_at mid) (ap (λ (p : Point). along p (distance at.x q.x)) c.carried.ensures ∙ carried_along at q r.min from (width r) h)
           ∙ inv.pixels (carried q r.min from)
-          ∙ cond-false _ _ _ (from_beside r at q from row y c.requires.order h));
+          ∙ cond-false _ _ _ (from_beside r at q from row y c.requires.order h)));
     }
 
 pub returns-clause-pixels : goal.returns-clause-pixels
 returns-clause-pixels c q =
     let r = c.args.r in
-    let value = pixel_at c.args.self.now (carried q r.min c.args.from) in
+    let value = bit_and (pixel_at c.args.self.now (carried q r.min c.args.from)) c.args.bits in
     let end : c.loop-row.row ≡ height r = omega (arith, c.height-row-end.ensures) in
     c.loop-row.invariant.pixels q
     ∙ ap (λ n. if holds (band r n) q then value else pixel_at c.args.self.now q) end

@@ -1,5 +1,6 @@
 use Rattle.std.proofs.Common.{◌≡◌}
 use Rattle.std.specs.Prelude.{if◌then◌else◌}
+use Rattle.std.specs.Int.Bits.{bit_and}
 use Rattle.r9_geom.specs.declared.Point.{Point}
 use Rattle.r9_geom.specs.Geometry.{carried, holds}
 use Rattle.r9_geom.proofs.GeometryLemmas.{band}
@@ -12,5 +13,5 @@ invariant-loop-row l = record {
   rect : rect_of l.self ≡ rect_of l.fn.self;
   chan : chan_of l.self ≡ chan_of l.fn.self;
   marks : marks_of l.self ≡ marks_of l.fn.self;
-  pixels : (q : Point) → pixel_at l.self q ≡ (if holds (band l.r l.row) q then pixel_at l.fn.self (carried q l.r.min l.from) else pixel_at l.fn.self q);
+  pixels : (q : Point) → pixel_at l.self q ≡ (if holds (band l.r l.row) q then bit_and (pixel_at l.fn.self (carried q l.r.min l.from)) l.bits else pixel_at l.fn.self q);
 }

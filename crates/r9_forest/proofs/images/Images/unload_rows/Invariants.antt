@@ -1,4 +1,0 @@
-use Rattle.r9_forest.proofs.images.Images.unload_rows.Given as goal
-
-abbrev pub ghosts-shown : goal.ghosts-shown
-ghosts-shown a = record { name = a.blank.name; parts = a.blank.parts }
