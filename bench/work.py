@@ -406,10 +406,10 @@ def given(name, folder, make, words=REPLAY):
 
 
 given("mouse events, each read", "waiting", lambda waiting: waiting.moved(40_000))
-given("keys, each line read", "waiting", lambda waiting: waiting.typed(400_000))
+given("keys, each line read", "waiting", lambda waiting: waiting.typed(4_000_000))
 given("keys while 6,400 reads wait", "waiting", lambda waiting: waiting.idle(waiting.READS, 1500))
-for name in ("draw", "ask", "note"):
-    make = lambda alone, name=name: alone.Writer().rounds(1000, getattr(alone, name))
+for name, rounds in (("draw", 1_000), ("ask", 10_000), ("note", 1_000)):
+    make = lambda alone, name=name, rounds=rounds: alone.Writer().rounds(rounds, getattr(alone, name))
     given(f"a guest among others, {name}: replay", "alone", make)
     given(f"a guest among others, {name}: alone", "alone", make, ("alone", "--conn", "2"))
 

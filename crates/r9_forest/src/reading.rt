@@ -218,8 +218,7 @@ impl Images {
         ensures view { IfOk result (λ all. all.items ≡ front.items ++ rows_of r (channels.depth (image_at (world self.now) i).chan) (model.view (world self.now) i)) }
         ensures paint { IfOk result (λ all. all.items ≡ front.items ++ rows_of r (channels.depth (image_at (world self.now) i).chan) (paint (world self.now) i)) }
     {
-        let all = self.with_view(i, r, front)?;
-        Ok(all)
+        self.with_view(i, r, front)
     }
 
     /// The rows of what an image shows in a rectangle (image(6)): the picture that is painted from back to front, too.

@@ -6,6 +6,7 @@ ghost use Rattle.r9_geom.specs.declared.Point.{Point as Spot};
 ghost use Rattle.r9_geom.specs.Geometry.{area_of, carried, height, holds, is_empty, width, IsOrdered, IsRectNear};
 ghost use Rattle.model_pixel.specs.Channels as channels;
 ghost use Rattle.model_pixel.specs.Rows.{row_bytes, row_pixel};
+ghost use Rattle.r9_kern.specs.Over.{over_of};
 ghost use Rattle.r9_plane.specs.Pixels.{number_of};
 ghost use Rattle.model_forest.specs.Draw.{after_fill, after_load, with_canvas};
 ghost use Rattle.model_forest.specs.View.{view};
@@ -13,7 +14,8 @@ ghost use Rattle.model_forest.specs.World.{image_at, IsLive};
 
 use super::images::Images;
 use r9_geom::{Point, Rect};
-use r9_put::{fill_area, load_area, move_area, put_rows};
+use r9_kern::Over;
+use r9_put::{compose_area, fill_area, load_area, move_area, put_rows};
 use r9_steps::Steps;
 use std::sync::ledger::Ledger;
 
@@ -79,6 +81,45 @@ impl Images {
         ensures writes { writes self.new + steps.old ≡ writes self.old + steps.new }
     {
         move_area(&self.lists, &mut self.pixels, i, r, from, bits, steps)
+    }
+
+    /// Composes what one image shows onto a rectangle of another by SoverD through a full mask, where the source's point `from`
+    /// stands at the rectangle's min, at most one pixel for each point, where two planes of 32 bits keep them and nothing stands on
+    /// the rectangle. Otherwise nothing is done, and it tells so. It takes no memory.
+    pub fn compose_over<L: Ledger>(
+        &mut self,
+        i: u32,
+        r: &Rect,
+        source: u32,
+        from: Point,
+        over: Over,
+        steps: &mut Steps<L>,
+    ) -> bool
+        requires live { IsLive (world self.old) i }
+        requires live_from { IsLive (world self.old) source }
+        requires near { IsRectNear r.now }
+        requires ordered { IsOrdered r.now }
+        requires some { is_empty r.now ≡ false }
+        requires inside { (p : Spot) → IsTrue (holds r.now p) → IsTrue (holds (image_at (world self.old) i).r p) }
+        requires inside_from { (p : Spot) → IsTrue (holds r.now p) → IsTrue (holds (image_at (world self.old) source).r (carried p r.now.min from)) }
+        ensures world { result ≡ true → world self.new ≡ with_canvas (world self.old) i (holds r.now) (λ p. over_of over (view (world self.old) source (carried p r.now.min from)) (view (world self.old) i p)) }
+        ensures numbers { numbers self.new ≡ numbers self.old }
+        ensures steps { result ≡ true → steps.new ≤ steps.old + area_of r.now }
+        ensures unmoved { result ≡ false → world self.new ≡ world self.old }
+        ensures uncounted { result ≡ false → steps.new ≡ steps.old }
+        ensures moment { moment self.new ≡ moment self.old }
+        ensures writes { writes self.new + steps.old ≡ writes self.old + steps.new }
+    {
+        compose_area(
+            &self.lists,
+            &mut self.pixels,
+            i,
+            r,
+            source,
+            from,
+            over,
+            steps,
+        )
     }
 
     /// Takes the pixels of a rectangle of an image from its rows (image(6)). At most one is written for each.

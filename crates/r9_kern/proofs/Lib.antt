@@ -1,3 +1,4 @@
+mod ByteLemmas
 mod LaneLemmas
 pub mod LayoutLemmas
 mod OverLemmas

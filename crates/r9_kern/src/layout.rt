@@ -26,6 +26,13 @@ pub enum MaskLayout {
     Grey1,
 }
 
+/// SoverD through a full mask: the layouts of the target and the source.
+#[derive(Clone, Copy)]
+pub struct Over {
+    pub dst: Layout,
+    pub src: Layout,
+}
+
 /// The packed colour of a raw pixel.
 pub fn read(layout: Layout, raw: u32) -> u32
     ensures { colour_of result ≡ expand (chan_of layout) raw }

@@ -3,10 +3,12 @@
 #![tactic(auto)]
 
 mod block;
+mod bytes;
 mod layout;
 mod raw;
 mod row;
 
-pub use layout::{Layout, MaskLayout, read, write};
+pub use bytes::over_bytes;
+pub use layout::{Layout, MaskLayout, Over, read, write};
 pub use raw::{comp_raw_row, over_raw_row};
 pub use row::comp_row;

@@ -125,7 +125,7 @@ pub fn comp_raw_row(
 }
 
 #[inline(always)]
-fn over_raw_block(dst: Layout, src: Layout, d: u32x4, s: u32x4) -> u32x4
+pub(crate) fn over_raw_block(dst: Layout, src: Layout, d: u32x4, s: u32x4) -> u32x4
     ensures { (i : ℕ) → i < 4 → slice_index result i ≡ over_raw (chan_of dst) (chan_of src) (slice_index s i) (slice_index d i) }
 {
     match (dst, src) {
@@ -170,7 +170,7 @@ fn over_raw_blocks_by(dst: Layout, src: Layout, d: &mut [u32], s: &[u32])
     }
 }
 
-fn over_raw_pixel(dst: Layout, src: Layout, d: u32, s: u32) -> u32
+pub(crate) fn over_raw_pixel(dst: Layout, src: Layout, d: u32, s: u32) -> u32
     ensures { result ≡ over_raw (chan_of dst) (chan_of src) s d }
 {
     let word = comp_word(Op::SoverD, read(dst, d), read(src, s), 255);

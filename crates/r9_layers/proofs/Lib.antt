@@ -1,6 +1,7 @@
 mod Areas
 mod Blocks
 mod Carrying
+mod Composed
 mod Drawings
 mod Moved
 mod Rows

@@ -39,13 +39,16 @@ moved_since world task info chan m through (Some bits) is same once chan_is all 
           ∙ sym (found info.chan info.chan chan (number task.op) m serves (view world task.dst q) own);
     }
 
+-- an image that does not repeat gives its own points alone
+pub once_inside : (world : World) (i : ℕ) (q : Point) → (image_at world i).repl ≡ false → reaches (image_at world i) q ≡ true → holds (image_at world i).r q ≡ true
+once_inside world i q once reached =
+    let image = image_at world i in
+    let both = and_parts (holds image.clipr q) (image.repl || holds image.r q) reached in
+    ap (λ b. b || holds image.r q) (sym once) ∙ both.1
+
 -- what the source gives then is a point of the image
 pub moved_inside : (world : World) (task : Task) (bits : ℕ) (q : Point) → IsMoved world task bits → reaches (image_at world task.src) q ≡ true → holds (image_at world task.dst).r q ≡ true
-moved_inside world task bits q is reached =
-    let image = image_at world task.dst in
-    let there : reaches image q ≡ true = ap (λ n. reaches (image_at world n) q) (sym is.same) ∙ reached in
-    let both = and_parts (holds image.clipr q) (image.repl || holds image.r q) there in
-    ap (λ b. b || holds image.r q) (sym is.once) ∙ both.1
+moved_inside world task bits q is reached = once_inside world task.dst q is.once (ap (λ n. reaches (image_at world n) q) (sym is.same) ∙ reached)
 
 -- a point that is carried with another one
 pub carried_with : (p a from to : Point) → carried p a (carried a from to) ≡ carried p from to

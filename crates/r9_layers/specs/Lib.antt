@@ -4,5 +4,6 @@ pub mod Bands
 pub mod Forest
 pub mod Keeping
 pub mod Moved
+pub mod Over
 pub mod Told
 pub mod Way

@@ -14,12 +14,14 @@ ghost use Rattle.r9_layers.specs.Apart.{IsAhead, IsApart, IsSteady};
 ghost use Rattle.r9_layers.specs.Area.{drawing_of, IsTaskOf};
 ghost use Rattle.r9_layers.specs.Bands.{rows_of};
 ghost use Rattle.r9_layers.specs.Moved.{IsMoved};
+ghost use Rattle.r9_layers.specs.Over.{IsOver};
 ghost use Rattle.r9_layers.specs.Way.{IsWayOf};
 
 use super::composing::{Way, chan_of_mask, compose_area, is_apart, single_mask, way_of};
 use super::task::Task;
 use r9_forest::Images;
 use r9_geom::{Point, Rect};
+use r9_kern::Over;
 use r9_lists::carried_rect;
 use r9_mem::{Through, solid};
 use r9_steps::Steps;
@@ -114,9 +116,9 @@ fn moved_bits(images: &Images, task: &Task) -> Option<u32>
     Through::of(info.chan, info.chan, mask, task.op, m).moved_bits()
 }
 
-/// Draws an image onto itself on the points of an area, where the source alone decides and its pixels are only to be moved on one
-/// plane. Otherwise nothing is done, and it tells so. It takes no memory.
-pub fn draw_moved<L: Ledger>(
+// Draws an image onto itself on the points of an area, where the source alone decides and its pixels are only to be moved on one
+// plane. Otherwise nothing is done, and it tells so. It takes no memory.
+fn draw_moved<L: Ledger>(
     images: &mut Images,
     task: &Task,
     area: &Rect,
@@ -138,6 +140,67 @@ pub fn draw_moved<L: Ledger>(
     };
     let from = area.min.carried(task.r.min, task.sp);
     images.move_within(task.dst, area, from, bits, steps)
+}
+
+// How pixels are composed where an image that does not repeat is drawn by SoverD through a full mask.
+fn over_of(images: &Images, task: &Task) -> Option<Over>
+    requires { IsTaskOf (world images.now) task.now }
+    ensures { IfSome result (IsOver (world images.now) task.now) }
+{
+    let source = images.info(task.src);
+    if source.repl {
+        return None;
+    }
+    let m = single_mask(images, task)?;
+    let dst = images.info(task.dst).chan;
+    let mask = chan_of_mask(images, task.mask);
+    Through::of(dst, source.chan, mask, task.op, m).over()
+}
+
+// Draws on the points of an area by SoverD through a full mask, where the pixels of two planes are composed where they stand.
+// Otherwise nothing is done, and it tells so. It takes no memory.
+fn draw_over<L: Ledger>(images: &mut Images, task: &Task, area: &Rect, steps: &mut Steps<L>) -> bool
+    requires live { IsTaskOf (world images.old) task.now }
+    requires area { area.now ≡ cost.area (world images.old) (drawing_of task.now) }
+    requires some { is_empty area.now ≡ false }
+    ensures world { result ≡ true → world images.new ≡ after_draw (world images.old) (drawing_of task.now) }
+    ensures numbers { numbers images.new ≡ numbers images.old }
+    ensures steps { result ≡ true → steps.new ≤ steps.old + area_of area.now }
+    ensures unmoved { result ≡ false → world images.new ≡ world images.old }
+    ensures uncounted { result ≡ false → steps.new ≡ steps.old }
+    ensures moment { moment images.new ≡ moment images.old }
+    ensures writes { writes images.new + steps.old ≡ writes images.old + steps.new }
+{
+    let Some(over) = over_of(images, task) else {
+        return false;
+    };
+    let from = area.min.carried(task.r.min, task.sp);
+    images.compose_over(task.dst, area, task.src, from, over, steps)
+}
+
+/// Draws on the points of an area where no pixel needs to stand beside the images: where those of one plane are only to be moved,
+/// or those of two are composed by SoverD through a full mask. Otherwise nothing is done, and it tells so. It takes no memory.
+pub fn draw_in_place<L: Ledger>(
+    images: &mut Images,
+    task: &Task,
+    area: &Rect,
+    steps: &mut Steps<L>,
+) -> bool
+    requires live { IsTaskOf (world images.old) task.now }
+    requires area { area.now ≡ cost.area (world images.old) (drawing_of task.now) }
+    requires some { is_empty area.now ≡ false }
+    ensures world { result ≡ true → world images.new ≡ after_draw (world images.old) (drawing_of task.now) }
+    ensures numbers { numbers images.new ≡ numbers images.old }
+    ensures steps { result ≡ true → steps.new ≤ steps.old + area_of area.now }
+    ensures unmoved { result ≡ false → world images.new ≡ world images.old }
+    ensures uncounted { result ≡ false → steps.new ≡ steps.old }
+    ensures moment { moment images.new ≡ moment images.old }
+    ensures writes { writes images.new + steps.old ≡ writes images.old + steps.new }
+{
+    if draw_moved(images, task, area, steps) {
+        return true;
+    }
+    draw_over(images, task, area, steps)
 }
 
 // Draws on the points of a rectangle of the area. What they get stands in `pixels` first, since the target may be the source.

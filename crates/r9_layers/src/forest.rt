@@ -572,7 +572,7 @@ impl Forest {
             drawing::draw_solid(&mut self.images, task, &area, raw, steps);
             return Ok(());
         }
-        if drawing::draw_moved(&mut self.images, task, &area, steps) {
+        if drawing::draw_in_place(&mut self.images, task, &area, steps) {
             return Ok(());
         }
         self.compose(task, &area, steps)

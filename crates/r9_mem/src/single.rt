@@ -4,6 +4,7 @@ ghost use Rattle.std.specs.Int.Bits.{bit_and};
 ghost use Rattle.std.proofs.Props.{props};
 ghost use Rattle.model_pixel.specs.Composition.{composed_raw};
 ghost use Rattle.r9_chan.specs.Op.{number};
+ghost use Rattle.r9_kern.specs.Over.{over_of};
 ghost use Rattle.r9_mem.specs.Kept.{AreKept};
 
 use super::kind::GREY_BYTE;
@@ -11,7 +12,7 @@ use super::layout::layout_of;
 use super::moving::{change, gives_source, kept_bits};
 use super::rows::compose_row;
 use r9_chan::{Chan, Op};
-use r9_kern::over_raw_row;
+use r9_kern::{Over, over_raw_row};
 
 // The masks that stand side by side at a time.
 const BLOCK: usize = 256;
@@ -132,6 +133,17 @@ impl Through {
     {
         match self.kept {
             Some(bits) if self.moved => Some(bits),
+            _ => None,
+        }
+    }
+
+    /// The composition that it is, whatever the target has, where it is SoverD through a full mask between layouts that r9_kern
+    /// composes so.
+    pub fn over(&self) -> Option<Over>
+        ensures { IfSome result (λ over. (dst src mask op m : ℕ) → IsThrough self.now dst src mask op m → (s d : ℕ) → over_of over s d ≡ composed_raw dst src mask op s m d) }
+    {
+        match (self.op, layout_of(&self.dst), layout_of(&self.src)) {
+            (Op::SoverD, Some(dst), Some(src)) if self.value == 255 => Some(Over { dst, src }),
             _ => None,
         }
     }

@@ -1,6 +1,6 @@
 -- What images keep their pixels in, as it is read and written.
 use Rattle.std.proofs.Common.{◌≡◌, ◌≢◌, ◌∙◌, ℕ, zero, suc, ◌<◌, arith, eq-eqb, Bool, true, false, List, length, get_or, set, Option, Some, None, ⊎_elim, refl, sym, ap}
-use Rattle.std.specs.Prelude.{◌==◌, ◌≤◌, ◌&&◌, option_map, if◌then◌else◌}
+use Rattle.std.specs.Prelude.{◌==◌, ◌≤◌, ◌&&◌, option_and_then, option_map, if◌then◌else◌}
 use Rattle.std.specs.Option.{option_map_or}
 use Rattle.std.proofs.lemmas.Bool.{and_from, and_parts, cases_Bool, cases_eq, cases_lt, false≢true, ne_eqb}
 use Rattle.std.proofs.lemmas.Bool.Decides.{Decides-eqb}
@@ -10,6 +10,7 @@ use Rattle.r9_geom.specs.declared.Point.{Point}
 use Rattle.r9_geom.specs.declared.Rect.{Rect}
 use Rattle.r9_geom.specs.Geometry.{is_point}
 use Rattle.r9_geom.proofs.GeometryLemmas.{is_point_true, true_is_point}
+use Rattle.r9_plane.specs.declared.plane.Plane.{Plane}
 use Rattle.r9_watched.specs.declared.Watched.{Watched}
 use Rattle.model_pixel.specs.Channels.{depth}
 use Rattle.r9_locate.specs.Forms.{Form}
@@ -19,7 +20,7 @@ use Rattle.r9_cells.specs.declared.table.Cells.{Cells}
 use Rattle.r9_pixels.specs.declared.own.Extent.{Extent}
 use Rattle.r9_pixels.specs.declared.own.Own.{Own}
 use Rattle.r9_pixels.specs.declared.own.Own.TheVariants.{Whole, Hidden}
-use Rattle.r9_pixels.specs.Owns.{form_in, has_in, own_at, IsTabled}
+use Rattle.r9_pixels.specs.Owns.{form_in, has_in, own_at, plane_in, IsTabled}
 
 -- an image that has a place is one of the table
 pub own_below : (owns : List (Option Own)) (cells : Cells) (i : ℕ) (p : Point) → option_map_or (has_in cells i p) (own_at owns i) false ≡ true → i < length owns
@@ -39,6 +40,11 @@ own_same owns i slot below = get_or-set_same owns i slot None below
 
 pub own_other : (owns : List (Option Own)) (i j : ℕ) (slot : Option Own) → j ≢ i → own_at (set owns i slot) j ≡ own_at owns j
 own_other owns i j slot other = get_or-set_other owns i j slot None other
+
+-- what is read of another slot than one that was set
+pub own_beside : (owns : List (Option Own)) (i j : ℕ) (other slot : Option Own) → i ≢ j → j < length owns → slot ≡ get_or (set owns i other) j slot → own_at owns j ≡ slot
+own_beside owns i j other slot apart below is =
+    sym (own_other owns i j other (λ same. apart (sym same))) ∙ own_is (set owns i other) j slot (omega (arith, below, length-set owns i other)) is
 
 -- a slot that keeps no window
 abbrev pub IsNoWindow : Option Own → Type 0
@@ -175,6 +181,20 @@ pub hidden_of : (slot : Option Own) → option_map (λ (form : Form). form.is_wi
 hidden_of None e = absurd cc
 hidden_of (Some (Whole watched)) e = absurd cc
 hidden_of (Some (Hidden extent)) e = (extent, refl)
+
+-- and so has what gives one
+pub record IsPlaneOf (slot : Option Own) (plane : Plane) : Type 0 where
+  pub watched : Watched
+  pub slot_is : slot ≡ Some (Whole watched)
+  pub plane_is : plane ≡ watched.plane
+
+plane_same : (a b : Plane) → Some a ≡ Some b → a ≡ b
+plane_same a b same = cc
+
+pub plane_told : (slot : Option Own) (plane : Plane) → option_and_then plane_in slot ≡ Some plane → IsPlaneOf slot plane
+plane_told None plane e = absurd cc
+plane_told (Some (Whole watched)) plane e = record { watched = watched; slot_is = refl; plane_is = plane_same plane watched.plane (sym e) }
+plane_told (Some (Hidden extent)) plane e = absurd cc
 
 pub own_there : (owns : List (Option Own)) (i : ℕ) (kept : Own) → own_at owns i ≡ Some kept → i < length owns
 own_there owns i kept is =

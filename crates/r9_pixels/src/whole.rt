@@ -1,15 +1,16 @@
 //! The planes of images that stand nowhere.
 
-ghost use Rattle.std.specs.Prelude.{◌≡◌, ◌≢◌, ◌+◌, ◌*◌, ◌^◌, ◌<◌, true, false, Some, length, option_map, vec_len, IsTrue};
+ghost use Rattle.std.specs.Prelude.{◌≡◌, ◌≢◌, ◌+◌, ◌*◌, ◌^◌, ◌<◌, true, false, Some, length, option_and_then, option_map, vec_len, IsTrue};
 ghost use Rattle.std.specs.Int.Bits.{bit_and};
 ghost use Rattle.r9_geom.specs.declared.Point.{Point as Spot};
 ghost use Rattle.r9_geom.specs.Geometry.{area_of, carried, height, holds, IsNear, IsOrdered, IsRectNear};
 ghost use Rattle.model_pixel.specs.Rows.{row_bytes, row_pixel};
+ghost use Rattle.r9_kern.specs.Over.{over_of};
 ghost use Rattle.r9_plane.specs.Pixels.{chan_of, pixel_at, rect_of};
 ghost use Rattle.model_kept.specs.Keeping.{own, Place};
 ghost use Rattle.model_kept.specs.Restack.{with_own};
 ghost use Rattle.r9_locate.specs.Forms.{bits_in};
-ghost use Rattle.r9_pixels.specs.Owns.{plane_form};
+ghost use Rattle.r9_pixels.specs.Owns.{form_in, plane_form, plane_in};
 ghost use Rattle.r9_pixels.specs.Places.{with_form, with_places};
 ghost use Rattle.r9_watched.specs.Moments.{with_moment, IsFew};
 ghost use Rattle.r9_watched.specs.Watched.{count_of, moment_of};
@@ -18,11 +19,23 @@ use super::counted::Area;
 use super::keeping::KeptPixels;
 use super::own::Own;
 use r9_geom::{Point, Rect};
+use r9_kern::Over;
 use r9_plane::Plane;
 use r9_steps::Steps;
 use r9_watched::Watched;
 use std::mem;
 use std::sync::ledger::Ledger;
+
+// The plane of a slot that has one.
+fn plane_of(slot: &Option<Own>) -> &Plane
+    requires { option_map (λ form. form.is_window) (option_map form_in slot.now) ≡ Some false }
+    ensures { option_and_then plane_in slot.now ≡ Some result.now }
+{
+    match slot {
+        Some(Own::Whole(watched)) => &watched.plane,
+        _ => unreachable!(),
+    }
+}
 
 impl KeptPixels {
     ghost use Rattle.r9_pixels.specs.Kept.{form_at, has_place, kept_at, moment, spare_in, writes};
@@ -33,10 +46,7 @@ impl KeptPixels {
         ensures form { form_at self.now i ≡ Some (plane_form result.now) }
         ensures pixels { (p : Spot) → kept_at self.now (own i p) ≡ pixel_at result.now p }
     {
-        match &self.owns[i as usize] {
-            Some(Own::Whole(watched)) => &watched.plane,
-            _ => unreachable!(),
-        }
+        plane_of(&self.owns[i as usize])
     }
 
     /// Takes the pixels of a rectangle of an image that stands nowhere from its rows (image(6)), a step for each.
@@ -90,6 +100,45 @@ impl KeptPixels {
             Some(Own::Whole(watched)) => watched.move_kept(r, from, bits, steps),
             _ => unreachable!(),
         }
+    }
+
+    /// Composes pixels of one image onto those of a rectangle of another by SoverD through a full mask, where both stand nowhere and
+    /// have pixels of 32 bits, and the source's point `from` stands at the rectangle's min, a step for each pixel. It takes no
+    /// memory.
+    pub fn compose_whole<L: Ledger>(
+        &mut self,
+        i: u32,
+        r: Rect,
+        other: u32,
+        from: Point,
+        over: Over,
+        steps: &mut Steps<L>,
+    )
+        requires apart { i ≢ other }
+        requires whole { option_map (λ form. form.is_window) (form_at self.old i) ≡ Some false }
+        requires whole_from { option_map (λ form. form.is_window) (form_at self.old other) ≡ Some false }
+        requires depth { bits_in (form_at self.old) i ≡ 32 }
+        requires depth_from { bits_in (form_at self.old) other ≡ 32 }
+        requires near { IsRectNear r }
+        requires ordered { IsOrdered r }
+        requires near_from { IsNear from }
+        requires has { (p : Spot) → IsTrue (holds r p) → has_place self.old (own i p) ≡ true }
+        requires had { (p : Spot) → IsTrue (holds r p) → has_place self.old (own other (carried p r.min from)) ≡ true }
+        ensures at { (p : Spot) → IsTrue (holds r p) → kept_at self.new (own i p) ≡ over_of over (kept_at self.old (own other (carried p r.min from))) (kept_at self.old (own i p)) }
+        ensures others { (place : Place) → ((p : Spot) → IsTrue (holds r p) → place ≢ own i p) → kept_at self.new place ≡ kept_at self.old place }
+        ensures has { has_place self.new ≡ has_place self.old }
+        ensures forms { form_at self.new ≡ form_at self.old }
+        ensures moment { moment self.new ≡ moment self.old }
+        ensures steps { steps.new ≡ steps.old + area_of r }
+        ensures writes { writes self.new + steps.old ≡ writes self.old + steps.new }
+    {
+        self.writes = self.writes.and(&Area(r));
+        let Some(Own::Whole(mut watched)) = mem::replace(&mut self.owns[i as usize], None) else {
+            unreachable!()
+        };
+        let source = plane_of(&self.owns[other as usize]);
+        watched.compose_over(r, source, from, over, steps);
+        self.owns[i as usize] = Some(Own::Whole(watched));
     }
 
     /// Gives an image that stands nowhere another plane with a moment, for the one that it had. It takes no memory.

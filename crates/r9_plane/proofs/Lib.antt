@@ -10,3 +10,4 @@ pub mod Among
 pub mod Fitting
 pub mod OneRun
 pub mod Reading
+pub mod OverRows

@@ -248,6 +248,22 @@ pub record Written (old new : List ℕ) (at size raw : ℕ) : Type 0 where
   pub after : (j : ℕ) → at + size ≤ j → get_or new j 0 ≡ get_or old j 0
   pub written : (j : ℕ) → j < size → get_or new (at + j) 0 ≡ raw / 2 ^ (8 * j) % 256
 
+pub written_none : (old : List ℕ) (at raw : ℕ) → Written old old at 0 raw
+written_none old at raw = record { before = λ j h. refl; after = λ j h. refl; written = λ j h. absurd (omega arith) }
+
+pub written_more : (old mid : List ℕ) (at size raw byte : ℕ) → at + size < length mid → byte ≡ raw / 2 ^ (8 * size) % 256 → Written old mid at size raw → Written old (set mid (at + size) byte) at (size + 1) raw
+written_more old mid at size raw byte within is w =
+    let other = λ (j : ℕ) (h : j ≢ at + size). get_or-set_other mid (at + size) j byte 0 h in
+    record {
+      before = λ j h. other j (omega arith) ∙ w.before j h;
+      after = λ j h. other j (omega arith) ∙ w.after j (omega arith);
+      written = λ j h.
+          ⊎_elim
+          (λ (e : j ≡ size). ap (λ n. get_or (set mid (at + size) byte) (at + n) 0) e ∙ get_or-set_same mid (at + size) byte 0 within ∙ is ∙ ap (λ n. raw / 2 ^ (8 * n) % 256) (sym e))
+          (λ (e : j ≢ size). other (at + j) (λ same. e (omega arith)) ∙ w.written j (omega arith))
+          (cases_eq j size);
+    }
+
 pub whole_written : (depth : ℕ) (old new : List ℕ) (n raw : ℕ) → is_depth depth ≡ true → 8 ≤ depth → raw < 2 ^ depth → Written old new (n * (depth / 8)) (depth / 8) raw → raw_at depth new n ≡ raw
 whole_written depth old new n raw is whole low w =
     let size = size_of depth is whole in

@@ -2,6 +2,7 @@
 #![tactic(auto)]
 
 mod blocks;
+mod composing;
 mod counting;
 mod keeping;
 mod moves;

@@ -111,6 +111,22 @@ fn write_whole(bytes: &mut [u8], depth: u32, n: usize, raw: u32)
     bytes[start..start + size].copy_from_slice(&raw.to_le_bytes()[..size]);
 }
 
+#[inline(always)]
+fn write_bytes(bytes: &mut [u8], depth: u32, n: usize, raw: u32)
+    requires depth { IsTrue (is_depth depth) }
+    requires whole { 8 ≤ depth }
+    requires within { (n + 1) * depth ≤ 8 * length bytes.old }
+    requires raw { raw < 2 ^ depth }
+    ensures written { raw_at depth bytes.new n ≡ raw }
+    ensures others { (m : ℕ) → m ≢ n → raw_at depth bytes.new m ≡ raw_at depth bytes.old m }
+{
+    let size = depth as usize / 8;
+    let start = n * size;
+    for i in 0..size {
+        bytes[start + i] = ((raw >> (8 * i as u32)) % 256) as u8;
+    }
+}
+
 /// Writes raw pixel number n of packed pixels, and no other.
 #[inline(always)]
 pub fn write(bytes: &mut [u8], depth: u32, n: usize, raw: u32)
@@ -124,5 +140,22 @@ pub fn write(bytes: &mut [u8], depth: u32, n: usize, raw: u32)
         write_small(bytes, depth, n, raw);
     } else {
         write_whole(bytes, depth, n, raw);
+    }
+}
+
+/// Writes raw pixel number n of packed pixels, and no other. Where pixels that differ are written one after the other, this compiles to
+/// stores of many at once, as `write` does where they are all equal.
+#[inline(always)]
+pub fn write_among(bytes: &mut [u8], depth: u32, n: usize, raw: u32)
+    requires depth { IsTrue (is_depth depth) }
+    requires within { (n + 1) * depth ≤ 8 * length bytes.old }
+    requires raw { raw < 2 ^ depth }
+    ensures written { raw_at depth bytes.new n ≡ raw }
+    ensures others { (m : ℕ) → m ≢ n → raw_at depth bytes.new m ≡ raw_at depth bytes.old m }
+{
+    if depth < 8 {
+        write_small(bytes, depth, n, raw);
+    } else {
+        write_bytes(bytes, depth, n, raw);
     }
 }

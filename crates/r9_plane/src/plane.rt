@@ -7,6 +7,7 @@ ghost use Rattle.model_pixel.specs.Rows.{byte_at, raw_at, row_bytes, row_pixel, 
 
 mod blocks;
 mod moving;
+mod over;
 mod reading;
 
 use super::counting::count_points;

@@ -4,7 +4,7 @@ ghost use Rattle.std.specs.Prelude.{◌≡◌, ◌≢◌, ℕ, ◌+◌, ◌*◌,
 ghost use Rattle.model_pixel.specs.Channels.{is_depth, repeated};
 ghost use Rattle.model_pixel.specs.Rows.{raw_at};
 
-use super::packed::{read, write};
+use super::packed::{read, write, write_among};
 use r9_memory::Memory;
 use std::alloc::Global;
 
@@ -67,7 +67,7 @@ pub fn write_run_of<const DEPTH: u32>(bytes: &mut [u8], first: usize, raws: &[u3
     ensures others { (n : ℕ) → ((i : ℕ) → i < length raws.now → n ≢ first + i) → raw_at DEPTH bytes.new n ≡ raw_at DEPTH bytes.old n }
 {
     for (i, raw) in raws.iter().enumerate() {
-        write(bytes, DEPTH, first + i, *raw);
+        write_among(bytes, DEPTH, first + i, *raw);
     }
 }
 

@@ -10,7 +10,7 @@ ghost use Rattle.model_kept.specs.Keeping.{keeping, own};
 ghost use Rattle.r9_locate.specs.Forms.{forms_of};
 ghost use Rattle.r9_locate.specs.Table.{shape};
 ghost use Rattle.r9_pixels.specs.Kept.{form_at, kept_at, writes};
-ghost use Rattle.r9_put.specs.Moved.{IsShift};
+ghost use Rattle.r9_put.specs.Moved.{IsKeptOn, IsShift};
 ghost use Rattle.r9_put.specs.Written.{IsStored, IsWritten};
 ghost use Rattle.r9_shown.specs.Shown as spec;
 
@@ -21,12 +21,14 @@ use r9_shown::{Block, Extent, block, block_of, cover_over};
 use r9_steps::Steps;
 use std::sync::ledger::Ledger;
 
-// Where an image keeps the points of two blocks, from which pixels are moved and to where.
+// Where the planes of two images, or of one, keep the points of two blocks: those that pixels are put on, and those that they are
+// made of.
 #[derive(Clone, Copy)]
-struct Shift {
-    image: u32,
-    at: Point,
-    from: Point,
+pub(crate) struct Shift {
+    pub image: u32,
+    pub at: Point,
+    pub source: u32,
+    pub from: Point,
 }
 
 fn is_all(size: Extent, most: Extent) -> bool
@@ -70,31 +72,49 @@ fn keeper_of(lists: &Lists, i: u32, at: Point, size: Extent) -> Option<Block>
     }
 }
 
-// Where one plane keeps the points of an image from one on, so many columns and rows, and from another one on, and nothing stands
-// on the first ones.
-fn shift_of(lists: &Lists, i: u32, at: Point, from: Point, size: Extent) -> Option<Shift>
+// Where the plane of one image keeps the points of an image from one on, so many columns and rows.
+fn plane_of(lists: &Lists, i: u32, at: Point, size: Extent) -> Option<Block>
     requires live { IsLive (shape lists.now) i }
     requires columns { 0 < size.columns }
     requires rows { 0 < size.rows }
     requires inside { (p : Spot) → IsTrue (holds (spec.block at size.columns size.rows) p) → IsTrue (holds (image_at (shape lists.now) i).r p) }
-    requires inside_from { (p : Spot) → IsTrue (holds (spec.block from size.columns size.rows) p) → IsTrue (holds (image_at (shape lists.now) i).r p) }
-    ensures { IfSome result (IsShift (shape lists.now) i at from size) }
+    ensures { IfSome result (λ kept. IsKeptOn (shape lists.now) i at size kept.image kept.at) }
+{
+    let kept = keeper_of(lists, i, at, size)?;
+    if lists.get(kept.image).standing.is_some() {
+        return None;
+    }
+    Some(kept)
+}
+
+// Where planes keep the points of an image from one on, so many columns and rows, on which nothing stands, and those of another
+// image from one on.
+pub(crate) fn shift_of(
+    lists: &Lists,
+    i: u32,
+    at: Point,
+    source: u32,
+    from: Point,
+    size: Extent,
+) -> Option<Shift>
+    requires live { IsLive (shape lists.now) i }
+    requires live_from { IsLive (shape lists.now) source }
+    requires columns { 0 < size.columns }
+    requires rows { 0 < size.rows }
+    requires inside { (p : Spot) → IsTrue (holds (spec.block at size.columns size.rows) p) → IsTrue (holds (image_at (shape lists.now) i).r p) }
+    requires inside_from { (p : Spot) → IsTrue (holds (spec.block from size.columns size.rows) p) → IsTrue (holds (image_at (shape lists.now) source).r p) }
+    ensures { IfSome result (IsShift (shape lists.now) i at source from size) }
 {
     if !is_bare_over(lists, i, at, size) {
         return None;
     }
-    let to = keeper_of(lists, i, at, size)?;
-    let source = keeper_of(lists, i, from, size)?;
-    if to.image != source.image {
-        return None;
-    }
-    if lists.get(to.image).standing.is_some() {
-        return None;
-    }
+    let to = plane_of(lists, i, at, size)?;
+    let taken = plane_of(lists, source, from, size)?;
     Some(Shift {
         image: to.image,
         at: to.at,
-        from: source.at,
+        source: taken.image,
+        from: taken.at,
     })
 }
 
@@ -128,12 +148,12 @@ pub fn move_area<L: Ledger>(
         columns: r.width() as usize,
         rows: r.height(),
     };
-    match shift_of(lists, i, r.min, from, size) {
-        Some(found) => {
+    match shift_of(lists, i, r.min, i, from, size) {
+        Some(found) if found.image == found.source => {
             let there = block(found.at, size.columns, size.rows);
             pixels.move_whole(found.image, there, found.from, bits, steps);
             true
         }
-        None => false,
+        _ => false,
     }
 }

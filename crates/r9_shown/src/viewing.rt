@@ -30,6 +30,14 @@ fn kept_in(part: &Block) -> Rect
     block(part.at, part.extent.columns, part.extent.rows)
 }
 
+// Whether an image keeps all its points itself: one that stands nowhere does.
+fn keeps_all(lists: &Lists, i: u32) -> bool
+    requires { IsLive (shape lists.now) i }
+    ensures { result ≡ true → (p : Spot) → keeping (shape lists.now) i p ≡ own i p }
+{
+    lists.get(i).standing.is_none()
+}
+
 // Rows of a rectangle in each column of which the points are kept as in the first one, and where the first and the last columns are.
 #[derive(Clone, Copy)]
 struct Band {
@@ -150,6 +158,10 @@ pub fn read_area<P: Pixels>(lists: &Lists, pixels: &P, i: u32, r: &Rect, raws: &
     if r.is_empty() {
         return;
     }
+    if keeps_all(lists, i) {
+        pixels.read_block(i, r, raws, 0, r.width() as usize);
+        return;
+    }
     let height = r.height();
     let mut row = 0;
     while row < height {
@@ -233,6 +245,10 @@ pub fn write_area<P: Pixels, L: Ledger>(
     if r.is_empty() {
         return;
     }
+    if keeps_all(lists, i) {
+        pixels.write_block(i, r, raws, first, width, steps);
+        return;
+    }
     let height = r.height();
     let mut row = 0;
     while row < height {
@@ -306,6 +322,10 @@ pub fn paint_area<P: Pixels, L: Ledger>(
     ensures writes { P.writes pixels.new + steps.old ≡ P.writes pixels.old + steps.new }
 {
     if r.is_empty() {
+        return;
+    }
+    if keeps_all(lists, i) {
+        pixels.fill_block(i, r, raw, steps);
         return;
     }
     let height = r.height();
@@ -388,6 +408,10 @@ pub fn save_area<P: Pixels, L: Ledger>(
     ensures writes { P.writes pixels.new + steps.old ≡ P.writes pixels.old + steps.new }
 {
     if r.is_empty() {
+        return;
+    }
+    if keeps_all(lists, i) {
+        pixels.carry_block(i, r, to, p, steps);
         return;
     }
     let height = r.height();
@@ -473,6 +497,10 @@ pub fn show_area<P: Pixels, L: Ledger>(
     ensures writes { P.writes pixels.new + steps.old ≡ P.writes pixels.old + steps.new }
 {
     if r.is_empty() {
+        return;
+    }
+    if keeps_all(lists, i) {
+        pixels.carry_block(from, &r.at_min(at), i, r.min, steps);
         return;
     }
     let height = r.height();

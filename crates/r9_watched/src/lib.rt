@@ -7,6 +7,7 @@ ghost use Rattle.r9_geom.specs.declared.Point.{Point as Spot};
 ghost use Rattle.r9_geom.specs.Geometry.{area_of, at_min, carried, distance, height, holds, strip, width, IsNear, IsOrdered, IsRectNear};
 ghost use Rattle.model_pixel.specs.Channels as channels;
 ghost use Rattle.model_pixel.specs.Rows.{row_bytes, row_pixel};
+ghost use Rattle.r9_kern.specs.Over.{over_of};
 ghost use Rattle.r9_marks.specs.Cells.{cells_over, count_cells};
 ghost use Rattle.r9_plane.specs.Blocks.{number_in, HasRows};
 ghost use Rattle.r9_plane.specs.Marks.{mark_count, marked_at};
@@ -14,6 +15,7 @@ ghost use Rattle.r9_plane.specs.Pixels.{chan_of, pixel_at, rect_of};
 ghost use Rattle.r9_watched.specs.Moments.{moment_at, pixel_in, IsSince};
 
 use r9_geom::{Point, Rect};
+use r9_kern::Over;
 use r9_plane::Plane;
 use r9_steps::Steps;
 use r9_tally::Tally;
@@ -204,6 +206,33 @@ impl Watched {
         ensures steps { steps.new ≡ steps.old + area_of r }
     {
         self.plane.move_kept(r, from, bits, steps);
+    }
+
+    /// Composes pixels of another plane onto those of a rectangle by SoverD through a full mask, where that plane's point `from` stands
+    /// at its min, a step for each pixel. Both have 32 bits. It takes no memory.
+    pub fn compose_over<L: Ledger>(
+        &mut self,
+        r: Rect,
+        other: &Plane,
+        from: Point,
+        over: Over,
+        steps: &mut Steps<L>,
+    )
+        requires near { IsRectNear r }
+        requires ordered { IsOrdered r }
+        requires near_from { IsNear from }
+        requires inside { (p : Spot) → IsTrue (holds r p) → IsTrue (holds (rect_of self.old.plane) p) }
+        requires inside_from { (p : Spot) → IsTrue (holds r p) → IsTrue (holds (rect_of other.now) (carried p r.min from)) }
+        requires depth { channels.depth (chan_of self.old.plane) ≡ 32 }
+        requires depth_from { channels.depth (chan_of other.now) ≡ 32 }
+        ensures rect { rect_of self.new.plane ≡ rect_of self.old.plane }
+        ensures chan { chan_of self.new.plane ≡ chan_of self.old.plane }
+        ensures pixels { (q : Spot) → pixel_at self.new.plane q ≡ (if holds r q then over_of over (pixel_at other.now (carried q r.min from)) (pixel_at self.old.plane q) else pixel_at self.old.plane q) }
+        ensures moment { moment_of self.new ≡ moment_of self.old }
+        ensures few { count_of self.new ≤ count_of self.old + area_of r }
+        ensures steps { steps.new ≡ steps.old + area_of r }
+    {
+        self.plane.compose_over(r, other, from, over, steps);
     }
 
     /// Takes the pixels of a rectangle from its rows, a step for each. Bits outside it are not looked at.

@@ -1,4 +1,4 @@
-use Rattle.std.proofs.Common.{◌≡◌, ◌∙◌, ◌^◌, lit≤, true, sym, ap}
+use Rattle.std.proofs.Common.{◌∙◌, ◌^◌, lit≤, sym, ap}
 use Rattle.std.specs.Int.Bits.{bit_and}
 use Rattle.r9_geom.specs.declared.Point.{Point}
 use Rattle.r9_geom.specs.Geometry.{carried, holds}

@@ -9,18 +9,18 @@ loop-i-init g c = copied_none g.row.DEPTH c.args.first (λ j. get_or c.args.raws
 pub overflow_add-first : goal.overflow_add-first
 overflow_add-first g c = omega (arith, c.requires.numbers)
 
-pub write-requires-clause-within : goal.write-requires-clause-within
-write-requires-clause-within g c =
+pub write_among-requires-clause-within : goal.write_among-requires-clause-within
+write_among-requires-clause-within g c =
     let most = mul-le (c.args.first + c.loop-i.i + 1) g.row.DEPTH (c.args.first + length c.args.raws.now) g.row.DEPTH (omega (arith, c.loop-i-test.true)) (omega arith) in
     omega (arith, most, c.requires.within, c.loop-i.auto.bytes)
 
-pub write-requires-clause-raw : goal.write-requires-clause-raw
-write-requires-clause-raw g c = c.requires.raws c.loop-i.i c.loop-i-test.true
+pub write_among-requires-clause-raw : goal.write_among-requires-clause-raw
+write_among-requires-clause-raw g c = c.requires.raws c.loop-i.i c.loop-i-test.true
 
 pub loop-i-preserved : goal.loop-i-preserved
 loop-i-preserved g c =
-    copied_more g.row.DEPTH c.args.first c.loop-i.i (λ j. get_or c.args.raws.now j 0) c.args.bytes.now c.loop-i.bytes c.write.new.bytes
-    c.loop-i.invariant c.write.ensures.written c.write.ensures.others
+    copied_more g.row.DEPTH c.args.first c.loop-i.i (λ j. get_or c.args.raws.now j 0) c.args.bytes.now c.loop-i.bytes c.write_among.new.bytes
+    c.loop-i.invariant c.write_among.ensures.written c.write_among.ensures.others
 
 pub returns-clause-written : goal.returns-clause-written
 returns-clause-written g c =

@@ -1,4 +1,4 @@
-use Rattle.std.proofs.Common.{◌≡◌, ◌∙◌, sym, ap}
+use Rattle.std.proofs.Common.{◌∙◌, sym, ap}
 use Rattle.r9_geom.specs.Geometry.{holds}
 use Rattle.model_forest.specs.View.{is_bare}
 use Rattle.model_forest.specs.World.{Image}

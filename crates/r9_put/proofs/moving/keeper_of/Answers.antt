@@ -1,4 +1,4 @@
-use Rattle.std.proofs.Common.{◌≡◌, ◌∙◌, subst}
+use Rattle.std.proofs.Common.{◌∙◌, subst}
 use Rattle.r9_geom.specs.Geometry.{holds}
 use Rattle.model_forest.specs.World.{image_at, IsLive}
 use Rattle.model_kept.specs.Keeping.{Place}

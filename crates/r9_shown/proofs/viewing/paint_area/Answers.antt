@@ -1,4 +1,4 @@
-use Rattle.std.proofs.Common.{◌≡◌, ◌∙◌, ◌+◌, ◌*◌, ◌^◌, true, refl, sym, ap, subst, arith}
+use Rattle.std.proofs.Common.{◌≡◌, ◌∙◌, ◌+◌, ◌*◌, ◌^◌, refl, sym, ap, subst, arith}
 use Rattle.std.proofs.lemmas.Bool.{true≢false}
 use Rattle.r9_geom.specs.declared.Point.{Point}
 use Rattle.r9_geom.specs.Geometry.{area_of, height, holds, width}
@@ -20,6 +20,18 @@ pub returns-then-is_empty-clause-steps : goal.returns-then-is_empty-clause-steps
 returns-then-is_empty-clause-steps g c =
     let none = empty_area c.args.r.now c.requires.ordered (sym c.is_empty.ensures.exact ∙ c.if-is_empty.true) in
     omega (arith, none)
+
+pub fill_block-requires-clause-has : goal.fill_block-requires-clause-has
+fill_block-requires-clause-has g c p h =
+    ap (g.P.Pixels.has c.args.pixels.now) (sym (c.keeps_all.ensures c.if-keeps_all.true p)) ∙ c.requires.has p h
+
+pub returns-then-keeps_all-clause-at : goal.returns-then-keeps_all-clause-at
+returns-then-keeps_all-clause-at g c p h =
+    ap (g.P.Pixels.kept c.fill_block.new.self) (c.keeps_all.ensures c.if-keeps_all.true p) ∙ c.fill_block.ensures.at p h
+
+pub returns-then-keeps_all-clause-others : goal.returns-then-keeps_all-clause-others
+returns-then-keeps_all-clause-others g c place apart =
+    c.fill_block.ensures.others place (λ p h same. apart p h (same ∙ sym (c.keeps_all.ensures c.if-keeps_all.true p)))
 
 pub loop-row-init : goal.loop-row-init
 loop-row-init g c =

@@ -1,4 +1,4 @@
-use Rattle.std.proofs.Common.{◌≡◌, ◌∙◌, ◌+◌, true, ℕ, get_or, sym, ap, arith}
+use Rattle.std.proofs.Common.{◌≡◌, ◌∙◌, ◌+◌, ℕ, get_or, sym, ap, arith, length, subst}
 use Rattle.std.proofs.lemmas.Bool.{true≢false}
 use Rattle.r9_geom.specs.declared.Point.{Point}
 use Rattle.r9_geom.specs.Geometry.{height, holds}
@@ -8,13 +8,32 @@ use Rattle.r9_plane.specs.Pixels.{number_of}
 use Rattle.r9_plane.proofs.PlaneLemmas.{number_tells}
 use Rattle.r9_locate.specs.Table.{shape}
 use Rattle.r9_shown.specs.Shown.{rows_of}
-use Rattle.r9_shown.proofs.Columns.{band_inside, rows_more, some_points}
+use Rattle.r9_shown.proofs.Columns.{band_inside, rows_more, some_points, all_number, rows_among}
 use Rattle.r9_shown.proofs.Writing.{filled_more, filled_none}
+use Rattle.r9_plane.specs.Blocks.{number_in, HasRows}
 use Rattle.r9_shown.proofs.viewing.read_area.Goals as goal
 
 pub returns-then-is_empty : goal.returns-then-is_empty
 returns-then-is_empty g c p h =
     absurd (true≢false (sym h ∙ empty_holds c.args.r.now p (sym c.is_empty.ensures.exact ∙ c.if-is_empty.true)))
+
+pub read_block-requires-clause-has : goal.read_block-requires-clause-has
+read_block-requires-clause-has g c p h =
+    ap (g.P.Pixels.has c.args.pixels.now) (sym (c.keeps_all.ensures c.if-keeps_all.true p)) ∙ c.requires.has p h
+
+pub read_block-requires-clause-rows : goal.read_block-requires-clause-rows
+read_block-requires-clause-rows g c =
+    let r = c.args.r.now in
+    let count = length c.args.raws.now in
+    subst (λ n. HasRows r 0 n count) (sym c.width.ensures) (rows_among r count c.requires.room)
+
+pub returns-then-keeps_all : goal.returns-then-keeps_all
+returns-then-keeps_all g c p h =
+    let r = c.args.r.now in
+    let number : number_in r 0 c.width.result p ≡ number_of r p = ap (λ n. number_in r 0 n p) c.width.ensures ∙ all_number r p in
+    ap (λ m. get_or c.read_block.new.raws m 0) (sym number)
+    ∙ c.read_block.ensures.pixels p h
+    ∙ ap (g.P.Pixels.kept c.args.pixels.now) (sym (c.keeps_all.ensures c.if-keeps_all.true p))
 
 pub loop-row-init : goal.loop-row-init
 loop-row-init g c =

@@ -1,4 +1,4 @@
-use Rattle.std.proofs.Common.{◌≡◌, ◌∙◌, ◌+◌, ◌*◌, true, refl, sym, ap, subst, arith}
+use Rattle.std.proofs.Common.{◌≡◌, ◌∙◌, ◌+◌, ◌*◌, refl, sym, ap, subst, arith}
 use Rattle.std.proofs.lemmas.Bool.{true≢false}
 use Rattle.r9_geom.specs.declared.Point.{Point}
 use Rattle.r9_geom.specs.Geometry.{area_of, carried, height, holds, width}
@@ -11,6 +11,7 @@ use Rattle.r9_shown.specs.Shown.{rows_of}
 use Rattle.r9_shown.proofs.Columns.{band_inside, empty_area, rows_more, some_points}
 use Rattle.r9_shown.proofs.Parts.{own_target}
 use Rattle.r9_shown.proofs.Writing.{filled_more, filled_none}
+use Rattle.model_forest.proofs.Changes.{live-standing}
 use Rattle.r9_shown.proofs.viewing.save_area.Goals as goal
 
 pub returns-then-is_empty-clause-at : goal.returns-then-is_empty-clause-at
@@ -21,6 +22,25 @@ pub returns-then-is_empty-clause-steps : goal.returns-then-is_empty-clause-steps
 returns-then-is_empty-clause-steps g c =
     let none = empty_area c.args.r.now c.requires.ordered (sym c.is_empty.ensures.exact ∙ c.if-is_empty.true) in
     omega (arith, none)
+
+pub carry_block-requires-clause-apart : goal.carry_block-requires-clause-apart
+unfolding shape
+carry_block-requires-clause-apart g c same =
+    let q = c.args.p in
+    own-apart (shape c.args.lists.now) c.args.lists.now.standing c.args.i c.args.to q q c.requires.live c.requires.stands
+    (ap (λ m. own m q) (sym same) ∙ sym (c.keeps_all.ensures c.if-keeps_all.true q))
+
+pub carry_block-requires-clause-had : goal.carry_block-requires-clause-had
+carry_block-requires-clause-had g c q h =
+    ap (g.P.Pixels.has c.args.pixels.now) (sym (c.keeps_all.ensures c.if-keeps_all.true q)) ∙ c.requires.had q h
+
+pub carry_block-requires-clause-bits : goal.carry_block-requires-clause-bits
+carry_block-requires-clause-bits g c =
+    sym (c.requires.bits c.args.to c.args.i (live-standing (shape c.args.lists.now) c.args.to c.args.i c.requires.stands) c.requires.stands)
+
+pub returns-then-keeps_all-clause-at : goal.returns-then-keeps_all-clause-at
+returns-then-keeps_all-clause-at g c q h =
+    c.carry_block.ensures.at q h ∙ ap (g.P.Pixels.kept c.args.pixels.now) (sym (c.keeps_all.ensures c.if-keeps_all.true q))
 
 pub loop-row-init : goal.loop-row-init
 loop-row-init g c =

@@ -1,4 +1,4 @@
-use Rattle.std.proofs.Common.{◌≡◌, ◌∙◌, ◌≤◌, ℕ, sym, ap, subst, arith}
+use Rattle.std.proofs.Common.{◌≡◌, ◌∙◌, ℕ, sym, ap, subst, arith}
 use Rattle.std.specs.Prelude.{OnErr, OnOk}
 use Rattle.r9_geom.specs.Geometry.{area_of}
 use Rattle.model_forest.specs.Cost as cost
@@ -19,12 +19,12 @@ returns-then-is_empty-clause-ok g c =
 pub compose-requires-clause-live : goal.compose-requires-clause-live
 unfolding world
 compose-requires-clause-live g c =
-    subst (λ (W : World). IsTaskOf W c.args.task.now) (sym (c.draw_moved.ensures.unmoved c.if-draw_moved.false)) c.requires
+    subst (λ (W : World). IsTaskOf W c.args.task.now) (sym (c.draw_in_place.ensures.unmoved c.if-draw_in_place.false)) c.requires
 
 pub compose-requires-clause-area : goal.compose-requires-clause-area
 unfolding world
 compose-requires-clause-area g c =
-    c.area-area.ensures ∙ ap (λ (W : World). cost.area W (drawing_of c.args.task.now)) (sym (c.draw_moved.ensures.unmoved c.if-draw_moved.false))
+    c.area-area.ensures ∙ ap (λ (W : World). cost.area W (drawing_of c.args.task.now)) (sym (c.draw_in_place.ensures.unmoved c.if-draw_in_place.false))
 
 pub compose-requires-clause-some : goal.compose-requires-clause-some
 compose-requires-clause-some g c = sym c.is_empty.ensures.exact ∙ c.if-is_empty.false
@@ -32,11 +32,11 @@ compose-requires-clause-some g c = sym c.is_empty.ensures.exact ∙ c.if-is_empt
 pub returns-clause-ok : goal.returns-clause-ok
 unfolding world
 returns-clause-ok g c =
-    subst (λ (W : World). OnOk c.compose.result (world c.compose.new.self ≡ after_draw W (drawing_of c.args.task.now))) (c.draw_moved.ensures.unmoved c.if-draw_moved.false) c.compose.ensures.ok
+    subst (λ (W : World). OnOk c.compose.result (world c.compose.new.self ≡ after_draw W (drawing_of c.args.task.now))) (c.draw_in_place.ensures.unmoved c.if-draw_in_place.false) c.compose.ensures.ok
 
 pub returns-clause-numbers : goal.returns-clause-numbers
 unfolding numbers
-returns-clause-numbers g c = c.compose.ensures.numbers ∙ c.draw_moved.ensures.numbers
+returns-clause-numbers g c = c.compose.ensures.numbers ∙ c.draw_in_place.ensures.numbers
 
 pub returns-clause-room : goal.returns-clause-room
 unfolding room
@@ -45,7 +45,7 @@ returns-clause-room g c = c.compose.ensures.room
 pub returns-clause-err : goal.returns-clause-err
 unfolding world
 returns-clause-err g c =
-    subst (λ (W : World). OnErr c.compose.result (world c.compose.new.self ≡ W)) (c.draw_moved.ensures.unmoved c.if-draw_moved.false) c.compose.ensures.err
+    subst (λ (W : World). OnErr c.compose.result (world c.compose.new.self ≡ W)) (c.draw_in_place.ensures.unmoved c.if-draw_in_place.false) c.compose.ensures.err
 
 pub returns-clause-memory : goal.returns-clause-memory
 unfolding world room
@@ -56,16 +56,16 @@ returns-clause-memory g c fits =
 pub returns-clause-steps : goal.returns-clause-steps
 unfolding world
 returns-clause-steps g c =
-    omega (arith, c.compose.ensures.steps, c.draw_moved.ensures.uncounted c.if-draw_moved.false, ap area_of c.area-area.ensures)
+    omega (arith, c.compose.ensures.steps, c.draw_in_place.ensures.uncounted c.if-draw_in_place.false, ap area_of c.area-area.ensures)
 
 pub returns-clause-uncounted : goal.returns-clause-uncounted
 returns-clause-uncounted g c =
-    subst (λ (n : ℕ). OnErr c.compose.result (c.compose.new.steps ≡ n)) (c.draw_moved.ensures.uncounted c.if-draw_moved.false) c.compose.ensures.uncounted
+    subst (λ (n : ℕ). OnErr c.compose.result (c.compose.new.steps ≡ n)) (c.draw_in_place.ensures.uncounted c.if-draw_in_place.false) c.compose.ensures.uncounted
 
 pub returns-clause-moment : goal.returns-clause-moment
 unfolding moment
-returns-clause-moment g c = c.compose.ensures.moment ∙ c.draw_moved.ensures.moment
+returns-clause-moment g c = c.compose.ensures.moment ∙ c.draw_in_place.ensures.moment
 
 pub returns-clause-writes : goal.returns-clause-writes
 unfolding writes
-returns-clause-writes g c = omega (arith, c.compose.ensures.writes, c.draw_moved.ensures.writes)
+returns-clause-writes g c = omega (arith, c.compose.ensures.writes, c.draw_in_place.ensures.writes)
