@@ -18,7 +18,7 @@ use crate::spending::{Ordered, Wasted};
 use crate::telling::{order_snarfs, tell_panes, tell_users};
 use model_draw::orders_keep_connections;
 use model_rio::acts_end_no_connection;
-use r9_event::Orders;
+use r9_event::{Notes, Orders};
 use r9_files::Fault;
 use r9_geom::Rect;
 use r9_memory::Memory;
@@ -48,6 +48,19 @@ impl Desktop {
         done
     }
 
+    /// Windows were told notes, after those of this turn so far.
+    fn keep_notes(&mut self, notes: Notes) -> Result<(), Memory>
+        ensures kept { OnOk result (parts_of self.new ≡ record (parts_of self.old) { notes = (parts_of self.old).notes ++ notes }) }
+        ensures began { began_in self.new ≡ began_in self.old }
+    {
+        // The first notes of a turn are not copied.
+        if self.notes.as_slice().is_empty() {
+            self.notes = notes;
+            return Ok(());
+        }
+        self.notes.append(notes)
+    }
+
     /// Does what a step asks of the draw device, and tells windows and rios what happened. The table of windows is that of
     /// the step already.
     fn follow(&mut self, step: Step) -> Result<(), Memory>
@@ -69,7 +82,7 @@ impl Desktop {
         tell_panes(self.alloc, &mut self.panes, notes.as_slice())?;
         tell_users(&mut self.users, notes.as_slice());
         order_snarfs(self.alloc, &mut self.snarfs, orders.as_slice())?;
-        self.notes.append(notes)
+        self.keep_notes(notes)
     }
 
     /// Whether the display has changed its size, where it had this rectangle before.

@@ -14,7 +14,7 @@ use Rattle.model_forest.specs.View.{view}
 use Rattle.model_forest.specs.World.{World, fill_of, image_at, parent_of, IsForest, IsLive}
 use Rattle.model_forest.proofs.Changes.{live-standing}
 use Rattle.model_forest.proofs.Sound.{view-below}
-use Rattle.model_kept.specs.Keeping.{keeping, place_among, with_kept, Place}
+use Rattle.model_kept.specs.Keeping.{keeping, place_among, with_kept}
 use Rattle.model_kept.specs.Restack.{with_list}
 use Rattle.model_kept.proofs.Once.{places-forest}
 use Rattle.r9_plane.specs.Pixels.{number_of}

@@ -1,5 +1,5 @@
 -- What images show is what is kept for the points that they show.
-use Rattle.std.proofs.Common.{◌≡◌, ◌∙◌, ℕ, zero, suc, ◌+◌, ◌<◌, ◌≤◌, ◌^◌, true, false, Option, Some, None, refl, sym, ap, arith, lit≤, List}
+use Rattle.std.proofs.Common.{◌≡◌, ◌∙◌, ℕ, zero, suc, ◌+◌, ◌<◌, ◌≤◌, ◌^◌, true, Option, Some, None, refl, sym, ap, arith, List}
 use Rattle.std.specs.Prelude.{◌&&◌, is_some, option_map, unwrap_or, if◌then◌else◌}
 use Rattle.std.specs.Option.{option_map_or}
 use Rattle.std.proofs.lemmas.Bool.{and_from, true≢false}
@@ -8,7 +8,7 @@ use Rattle.std.proofs.lemmas.Nat.{pow_pos}
 use Rattle.r9_geom.specs.declared.Point.{Point}
 use Rattle.r9_geom.specs.declared.Rect.{Rect}
 use Rattle.r9_geom.specs.Geometry.{carried, holds, strip, IsRectNearBy}
-use Rattle.r9_geom.proofs.GeometryLemmas.{bounds_of, near_wider}
+use Rattle.r9_geom.proofs.GeometryLemmas.{bounds_of}
 use Rattle.model_pixel.specs.Channels.{depth}
 use Rattle.model_forest.specs.declared.Standing.{Standing}
 use Rattle.model_forest.specs.World.{Image, World, deepest, image_at, no_image, parent_of, IsForest, IsLive}

@@ -6,11 +6,11 @@ ghost use Rattle.model_forest.specs.Numbers.{given_back};
 ghost use Rattle.model_forest.specs.World.{image_at, parent_of, CanGo, IsLive};
 ghost use Rattle.model_forest.specs.Steps.{after_release};
 
+use super::coming::content;
 use super::images::Images;
 use model_forest::Standing;
-use r9_fills::{Content, Gathered, Picture};
-use r9_locate::place_among;
-use r9_relist::{common, take_away, take_whole};
+use r9_fills::{Content, Gathered};
+use r9_relist::{take_away, take_whole};
 use r9_steps::Steps;
 use std::sync::ledger::Ledger;
 
@@ -45,14 +45,13 @@ impl Images {
         ensures moment { moment self.new ≡ moment self.old }
         ensures writes { writes self.new + steps.old ≡ writes self.old + steps.new }
     {
-        let below = self.lists.get(standing.parent);
-        let chan = below.chan;
-        let area = common(&place_among(&below.windows, i), &below.r);
-        self.gather(standing.fill, &chan, &area);
+        let left = self.place_of(i, &standing);
+        let chan = self.lists.get(standing.parent).chan;
+        let fill = self.gather_left(standing.fill, &chan, &left);
         // Nothing asks for its own pixels.
         let gathered = Gathered {
             given: Content::Plain(0),
-            fill: Content::Shown(Picture::new(area, &self.room)),
+            fill: content(fill, left, &self.room),
         };
         take_away(
             self.alloc,
@@ -61,7 +60,7 @@ impl Images {
             &gathered,
             standing.parent,
             i,
-            &area,
+            &left,
             steps,
         );
         let _ = self.spare.push(i);

@@ -203,7 +203,7 @@ impl Images {
     }
 
     // Where a window stands on its parent.
-    fn place_of(&self, i: u32, standing: &Standing) -> Rect
+    pub(crate) fn place_of(&self, i: u32, standing: &Standing) -> Rect
         requires stands { (image_at (world self.now) i).standing ≡ Some standing.now }
         ensures near { IsRectNear result }
         ensures ordered { IsOrdered result }
@@ -255,7 +255,7 @@ impl Images {
     }
 
     // One pixel that fills all points of a rectangle, or those that do are gathered in the room.
-    fn gather_left(&mut self, fill: u32, chan: &Chan, left: &Rect) -> Given
+    pub(crate) fn gather_left(&mut self, fill: u32, chan: &Chan, left: &Rect) -> Given
         requires live { IsLive (world self.old) fill }
         requires lawful { IsTrue (channels.is_descriptor chan.now) }
         requires near { IsRectNear left.now }

@@ -100,11 +100,15 @@ impl Sessions {
     pub(crate) fn woken(&self, alloc: Global, session: u32, wrote: u32) -> Result<Vec<u32>, Memory>
         ensures { IfOk result (λ asked. AreWoken session (stirred (desktop_of self.now.desktop).notes wrote) self.now.live.entries asked.items) }
     {
-        if self.desktop.notes().is_empty() {
-            return self.woken_at(alloc, session, &[wrote]);
+        // Most events tell one note at most, and then no list is made.
+        match self.desktop.notes() {
+            [] => self.woken_at(alloc, session, &[wrote]),
+            [told] => self.woken_at(alloc, session, &[wrote, told.0]),
+            notes => {
+                let windows = stirred(alloc, notes, wrote)?;
+                self.woken_at(alloc, session, &windows)
+            }
         }
-        let windows = stirred(alloc, self.desktop.notes(), wrote)?;
-        self.woken_at(alloc, session, &windows)
     }
 
     /// Answers reads of a session, each time the earliest that can be, until none can be any more. No session below has one that

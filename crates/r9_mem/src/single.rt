@@ -138,12 +138,14 @@ impl Through {
     }
 
     /// The composition that it is, whatever the target has, where it is SoverD through a full mask between layouts that r9_kern
-    /// composes so.
+    /// composes so. It is not told where the source alone decides, since pixels are moved faster than composed.
     pub fn over(&self) -> Option<Over>
         ensures { IfSome result (λ over. (dst src mask op m : ℕ) → IsThrough self.now dst src mask op m → (s d : ℕ) → over_of over s d ≡ composed_raw dst src mask op s m d) }
     {
         match (self.op, layout_of(&self.dst), layout_of(&self.src)) {
-            (Op::SoverD, Some(dst), Some(src)) if self.value == 255 => Some(Over { dst, src }),
+            (Op::SoverD, Some(dst), Some(src)) if !self.moved && self.value == 255 => {
+                Some(Over { dst, src })
+            }
             _ => None,
         }
     }

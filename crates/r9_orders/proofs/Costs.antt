@@ -128,11 +128,11 @@ from-there o b = omega (arith, ints)
 pub area-elsewhere : (r : Rect) (min : Point) → area_of (at_min r min) ≡ area_of r
 area-elsewhere r min = λ j. natural (same-far r.max.x r.min.x min.x j) * natural (same-far r.max.y r.min.y min.y j)
 
--- its own rectangle, carried from its corner far outside to there
-carried-there : (r : Rect) → carried_rect (at_min r outside) outside outside ≡ at_min r outside
-carried-there r = λ j. record {
-  min = record { x = stays-put outside.x outside.x j; y = stays-put outside.y outside.y j };
-  max = record { x = stays-put (at_min r outside).max.x outside.x j; y = stays-put (at_min r outside).max.y outside.y j };
+-- a rectangle, carried from a point to there
+pub carried-there : (r : Rect) (at : Point) → carried_rect r at at ≡ r
+carried-there r at = λ j. record {
+  min = record { x = stays-put r.min.x at.x j; y = stays-put r.min.y at.y j };
+  max = record { x = stays-put r.max.x at.x j; y = stays-put r.max.y at.y j };
 }
 
 -- and back to its corner
@@ -147,7 +147,7 @@ hidden-back r own e = ap (λ (s : Rect). carried_rect s s.min r.min) e ∙ carri
 
 pub hidden-stands : (images : Images) (i : ℕ) (r own place : Rect) → own ≡ place → place ≡ at_min r outside → StandsAt images i place → StandsAt images i (carried_rect own own.min outside)
 hidden-stands images i r own place same at stands =
-    subst (StandsAt images i) (at ∙ sym (carried-there r) ∙ sym (ap (λ (s : Rect). carried_rect s s.min outside) (same ∙ at))) stands
+    subst (StandsAt images i) (at ∙ sym (carried-there (at_min r outside) outside) ∙ sym (ap (λ (s : Rect). carried_rect s s.min outside) (same ∙ at))) stands
 
 relisted-place : (images : Images) (parent i : ℕ) (ws : List Window) → place_among (image_at (with_windows images parent ws) parent).windows i ≡ place_among ws i
 relisted-place images parent i ws =

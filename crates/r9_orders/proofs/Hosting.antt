@@ -124,11 +124,12 @@ where-kept false can k h = absurd cc
 -- ---- other images
 
 -- a window stands on an image
+pub window-parent : (w : World) (window i : ℕ) → IsKept w.images w.book → has_window w window ≡ true → i ≡ image_shown w window → IsSome (parent_of w.images i)
+window-parent w window i kept h shown = stands w.images w.book i kept (ap (λ (n : ℕ). is_some (screen_of w.book n)) shown ∙ window-stands w window h)
+
 pub window-group : (w : World) (window : ℕ) (i : ImageNo) → IsKept w.images w.book → has_window w window ≡ true → i.0 ≡ image_shown w window → All (λ n. IsSome (parent_of w.images n.0)) (i ∷ [])
 window-group w window i kept h shown =
-    let is : is_some (screen_of w.book i.0) ≡ true = ap (λ (n : ℕ). is_some (screen_of w.book n)) shown ∙ window-stands w window h in
-    let P : ImageNo → Type 0 = λ n. IsSome (parent_of w.images n.0) in
-    All-cons P i [] (stands w.images w.book i.0 kept is) (All-nil P)
+    let P : ImageNo → Type 0 = λ n. IsSome (parent_of w.images n.0) in All-cons P i [] (window-parent w window i.0 kept h shown) (All-nil P)
 
 pub changed : {A E : Type 0} (o : Result A E) (w : World) (images before after : Images) (numbers : Numbers) → OnOk o (images ≡ before) → before ≡ after → numbers ≡ w.numbers
     → OnOk o (let next : World = record w { images = images; numbers = numbers } in next ≡ with_images w after)

@@ -6,6 +6,7 @@ pub mod Fitting
 pub mod Hosting
 pub mod Renewing
 pub mod Unseen
+pub mod Leaving
 pub mod Windows
 pub mod Freed
 pub mod Sizing

@@ -16,10 +16,22 @@ use Rattle.r9_device.specs.Gone.{images_without}
 use Rattle.r9_orders.specs.declared.next.Next.{Next}
 use Rattle.r9_orders.specs.Ordering.{CanReplace, GoesUnseen, images_come, images_put, images_renewed, images_replaced, is_first}
 
+-- ---- what goes first
+
 first-is : (things : List Thing) (i : ℕ) → is_first things i ≡ true → (rest : List Thing) × (things ≡ Shown i ∷ rest)
 first-is [] i h = absurd cc
 first-is (Shown n ∷ things) i h = (things, ap (λ m. Shown m ∷ things) (eqb-true n i h))
 first-is (Screen s ∷ things) i h = absurd cc
+
+-- where its going leaves the same, all that goes does
+pub first-gone : (a b : World) (gone : List Thing) (i : ℕ) → is_first gone i ≡ true → after_release a i ≡ after_release b i → fold images_without a gone ≡ fold images_without b gone
+first-gone a b gone i h same =
+    let first = first-is gone i h in
+    ap (λ (things : List Thing). fold images_without a things) first.1
+    ∙ ap (λ (w : World). fold images_without w first.0) same
+    ∙ sym (ap (λ (things : List Thing). fold images_without b things) first.1)
+
+-- ---- where another comes in place of it
 
 module _ (images : World) (i : ℕ) (next : Next) (forest : IsForest images) (free : images i ≡ None) (can : CanReplace images next) where
   abbrev old : ℕ
@@ -81,11 +93,7 @@ module _ (images : World) (i : ℕ) (next : Next) (forest : IsForest images) (fr
       by false = goes-bordered unseen
 
   -- once all has gone that goes
-  pub come-gone : (stays : Bool) (gone : List Thing) → (stays ≡ true → GoesUnseen images next gone) → fold images_without (images_come images i next stays) gone ≡ fold images_without (images_renewed images i next) gone
+  pub come-gone : (stays : Bool) (gone : List Thing) → (stays ≡ true → GoesUnseen images old p gone) → fold images_without (images_come images i next stays) gone ≡ fold images_without (images_renewed images i next) gone
   come-gone false gone unseen = refl
   come-gone true gone unseen =
-      let is = unseen refl in
-      let first = first-is gone old is.first in
-      ap (λ (things : List Thing). fold images_without (images_come images i next true) things) first.1
-      ∙ ap (λ (w : World). fold images_without w first.0) (goes-come is.unseen)
-      ∙ sym (ap (λ (things : List Thing). fold images_without (images_renewed images i next) things) first.1)
+      let is = unseen refl in first-gone (images_come images i next true) (images_renewed images i next) gone old is.first (goes-come is.unseen)

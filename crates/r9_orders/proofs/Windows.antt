@@ -1,6 +1,6 @@
 -- A window that comes, and what it gets in place of its image.
 use Rattle.std.proofs.Common.{◌≡◌, ℕ, Bool, true, false, ℤ, pos, neg_ℤ, ◌≤ℤ◌, ◌-ℤ◌, int_lt, List, Option, Some, None, Result, Ok, Err, OnOk, refl, sym, ap, subst, ◌∙◌, arith}
-use Rattle.std.specs.Prelude.{◌&&◌, ◌==◌, ◌^◌, not, is_some, IsSome, if◌then◌else◌}
+use Rattle.std.specs.Prelude.{◌&&◌, ◌==◌, ◌^◌, not, is_some, if◌then◌else◌}
 use Rattle.std.specs.Ordering.{int_eq}
 use Rattle.std.specs.List.{list_any}
 use Rattle.std.specs.Option.{option_map_or}
@@ -9,7 +9,7 @@ use Rattle.std.proofs.lemmas.Bool.Decides.{nat_tests}
 use Rattle.std.proofs.lemmas.Int.{ints}
 use Rattle.r9_geom.specs.declared.Rect.{Rect}
 use Rattle.r9_geom.specs.Geometry.{HasPoints, IsRectNearBy, at_min, is_empty}
-use Rattle.model_forest.specs.World.{SameSize, World as Images, image_at, parent_of}
+use Rattle.model_forest.specs.World.{SameSize, World as Images, image_at}
 use Rattle.model_forest.specs.Steps.{after_replace, after_replace_on, outside}
 use Rattle.model_images.specs.declared.Thing.TheVariants.{Screen}
 use Rattle.model_images.specs.declared.ScreenId.{ScreenId}
@@ -21,9 +21,9 @@ use Rattle.model_draw.specs.Orders.{bordered, can_keep, corner, has_rio, has_win
 use Rattle.r9_orders.specs.declared.next.Next.{Next}
 use Rattle.r9_device.specs.Kept.{IsKept}
 use Rattle.r9_orders.specs.Ordering.{CanReplace, IsNext, images_replaced, is_used_by_id, renewed}
-use Rattle.r9_orders.proofs.Fitting.{window-lives, window-rect-near, window-rect-points, window-stands}
+use Rattle.r9_orders.proofs.Fitting.{window-lives, window-rect-near, window-rect-points}
+use Rattle.r9_orders.proofs.Hosting.{window-parent}
 use Rattle.r9_device.proofs.Lookups.{fill-of-used, find-any, image-of-used}
-use Rattle.r9_device.proofs.Raising.{stands}
 
 -- ---- rectangles
 
@@ -135,7 +135,7 @@ can-replace w window s r keep next kept has used rect keeps is same_rect same_ke
     let kept_of : next.keep ≡ true → can_keep w window s r ≡ true = λ h. keeps (sym same_keep ∙ h) in
     record {
       old = ap (λ n. is_some (w.images n)) is.old ∙ window-lives w window kept has;
-      window = subst (λ (n : ℕ). IsSome (parent_of w.images n)) (sym is.old) (stands w.images w.book (image_shown w window) kept (window-stands w window has));
+      window = window-parent w window next.old.0 kept has is.old;
       parent = ap (λ n. is_some (w.images n)) is.parent ∙ kept.live _ (image-of-used w.book s there);
       fill = ap (λ n. is_some (w.images n)) is.fill ∙ kept.live _ (fill-of-used w.book s there);
       points = subst HasPoints (sym same_rect) (window-rect-points r rect);

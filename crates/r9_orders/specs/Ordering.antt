@@ -7,7 +7,7 @@ use Rattle.r9_geom.specs.declared.Rect.{Rect}
 use Rattle.r9_geom.specs.Geometry.{HasPoints, IsOrdered, IsRectNearBy, area_of, holds}
 use Rattle.model_forest.specs.World.{SameSize, World as Images, image_at, parent_of}
 use Rattle.model_forest.specs.Stack.{after_window}
-use Rattle.model_forest.specs.Steps.{after_replace, after_replace_on}
+use Rattle.model_forest.specs.Steps.{after_origin, after_replace, after_replace_on, outside}
 use Rattle.model_exchanged.specs.Exchanged.{LeavesUnseen, after_put_on, after_put_over}
 use Rattle.model_kept.specs.Keeping.{place_among}
 use Rattle.model_cost.specs.Cost.{border, coming, moving}
@@ -100,23 +100,33 @@ replacing_images images next =
 abbrev pub renewing : Images → Next → ℕ
 renewing images next = replacing_images images next + (if next.keep then 0 else border next.r)
 
--- an image is the first of these things
-abbrev pub is_first : List Thing → (i : ℕ) → Bool
-is_first [] i = false
-is_first (Image n ∷ things) i = n == i
-is_first (Screen s ∷ things) i = false
-
--- the other image goes first of these things, from where it stands as from far outside
-pub record GoesUnseen (images : Images) (next : Next) (gone : List Thing) : Type 0 where
-  pub first : is_first gone next.old.0 ≡ true
-  pub unseen : LeavesUnseen images next.old.0 next.parent.0
-
 -- the device once a window has the image
 unfoldable pub renewed : World → (window screen : ℕ) → Next → World
 renewed world window screen next =
     let i = next_image world in
     let left = after_freed (with_made world (images_renewed world.images i next) world.book) (image_freed world.book window) in
     with_book left (with_window_id left.book window i screen)
+
+-- ---- a window that goes
+
+-- it stands far outside
+abbrev pub images_out : Images → ℕ → Images
+images_out images i = after_origin images i (image_at images i).r.min outside
+
+-- or stays where it stands
+abbrev pub images_left : Images → ℕ → (stays : Bool) → Images
+images_left images i stays = if stays then images else images_out images i
+
+-- an image is the first of these things
+abbrev pub is_first : List Thing → (i : ℕ) → Bool
+is_first [] i = false
+is_first (Image n ∷ things) i = n == i
+is_first (Screen s ∷ things) i = false
+
+-- a window goes first of these things, from where it stands as from far outside, also once another came on image p
+pub record GoesUnseen (images : Images) (old p : ℕ) (gone : List Thing) : Type 0 where
+  pub first : is_first gone old ≡ true
+  pub unseen : LeavesUnseen images old p
 
 -- ---- a rio in a window
 

@@ -3,6 +3,7 @@
 #![tactic(auto)]
 
 mod display;
+mod going;
 mod image;
 mod next;
 mod orders;

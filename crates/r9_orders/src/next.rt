@@ -3,15 +3,14 @@
 ghost use Rattle.model_cost.specs.Cost.{coming};
 ghost use Rattle.model_draw.specs.Orders.{corner, white};
 ghost use Rattle.model_forest.specs.Numbers.{next_number, taken};
-ghost use Rattle.model_forest.specs.World.{parent_of};
-ghost use Rattle.r9_orders.specs.Ordering.{CanReplace, GoesUnseen, images_come, images_next, images_put, images_replaced, is_first, renewing, replacing_images};
+ghost use Rattle.r9_orders.specs.Ordering.{CanReplace, images_come, images_next, images_put, images_replaced, renewing, replacing_images};
 ghost use Rattle.r9_layers.specs.Forest.{moment, numbers, room, world, writes};
-ghost use Rattle.std.specs.Prelude.{IfOk, IsSome, None, OnErr, OnOk, true, ◌+◌, ◌<◌, ◌≡◌, ◌≤◌};
+ghost use Rattle.std.specs.Prelude.{IfOk, None, OnErr, OnOk, ◌+◌, ◌<◌, ◌≡◌, ◌≤◌};
 
 use crate::image::{add_border, white};
 use crate::rects::corner;
 use r9_geom::Rect;
-use r9_images::{Book, Thing};
+use r9_images::Book;
 use r9_layers::{Forest, ImageNo};
 use r9_memory::Memory;
 use r9_steps::Steps;
@@ -27,24 +26,6 @@ pub(crate) struct Next {
     pub r: Rect,
     pub keep: bool,
     pub hidden: bool,
-}
-
-// Whether the first of these things is the image.
-fn is_first(gone: &[Thing], image: ImageNo) -> bool
-    ensures { result ≡ is_first gone.now image.0 }
-{
-    match gone.first() {
-        Some(Thing::Image(i)) => *i == image.0,
-        _ => false,
-    }
-}
-
-// Whether the old image may stay where it stands: it is the first that goes, and that is not seen.
-pub(crate) fn goes_unseen(forest: &Forest, next: &Next, gone: &[Thing]) -> bool
-    requires { IsSome (parent_of (world forest.now) next.now.old.0) }
-    ensures { result ≡ true → GoesUnseen (world forest.now) next.now gone.now }
-{
-    is_first(gone, next.old) && forest.leaves_unseen(next.old, next.parent)
 }
 
 // A white image that comes with another, which stays where it stands, or one of the same contents.

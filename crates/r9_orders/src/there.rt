@@ -25,7 +25,7 @@ pub(crate) fn rio_screen(device: &Device, host: u32) -> u32
 }
 
 // Whether there is a rio in a window, or the root's.
-fn has_rio(device: &Device, host: u32) -> bool
+pub(crate) fn has_rio(device: &Device, host: u32) -> bool
     ensures { result ≡ has_rio (world_of device.now) host }
 {
     device.book.screen(0, host).is_ok()

@@ -15,11 +15,12 @@ ghost use Rattle.r9_device.specs.World.{moment_of, world_of, writes_of};
 ghost use Rattle.r9_geom.specs.Geometry.{HasPoints, IsRectNearBy, at_min};
 ghost use Rattle.std.specs.Prelude.{IfOk, OnErr, OnOk, [], false, is_none, true, ◌+◌, ◌<◌, ◌==◌, ◌^◌, ◌≡◌, ◌≤◌, ◌∷◌};
 
+use crate::going::{drop_alone, goes_unseen};
 use crate::image::{add_border, add_window, put_white, stands_on, tie_window};
-use crate::next::{Next, goes_unseen, next_window};
+use crate::next::{Next, next_window};
 use crate::rects::OUTSIDE;
 use crate::rio::close_rio;
-use crate::there::rio_screen;
+use crate::there::{has_rio, rio_screen};
 use model_images::free_id_frees;
 use r9_device::{Device, release};
 use r9_geom::{Point, Rect};
@@ -74,7 +75,7 @@ fn free_window<L: Ledger>(
     }
 }
 
-// A window goes, and the screen of the rio in it.
+// A window goes, and the screen of the rio in it, where there is one.
 #[tactic(auto, unfolding(model_draw::specs::Orders::drop_window))]
 pub(crate) fn drop_window<L: Ledger>(
     device: &mut Device,
@@ -87,6 +88,9 @@ pub(crate) fn drop_window<L: Ledger>(
     ensures moment { moment_of device.new ≡ moment_of device.old }
     ensures writes { writes_of device.new + steps.old ≡ writes_of device.old + steps.new }
 {
+    if !has_rio(device, window) {
+        return drop_alone(device, window, steps);
+    }
     place_window(device, window, OUTSIDE, steps)?;
     close_rio(device, window, steps)?;
     free_window(device, window, steps)
@@ -309,7 +313,7 @@ fn renew_window<L: Ledger>(
         Ok(gone) => gone,
         Err(_) => return Err(Memory),
     };
-    let stays = goes_unseen(&device.forest, next, gone.as_slice());
+    let stays = goes_unseen(&device.forest, next.old, next.parent, gone.as_slice());
     let made = next_window(&mut device.forest, &mut device.book, next, stays, steps);
     device.forest.keeps();
     release(&mut device.forest, gone.as_slice(), steps);

@@ -1,6 +1,6 @@
 //! The planes of images that stand nowhere.
 
-ghost use Rattle.std.specs.Prelude.{◌≡◌, ◌≢◌, ◌+◌, ◌*◌, ◌^◌, ◌<◌, true, false, Some, length, option_and_then, option_map, vec_len, IsTrue};
+ghost use Rattle.std.specs.Prelude.{◌≡◌, ◌≢◌, ◌+◌, ◌*◌, ◌<◌, true, false, Some, length, option_and_then, option_map, IsTrue};
 ghost use Rattle.std.specs.Int.Bits.{bit_and};
 ghost use Rattle.r9_geom.specs.declared.Point.{Point as Spot};
 ghost use Rattle.r9_geom.specs.Geometry.{area_of, carried, height, holds, IsNear, IsOrdered, IsRectNear};

@@ -7,7 +7,7 @@ use Rattle.r9_geom.specs.declared.Point.{Point}
 use Rattle.r9_geom.specs.declared.Rect.{Rect}
 use Rattle.r9_geom.specs.Geometry.{distance, height, holds, is_empty, point_at, width, IsOrdered}
 use Rattle.r9_geom.proofs.GeometryLemmas.{cell_of, distance_is}
-use Rattle.r9_plane.specs.Blocks.{number_in, HasPacked}
+use Rattle.r9_plane.specs.Blocks.{number_in, HasPacked, HasRows}
 use Rattle.r9_plane.specs.Pixels.{along}
 use Rattle.r9_plane.proofs.Marking.{inner_of}
 use Rattle.r9_plane.proofs.PlaneLemmas.{row_lies}
@@ -38,6 +38,13 @@ run_room r first across bits size some wide rows =
     let most : first + height r * across ≤ first + last * across + width r = omega (arith, all, wide) in
     let bytes = mul-le (first + height r * across) bits (first + last * across + width r) bits most (omega arith) in
     record { number = omega (arith, most, rows.number last early); room = omega (arith, bytes, rows.fits last early) }
+
+-- the same among raw pixels
+pub rows_room : (r : Rect) (first across size : ℕ) → HasBoth r → across ≡ width r → HasRows r first across size → first + height r * across ≤ size
+rows_room r first across size some wide rows =
+    let last = height r - 1 in
+    let all = mul-le (height r) across (last + 1) across (omega arith) (omega arith) in
+    omega (arith, all, wide, rows.fits last (omega (arith, some.down)))
 
 -- each point is so many pixels from the first
 pub run_place : (r : Rect) (p : Point) (across : ℕ) → across ≡ width r → holds r p ≡ true → distance r.min.y p.y * across + distance r.min.x p.x < height r * across

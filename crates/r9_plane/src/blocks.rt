@@ -1,6 +1,6 @@
 // Pixels of a rectangle among rows of others.
 
-ghost use Rattle.std.specs.Prelude.{◌≡◌, ◌≢◌, ◌^◌, ◌<◌, ℕ, length, slice_index, IsTrue};
+ghost use Rattle.std.specs.Prelude.{◌≡◌, ◌≢◌, ◌+◌, ◌*◌, ◌^◌, ◌<◌, ◌≤◌, ℕ, length, slice_index, IsTrue};
 ghost use Rattle.r9_geom.specs.declared.Point.{Point};
 ghost use Rattle.r9_geom.specs.Geometry.{holds, IsOrdered};
 ghost use Rattle.model_pixel.specs.Channels.{is_depth};
@@ -38,6 +38,15 @@ pub fn copy_rows(
     }
 }
 
+// Writes one pixel in so many whole rows.
+fn fill_whole_rows(raws: &mut [u32], first: usize, rows: usize, width: usize, raw: u32)
+    requires fits { first + rows * width ≤ length raws.old }
+    ensures written { (i : ℕ) → i < rows * width → slice_index raws.new (first + i) ≡ raw }
+    ensures others { (n : ℕ) → ((i : ℕ) → i < rows * width → n ≢ first + i) → slice_index raws.new n ≡ slice_index raws.old n }
+{
+    raws[first..first + rows * width].fill(raw);
+}
+
 /// Writes one pixel at all points of a rectangle among rows of so many, whose first pixel has number `first`.
 pub fn fill_rows(raws: &mut [u32], first: usize, width: usize, r: &Rect, raw: u32)
     requires ordered { IsOrdered r.now }
@@ -45,6 +54,11 @@ pub fn fill_rows(raws: &mut [u32], first: usize, width: usize, r: &Rect, raw: u3
     ensures pixels { (p : Point) → IsTrue (holds r.now p) → slice_index raws.new (number_in r.now first width p) ≡ raw }
     ensures others { (n : ℕ) → ((p : Point) → IsTrue (holds r.now p) → n ≢ number_in r.now first width p) → slice_index raws.new n ≡ slice_index raws.old n }
 {
+    if width == r.width() as usize && !r.is_empty() {
+        // Nothing stands between its rows.
+        fill_whole_rows(raws, first, r.height() as usize, width, raw);
+        return;
+    }
     let columns = r.width() as usize;
     for row in 0..r.height() {
         let start = first + row as usize * width;

@@ -1,6 +1,6 @@
 //! Pixels that are moved within an image, where one plane keeps all of them.
 
-ghost use Rattle.std.specs.Prelude.{◌≡◌, ◌+◌, ◌^◌, ◌<◌, ◌≤◌, true, false, IfSome, IsTrue};
+ghost use Rattle.std.specs.Prelude.{◌≡◌, ◌+◌, ◌<◌, true, false, IfSome, IsTrue};
 ghost use Rattle.std.specs.Int.Bits.{bit_and};
 ghost use Rattle.r9_geom.specs.declared.Point.{Point as Spot};
 ghost use Rattle.r9_geom.specs.Geometry.{area_of, carried, height, holds, is_empty, width, IsOrdered, IsRectNear};

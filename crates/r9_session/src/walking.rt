@@ -9,7 +9,9 @@ ghost use Rattle.model_world.specs.Fids.{with_fid, is_bound, is_full};
 ghost use Rattle.model_world.specs.Walking.{walk_answer, walk_ended, walked, last};
 ghost use Rattle.model_world.specs.Answer.{stat_answer, denied};
 ghost use Rattle.r9_around.specs.Words.{IfRefused};
+ghost use Rattle.model_wire.specs.Message.{Rstat};
 ghost use Rattle.r9_tree.specs.View.{node_of, IsNode};
+ghost use Rattle.r9_wire.specs.View.{r_of, stat_of};
 ghost use Rattle.r9_session.specs.Answers.{IsAnswer, IsClosed};
 
 use crate::session::Session;
@@ -19,7 +21,7 @@ use r9_files::{FID_IS_OPEN, Fault, Fid, PERMISSION_DENIED, UNKNOWN_FID};
 use r9_memory::Memory;
 use r9_text::Bytes;
 use r9_tree::{Node, qid, stat, stat_without_view, walk, walk_without_view};
-use r9_wire::{Names, Qids, Rmsg};
+use r9_wire::{Names, Qids, Rmsg, Stat};
 use std::alloc::Global;
 
 /// How far a walk came: the file that it stands at, and the refusal of the name that it stopped at.
@@ -27,6 +29,14 @@ use std::alloc::Global;
 struct Walked {
     node: Node,
     refusal: Option<u8>,
+}
+
+/// The reply that tells what a file is.
+fn stat_reply(alloc: Global, tag: u16, stat: Stat) -> Result<Rmsg, Memory>
+    ensures { IfOk result (λ reply. r_of reply ≡ Rstat tag (stat_of stat)) }
+{
+    let stat = Box::new(alloc, stat)?;
+    Ok(Rmsg::Stat { tag, stat })
 }
 
 impl Session {
@@ -163,11 +173,11 @@ impl Session {
         let node = found.node();
         self.check_live(outside, &node)?;
         if let Some(stat) = stat_without_view(alloc, &node)? {
-            return Ok(Rmsg::Stat { tag, stat });
+            return Ok(stat_reply(alloc, tag, stat)?);
         }
         let view = self.view(outside, &node)?;
         let stat = stat(alloc, &node, &view)?;
-        Ok(Rmsg::Stat { tag, stat })
+        Ok(stat_reply(alloc, tag, stat)?)
     }
 
     /// Refuses to make a file, or to change what it is.

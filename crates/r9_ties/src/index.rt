@@ -54,6 +54,26 @@ fn take_text(alloc: Global, kept: &mut Vec<u8>, text: &[u8]) -> Vec<u8>
     }
 }
 
+// Keeps the text's memory for the next name, where it is more than what is kept.
+fn keep_text(kept: &mut Vec<u8>, text: Vec<u8>)
+    ensures { vec_capacity kept.old ≤ vec_capacity kept.new }
+{
+    if kept.capacity() < text.capacity() {
+        *kept = text;
+    }
+}
+
+// Takes out a name, and keeps its memory for the next one.
+fn remove_name(names: &mut HashMap<Vec<u8>, u64>, kept: &mut Vec<u8>, name: &[u8])
+    ensures names { (q : List ℕ) → named names.new q ≡ cond (bytes_eq name.now q) None (named names.old q) }
+    ensures room { spare names.old ≤ spare names.new }
+    ensures more { vec_capacity kept.old ≤ vec_capacity kept.new }
+{
+    if let Some((key_text, _)) = names.remove_entry(name) {
+        keep_text(kept, key_text);
+    }
+}
+
 impl Index {
     ghost use Rattle.r9_ties.specs.Room.{HasGrown};
 
@@ -133,7 +153,7 @@ impl Index {
         self.owners.put(Owned { client, id, number });
     }
 
-    // Takes out the tie of a number, where there is one.
+    // Takes out the tie of a number, where there is one, and keeps the memory of its texts for the next.
     pub(crate) fn remove(&mut self, number: u64)
         ensures order { self.new.order.rows ≡ without_key number_key (key number 0 0) self.old.order.rows }
         ensures store { (n : ℕ) → get nat_eq self.new.store n ≡ cond (number == n) None (get nat_eq self.old.store n) }
@@ -149,11 +169,12 @@ impl Index {
         let Some(tie) = self.store.remove(&number) else {
             return;
         };
-        let _ = self.names.remove(tie.name.as_slice());
+        remove_name(&mut self.names, &mut self.key_text, tie.name.as_slice());
         let _ = self.owners.remove(Key {
             first: tie.client,
             second: tie.id as u64,
             third: tie.number,
         });
+        keep_text(&mut self.text, tie.name.into_vec());
     }
 }

@@ -1,5 +1,5 @@
 -- What is used, by its count.
-use Rattle.std.proofs.Common.{◌≡◌, ℕ, zero, suc, ◌+◌, ◌<◌, Bool, true, false, List, [], ◌∷◌, Option, Some, None, refl, sym, ap, subst, ◌∙◌, arith}
+use Rattle.std.proofs.Common.{◌≡◌, ℕ, zero, suc, ◌+◌, ◌<◌, Bool, true, List, [], ◌∷◌, Option, Some, None, refl, sym, ap, subst, ◌∙◌, arith}
 use Rattle.std.specs.Prelude.{◌==◌, ◌||◌, find, nat_lt, is_some, All, option_map, nat_eq}
 use Rattle.std.specs.Option.{option_map_or}
 use Rattle.std.specs.List.{count_by, list_any}
@@ -38,10 +38,6 @@ used-screen s count ids windows is =
     let b = count_by (λ (w : OnScreen). w.screen == s) windows in
     ap (λ (k : ℕ). nat_lt 0 k) is ∙ lt-sum a b
     ∙ (λ k. any-count (λ (e : ScreenId). e.screen == s) ids k || any-count (λ (w : OnScreen). w.screen == s) windows k)
-
-pub or-second : (a b r : Bool) → a ≡ false → r ≡ b → r ≡ (a || b)
-or-second true b r h k = absurd cc
-or-second false b r h k = k
 
 -- ---- what is known
 

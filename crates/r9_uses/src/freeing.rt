@@ -14,6 +14,9 @@ use crate::uses::Uses;
 use model_images::{ImageId, ScreenId, Thing};
 use r9_memory::Memory;
 
+// Where no more things go at once they are given in a list of their own, and the long one stays for the next call.
+const FEW: usize = 8;
+
 fn forget(images: &mut Tally, numbers: &mut Tally, thing: Thing)
     ensures image_counts { (q : ℕ) → count_of images.new.uses q ≡ count_of images.old.uses q }
     ensures screen_counts { (q : ℕ) → count_of numbers.new.uses q ≡ count_of numbers.old.uses q }
@@ -77,16 +80,24 @@ impl Uses {
         Pending::in_memory(stack, most)
     }
 
-    // Gives what has gone.
-    fn take_gone(&mut self) -> Vec<Thing>
+    // Gives what has gone: in the empty list, where that has room for it, else in the one that was kept.
+    fn take_gone(&mut self, mut few: Vec<Thing>) -> Vec<Thing>
+        requires { few.items ≡ [] }
         ensures gone { result.items ≡ self.old.gone.items }
         ensures none { self.new.gone.items ≡ [] }
         ensures kept { (gone : List AThing) (ties : List Tie) (next_tie : ℕ) → given self.new gone ties next_tie ≡ given self.old gone ties next_tie }
         ensures more { room self.old ≤ room self.new }
     {
-        let gone = std::mem::replace(&mut self.gone, Vec::new(self.alloc));
-        forget_all(&mut self.images, &mut self.numbers, &gone);
-        gone
+        forget_all(&mut self.images, &mut self.numbers, &self.gone);
+        if self.gone.len() > few.capacity() {
+            return std::mem::replace(&mut self.gone, few);
+        }
+        match few.extend_from_slice(&self.gone) {
+            Ok(()) => {}
+            Err(_) => unreachable!(),
+        }
+        self.gone.clear();
+        few
     }
 
     // The id of an image that is no window goes. There is room for one thing to go.
@@ -185,9 +196,10 @@ impl Uses {
         ensures kept { (ties : List Tie) (next_tie : ℕ) → OnErr result (freed_of self.new ties next_tie ≡ freed_of self.old ties next_tie) }
         ensures more { room self.old ≤ room self.new }
     {
+        let few = Vec::with_capacity(self.alloc, 1)?;
         self.gone.reserve(1)?;
         self.drop_plain(e);
-        Ok(self.take_gone())
+        Ok(self.take_gone(few))
     }
 
     fn free_window(&mut self, e: ImageId) -> Result<Vec<Thing>, Memory>
@@ -199,14 +211,15 @@ impl Uses {
         ensures more { room self.old ≤ room self.new + 1 }
     {
         let most = most(1, 0, self.windows.len())?;
+        let few = Vec::with_capacity(self.alloc, FEW)?;
         let mut pending = self.make_room(most)?;
         self.drop_image_id(e, &mut pending);
         self.stack = pending.into_memory();
-        Ok(self.take_gone())
+        Ok(self.take_gone(few))
     }
 
     /// An image id goes, and then what nothing refers to any more. Gives what has gone. After Memory all is as before. For an
-    /// image that is no window this takes memory for one thing at most, else for three times the windows that live.
+    /// image that is no window this takes memory for two things at most, else for three times the windows that live and a few.
     pub fn free_image_id(&mut self, e: ImageId) -> Result<Vec<Thing>, Memory>
         requires there { find (model.is_image_id e.client e.id) self.old.image_ids.ids ≡ Some e }
         requires none { self.old.gone.items ≡ [] }
@@ -232,15 +245,16 @@ impl Uses {
         ensures more { room self.old ≤ room self.new + 1 }
     {
         let most = most(0, 1, self.windows.len())?;
+        let few = Vec::with_capacity(self.alloc, FEW)?;
         let mut pending = self.make_room(most)?;
         self.drop_screen_id(e, &mut pending);
         self.stack = pending.into_memory();
-        Ok(self.take_gone())
+        Ok(self.take_gone(few))
     }
 
     /// A connection ends: its image ids go in ascending order, and then its screen ids, each time with what nothing refers to
-    /// any more. Gives what has gone. After Memory all is as before. This takes memory for the ids of the connection and for
-    /// three times the windows that live, and none where it has no id.
+    /// any more. Gives what has gone. After Memory all is as before. This takes memory for the ids of the connection, for three
+    /// times the windows that live and for a few things, and none where it has no id.
     pub fn leave(&mut self, client: u64) -> Result<Vec<Thing>, Memory>
         requires { self.old.gone.items ≡ [] }
         ensures freed { (ties : List Tie) (next_tie : ℕ) → IfOk result (λ gone. given self.new gone.items ties next_tie ≡ left_by (freed_of self.old ties next_tie) client) }
@@ -254,10 +268,11 @@ impl Uses {
             return Ok(Vec::new(self.alloc));
         }
         let most = most(images, screens, self.windows.len())?;
+        let few = Vec::with_capacity(self.alloc, FEW)?;
         let mut pending = self.make_room(most)?;
         self.drop_image_ids(client, &mut pending);
         self.drop_screen_ids(client, &mut pending);
         self.stack = pending.into_memory();
-        Ok(self.take_gone())
+        Ok(self.take_gone(few))
     }
 }

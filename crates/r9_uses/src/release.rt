@@ -15,28 +15,14 @@ impl Uses {
     ghost use Rattle.r9_uses.specs.Room.{room};
     ghost use Rattle.r9_uses.specs.Freed.{freed_of, book_of, IsKnown, weight, left_of, HasRoom};
 
-    fn is_used(&self, thing: Thing) -> bool
-        ensures { (ties : List Tie) (next_tie : ℕ) → result ≡ model.is_used (freed_of self.now ties next_tie).book thing }
-    {
-        match thing {
-            Thing::Image(i) => self.images.count(i) > 0,
-            Thing::Screen(s) => self.numbers.count(s) > 0,
-        }
-    }
-
-    fn has_gone(&self, thing: Thing) -> bool
-        ensures { (ties : List Tie) (next_tie : ℕ) → result ≡ model.has_gone (freed_of self.now ties next_tie) thing }
-    {
-        match thing {
-            Thing::Image(i) => self.images.has_gone(i),
-            Thing::Screen(s) => self.numbers.has_gone(s),
-        }
-    }
-
+    // Whether something refers to it, or it has gone.
     pub(crate) fn stays(&self, thing: Thing) -> bool
         ensures { (ties : List Tie) (next_tie : ℕ) → result ≡ (model.is_used (freed_of self.now ties next_tie).book thing || model.has_gone (freed_of self.now ties next_tie) thing) }
     {
-        self.is_used(thing) || self.has_gone(thing)
+        match thing {
+            Thing::Image(i) => self.images.stays(i),
+            Thing::Screen(s) => self.numbers.stays(s),
+        }
     }
 
     // Puts what the image refers to before the other things: its screen, where it is a window.

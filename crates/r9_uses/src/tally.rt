@@ -1,6 +1,6 @@
 //! How often each number of a kind is referred to.
 
-ghost use Rattle.std.specs.Prelude.{◌≡◌, ◌==◌, ◌<◌, ◌≤◌, ◌+◌, ℕ, Bool, true, false, not, cond, ◌&&◌, ◌||◌, OnOk, OnErr};
+ghost use Rattle.std.specs.Prelude.{◌≡◌, ◌==◌, ◌<◌, ◌≤◌, ◌+◌, ℕ, Bool, true, false, not, cond, nat_lt, ◌&&◌, ◌||◌, OnOk, OnErr};
 ghost use Rattle.std.specs.HashMap.{IsEmpty};
 ghost use Rattle.r9_uses.specs.Tally.{count_of, gone_of, knows, room_of};
 
@@ -45,12 +45,12 @@ impl Tally {
         }
     }
 
-    /// Whether what has the number was marked as gone.
-    pub fn has_gone(&self, number: u32) -> bool
-        ensures { result ≡ gone_of self.now.uses number }
+    /// Whether the number is referred to, or what has it was marked as gone.
+    pub fn stays(&self, number: u32) -> bool
+        ensures { result ≡ (nat_lt 0 (count_of self.now.uses number) || gone_of self.now.uses number) }
     {
         match self.uses.get(&number) {
-            Some(u) => u.gone,
+            Some(u) => u.count > 0 || u.gone,
             None => false,
         }
     }

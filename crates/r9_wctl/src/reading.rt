@@ -21,6 +21,9 @@ use std::alloc::{AllocError, Global};
 /// The most bytes that a command has.
 const LONGEST: usize = 1_024;
 
+/// How many words there is room for at first, so that those of a usual command are never copied.
+const FIRST_WORDS: usize = 16;
+
 fn without_last_newline(text: &[u8]) -> &[u8]
     ensures line { result.now ≡ without_last_newline text.now }
     ensures within { length result.now ≤ length text.now }
@@ -53,9 +56,12 @@ fn words_of<'a>(alloc: Global, line: &'a [u8]) -> Result<Vec<&'a [u8]>, AllocErr
     ensures words { IfOk result (λ words. map (λ word. word.now) words.items ≡ words_of line.now) }
     ensures few { IfOk result (λ words. length words.items ≤ length line.now + 1) }
 {
-    line.split(|byte| *byte == b' ' || *byte == b'\t')
-        .filter(|word| !word.is_empty())
-        .collect(alloc)
+    let mut words = Vec::with_capacity(alloc, FIRST_WORDS)?;
+    let all = line
+        .split(|byte| *byte == b' ' || *byte == b'\t')
+        .filter(|word| !word.is_empty());
+    words.extend(all)?;
+    Ok(words)
 }
 
 /// What a command's name asks for.

@@ -1,7 +1,6 @@
 //! What an option says.
 
-ghost use Rattle.std.specs.Prelude.{◌≡◌, ◌==◌, [], ◌∷◌, map, IfOk, IfSome};
-ghost use Rattle.std.specs.List.{slice_split};
+ghost use Rattle.std.specs.Prelude.{◌≡◌, [], ◌∷◌, map, IfOk, IfSome};
 ghost use Rattle.std.specs.Option.{option_map};
 ghost use Rattle.model_wctl.specs.Words.{path, signed, all_some};
 ghost use Rattle.model_wctl.specs.Reading.{setting, rectangle, measured, valued, Choose};
@@ -16,7 +15,7 @@ use model_wctl::{Amount, Choice};
 use r9_geom::{Point, Rect};
 use r9_memory::Memory;
 use r9_text::Numbers;
-use std::alloc::{AllocError, Global};
+use std::alloc::Global;
 
 /// What an option says.
 #[derive(Drop)]
@@ -27,21 +26,13 @@ pub enum Setting {
     NoEffect,
 }
 
-/// The parts of a path.
-fn split_path<'a>(alloc: Global, word: &'a [u8]) -> Result<Vec<&'a [u8]>, AllocError>
-    ensures { IfOk result (λ parts. map (λ part. part.now) parts.items ≡ slice_split (λ byte. byte == 47) word.now) }
-{
-    word.split(|byte| *byte == b'/').collect(alloc)
-}
-
 /// The path of a window that a word spells: numbers of 1 to 9 digits, joined by slashes, from the root rio inward. None
 /// exactly where it spells none.
 pub fn read_path(alloc: Global, word: &[u8]) -> Result<Option<Numbers>, Memory>
     ensures path { IfOk result (λ numbers. numbers ≡ path word.now) }
 {
-    let parts = split_path(alloc, word)?;
     let mut path = Numbers::new(alloc);
-    for part in &parts {
+    for part in word.split(|byte| *byte == b'/') {
         let Some(number) = digits(part, 9) else {
             return Ok(None);
         };

@@ -138,6 +138,6 @@ pub fn reply_bytes(alloc: Global, m: &Rmsg) -> Result<Bytes, Memory>
         Rmsg::Read { tag, bytes } => read_message(alloc, *tag, bytes.as_slice()),
         Rmsg::Write { tag, count } => write_message(alloc, *tag, *count),
         Rmsg::Clunk { tag } => bare_message(alloc, 121, *tag),
-        Rmsg::Stat { tag, stat } => stat_message(alloc, *tag, stat),
+        Rmsg::Stat { tag, stat } => stat_message(alloc, *tag, stat.as_ref()),
     }
 }

@@ -1,4 +1,5 @@
 mod Loops
+mod Names
 mod Levels
 mod Results
 mod Windows

@@ -9,7 +9,7 @@ ghost use Rattle.r9_wmgr.specs.Acts.{IfRefused};
 use crate::act::ActFault;
 use crate::draft::Draft;
 use crate::manager::Manager;
-use crate::naming::{DEEPEST, name_by};
+use crate::naming::DEEPEST;
 use r9_event::{Note, Order};
 use r9_geom::{Point, Rect};
 use r9_memory::Memory;
@@ -21,7 +21,7 @@ use r9_window::{Bounds, Window};
 const MOST_WINDOWS: usize = 64;
 
 /// How deep rios are nested at most, counted from 0 for the root.
-const MOST_NESTING: usize = 8;
+const MOST_NESTING: u32 = 8;
 
 /// The refusals of a rectangle or a host, of one window more, and of a rio nested too deep.
 pub(crate) const BAD_COMMAND: u8 = 47;
@@ -147,9 +147,8 @@ impl Draft {
     fn make(&mut self, w: &Window) -> Result<(), Memory>
         ensures { OnOk result (self.new ≡ model.made w.now self.old) }
     {
-        let path = self.table.path_to(w.host, w.number)?;
-        let depth = path.len() as u32;
-        let name = name_by(self.table.alloc, path.as_slice(), w.generation)?;
+        let depth = self.table.depth_in(w.host);
+        let name = self.table.name_of(w.host, w.number, w.generation)?;
         let told = name.try_clone(self.table.alloc)?;
         let r = w.r.rect();
         self.enter(w)?;
@@ -211,7 +210,7 @@ impl Draft {
         if self.table.is_host(w.serial) {
             return Err(ActFault::Refused(BAD_COMMAND));
         }
-        if self.table.nesting(w.host)? >= MOST_NESTING {
+        if self.table.nesting(w.host) >= MOST_NESTING {
             return Err(ActFault::Refused(TOO_DEEP));
         }
         self.table.host(w.serial)?;

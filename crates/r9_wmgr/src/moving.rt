@@ -12,7 +12,6 @@ ghost use Rattle.r9_wmgr.specs.Acts.{IfRefused};
 use crate::act::ActFault;
 use crate::draft::Draft;
 use crate::making::BAD_COMMAND;
-use crate::naming::name_by;
 use r9_event::{Note, Order};
 use r9_memory::Memory;
 use r9_window::{Bounds, Window};
@@ -38,8 +37,7 @@ impl Draft {
         ensures { OnOk result (self.new ≡ model.replaced keep w.now r self.old) }
     {
         let next = renewed(w, r);
-        let path = self.table.path_to(w.host, w.number)?;
-        let name = name_by(self.table.alloc, path.as_slice(), next.generation)?;
+        let name = self.table.name_of(w.host, w.number, next.generation)?;
         let told = name.try_clone(self.table.alloc)?;
         let r = r.rect();
         self.replace(next);

@@ -1,74 +1,78 @@
 //! The paths of windows and the names of their images.
 
-ghost use Rattle.std.specs.Prelude.{◌≡◌, ◌≤◌, ◌++◌, ◌∷◌, [], length, codes, IfOk, OnOk};
-ghost use Rattle.std.specs.List.{join_by};
-ghost use Rattle.std.specs.Fmt.{decimal};
+ghost use Rattle.std.specs.Prelude.{◌≡◌, ◌≤◌, ◌++◌, ◌∷◌, ℕ, [], length, IfOk, OnOk};
+ghost use Rattle.std.specs.List.{flat_map};
 ghost use Rattle.model_rio.specs.Table as model;
+ghost use Rattle.r9_wmgr.specs.Names.{slashed};
 
 use crate::manager::Manager;
 use r9_memory::Memory;
-use r9_text::{Bytes, Numbers, push_decimal};
-use std::alloc::Global;
+use r9_text::{Bytes, push_decimal};
 
 /// How deep rios are nested at most, counted from 1 for the root.
 pub(crate) const DEEPEST: u32 = 9;
 
-fn push_path(out: &mut Bytes, path: &[u32]) -> Result<(), Memory>
-    ensures { OnOk result (out.new ≡ out.old ++ join_by decimal (codes "/") path.now) }
+fn push_slashed(out: &mut Bytes, number: u32) -> Result<(), Memory>
+    ensures { OnOk result (out.new ≡ out.old ++ slashed number) }
 {
-    if let [first, rest @ ..] = path {
-        push_decimal(out, u64::from(*first))?;
-        for n in rest {
-            out.push(b'/')?;
-            push_decimal(out, u64::from(*n))?;
-        }
-    }
-    Ok(())
-}
-
-/// The name of a window's image.
-#[tactic(auto, unfolding(model_rio::specs::Table::name_by))]
-pub(crate) fn name_by(alloc: Global, path: &[u32], generation: u64) -> Result<Bytes, Memory>
-    ensures { IfOk result (λ name. name ≡ model.name_by path.now generation) }
-{
-    let mut name = Bytes::from_slice(alloc, b"window.")?;
-    push_path(&mut name, path)?;
-    name.push(b'.')?;
-    push_decimal(&mut name, generation)?;
-    Ok(name)
+    push_decimal(out, u64::from(number))?;
+    out.push(b'/')
 }
 
 impl Manager {
-    // The numbers from the root to a window, so many levels up.
-    fn path_up(&self, levels: u32, serial: u32) -> Result<Numbers, Memory>
-        ensures value { IfOk result (λ path. path ≡ model.path_up levels self.now serial) }
-        ensures few { IfOk result (λ path. length path ≤ levels) }
+    // Adds the numbers from the root to a window, so many levels up, each with a slash behind it.
+    fn push_path(&self, out: &mut Bytes, levels: u32, serial: u32) -> Result<(), Memory>
+        ensures { OnOk result (out.new ≡ out.old ++ flat_map slashed (model.path_up levels self.now serial)) }
     {
         if levels == 0 {
-            return Ok(Numbers::new(self.alloc));
+            return Ok(());
         }
         let Some(w) = self.window_of(serial) else {
-            return Ok(Numbers::new(self.alloc));
+            return Ok(());
         };
-        let mut path = self.path_up(levels - 1, w.host)?;
-        path.push(w.number)?;
-        Ok(path)
+        self.push_path(out, levels - 1, w.host)?;
+        push_slashed(out, w.number)
     }
 
-    /// The numbers from the root to the window of a number in the rio of a host.
-    pub(crate) fn path_to(&self, host: u32, number: u32) -> Result<Numbers, Memory>
-        ensures value { IfOk result (λ path. path ≡ model.path_of self.now host ++ number ∷ []) }
-        ensures few { IfOk result (λ path. length path ≤ 10) }
+    /// The name of the image of the window with a number in the rio of a host. It is written in one piece of memory.
+    pub(crate) fn name_of(&self, host: u32, number: u32, generation: u64) -> Result<Bytes, Memory>
+        ensures { IfOk result (λ name. name ≡ model.name_by (model.path_of self.now host ++ number ∷ []) generation) }
     {
-        let mut path = self.path_up(DEEPEST, host)?;
-        path.push(number)?;
-        Ok(path)
+        let mut name = Bytes::new(self.alloc);
+        name.push_all(b"window.")?;
+        self.push_path(&mut name, DEEPEST, host)?;
+        push_decimal(&mut name, u64::from(number))?;
+        name.push(b'.')?;
+        push_decimal(&mut name, generation)?;
+        Ok(name)
+    }
+
+    // How many numbers there are from the root to a window, so many levels up.
+    fn count_up(&self, levels: u32, serial: u32) -> u32
+        ensures value { result ≡ length (model.path_up levels self.now serial) }
+        ensures few { result ≤ levels }
+    {
+        if levels == 0 {
+            return 0;
+        }
+        match self.window_of(serial) {
+            Some(w) => self.count_up(levels - 1, w.host) + 1,
+            None => 0,
+        }
     }
 
     /// How many numbers there are from the root to a window.
-    pub(crate) fn nesting(&self, serial: u32) -> Result<usize, Memory>
-        ensures { IfOk result (λ n. n ≡ length (model.path_of self.now serial)) }
+    pub(crate) fn nesting(&self, serial: u32) -> u32
+        ensures value { result ≡ length (model.path_of self.now serial) }
+        ensures few { result ≤ 9 }
     {
-        Ok(self.path_up(DEEPEST, serial)?.len())
+        self.count_up(DEEPEST, serial)
+    }
+
+    /// How many numbers there are from the root to a window in the rio of a host.
+    pub(crate) fn depth_in(&self, host: u32) -> u32
+        ensures { (number : ℕ) → result ≡ length (model.path_of self.now host ++ number ∷ []) }
+    {
+        self.nesting(host) + 1
     }
 }

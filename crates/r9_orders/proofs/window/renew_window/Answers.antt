@@ -128,7 +128,7 @@ returns-in-Ok-made-clause-renewed g c =
     renewed-world (world_of before) window c.args.screen c.args.next.now freed (world c.release.new.forest) (numbers c.release.new.forest) c.add_window.new.book.book e
     ((c.release.ensures.world ∙ ap (λ (gone : List Thing). fold images_without (world c.next_window-made.new.forest) gone) c.as_slice-2.ensures) ∙ ap (λ (w : Images). fold images_without w freed.gone) c.in-Ok-made.ensures.made
     ∙ come-gone (world before.forest) n c.args.next.now c.keeps.ensures c.in-Ok-made.ensures.free c.requires.ready c.goes_unseen-stays.result freed.gone
-    (λ is. subst (λ (gone : List Thing). GoesUnseen (world before.forest) c.args.next.now gone) c.as_slice.ensures (c.goes_unseen-stays.ensures is)))
+    (λ is. subst (λ (gone : List Thing). GoesUnseen (world before.forest) c.args.next.now.old.0 c.args.next.now.parent.0 gone) c.as_slice.ensures (c.goes_unseen-stays.ensures is)))
     (c.release.ensures.numbers ∙ ap (λ (gone : List Thing). fold numbers_without (numbers c.next_window-made.new.forest) gone) c.as_slice-2.ensures ∙ ap (λ (ns : Numbers). fold numbers_without ns freed.gone) c.in-Ok-made.ensures.taken)
     added
 

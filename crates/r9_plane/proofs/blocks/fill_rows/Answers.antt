@@ -2,12 +2,52 @@ use Rattle.std.proofs.Common.{◌≡◌, ◌∙◌, ◌+◌, ◌-◌, ◌*◌, �
 use Rattle.std.proofs.lemmas.List.{get_or-replicate}
 use Rattle.std.proofs.lemmas.Bool.{false≢true}
 use Rattle.r9_geom.specs.declared.Point.{Point}
-use Rattle.r9_geom.specs.Geometry.{height, holds, point_at, width}
+use Rattle.r9_geom.specs.Geometry.{distance, height, holds, point_at, width}
 use Rattle.r9_geom.proofs.GeometryLemmas.{band, band_all, band_none}
+use Rattle.r9_plane.proofs.OneRun.{both_of, rows_room, run_place, run_point, HasBoth}
 use Rattle.r9_plane.proofs.Rectangles.{length-part, row_put, row_put_others}
 use Rattle.r9_plane.proofs.RunLemmas.{stretch_put}
 use borrow.Rule.Slice.PartMut.{put_mid}
 use Rattle.r9_plane.proofs.blocks.fill_rows.Goals as goal
+use Rattle.r9_plane.proofs.blocks.fill_rows.Goals.{After-height}
+
+-- ---- one run
+
+wide : (c : After-height) → c.args.width ≡ width c.args.r.now
+wide c = c.if-width.true ∙ c.width.ensures
+
+both : (c : After-height) → HasBoth c.args.r.now
+both c = both_of c.args.r.now c.requires.ordered (sym c.is_empty.ensures.exact ∙ c.if-not-is_empty.true)
+
+room : (c : After-height) → c.args.first + height c.args.r.now * c.args.width ≤ length c.args.raws.now
+room c = rows_room c.args.r.now c.args.first c.args.width (length c.args.raws.now) (both c) (wide c) c.requires.rows
+
+count : (c : After-height) → c.height.result * c.args.width ≡ height c.args.r.now * c.args.width
+count c = ap (λ n. n * c.args.width) c.height.ensures
+
+pub fill_whole_rows-requires : goal.fill_whole_rows-requires
+fill_whole_rows-requires c =
+    let at = (goal.at.fill_whole_rows-requires c).After-height in
+    omega (arith, count at, room at)
+
+pub returns-then-not-is_empty-clause-pixels : goal.returns-then-not-is_empty-clause-pixels
+returns-then-not-is_empty-clause-pixels c p h =
+    let at = (goal.at.returns-then-not-is_empty-clause-pixels c).After-height in
+    let r = c.args.r.now in
+    let i = distance r.min.y p.y * c.args.width + distance r.min.x p.x in
+    let number : c.args.first + distance r.min.y p.y * c.args.width + distance r.min.x p.x ≡ c.args.first + i = omega arith in
+    ap (λ n. get_or c.fill_whole_rows.new.raws n 0) number
+    ∙ c.fill_whole_rows.ensures.written i (omega (arith, run_place r p c.args.width (wide at) h, count at))
+
+pub returns-then-not-is_empty-clause-others : goal.returns-then-not-is_empty-clause-others
+returns-then-not-is_empty-clause-others c n apart =
+    let at = (goal.at.returns-then-not-is_empty-clause-others c).After-height in
+    c.fill_whole_rows.ensures.others n
+    (λ i below same.
+    let p = run_point c.args.r.now c.args.first c.args.width i c.requires.ordered (both at) (wide at) (omega (arith, below, count at)) in
+    apart p.point p.inside (same ∙ sym p.number))
+
+-- ---- row by row
 
 pub loop-row-init : goal.loop-row-init
 loop-row-init c = record {

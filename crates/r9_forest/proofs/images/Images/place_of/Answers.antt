@@ -1,6 +1,5 @@
 use Rattle.std.proofs.Common.{◌≡◌, ◌∙◌, sym, ap, subst}
-use Rattle.r9_geom.specs.declared.Rect.{Rect}
-use Rattle.r9_geom.specs.Geometry.{is_empty, meet, IsRectNear}
+use Rattle.r9_geom.specs.Geometry.{IsRectNear}
 use Rattle.model_forest.specs.World.{Image, image_at}
 use Rattle.model_kept.specs.Keeping.{place_among}
 use Rattle.r9_locate.specs.Table.{shape}

@@ -1,7 +1,17 @@
-use Rattle.std.proofs.Common.{◌∙◌, sym}
-use Rattle.r9_uses.proofs.Used.{or-second}
+use Rattle.std.proofs.Common.{◌∙◌}
+use Rattle.std.specs.Prelude.{◌||◌}
+use Rattle.r9_uses.specs.Tally.{count_of}
+use Rattle.r9_uses.proofs.Used.{used-image, used-screen}
 use Rattle.r9_uses.proofs.uses.Uses.stays.Goals as goal
 
-pub returns-else-is_used : goal.returns-else-is_used
-returns-else-is_used c = λ ties next_tie.
-    or-second _ _ _ (sym (c.is_used.ensures ties next_tie) ∙ c.if-is_used.false) (c.has_gone.ensures ties next_tie)
+pub returns-in-Image : goal.returns-in-Image
+returns-in-Image c = λ ties next_tie.
+    let u = c.args.self.now in
+    let i = c.in-Image.i in
+    rw c.in-Image.is (c.stays.ensures ∙ (λ k. used-image i (count_of u.images.uses i) u.image_ids.ids u.screens.screens (u.images_counted i) k || u.images_gone i k))
+
+pub returns-in-Screen : goal.returns-in-Screen
+returns-in-Screen c = λ ties next_tie.
+    let u = c.args.self.now in
+    let s = c.in-Screen.s in
+    rw c.in-Screen.is (c.stays-in-Screen.ensures ∙ (λ k. used-screen s (count_of u.numbers.uses s) u.screen_ids.ids u.windows.windows (u.screens_counted s) k || u.screens_gone s k))
