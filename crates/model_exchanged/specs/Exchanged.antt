@@ -1,5 +1,5 @@
 -- A window that comes in place of another, which stays where it stands until it goes.
-use Rattle.std.specs.Prelude.{◌≡◌, ◌≢◌, ℕ, ◌+◌, Bool, true, false, [], ◌∷◌, Some, IfSome, if◌then◌else◌}
+use Rattle.std.specs.Prelude.{◌≡◌, ◌≢◌, ℕ, ◌+◌, ◌==◌, Bool, true, false, List, [], ◌∷◌, Some, IfSome, if◌then◌else◌}
 use Rattle.r9_geom.specs.declared.Point.{Point}
 use Rattle.r9_geom.specs.declared.Rect.{Rect}
 use Rattle.r9_geom.specs.Geometry.{carried, is_empty, meet}
@@ -7,11 +7,16 @@ use Rattle.model_forest.specs.declared.Window.{Window}
 use Rattle.model_forest.specs.World.{Image, World, fill_of, image_at, parent_of, with_image}
 use Rattle.model_forest.specs.View.{view}
 use Rattle.model_forest.specs.Stack.{seen, with_windows}
-use Rattle.model_forest.specs.Steps.{after_list, carried_rect, outside, put_above}
+use Rattle.model_forest.specs.Steps.{after_list, carried_rect, outside}
 
--- a window comes directly above another, as where it replaces that, but the other stays where it stands
-unfoldable pub after_put_over : World → ℕ → ℕ → Rect → Point → ℕ → Bool → World
-after_put_over world i old r corner raw keep =
+-- a window directly below another of a list
+abbrev pub put_below : Window → ℕ → List Window → List Window
+put_below w old [] = []
+put_below w old (v ∷ ws) = if v.image == old then v ∷ w ∷ ws else v ∷ put_below w old ws
+
+-- a window comes directly below another, which stays where it stands: once that goes it stands where it would in place of it
+unfoldable pub after_put_under : World → ℕ → ℕ → Rect → Point → ℕ → Bool → World
+after_put_under world i old r corner raw keep =
     let image = image_at world old in
     let pixel = λ (p : Point). if keep then view world old (carried p r.min image.r.min) else raw in
     let window : Image = record {
@@ -25,7 +30,7 @@ after_put_over world i old r corner raw keep =
       windows = [];
     } in
     let first : Window = record { image = i; place = carried_rect r r.min corner } in
-    after_list (with_image world i (Some window)) old (put_above first old)
+    after_list (with_image world i (Some window)) old (put_below first old)
 
 -- the same where it comes on another image, topmost there
 unfoldable pub after_put_on : World → (i old parent fill : ℕ) → Rect → Point → ℕ → Bool → World

@@ -1,6 +1,6 @@
 -- Windows of a list that are passed over, since no cell of theirs is to get a tile or to lose it.
 use Rattle.std.proofs.Common.{◌≡◌, ◌∙◌, ℕ, suc, zero, ◌+◌, ◌-◌, ◌<◌, ◌≤◌, Bool, true, false, All, List, [], ◌∷◌, Option, cond, drop, get_or, length, refl, sym, ap, arith, ⊎_elim}
-use Rattle.std.specs.Prelude.{◌&&◌, ◌||◌, is_some, not}
+use Rattle.std.specs.Prelude.{◌&&◌, ◌||◌, is_none, is_some, not}
 use Rattle.std.specs.List.{count_by, list_any, range_with_len, sum_by}
 use Rattle.std.proofs.lemmas.Bool.{and_from, and_parts, cases_lt, false_from_ne_true}
 use Rattle.std.proofs.lemmas.List.{at_drop_all}
@@ -9,13 +9,13 @@ use Rattle.r9_geom.specs.declared.Rect.{Rect}
 use Rattle.model_forest.specs.declared.Window.{Window}
 use Rattle.model_forest.specs.World.{World, image_at}
 use Rattle.model_kept.specs.Cells.{cell_count}
-use Rattle.r9_cells.specs.Rows.{cell_at}
+use Rattle.r9_cells.specs.Rows.{cell_at, row_at}
 use Rattle.r9_cells.specs.Fitting.{hides_cell, hides_listed, meets, standing_cell, wanted, wanted_all, wanted_among, wanted_later, wanted_near, wants, AreGivenOff, AreOne, AreTakenOff, IsLaterTaken, IsTakenOff, IsWindowAt, IsWindowed}
 use Rattle.r9_cells.proofs.Counted.{count_none}
 use Rattle.r9_cells.proofs.Listed.{no_window}
 use Rattle.r9_cells.proofs.Skipped.{any_skip, cells_off, none_near, none_skip, one_at, sum_skip}
 use Rattle.r9_cells.proofs.Steps.{weight}
-use Rattle.r9_cells.proofs.Still.{still_wanted, IsGiven, IsTaken}
+use Rattle.r9_cells.proofs.Still.{full_cell, full_wanted, still_wanted, IsGiven, IsTaken}
 use Rattle.r9_cells.proofs.Windowed.{met_wants}
 
 -- from one place of a list to a later one, which may be past its end
@@ -80,15 +80,26 @@ count_most_in q r a (suc n) weaker =
 
 -- ---- windows whose cells have their tiles, or none
 
-pub passed_taken : (rows : List (List (Option ℕ))) (world : World) (p : ℕ) (ws : List Window) (from : ℕ) (areas : List Rect) → AreTakenOff rows world p ws from areas → All (IsWindowed rows world) ws → AreOne ws → (k : ℕ) → k < length ws → (from ≤ k → meets areas (get_or ws k no_window).place ≡ false) → IsTaken rows (image_at world p).r ws (get_or ws k no_window).image (image_at world (get_or ws k no_window).image).r
-passed_taken rows world p ws from areas still windows one k below off n lower hid =
-    let w = get_or ws k no_window in
-    let is = windows k no_window below in
-    let at = one_at ws k one below in
+-- the cells of a window that meets no area, or of which each has a tile: they had them before, where those are the same
+pub passed_full : (rows now : List (List (Option ℕ))) (world : World) (p : ℕ) (ws : List Window) (from : ℕ) (areas : List Rect) → AreTakenOff rows world p ws from areas → All (IsWindowed rows world) ws → AreOne ws → ((j : ℕ) → length (row_at now j) ≡ length (row_at rows j)) → (k : ℕ) → k < length ws → ((n : ℕ) → is_some (cell_at now (get_or ws k no_window).image n) ≡ is_some (cell_at rows (get_or ws k no_window).image n)) → (from ≤ k → (meets areas (get_or ws k no_window).place && list_any is_none (row_at now (get_or ws k no_window).image)) ≡ false) → IsTaken rows (image_at world p).r ws (get_or ws k no_window).image (image_at world (get_or ws k no_window).image).r
+passed_full rows now world p ws from areas still windows one long k below same off n lower hid =
     ⊎_elim
     (λ (early : k < from). still.first k w early at n lower hid)
-    (λ (late : from ≤ k). still.others k w late at n lower (cells_off areas ws k w (image_at world w.image).r n at is.size is.cells.ordered lower (off late)) hid)
+    (λ (late : from ≤ k). by_meets late (meets areas w.place) refl (off late))
     (cases_lt k from)
+  where
+    w : Window
+    w = get_or ws k no_window
+
+    is : IsWindowed rows world w
+    is = windows k no_window below
+
+    at : IsWindowAt ws k w
+    at = one_at ws k one below
+
+    by_meets : from ≤ k → (b : Bool) → meets areas w.place ≡ b → (b && list_any is_none (row_at now w.image)) ≡ false → is_some (cell_at rows w.image n) ≡ true
+    by_meets late false e full = still.others k w late at n lower (cells_off areas ws k w (image_at world w.image).r n at is.size is.cells.ordered lower e) hid
+    by_meets late true e full = sym (same n) ∙ full_cell now w.image n (omega (arith, lower, long w.image, is.cells.cells)) full
 
 pub passed_given : (rows : List (List (Option ℕ))) (world : World) (p : ℕ) (ws : List Window) (from : ℕ) (areas : List Rect) → AreGivenOff rows world p ws from areas → All (IsWindowed rows world) ws → AreOne ws → (k : ℕ) → k < length ws → (from ≤ k → meets areas (get_or ws k no_window).place ≡ false) → IsGiven rows (image_at world p).r ws (get_or ws k no_window).image (image_at world (get_or ws k no_window).image).r
 passed_given rows world p ws from areas still windows one k below off n lower hid =
@@ -106,6 +117,17 @@ passed_near rows world p ws areas windows one k below off =
     let w = get_or ws k no_window in
     let is = windows k no_window below in
     none_near rows (image_at world p).r ws areas k w (image_at world w.image).r (one_at ws k one below) is.size is.cells.ordered off
+
+-- or lacks a tile
+pub passed_lacking : (rows : List (List (Option ℕ))) (world : World) (p : ℕ) (ws : List Window) (areas : List Rect) → All (IsWindowed rows world) ws → AreOne ws → (k : ℕ) → k < length ws → (meets areas (get_or ws k no_window).place && list_any is_none (row_at rows (get_or ws k no_window).image)) ≡ false → wanted_near rows (image_at world p).r ws areas (get_or ws k no_window).image (image_at world (get_or ws k no_window).image).r ≡ 0
+passed_lacking rows world p ws areas windows one k below off = by_meets (meets areas w.place) refl off
+  where
+    w : Window
+    w = get_or ws k no_window
+
+    by_meets : (b : Bool) → meets areas w.place ≡ b → (b && list_any is_none (row_at rows w.image)) ≡ false → wanted_near rows (image_at world p).r ws areas w.image (image_at world w.image).r ≡ 0
+    by_meets false e full = passed_near rows world p ws areas windows one k below e
+    by_meets true e full = full_wanted rows (image_at world p).r ws areas w.image (image_at world w.image).r (windows k no_window below).cells.cells full
 
 -- ---- how many tiles are wanted
 

@@ -2,9 +2,10 @@
 use Rattle.std.proofs.Common.{◌≡◌, ◌∙◌, ℕ, suc, zero, ◌+◌, ◌<◌, ◌≤◌, Bool, true, false, List, [], ◌∷◌, Option, Some, None, cond, drop, get_or, length, refl, sym, ap, subst, eq-eqb, arith}
 use Rattle.std.specs.Prelude.{◌==◌, ◌&&◌, ◌||◌, nat_lt, not}
 use Rattle.std.specs.List.{count_by, list_any, position_or_len, sum_by}
-use Rattle.std.proofs.lemmas.Bool.{and_from, and_parts, false_from_ne_true, false≢true, or_from, or_parts}
+use Rattle.std.proofs.lemmas.Bool.{and_from, and_parts, false_from_ne_true, false≢true, ne_eqb, or_from, or_parts}
 use Rattle.std.proofs.lemmas.Bool.Decides.{Decides-ltb}
 use Rattle.std.proofs.lemmas.Int.{ints}
+use Rattle.std.proofs.lemmas.List.Quantifiers.{position-Some}
 use Rattle.std.proofs.lemmas.List.Sums.{sum_by-cons}
 use Rattle.r9_geom.specs.declared.Rect.{Rect}
 use Rattle.r9_geom.specs.Geometry.{holds, is_empty, is_inside, meet, IsOrdered}
@@ -141,3 +142,11 @@ one_at ws k one below =
       first = ap (λ n. cond (nat_lt n (length ws)) (Some n) None) at ∙ ap (λ b. cond b (Some k) None) ((Decides-ltb k (length ws)).1 below);
       place = sym (place_at w.image ws no_window (subst (λ n. n < length ws) (sym at) below)) ∙ ap (λ n. (get_or ws n no_window).place) at;
     }
+
+-- two of its windows are of two images
+pub one_apart : (ws : List Window) (a k : ℕ) → AreOne ws → a < k → k < length ws → ((get_or ws k no_window).image == (get_or ws a no_window).image) ≡ false
+one_apart ws a k one before below =
+    let i = (get_or ws k no_window).image in
+    let j = (get_or ws a no_window).image in
+    let other : (j == i) ≡ false = (position-Some (λ (v : Window). v.image == i) ws k no_window (one_at ws k one below).first).2 a before in
+    ne_eqb i j (λ e. false≢true (sym other ∙ eq-eqb j i (sym e)))

@@ -2,17 +2,19 @@
 //! of these have their tiles already, and so have all cells of the first windows, above which none has changed: they are not looked
 //! at. Where no area is given, all are looked at.
 
-ghost use Rattle.std.specs.Prelude.{◌≡◌, ◌+◌, ◌≤◌, ◌==◌, ◌&&◌, ◌||◌, ℕ, drop, nat_lt, not, is_some, length, All, IfOk, OnErr, OnOk, if◌then◌else◌};
+ghost use Rattle.std.specs.Prelude.{◌≡◌, ◌+◌, ◌<◌, ◌≤◌, ◌==◌, ◌&&◌, ◌||◌, ℕ, List, drop, false, nat_lt, not, is_none, is_some, length, slice_index_or, All, IfOk, OnErr, OnOk, if◌then◌else◌};
 ghost use Rattle.std.specs.List.{list_any};
 ghost use Rattle.r9_geom.specs.declared.Point.{Point as Spot};
+ghost use Rattle.r9_geom.specs.declared.Rect.{Rect as Area};
 ghost use Rattle.r9_geom.specs.Geometry.{is_empty, meet, IsRectNear};
 ghost use Rattle.r9_store.specs.Tiles.{spare};
+ghost use Rattle.model_forest.specs.declared.Window.{Window as Listed};
 ghost use Rattle.model_forest.specs.World.{image_at, IsLive};
 ghost use Rattle.model_kept.specs.Cells.{cell_count};
 ghost use Rattle.r9_locate.specs.Table.{shape};
 ghost use Rattle.r9_cells.specs.Rows.{cell_at, row_at};
 ghost use Rattle.r9_cells.specs.Fitting as spec;
-ghost use Rattle.r9_cells.specs.Fitting.{hides_cell, hides_of, shows_of, wanted_all, wanted_among, wanted_later, AreGivenOff, AreOne, AreTakenOff, IsGivenOff, IsLaterTaken, IsTakenOff, IsWindowAt, IsWindowed};
+ghost use Rattle.r9_cells.specs.Fitting.{hides_cell, hides_of, shows_of, wanted_all, wanted_among, wanted_later, AreGivenOff, AreOne, AreTakenOff, IsGivenOff, IsLaterTaken, IsSpan, IsTakenOff, IsWindowAt, IsWindowed};
 
 use super::hiding::{is_nowhere, next_near, span};
 use super::table::Cells;
@@ -32,6 +34,23 @@ fn rect_of(lists: &Lists, i: u32) -> Rect
 impl Cells {
     ghost use Rattle.r9_cells.specs.Cells.{all_rows, cell_pixel, tiles_in};
 
+    // The next window from one on that may have points in common with some areas, all points of which are in the span, and has
+    // a cell without a tile: none of the list where there is none.
+    fn next_lacking(&self, windows: &[Window], from: usize, near: &Option<Rect>) -> usize
+        requires { All (λ w. w.image < length (all_rows self.now)) windows.now }
+        ensures least { from ≤ result }
+        ensures off { (areas : List Area) → IsSpan near.now areas → (k : ℕ) (d : Listed) → from ≤ k → k < result → k < length windows.now → (spec.meets areas (slice_index_or windows.now k d).place && list_any is_none (row_at (all_rows self.now) (slice_index_or windows.now k d).image)) ≡ false }
+    {
+        let mut at = next_near(windows, from, near);
+        while at < windows.len() {
+            if self.lacks(windows[at].image) {
+                return at;
+            }
+            at = next_near(windows, at + 1, near);
+        }
+        at
+    }
+
     // How many cells of a window meet one of the areas, are hidden and have no tile.
     fn wanted_at(
         &self,
@@ -47,9 +66,6 @@ impl Cells {
         requires places { All (λ v. IsRectNear v.place) windows.now }
         ensures { result ≡ spec.wanted_near (all_rows self.now) below.now windows.now areas.now w.now.image (image_at (shape lists.now) w.now.image).r }
     {
-        if !self.lacks(w.image) {
-            return 0;
-        }
         let r = rect_of(lists, w.image);
         self.wanted(below, windows, at, w, areas, &r)
     }
@@ -75,9 +91,6 @@ impl Cells {
         ensures rows { length (all_rows self.new) ≡ length (all_rows self.old) }
         ensures lengths { (j : ℕ) → length (row_at (all_rows self.new) j) ≡ length (row_at (all_rows self.old) j) }
     {
-        if !self.lacks(w.image) {
-            return;
-        }
         let r = rect_of(lists, w.image);
         self.take_window(below, windows, at, w, areas, &r);
     }
@@ -126,14 +139,14 @@ impl Cells {
         let below = rect_of(lists, p);
         let near = span(areas);
         let mut count: usize = 0;
-        let mut at = next_near(windows, from, &near);
+        let mut at = self.next_lacking(windows, from, &near);
         while at < windows.len() {
             let more = self.wanted_at(lists, &below, windows, at, &windows[at], areas);
             count = match count.checked_add(more) {
                 Some(count) => count,
                 None => return Err(Memory),
             };
-            at = next_near(windows, at + 1, &near);
+            at = self.next_lacking(windows, at + 1, &near);
         }
         Ok(count)
     }
@@ -218,10 +231,10 @@ impl Cells {
     {
         let below = rect_of(lists, p);
         let near = span(areas);
-        let mut at = next_near(windows, from, &near);
+        let mut at = self.next_lacking(windows, from, &near);
         while at < windows.len() {
             self.take_at(lists, &below, windows, at, &windows[at], areas);
-            at = next_near(windows, at + 1, &near);
+            at = self.next_lacking(windows, at + 1, &near);
         }
     }
 

@@ -1,10 +1,12 @@
 -- A window comes with what another shows, and the other moves far outside.
 use Rattle.std.proofs.Common.{◌≡◌, ◌≢◌, ◌∙◌, ℕ, ◌+◌, ◌*◌, ◌<◌, ◌≤◌, ◌^◌, ◌+ℤ◌, ◌-ℤ◌, Bool, true, false, List, [], ◌∷◌, Option, Some, None, Result, Ok, Err, cond, find, get_or, length, refl, sym, ap, subst, arith, ⊎_elim, eq-eqb}
 use Rattle.std.specs.List.{list_any}
-use Rattle.std.specs.Prelude.{◌==◌, ◌||◌, is_some, IfOk, IfSome, option_map, unwrap_or, if◌then◌else◌}
+use Rattle.std.specs.Prelude.{◌==◌, ◌||◌, is_some, All, IfOk, IfSome, IsTrue, option_map, unwrap_or, if◌then◌else◌}
 use Rattle.std.specs.Option.{option_map_or}
 use Rattle.std.proofs.lemmas.Bool.{cases_eq, false_from_ne_true, false≢true, ne_eqb, or_parts}
+use Rattle.std.proofs.lemmas.Bool.Decides.{Decides-eqb}
 use Rattle.std.proofs.lemmas.Int.{ints}
+use Rattle.std.proofs.lemmas.List.Elements.{All-head, All-tail}
 use Rattle.std.proofs.lemmas.Nat.{pow_pos}
 use Rattle.r9_geom.specs.declared.Point.{Point}
 use Rattle.r9_geom.specs.declared.Rect.{Rect}
@@ -15,15 +17,16 @@ use Rattle.model_forest.specs.declared.Standing.{Standing}
 use Rattle.model_forest.specs.declared.Window.{Window}
 use Rattle.model_forest.specs.Stack.{moved, seen, with_windows}
 use Rattle.model_forest.specs.Steps.{after_list, after_replace, after_replace_on, carried_rect, outside, put_above}
-use Rattle.model_exchanged.specs.Exchanged.{after_put_on, after_put_over}
+use Rattle.model_exchanged.specs.Exchanged.{after_put_on, after_put_under, put_below}
+use Rattle.model_exchanged.proofs.Below.{listed-put_below, listed-put_below_new, times-put_below, All-put_below, length-put_below}
 use Rattle.model_forest.specs.View.{view}
-use Rattle.model_forest.specs.World.{Image, World, image_at, no_image, no_rect, parent_of, with_image, IsForest, IsLive, SameSize}
+use Rattle.model_forest.specs.World.{Image, World, image_at, no_image, no_rect, parent_of, with_image, IsForest, IsLive, IsWindowOf, SameSize}
 use Rattle.model_forest.proofs.Changes.{live-standing, with_image-free}
 use Rattle.model_forest.proofs.Listed.{stands_on, window_of}
-use Rattle.model_forest.proofs.Sound.{times, view-below}
+use Rattle.model_forest.proofs.Sound.{is_listed, times, view-below}
 use Rattle.model_forest.proofs.Steps.{replacement, IsForest-carried_over, IsForest-moved_to, IsForest-replacement}
 use Rattle.model_forest.proofs.Uncovers.{seen-same}
-use Rattle.model_forest.proofs.Windows.{lives-with_windows, rect-with_windows, windows-with_windows, with_windows-other, IsStill-with_windows}
+use Rattle.model_forest.proofs.Windows.{lives-with_windows, rect-with_windows, windows-with_windows, with_windows-other, IsForest-with_windows, IsStill-with_windows}
 use Rattle.model_kept.specs.Keeping.{is_top, place_among, with_kept, Place}
 use Rattle.r9_plane.specs.Pixels.{number_of}
 use Rattle.r9_cells.specs.Fitting.{AreOne}
@@ -33,8 +36,11 @@ use Rattle.r9_arrive.proofs.Canvases.{bare_canvas}
 use Rattle.r9_arrive.proofs.Coming.{on_top_comes, put_above_comes}
 use Rattle.r9_forest.specs.Groups.{IsMoved}
 use Rattle.r9_forest.specs.declared.coming.Given.TheVariants.{Plain, Read}
+use Rattle.r9_forest.specs.declared.ranking.Rank.{Rank}
+use Rattle.r9_forest.specs.declared.ranking.Rank.TheVariants.{Top, Above, Below}
 use Rattle.r9_forest.specs.Given.{given_at}
-use Rattle.r9_forest.specs.Replaced.{moved_out, put_in, replaced, taken_over, IsFarOff, IsLater, IsReplacing}
+use Rattle.r9_forest.specs.Replaced.{moved_out, neighbour, put_in, replaced, taken_over, IsFarOff, IsLater, IsReplacing}
+use Rattle.r9_forest.proofs.Beneath.{beneath_covers, beneath_stands, put_below_comes, with_windows-again}
 use Rattle.r9_forest.proofs.Leftover.{hidden_top, later_left, later_left_own}
 
 -- ---- pixels of one rectangle as those of another of its size
@@ -152,9 +158,20 @@ replacement_is world old left r raw keep ok stands =
       windows = [];
     }
 
-module _ (world : World) (i old : ℕ) (left standing : Standing) (over : Option ℕ) (r : Rect) (corner : Point) (raw : ℕ) (keep : Bool) (ok : IsForest world) (is : IsReplacing world i old left standing over r corner raw keep) where
+-- what stood in a list with a window on top stands in the one with that beneath another
+listed_beneath : (w : Window) (old : ℕ) (ws : List Window) → IsTrue (is_listed ws old) → (n : ℕ) → IsTrue (is_listed (w ∷ ws) n) → IsTrue (is_listed (put_below w old ws) n)
+listed_beneath w old ws there n = by_image (w.image == n) refl
+  where
+    by_image : (b : Bool) → (w.image == n) ≡ b → (b || is_listed ws n) ≡ true → is_listed (put_below w old ws) n ≡ true
+    by_image true e some = subst (λ m. is_listed (put_below w old ws) m ≡ true) ((Decides-eqb w.image n).0 e) (listed-put_below_new w old ws there)
+    by_image false e some = listed-put_below w old ws n some
+
+at_most_once : (us ws : List Window) (n : ℕ) → times us n ≤ times ws n → times ws n ≤ 1 → times us n ≤ 1
+at_most_once us ws n most once = omega (arith, most, once)
+
+module _ (world : World) (i old : ℕ) (left standing : Standing) (rank : Rank) (r : Rect) (corner : Point) (raw : ℕ) (keep : Bool) (ok : IsForest world) (is : IsReplacing world i old left standing rank r corner raw keep) where
   abbrev when_come : World
-  when_come = replaced world i old standing over r corner raw keep
+  when_come = replaced world i old standing rank r corner raw keep
 
   abbrev own : Rect
   own = (image_at world old).r
@@ -166,7 +183,7 @@ module _ (world : World) (i old : ℕ) (left standing : Standing) (over : Option
   left_live = ok.parents old left.parent old_live (stands_at world old left is.left_at)
 
   -- it is a world of images
-  on_top_forest : IsForest (replaced world i old standing None r corner raw keep)
+  on_top_forest : IsForest (replaced world i old standing Top r corner raw keep)
   on_top_forest =
       IsForest-carried_over world i old standing.parent standing.fill r corner raw keep is.free
       (record {
@@ -183,7 +200,7 @@ module _ (world : World) (i old : ℕ) (left standing : Standing) (over : Option
       })
       ok
 
-  above_forest : standing ≡ left → IsForest (replaced world i old standing (Some old) r corner raw keep)
+  above_forest : standing ≡ left → IsForest (replaced world i old standing (Above old) r corner raw keep)
   above_forest same =
       let p = left.parent in
       let first : Window = record { image = i; place = carried_rect r r.min corner } in
@@ -192,22 +209,45 @@ module _ (world : World) (i old : ℕ) (left standing : Standing) (over : Option
       ap (λ (o : Option Image). (unwrap_or o no_image).windows) (with_image-free world i p (Some (replacement world old r raw keep)) is.free left_live) in
       let room : length (image_at world p).windows + 1 < 2 ^ 32 = subst (λ (s : Standing). length (image_at world s.parent).windows + 1 < 2 ^ 32) same is.few in
       let fits : raw < 2 ^ channels.depth (image_at world old).chan = subst (λ (c : ℕ). raw < 2 ^ channels.depth c) (ap (λ (s : Standing). (image_at world s.parent).chan) same ∙ sym (left_chan world old left ok is.left_at)) is.fits in
-      subst (λ (s : Standing). IsForest (replaced world i old s (Some old) r corner raw keep)) (sym same)
+      subst (λ (s : Standing). IsForest (replaced world i old s (Above old) r corner raw keep)) (sym same)
       (subst (λ (im : Image). IsForest (with_windows (with_image world i (Some im)) p (put_above first old (image_at world p).windows))) image
       (subst (λ (us : List Window). IsForest (with_windows (with_image world i (Some (replacement world old r raw keep))) p (put_above first old us))) at_p
       (IsForest-replacement world i old p r corner raw keep is.free (stands_at world old left is.left_at) room is.near is.ordered is.near_corner fits ok)))
 
+  below_forest : standing ≡ left → IsForest (replaced world i old standing (Below old) r corner raw keep)
+  below_forest same =
+      let p = standing.parent in
+      let first : Window = record { image = i; place = carried_rect r r.min corner } in
+      let windows = (image_at world p).windows in
+      let pixels = taken_over world old r raw keep in
+      let top : World = replaced world i old standing Top r corner raw keep in
+      let lists : (image_at top p).windows ≡ first ∷ windows = windows_then world i p standing.fill r pixels (first ∷ windows) is.free is.parent_live in
+      let live : IsLive top p = live_still world i p standing.fill r pixels (first ∷ windows) is.free is.parent_live p is.parent_live in
+      let there : IsTrue (is_listed windows old) = subst (λ (s : Standing). IsTrue (is_listed (image_at world s.parent).windows old)) (sym same) (ok.listed old left.parent old_live (stands_at world old left is.left_at)) in
+      let most = length-put_below first old windows in
+      let few : length (put_below first old windows) < 2 ^ 32 = omega (arith, most, is.few) in
+      let stand : All (IsWindowOf top p) (first ∷ windows) = subst (All (IsWindowOf top p)) lists (on_top_forest.windows p live) in
+      let once : (n : ℕ) → times (put_below first old windows) n ≤ 1 =
+      λ n. at_most_once (put_below first old windows) (first ∷ windows) n (times-put_below first old windows n) (subst (λ (us : List Window). times us n ≤ 1) lists (on_top_forest.once p n live)) in
+      subst IsForest (with_windows-again (with_image world i (Some (coming_window world p standing.fill r pixels))) p (first ∷ windows) (put_below first old windows) (beneath_covers first old windows there))
+      (IsForest-with_windows top p (put_below first old windows) live few
+      (All-put_below (IsWindowOf top p) first old windows (All-head (IsWindowOf top p) first windows stand) (All-tail (IsWindowOf top p) first windows stand))
+      (λ n listed. listed_beneath first old windows there n (ap (λ (us : List Window). is_listed us n) (sym lists) ∙ listed)) once on_top_forest)
+
   pub replaced_forest : IsForest when_come
-  replaced_forest = by_over over refl
+  replaced_forest = by_rank rank refl
     where
-      by_over : (o : Option ℕ) → over ≡ o → IsForest (replaced world i old standing o r corner raw keep)
-      by_over None e = on_top_forest
-      by_over (Some n) e =
-          let both = is.beside n e in
-          subst (λ (m : ℕ). IsForest (replaced world i old standing (Some m) r corner raw keep)) (sym both.0) (above_forest both.1)
+      by_rank : (o : Rank) → rank ≡ o → IsForest (replaced world i old standing o r corner raw keep)
+      by_rank Top e = on_top_forest
+      by_rank (Above n) e =
+          let both = is.beside n (ap neighbour e) in
+          subst (λ (m : ℕ). IsForest (replaced world i old standing (Above m) r corner raw keep)) (sym both.0) (above_forest both.1)
+      by_rank (Below n) e =
+          let both = is.beside n (ap neighbour e) in
+          subst (λ (m : ℕ). IsForest (replaced world i old standing (Below m) r corner raw keep)) (sym both.0) (below_forest both.1)
 
   abbrev ws : List Window
-  ws = put_in over (record { image = i; place = carried_rect r r.min corner }) (image_at world standing.parent).windows
+  ws = put_in rank (record { image = i; place = carried_rect r r.min corner }) (image_at world standing.parent).windows
 
   pub old_stands : (image_at when_come old).standing ≡ Some left
   old_stands = standing_still world i standing.parent standing.fill r (taken_over world old r raw keep) ws is.free is.parent_live old old_live ∙ is.left_at
@@ -238,43 +278,47 @@ listed_at : (world : World) (i : ℕ) (s : Standing) (change : List Window → L
 listed_at world i s change stands =
     ap (λ (o : Option ℕ). option_map_or (λ parent. with_windows world parent (change (image_at world parent).windows)) o world) (stands_at world i s stands)
 
--- a window that comes directly above another, which stays
-pub put_over_world : (world : World) (i old : ℕ) (left : Standing) (r : Rect) (corner : Point) (raw : ℕ) (keep : Bool) → IsForest world → IsReplacing world i old left left (Some old) r corner raw keep → replaced world i old left (Some old) r corner raw keep ≡ after_put_over world i old r corner raw keep
-unfolding after_put_over
-put_over_world world i old left r corner raw keep ok is =
+-- a window that comes in the list in which another stands, which stays
+beside_world : (world : World) (i old : ℕ) (left : Standing) (rank : Rank) (r : Rect) (corner : Point) (raw : ℕ) (keep : Bool) → IsForest world → IsReplacing world i old left left rank r corner raw keep → replaced world i old left rank r corner raw keep ≡ after_list (with_image world i (Some (replacement world old r raw keep))) old (put_in rank (record { image = i; place = carried_rect r r.min corner }))
+beside_world world i old left rank r corner raw keep ok is =
     let p = left.parent in
     let first : Window = record { image = i; place = carried_rect r r.min corner } in
     let image = replacement_is world old left r raw keep ok is.left_at in
-    let live = old_live world i old left left (Some old) r corner raw keep ok is in
-    let below = left_live world i old left left (Some old) r corner raw keep ok is in
+    let live = old_live world i old left left rank r corner raw keep ok is in
+    let below = left_live world i old left left rank r corner raw keep ok is in
     let one = with_image world i (Some (replacement world old r raw keep)) in
     let stands_one : (image_at one old).standing ≡ Some left = ap (λ (o : Option Image). (unwrap_or o no_image).standing) (with_image-free world i old (Some (replacement world old r raw keep)) is.free live) ∙ is.left_at in
     let at_p : (image_at one p).windows ≡ (image_at world p).windows = ap (λ (o : Option Image). (unwrap_or o no_image).windows) (with_image-free world i p (Some (replacement world old r raw keep)) is.free below) in
     sym
-    (listed_at one old left (put_above first old) stands_one
-    ∙ ap (λ (us : List Window). with_windows one p (put_above first old us)) at_p
-    ∙ ap (λ (im : Image). with_windows (with_image world i (Some im)) p (put_above first old (image_at world p).windows)) image)
+    (listed_at one old left (put_in rank first) stands_one
+    ∙ ap (λ (us : List Window). with_windows one p (put_in rank first us)) at_p
+    ∙ ap (λ (im : Image). with_windows (with_image world i (Some im)) p (put_in rank first (image_at world p).windows)) image)
 
--- and once it moves far outside
-pub replace_world : (world : World) (i old : ℕ) (left : Standing) (r : Rect) (corner : Point) (raw : ℕ) (keep : Bool) → IsForest world → IsReplacing world i old left left (Some old) r corner raw keep → moved_out (replaced world i old left (Some old) r corner raw keep) left.parent old (image_at world old).r ≡ after_replace world i old r corner raw keep
-unfolding after_put_over after_replace
+-- directly below the other
+pub put_under_world : (world : World) (i old : ℕ) (left : Standing) (r : Rect) (corner : Point) (raw : ℕ) (keep : Bool) → IsForest world → IsReplacing world i old left left (Below old) r corner raw keep → replaced world i old left (Below old) r corner raw keep ≡ after_put_under world i old r corner raw keep
+unfolding after_put_under
+put_under_world world i old left r corner raw keep ok is = beside_world world i old left (Below old) r corner raw keep ok is
+
+-- and directly above it, once that moves far outside
+pub replace_world : (world : World) (i old : ℕ) (left : Standing) (r : Rect) (corner : Point) (raw : ℕ) (keep : Bool) → IsForest world → IsReplacing world i old left left (Above old) r corner raw keep → moved_out (replaced world i old left (Above old) r corner raw keep) left.parent old (image_at world old).r ≡ after_replace world i old r corner raw keep
+unfolding after_replace
 replace_world world i old left r corner raw keep ok is =
     let change = moved old (carried_rect (image_at world old).r (image_at world old).r.min outside) in
     sym
-    (ap (λ (v : World). after_list v old change) (sym (put_over_world world i old left r corner raw keep ok is))
-    ∙ listed_at (replaced world i old left (Some old) r corner raw keep) old left change (old_stands world i old left left (Some old) r corner raw keep ok is))
+    (ap (λ (v : World). after_list v old change) (sym (beside_world world i old left (Above old) r corner raw keep ok is))
+    ∙ listed_at (replaced world i old left (Above old) r corner raw keep) old left change (old_stands world i old left left (Above old) r corner raw keep ok is))
 
 -- the same topmost on another image
-pub put_on_world : (world : World) (i old : ℕ) (left standing : Standing) (r : Rect) (corner : Point) (raw : ℕ) (keep : Bool) → IsForest world → IsReplacing world i old left standing None r corner raw keep → replaced world i old standing None r corner raw keep ≡ after_put_on world i old standing.parent standing.fill r corner raw keep
+pub put_on_world : (world : World) (i old : ℕ) (left standing : Standing) (r : Rect) (corner : Point) (raw : ℕ) (keep : Bool) → IsForest world → IsReplacing world i old left standing Top r corner raw keep → replaced world i old standing Top r corner raw keep ≡ after_put_on world i old standing.parent standing.fill r corner raw keep
 unfolding after_put_on
 put_on_world world i old left standing r corner raw keep ok is = refl
 
-pub replace_on_world : (world : World) (i old : ℕ) (left standing : Standing) (r : Rect) (corner : Point) (raw : ℕ) (keep : Bool) → IsForest world → IsReplacing world i old left standing None r corner raw keep → moved_out (replaced world i old standing None r corner raw keep) left.parent old (image_at world old).r ≡ after_replace_on world i old standing.parent standing.fill r corner raw keep
+pub replace_on_world : (world : World) (i old : ℕ) (left standing : Standing) (r : Rect) (corner : Point) (raw : ℕ) (keep : Bool) → IsForest world → IsReplacing world i old left standing Top r corner raw keep → moved_out (replaced world i old standing Top r corner raw keep) left.parent old (image_at world old).r ≡ after_replace_on world i old standing.parent standing.fill r corner raw keep
 unfolding after_replace_on
 replace_on_world world i old left standing r corner raw keep ok is =
     sym
-    (listed_at (replaced world i old standing None r corner raw keep) old left (moved old (carried_rect (image_at world old).r (image_at world old).r.min outside))
-    (old_stands world i old left standing None r corner raw keep ok is))
+    (listed_at (replaced world i old standing Top r corner raw keep) old left (moved old (carried_rect (image_at world old).r (image_at world old).r.min outside))
+    (old_stands world i old left standing Top r corner raw keep ok is))
 
 -- what follows from two facts of what a call gives
 pub if_ok_both : {T E : Type 0} (P Q R : T → Type 0) (r : Result T E) → IfOk r P → IfOk r Q → ((x : T) → P x → Q x → R x) → IfOk r R
@@ -307,29 +351,30 @@ if_some_more (Some x) P Q more h = more x h
 
 -- ---- over lists and kept pixels
 
-module _ (shape : World) (kept : Place → ℕ) (w : Window) (old : ℕ) (left standing : Standing) (over : Option ℕ) (r : Rect) (corner : Point) (raw : ℕ) (keep : Bool) (ok : IsForest (with_kept shape kept)) (is : IsReplacing (with_kept shape kept) w.image old left standing over r corner raw keep) (placed : w.place ≡ carried_rect r r.min corner) (list : List Window) (listed : list ≡ put_in over w (image_at shape standing.parent).windows) where
+module _ (shape : World) (kept : Place → ℕ) (w : Window) (old : ℕ) (left standing : Standing) (rank : Rank) (r : Rect) (corner : Point) (raw : ℕ) (keep : Bool) (ok : IsForest (with_kept shape kept)) (is : IsReplacing (with_kept shape kept) w.image old left standing rank r corner raw keep) (placed : w.place ≡ carried_rect r r.min corner) (list : List Window) (listed : list ≡ put_in rank w (image_at shape standing.parent).windows) where
   abbrev shown_world : World
   shown_world = with_kept shape kept
 
   abbrev comes_then : World
-  comes_then = replaced shown_world w.image old standing over r corner raw keep
+  comes_then = replaced shown_world w.image old standing rank r corner raw keep
 
-  list_is : list ≡ put_in over (record { image = w.image; place = carried_rect r r.min corner }) (image_at shown_world standing.parent).windows
-  list_is = listed ∙ (λ j. put_in over (record { image = w.image; place = placed j }) ((bare_canvas shape kept).windows standing.parent j))
+  list_is : list ≡ put_in rank (record { image = w.image; place = carried_rect r r.min corner }) (image_at shown_world standing.parent).windows
+  list_is = listed ∙ (λ j. put_in rank (record { image = w.image; place = placed j }) ((bare_canvas shape kept).windows standing.parent j))
 
   -- the list with the window is one in which it comes
   pub list_comes : IsComing shape standing.parent w list
-  list_comes = subst (IsComing shape standing.parent w) (sym listed) (by_over over)
+  list_comes = subst (IsComing shape standing.parent w) (sym listed) (by_rank rank)
     where
-      by_over : (o : Option ℕ) → IsComing shape standing.parent w (put_in o w (image_at shape standing.parent).windows)
-      by_over None = on_top_comes shape standing.parent w
-      by_over (Some n) = put_above_comes shape standing.parent w n
+      by_rank : (o : Rank) → IsComing shape standing.parent w (put_in o w (image_at shape standing.parent).windows)
+      by_rank Top = on_top_comes shape standing.parent w
+      by_rank (Above n) = put_above_comes shape standing.parent w n
+      by_rank (Below n) = put_below_comes shape standing.parent w n
 
   -- the list in which the other moves
   pub later_is : (later : List Window) → IsLater shape old left.parent standing.parent list later → later ≡ moved old (carried_rect (image_at shown_world old).r (image_at shown_world old).r.min outside) (image_at comes_then left.parent).windows
   later_is later told =
       let same = bare_canvas shape kept in
-      let found = list_then shown_world w.image old left standing over r corner raw keep ok is list (image_at shape left.parent).windows list_is (same.windows left.parent) in
+      let found = list_then shown_world w.image old left standing rank r corner raw keep ok is list (image_at shape left.parent).windows list_is (same.windows left.parent) in
       told
       ∙ ap (λ (own : Rect). moved old (carried_rect own own.min outside) (if left.parent == standing.parent then list else (image_at shape left.parent).windows)) (same.r old)
       ∙ ap (moved old (carried_rect (image_at shown_world old).r (image_at shown_world old).r.min outside))
@@ -343,12 +388,12 @@ module _ (shape : World) (kept : Place → ℕ) (w : Window) (old : ℕ) (left s
   came given same = same ∙ ap (after_coming shown_world w.image standing.parent standing.fill r (taken_over shown_world old r raw keep)) list_is
 
   pub came_forest : (given : Point → ℕ) → after_coming shown_world w.image standing.parent standing.fill r given list ≡ comes_then → IsForest (after_coming shown_world w.image standing.parent standing.fill r given list)
-  came_forest given same = subst IsForest (sym same) (replaced_forest shown_world w.image old left standing over r corner raw keep ok is)
+  came_forest given same = subst IsForest (sym same) (replaced_forest shown_world w.image old left standing rank r corner raw keep ok is)
 
   -- and once the other moved
   pub left_forest : (world : World) (later : List Window) → world ≡ comes_then → IsLater shape old left.parent standing.parent list later → IsForest (with_windows world left.parent later)
   left_forest world later same told =
-      subst IsForest (sym (λ j. with_windows (same j) left.parent (later_is later told j))) (moved_forest shown_world w.image old left standing over r corner raw keep ok is)
+      subst IsForest (sym (λ j. with_windows (same j) left.parent (later_is later told j))) (moved_forest shown_world w.image old left standing rank r corner raw keep ok is)
 
   pub left_world : (world : World) (later : List Window) → world ≡ comes_then → IsLater shape old left.parent standing.parent list later → with_windows world left.parent later ≡ moved_out comes_then left.parent old (image_at shown_world old).r
   left_world world later same told = λ j. with_windows (same j) left.parent (later_is later told j)
@@ -361,7 +406,7 @@ module _ (shape : World) (kept : Place → ℕ) (w : Window) (old : ℕ) (left s
 
   -- the window stands where it is said to in the list
   pub first_stands : place_among list w.image ≡ w.place
-  first_stands = ap (λ (ws : List Window). place_among ws w.image) listed ∙ by_over over refl
+  first_stands = ap (λ (ws : List Window). place_among ws w.image) listed ∙ by_rank rank refl
     where
       windows : (p : ℕ) → List Window
       windows p = (image_at shape p).windows
@@ -375,19 +420,22 @@ module _ (shape : World) (kept : Place → ℕ) (w : Window) (old : ℕ) (left s
           let clash : None ≡ Some standing.parent = sym none ∙ stands in
           absurd (cc))
 
-      by_over : (o : Option ℕ) → over ≡ o → place_among (put_in o w (windows standing.parent)) w.image ≡ w.place
-      by_over None e = ap (λ b. option_map_or (λ (v : Window). v.place) (cond b (Some w) (find (λ (v : Window). v.image == w.image) (windows standing.parent))) no_rect) (eq-eqb w.image w.image refl)
-      by_over (Some n) e =
+      there : (n : ℕ) → neighbour rank ≡ Some n → list_any (λ (v : Window). v.image == n) (windows standing.parent) ≡ true
+      there n e =
           let both = is.beside n e in
-          let there : list_any (λ (v : Window). v.image == old) (image_at shown_world left.parent).windows ≡ true =
-          ok.listed old left.parent (old_live shown_world w.image old left standing over r corner raw keep ok is) (stands_at shown_world old left is.left_at) in
-          put_stands w n (windows standing.parent) fresh
-          ((λ j. list_any (λ (v : Window). v.image == both.0 j) ((bare_canvas shape kept).windows (both.1 j).parent j)) ∙ there)
+          let stands : list_any (λ (v : Window). v.image == old) (image_at shown_world left.parent).windows ≡ true =
+          ok.listed old left.parent (old_live shown_world w.image old left standing rank r corner raw keep ok is) (stands_at shown_world old left is.left_at) in
+          (λ j. list_any (λ (v : Window). v.image == both.0 j) ((bare_canvas shape kept).windows (both.1 j).parent j)) ∙ stands
+
+      by_rank : (o : Rank) → rank ≡ o → place_among (put_in o w (windows standing.parent)) w.image ≡ w.place
+      by_rank Top e = ap (λ b. option_map_or (λ (v : Window). v.place) (cond b (Some w) (find (λ (v : Window). v.image == w.image) (windows standing.parent))) no_rect) (eq-eqb w.image w.image refl)
+      by_rank (Above n) e = put_stands w n (windows standing.parent) fresh (there n (ap neighbour e))
+      by_rank (Below n) e = beneath_stands w n (windows standing.parent) fresh (there n (ap neighbour e))
 
   -- each image has one window in the later list
   pub left_ones : (world : World) (later : List Window) → world ≡ comes_then → IsLater shape old left.parent standing.parent list later → AreOne later
   left_ones world later same told =
-      let below : IsLive world left.parent = subst (λ (v : World). IsLive v left.parent) (sym same) (left_then shown_world w.image old left standing over r corner raw keep ok is) in
+      let below : IsLive world left.parent = subst (λ (v : World). IsLive v left.parent) (sym same) (left_then shown_world w.image old left standing rank r corner raw keep ok is) in
       are_one later
       (λ n.
       subst (λ (ws : List Window). times ws n ≤ 1) (windows-with_windows world left.parent later)
@@ -398,8 +446,8 @@ module _ (shape : World) (kept : Place → ℕ) (w : Window) (old : ℕ) (left s
   left_cells later lists told =
       let same = bare_canvas shape kept in
       let own = (image_at shape old).r in
-      let alive : IsLive shape old = same.live old ∙ old_live shown_world w.image old left standing over r corner raw keep ok is in
-      let below : IsLive shape left.parent = same.live left.parent ∙ left_live shown_world w.image old left standing over r corner raw keep ok is in
+      let alive : IsLive shape old = same.live old ∙ old_live shown_world w.image old left standing rank r corner raw keep ok is in
+      let below : IsLive shape left.parent = same.live left.parent ∙ left_live shown_world w.image old left standing rank r corner raw keep ok is in
       later_left shape standing.parent left.parent old list later (carried_rect own own.min outside) lists below
       (record { width = omega (arith, ints); height = omega (arith, ints) }) (lists.images old alive).ordered told
 
@@ -407,8 +455,8 @@ module _ (shape : World) (kept : Place → ℕ) (w : Window) (old : ℕ) (left s
   left_own later lists told =
       let same = bare_canvas shape kept in
       let own = (image_at shape old).r in
-      let alive : IsLive shape old = same.live old ∙ old_live shown_world w.image old left standing over r corner raw keep ok is in
-      let below : IsLive shape left.parent = same.live left.parent ∙ left_live shown_world w.image old left standing over r corner raw keep ok is in
+      let alive : IsLive shape old = same.live old ∙ old_live shown_world w.image old left standing rank r corner raw keep ok is in
+      let below : IsLive shape left.parent = same.live left.parent ∙ left_live shown_world w.image old left standing rank r corner raw keep ok is in
       let free : is_some (shape w.image) ≡ false = same.live w.image ∙ ap is_some is.free in
       later_left_own shape standing.parent left.parent old list later (carried_rect own own.min outside) lists below
       (record { width = omega (arith, ints); height = omega (arith, ints) }) (lists.images old alive).ordered told w.image r free
@@ -421,6 +469,6 @@ module _ (shape : World) (kept : Place → ℕ) (w : Window) (old : ℕ) (left s
       let below = (image_at shape left.parent).r in
       let rect : below ≡ (image_at world left.parent).r =
       (bare_canvas shape kept).r left.parent
-      ∙ sym (rect_still shown_world w.image standing.parent standing.fill r (taken_over shown_world old r raw keep) (put_in over (record { image = w.image; place = carried_rect r r.min corner }) (image_at shown_world standing.parent).windows) is.free is.parent_live left.parent (left_live shown_world w.image old left standing over r corner raw keep ok is))
+      ∙ sym (rect_still shown_world w.image standing.parent standing.fill r (taken_over shown_world old r raw keep) (put_in rank (record { image = w.image; place = carried_rect r r.min corner }) (image_at shown_world standing.parent).windows) is.free is.parent_live left.parent (left_live shown_world w.image old left standing rank r corner raw keep ok is))
       ∙ ap (λ (v : World). (image_at v left.parent).r) (sym same) in
       hidden_top old (carried_rect own own.min outside) below (if left.parent == standing.parent then list else (image_at shape left.parent).windows) later told off z (ap (λ (s : Rect). holds s z) rect ∙ inside)

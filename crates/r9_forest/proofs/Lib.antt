@@ -1,4 +1,5 @@
 pub mod Backs
+pub mod Beneath
 pub mod Composing
 pub mod Exchanged
 pub mod Gathering

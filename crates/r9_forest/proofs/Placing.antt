@@ -1,7 +1,7 @@
 -- A window that gets another place in the list of the image on which it stands.
 use Rattle.std.proofs.Common.{◌≡◌, ◌∙◌, ℕ, ◌<◌, ◌≤◌, ◌^◌, Bool, true, false, List, Some, get_or, refl, sym, ap, subst, arith}
 use Rattle.std.specs.Prelude.{◌&&◌, option_map, if◌then◌else◌}
-use Rattle.std.proofs.lemmas.Bool.{and_from, and_parts}
+use Rattle.std.proofs.lemmas.Bool.{and_from, and_parts, false_from_ne_true, false≢true}
 use Rattle.r9_geom.specs.declared.Point.{Point}
 use Rattle.r9_geom.specs.declared.Rect.{Rect}
 use Rattle.r9_geom.specs.Geometry.{area_of, holds, is_empty, meet, IsOrdered}
@@ -58,6 +58,12 @@ both_fewer a b ordered = by_empty (is_empty (meet a b)) refl
     by_empty : (e : Bool) → is_empty (meet a b) ≡ e → area_of (if e then corner_of a else meet a b) ≤ area_of a
     by_empty true is = let none = corner_area a in omega (arith, none)
     by_empty false is = meet_fewer a b ordered is
+
+-- where one has a point the other has none
+pub apart_points : (a b : Rect) → is_empty (meet a b) ≡ true → (p : Point) → holds a p ≡ true → holds b p ≡ false
+apart_points a b none p here =
+    false_from_ne_true (holds b p)
+    (λ there. false≢true (sym (empty_holds (meet a b) p none) ∙ holds-meet a b p ∙ and_from (holds a p) (holds b p) here there))
 
 -- ---- where it stands
 

@@ -1,16 +1,16 @@
 -- A window that gets the place that it has.
-use Rattle.std.proofs.Common.{◌≡◌, ◌∙◌, ℕ, suc, ◌<◌, Bool, true, false, List, [], ◌∷◌, Option, Some, None, refl, sym, ap, arith}
+use Rattle.std.proofs.Common.{◌≡◌, ◌∙◌, ℕ, suc, Bool, true, false, List, [], ◌∷◌, Option, Some, None, refl, sym, ap, arith}
 use Rattle.std.specs.Prelude.{◌&&◌, ◌==◌, All, is_none, is_some, option_map, unwrap_or, if◌then◌else◌}
 use Rattle.std.specs.Option.{option_map_or}
 use Rattle.std.proofs.lemmas.Bool.{and_parts, false≢true}
 use Rattle.std.proofs.lemmas.Bool.Decides.{Decides-eqb}
 use Rattle.r9_geom.specs.declared.Point.{Point}
 use Rattle.r9_geom.specs.declared.Rect.{Rect}
-use Rattle.r9_geom.specs.Geometry.{holds, is_point}
+use Rattle.r9_geom.specs.Geometry.{is_point}
 use Rattle.r9_geom.proofs.GeometryLemmas.{is_point_true, true_is_point}
 use Rattle.model_forest.specs.declared.Window.{Window}
 use Rattle.model_forest.specs.Stack.{filled, moved, seen, with_windows}
-use Rattle.model_forest.specs.View.{is_bare, top_window}
+use Rattle.model_forest.specs.View.{top_window}
 use Rattle.model_forest.specs.World.{Image, World, image_at, no_image, IsForest, IsLive}
 use Rattle.model_forest.proofs.Changes.{World-changed}
 use Rattle.model_kept.specs.Keeping.{keeping, place_among, with_kept, Place}

@@ -11,22 +11,32 @@ use Rattle.model_forest.specs.Stack.{moved, with_windows}
 use Rattle.model_forest.specs.Steps.{carried_rect, outside, put_above}
 use Rattle.model_forest.specs.View.{view}
 use Rattle.model_forest.specs.World.{World, image_at, IsLive}
+use Rattle.model_exchanged.specs.Exchanged.{put_below}
 use Rattle.r9_arrive.specs.Arriving.{after_coming}
+use Rattle.r9_forest.specs.declared.ranking.Rank.{Rank}
+use Rattle.r9_forest.specs.declared.ranking.Rank.TheVariants.{Top, Above, Below}
 
--- a window comes directly above another of a list, or on top
-abbrev pub put_in : Option ℕ → Window → List Window → List Window
-put_in None w ws = w ∷ ws
-put_in (Some old) w ws = put_above w old ws
+-- a window comes on top of a list, or directly above or below another of it
+abbrev pub put_in : Rank → Window → List Window → List Window
+put_in Top w ws = w ∷ ws
+put_in (Above old) w ws = put_above w old ws
+put_in (Below old) w ws = put_below w old ws
+
+-- the window beside which it comes, if that is not on top
+abbrev pub neighbour : Rank → Option ℕ
+neighbour Top = None
+neighbour (Above old) = Some old
+neighbour (Below old) = Some old
 
 -- what an image shows, counted from both mins, or one raw pixel
 abbrev pub taken_over : World → ℕ → Rect → ℕ → Bool → Point → ℕ
 taken_over world old r raw keep = λ p. if keep then view world old (carried p r.min (image_at world old).r.min) else raw
 
 -- the world when the window came
-abbrev pub replaced : World → (i old : ℕ) → Standing → Option ℕ → Rect → Point → ℕ → Bool → World
-replaced world i old standing over r corner raw keep =
+abbrev pub replaced : World → (i old : ℕ) → Standing → Rank → Rect → Point → ℕ → Bool → World
+replaced world i old standing rank r corner raw keep =
     after_coming world i standing.parent standing.fill r (taken_over world old r raw keep)
-    (put_in over (record { image = i; place = carried_rect r r.min corner }) (image_at world standing.parent).windows)
+    (put_in rank (record { image = i; place = carried_rect r r.min corner }) (image_at world standing.parent).windows)
 
 -- and when a window of image p, with this rectangle, moved far outside
 abbrev pub moved_out : World → ℕ → ℕ → Rect → World
@@ -51,10 +61,10 @@ IsShown world i raws =
     (p : Point) → holds r p ≡ true → slice_index raws (number_of r p) ≡ view world i p
 
 -- what is known of a window that comes so
-pub record IsReplacing (world : World) (i old : ℕ) (left standing : Standing) (over : Option ℕ) (r : Rect) (corner : Point) (raw : ℕ) (keep : Bool) : Type 0 where
+pub record IsReplacing (world : World) (i old : ℕ) (left standing : Standing) (rank : Rank) (r : Rect) (corner : Point) (raw : ℕ) (keep : Bool) : Type 0 where
   pub free : world i ≡ None
   pub left_at : (image_at world old).standing ≡ Some left
-  pub beside : (n : ℕ) → over ≡ Some n → (n ≡ old) × (standing ≡ left)
+  pub beside : (n : ℕ) → neighbour rank ≡ Some n → (n ≡ old) × (standing ≡ left)
   pub parent_live : IsLive world standing.parent
   pub fill_live : IsLive world standing.fill
   pub shallow : (image_at world standing.parent).depth + 1 < 2 ^ 32

@@ -9,6 +9,7 @@ mod leaving;
 mod marking;
 mod moving;
 mod ordering;
+mod ranking;
 mod reading;
 mod replacing;
 mod resizing;

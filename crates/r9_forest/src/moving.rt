@@ -1,8 +1,8 @@
 //! Windows that move on the image on which they stand, and images that get another min.
 
-ghost use Rattle.std.specs.Prelude.{◌≡◌, ◌+◌, ◌*◌, ◌^◌, ◌<◌, ◌≤◌, false, length, slice_index, vec_len, IfOk, IfSome, IsTrue, None, OnErr, OnOk, Some, true};
+ghost use Rattle.std.specs.Prelude.{◌≡◌, ◌+◌, ◌*◌, ◌^◌, ◌<◌, ◌≤◌, ◌&&◌, false, length, slice_index, vec_len, IfOk, IfSome, IsTrue, None, OnErr, OnOk, Some, true};
 ghost use Rattle.r9_geom.specs.declared.Point.{Point as Spot};
-ghost use Rattle.r9_geom.specs.Geometry.{area_of, holds, IsNearBy, IsOrdered, IsRectNear};
+ghost use Rattle.r9_geom.specs.Geometry.{area_of, holds, is_empty, meet, IsNearBy, IsOrdered, IsRectNear};
 ghost use Rattle.r9_plane.specs.Pixels.{number_of};
 ghost use Rattle.model_pixel.specs.Channels as channels;
 ghost use Rattle.model_forest.specs.Stack as stack;
@@ -12,6 +12,7 @@ ghost use Rattle.model_forest.specs.View as model;
 ghost use Rattle.model_forest.specs.World.{image_at, with_image, IsForest, IsLive};
 ghost use Rattle.r9_locate.specs.Table.{shape};
 ghost use Rattle.r9_pixels.specs.Kept.{spare_in, wanted_in};
+ghost use Rattle.r9_relist.specs.Relisting.{IsAway};
 ghost use Rattle.r9_forest.specs.Groups.{IsMoved};
 ghost use Rattle.r9_fills.specs.Fills.{fill_at};
 ghost use Rattle.r9_forest.specs.Given.{filled_at, given_at, left_of, IsEnough};
@@ -28,7 +29,7 @@ use r9_geom::{Point, Rect};
 use r9_lists::carried_rect;
 use r9_locate::place_among;
 use r9_memory::Memory;
-use r9_relist::{common, hide, relist, reserve_move};
+use r9_relist::{common, hide, relist, reserve_move, unhide};
 use r9_shift::shift;
 use r9_shown::read_area;
 use r9_steps::Steps;
@@ -66,6 +67,20 @@ pub(crate) fn moved_list(
     let _ = list.extend_from_slice(windows);
     place_each(&mut list, i, place);
     Ok(list)
+}
+
+// Whether two rectangles have no point in common.
+fn are_apart(a: &Rect, b: &Rect) -> bool
+    ensures { result ≡ is_empty (meet a.now b.now) }
+{
+    a.meet(b).is_empty()
+}
+
+// Whether a place has no point in common with either of two others.
+fn is_apart_from(place: &Rect, below: &Rect, then: &Rect) -> bool
+    ensures { result ≡ (is_empty (meet place.now below.now) && is_empty (meet place.now then.now)) }
+{
+    are_apart(place, below) && are_apart(place, then)
 }
 
 // What fills the points of a rectangle: one raw pixel, or rows of them.
@@ -195,6 +210,10 @@ impl Images {
     {
         if is_hidden {
             self.leave_place(i, standing, list, steps);
+            return Ok(());
+        }
+        if self.is_away(i, &standing, &list) {
+            self.come_back(i, standing, list, steps);
             return Ok(());
         }
         let fill = self.fill_left(i, &standing)?;
@@ -352,6 +371,52 @@ impl Images {
             i,
             list,
             &left,
+            steps,
+        );
+    }
+
+    // Whether a window stands where its parent has no point, and where it does not stand with that list.
+    fn is_away(&self, i: u32, standing: &Standing, list: &[Window]) -> bool
+        requires stands { (image_at (world self.now) i).standing ≡ Some standing.now }
+        ensures { result ≡ true → IsAway (shape self.now.lists) standing.now.parent i list.now }
+    {
+        let below = self.lists.get(standing.parent);
+        let place = place_among(&below.windows, i);
+        let then = place_among(list, i);
+        is_apart_from(&place, &below.r, &then)
+    }
+
+    // The same from there: what it shows then is kept with it, and nothing becomes bare.
+    fn come_back<L: Ledger>(
+        &mut self,
+        i: u32,
+        standing: Standing,
+        list: Vec<Window>,
+        steps: &mut Steps<L>,
+    )
+        requires stands { (image_at (world self.old) i).standing ≡ Some standing }
+        requires list { IsMoved (world self.old) standing.parent i list.items }
+        requires away { IsAway (shape self.old.lists) standing.parent i list.items }
+        requires forest { IsForest (with_windows (world self.old) standing.parent list.items) }
+        requires spare { wanted_in self.old.pixels (shape self.old.lists) standing.parent list.items ≤ spare_in self.old.pixels }
+        ensures world { world self.new ≡ with_windows (world self.old) standing.parent list.items }
+        ensures numbers { numbers self.new ≡ numbers self.old }
+        ensures steps { steps.new ≤ steps.old + 2 * area_of (image_at (world self.old) i).r }
+        ensures moment { moment self.new ≡ moment self.old }
+        ensures writes { writes self.new + steps.old ≡ writes self.old + steps.new }
+    {
+        // No pixels are given.
+        let nothing = Gathered {
+            given: Content::Plain(0),
+            fill: Content::Plain(0),
+        };
+        unhide(
+            &mut self.lists,
+            &mut self.pixels,
+            &nothing,
+            standing.parent,
+            i,
+            list,
             steps,
         );
     }

@@ -8,24 +8,24 @@ ghost use Rattle.model_pixel.specs.Channels as channels;
 ghost use Rattle.model_forest.specs.Numbers.{next_number, taken};
 ghost use Rattle.model_forest.specs.Steps as steps;
 ghost use Rattle.model_forest.specs.Steps.{after_replace, after_replace_on};
-ghost use Rattle.model_exchanged.specs.Exchanged.{after_put_on, after_put_over, LeavesUnseen};
+ghost use Rattle.model_exchanged.specs.Exchanged.{after_put_on, after_put_under, LeavesUnseen};
 ghost use Rattle.model_forest.specs.View as model;
 ghost use Rattle.model_forest.specs.World.{image_at, parent_of, IsLive, SameSize};
 ghost use Rattle.r9_locate.specs.Table.{shape};
 ghost use Rattle.r9_fills.specs.Content as fills;
 ghost use Rattle.r9_forest.specs.declared.coming.Given.TheVariants.{Plain, Read};
-ghost use Rattle.r9_forest.specs.Replaced.{moved_out, put_in, replaced, IsFarOff, IsLater, IsReplacing, IsShown};
+ghost use Rattle.r9_forest.specs.Replaced.{moved_out, neighbour, put_in, replaced, IsFarOff, IsLater, IsReplacing, IsShown};
 
 use super::coming::{Given, is_full, peek_number};
 use super::images::{Images, zeros};
 use super::moving::moved_list;
+use super::ranking::{Rank, with_window};
 use model_forest::{Standing, Window};
 use r9_geom::{Point, Rect};
-use r9_lists::{above, carried_rect, on_top};
+use r9_lists::carried_rect;
 use r9_locate::place_among;
 use r9_memory::Memory;
 use r9_steps::Steps;
-use std::alloc::Global;
 use std::sync::ledger::Ledger;
 
 // Far outside of every image.
@@ -47,23 +47,6 @@ struct Exchange {
     list: Vec<Window>,
     later: Vec<Window>,
     rows: Option<Vec<u32>>,
-}
-
-// The list with a window more, directly above another or on top.
-fn with_window(
-    alloc: Global,
-    windows: &[Window],
-    w: Window,
-    over: Option<u32>,
-) -> Result<Vec<Window>, Memory>
-    ensures { IfOk result (λ list. list.items ≡ put_in over w windows.now) }
-{
-    let mut list = Vec::with_capacity(alloc, windows.len() + 1)?;
-    match over {
-        Some(old) => above(&mut list, w, old, windows),
-        None => on_top(&mut list, w, windows),
-    }
-    Ok(list)
 }
 
 impl Images {
@@ -100,7 +83,17 @@ impl Images {
         let Some(left) = self.lists.get(old).standing else {
             return Err(Memory);
         };
-        self.exchange(old, left, left, Some(old), r, corner, raw, keep, steps)
+        self.exchange(
+            old,
+            left,
+            left,
+            Rank::Above(old),
+            r,
+            corner,
+            raw,
+            keep,
+            steps,
+        )
     }
 
     /// Makes a window that shows what another shows, counted from both mins, or one raw pixel, topmost on any image, with the
@@ -140,12 +133,13 @@ impl Images {
             return Err(Memory);
         };
         let standing = Standing { parent, fill };
-        self.exchange(old, left, standing, None, r, corner, raw, keep, steps)
+        self.exchange(old, left, standing, Rank::Top, r, corner, raw, keep, steps)
     }
 
-    /// Makes a window directly above another as `replace` does, but leaves the other where it stands. At most two pixels are
-    /// written for each point of r.
-    pub fn put_over<L: Ledger>(
+    /// Makes a window directly below another, with its parent, its fill and its depth, at the place of r's size whose min is
+    /// `corner`, and leaves the other where it stands, for where that goes next. It shows what the other shows, counted from
+    /// both mins, or one raw pixel. At most two pixels are written for each point of r.
+    pub fn put_under<L: Ledger>(
         &mut self,
         old: u32,
         r: Rect,
@@ -162,7 +156,7 @@ impl Images {
         requires size { keep ≡ true → SameSize r (image_at (world self.old) old).r }
         ensures number { IfOk result (λ i. i ≡ next_number (numbers self.old)) }
         ensures free { IfOk result (λ i. world self.old i ≡ None) }
-        ensures made { IfOk result (λ i. world self.new ≡ after_put_over (world self.old) i old r corner raw keep) }
+        ensures made { IfOk result (λ i. world self.new ≡ after_put_under (world self.old) i old r corner raw keep) }
         ensures taken { OnOk result (numbers self.new ≡ taken (numbers self.old)) }
         ensures err { OnErr result (IsUnchanged self.old self.new) }
         ensures steps { steps.new ≤ steps.old + 2 * area_of r }
@@ -173,7 +167,17 @@ impl Images {
         let Some(left) = self.lists.get(old).standing else {
             return Err(Memory);
         };
-        self.put(old, left, left, Some(old), r, corner, raw, keep, steps)
+        self.put(
+            old,
+            left,
+            left,
+            Rank::Below(old),
+            r,
+            corner,
+            raw,
+            keep,
+            steps,
+        )
     }
 
     /// Makes a window topmost on any image as `replace_on` does, but leaves the other where it stands. At most two pixels are
@@ -212,7 +216,7 @@ impl Images {
             return Err(Memory);
         };
         let standing = Standing { parent, fill };
-        self.put(old, left, standing, None, r, corner, raw, keep, steps)
+        self.put(old, left, standing, Rank::Top, r, corner, raw, keep, steps)
     }
 
     /// Whether a window goes as well from where it stands as from far outside, also once another came on image p.
@@ -245,7 +249,7 @@ impl Images {
         old: u32,
         left: Standing,
         standing: Standing,
-        over: Option<u32>,
+        rank: Rank,
         r: Rect,
         corner: Point,
         raw: u32,
@@ -253,7 +257,7 @@ impl Images {
         steps: &mut Steps<L>,
     ) -> Result<u32, Memory>
         requires left { (image_at (world self.old) old).standing ≡ Some left }
-        requires beside { (n : ℕ) → over ≡ Some n → (n ≡ old) × (standing ≡ left) }
+        requires beside { (n : ℕ) → neighbour rank ≡ Some n → (n ≡ old) × (standing ≡ left) }
         requires parent { IsLive (world self.old) standing.parent }
         requires fill { IsLive (world self.old) standing.fill }
         requires near { IsRectNearBy (2 ^ 34) r }
@@ -262,9 +266,9 @@ impl Images {
         requires raw { raw < 2 ^ channels.depth (image_at (world self.old) standing.parent).chan }
         requires size { keep ≡ true → SameSize r (image_at (world self.old) old).r }
         requires chan { keep ≡ true → (image_at (world self.old) standing.parent).chan ≡ (image_at (world self.old) old).chan }
-        ensures needs { IfOk result (λ i. IsReplacing (world self.old) i old left standing over r corner raw keep) }
+        ensures needs { IfOk result (λ i. IsReplacing (world self.old) i old left standing rank r corner raw keep) }
         ensures number { IfOk result (λ i. i ≡ next_number (numbers self.old)) }
-        ensures made { IfOk result (λ i. world self.new ≡ replaced (world self.old) i old standing over r corner raw keep) }
+        ensures made { IfOk result (λ i. world self.new ≡ replaced (world self.old) i old standing rank r corner raw keep) }
         ensures taken { OnOk result (numbers self.new ≡ taken (numbers self.old)) }
         ensures err { OnErr result (IsUnchanged self.old self.new) }
         ensures steps { steps.new ≤ steps.old + 2 * area_of r }
@@ -273,7 +277,7 @@ impl Images {
         ensures writes { writes self.new + steps.old ≡ writes self.old + steps.new }
     {
         self.reserve_window(&r)?;
-        let coming = self.first(standing.parent, over, &r, corner)?;
+        let coming = self.first(standing.parent, rank, &r, corner)?;
         let Coming { window, list } = coming;
         let given = self.given(old, keep, raw);
         let parent = standing.parent;
@@ -288,7 +292,7 @@ impl Images {
         old: u32,
         left: Standing,
         standing: Standing,
-        over: Option<u32>,
+        rank: Rank,
         r: Rect,
         corner: Point,
         raw: u32,
@@ -296,7 +300,7 @@ impl Images {
         steps: &mut Steps<L>,
     ) -> Result<u32, Memory>
         requires left { (image_at (world self.old) old).standing ≡ Some left }
-        requires beside { (n : ℕ) → over ≡ Some n → (n ≡ old) × (standing ≡ left) }
+        requires beside { (n : ℕ) → neighbour rank ≡ Some n → (n ≡ old) × (standing ≡ left) }
         requires parent { IsLive (world self.old) standing.parent }
         requires fill { IsLive (world self.old) standing.fill }
         requires near { IsRectNearBy (2 ^ 34) r }
@@ -305,9 +309,9 @@ impl Images {
         requires raw { raw < 2 ^ channels.depth (image_at (world self.old) standing.parent).chan }
         requires size { keep ≡ true → SameSize r (image_at (world self.old) old).r }
         requires chan { keep ≡ true → (image_at (world self.old) standing.parent).chan ≡ (image_at (world self.old) old).chan }
-        ensures needs { IfOk result (λ i. IsReplacing (world self.old) i old left standing over r corner raw keep) }
+        ensures needs { IfOk result (λ i. IsReplacing (world self.old) i old left standing rank r corner raw keep) }
         ensures number { IfOk result (λ i. i ≡ next_number (numbers self.old)) }
-        ensures made { IfOk result (λ i. world self.new ≡ moved_out (replaced (world self.old) i old standing over r corner raw keep) left.parent old (image_at (world self.old) old).r) }
+        ensures made { IfOk result (λ i. world self.new ≡ moved_out (replaced (world self.old) i old standing rank r corner raw keep) left.parent old (image_at (world self.old) old).r) }
         ensures taken { OnOk result (numbers self.new ≡ taken (numbers self.old)) }
         ensures err { OnErr result (IsUnchanged self.old self.new) }
         ensures steps { steps.new ≤ steps.old + 2 * area_of r + 4 * area_of (image_at (world self.old) old).r }
@@ -316,7 +320,7 @@ impl Images {
         ensures writes { writes self.new + steps.old ≡ writes self.old + steps.new }
     {
         self.reserve_window(&r)?;
-        let exchange = self.prepare(old, left, standing.parent, over, &r, corner)?;
+        let exchange = self.prepare(old, left, standing.parent, rank, &r, corner)?;
         let Exchange {
             window,
             list,
@@ -346,7 +350,7 @@ impl Images {
         old: u32,
         left: Standing,
         parent: u32,
-        over: Option<u32>,
+        rank: Rank,
         r: &Rect,
         corner: Point,
     ) -> Result<Exchange, Memory>
@@ -357,12 +361,12 @@ impl Images {
         ensures number { IfOk result (λ exchange. exchange.window.image ≡ next_number (numbers self.now)) }
         ensures place { IfOk result (λ exchange. exchange.window.place ≡ steps.carried_rect r.now r.now.min corner) }
         ensures few { OnOk result (((image_at (shape self.now.lists) parent).depth + 1 < 2 ^ 32) × (length (image_at (shape self.now.lists) parent).windows + 1 < 2 ^ 32)) }
-        ensures list { IfOk result (λ exchange. exchange.list.items ≡ put_in over exchange.window (image_at (shape self.now.lists) parent).windows) }
+        ensures list { IfOk result (λ exchange. exchange.list.items ≡ put_in rank exchange.window (image_at (shape self.now.lists) parent).windows) }
         ensures later { IfOk result (λ exchange. IsLater (shape self.now.lists) old left.parent parent exchange.list.items exchange.later.items) }
         ensures hidden { IfOk result (λ exchange. exchange.rows ≡ None → IsFarOff (shape self.now.lists) old left.parent) }
         ensures enough { IfOk result (λ exchange. IfSome exchange.rows (λ rows. area_of (image_at (shape self.now.lists) old).r ≤ vec_len rows)) }
     {
-        let coming = self.first(parent, over, r, corner)?;
+        let coming = self.first(parent, rank, r, corner)?;
         let Coming { window, list } = coming;
         let later = self.later(old, left.parent, parent, &list)?;
         let rows = self.room_left(old, left.parent)?;
@@ -375,20 +379,14 @@ impl Images {
     }
 
     // What a new window takes, where more can stand on the image on which it comes.
-    fn first(
-        &self,
-        parent: u32,
-        over: Option<u32>,
-        r: &Rect,
-        corner: Point,
-    ) -> Result<Coming, Memory>
+    fn first(&self, parent: u32, rank: Rank, r: &Rect, corner: Point) -> Result<Coming, Memory>
         requires parent { IsLive (world self.now) parent }
         requires near { IsRectNearBy (2 ^ 34) r.now }
         requires corner { IsNearBy (2 ^ 34) corner }
         ensures number { IfOk result (λ coming. coming.window.image ≡ next_number (numbers self.now)) }
         ensures place { IfOk result (λ coming. coming.window.place ≡ steps.carried_rect r.now r.now.min corner) }
         ensures few { OnOk result (((image_at (shape self.now.lists) parent).depth + 1 < 2 ^ 32) × (length (image_at (shape self.now.lists) parent).windows + 1 < 2 ^ 32)) }
-        ensures list { IfOk result (λ coming. coming.list.items ≡ put_in over coming.window (image_at (shape self.now.lists) parent).windows) }
+        ensures list { IfOk result (λ coming. coming.list.items ≡ put_in rank coming.window (image_at (shape self.now.lists) parent).windows) }
     {
         let below = self.lists.get(parent);
         if is_full(below) {
@@ -398,7 +396,7 @@ impl Images {
         let image = peek_number(made, &self.spare);
         let place = carried_rect(r, r.min, corner);
         let window = Window { image, place };
-        let list = with_window(self.alloc, &below.windows, window, over)?;
+        let list = with_window(self.alloc, &below.windows, window, rank)?;
         Ok(Coming { window, list })
     }
 

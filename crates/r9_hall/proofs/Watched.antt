@@ -1,7 +1,7 @@
 -- What an event used, from what is seen of it in turn.
 use Rattle.std.specs.Prelude.{is_some, find}
 use Rattle.std.specs.List.{cons_option, filter_map}
-use Rattle.std.proofs.Common.{◌≡◌, ◌⊎◌, inl, inr, ℕ, Bool, true, false, cond, eqb, List, [], ◌∷◌, ◌++◌, Option, Some, None, Result, Ok, Err, IfOk, refl, sym, ap, ◌∙◌, arith, append_assoc}
+use Rattle.std.proofs.Common.{◌≡◌, ◌⊎◌, inl, inr, ℕ, Bool, true, false, cond, eqb, List, [], ◌∷◌, ◌++◌, Option, Some, None, Result, Ok, Err, IfOk, IfSome, refl, sym, ap, ◌∙◌, arith, append_assoc}
 use Rattle.std.proofs.lemmas.Bool.Decides.{nat_tests}
 use Rattle.r9_event.specs.declared.event.Event.{Event}
 use Rattle.r9_event.specs.declared.event.Event.TheVariants.{Begin, Msg, Take, End, Stop}
@@ -22,13 +22,14 @@ use Rattle.model_used.specs.Look.{used_last}
 use Rattle.model_used.proofs.Turns.{seen_in_turn}
 use Rattle.r9_around.specs.Words.{mark_after}
 use Rattle.r9_desktop.specs.World.{desktop_of}
-use Rattle.r9_seen.specs.View.{look_of}
+use Rattle.r9_seen.specs.View.{hosts_of, look_of}
 use Rattle.r9_hall.specs.Settling.{world_of, IsSettled}
 use Rattle.r9_hall.specs.StateView.{IsMade, IsServed, world_with}
 use Rattle.r9_hall.specs.Watching.{IsSeenOf}
 use Rattle.r9_hall.specs.declared.sessions.Made.{Made}
 use Rattle.r9_hall.specs.declared.sessions.Own.{Own}
 use Rattle.r9_hall.specs.declared.sessions.Sessions.{Sessions}
+use Rattle.r9_hall.specs.declared.watching.Sight.{Sight}
 
 -- ---- no message of a session that lives
 
@@ -84,15 +85,16 @@ marked_as : (c : ℕ) (bytes : List ℕ) (mark short : Option ℕ) → marked (M
 marked_as c bytes mark None = refl
 marked_as c bytes mark (Some k) = refl
 
-pub served_used : (world next : World) (c : ℕ) (found : Option Session) (bytes : List ℕ) (mark : Option ℕ) (own : Own) (after : List (ℕ × Session)) (rest : Desktop) (used : List Use) → lookup world.sessions c ≡ found
-    → IsServed c found world.sessions world.desktop bytes mark (Some own) after rest → IsSeenOf c found world.desktop bytes mark (Some own)
-    → used ≡ own.uses ++ used_last (lookup next.sessions c) next.desktop.table (look_of own.look) ++ new_hosts world.desktop.table next.desktop.table
+pub served_used : (world next : World) (c : ℕ) (found : Option Session) (bytes : List ℕ) (mark : Option ℕ) (own : Own) (sight : Option Sight) (after : List (ℕ × Session)) (rest : Desktop) (used : List Use) → lookup world.sessions c ≡ found
+    → IsServed c found world.sessions world.desktop bytes mark (Some own) after rest → IsSeenOf c found world.desktop bytes mark (Some own) sight
+    → IfSome sight (λ s. (table : Table) → s.hosts.items ≡ hosts_of table → used ≡ s.uses ++ used_last (lookup next.sessions c) next.desktop.table (look_of s.look) ++ new_hosts table next.desktop.table)
     → used ≡ event_used world next (marked (Msg c bytes mark) own.short)
 unfolding event_used
-served_used world next c None bytes mark own after rest used at served seen is = absurd served
-served_used world next c (Some session) bytes mark own after rest used at served seen is =
+served_used world next c None bytes mark own sight after rest used at served seen is = absurd served
+served_used world next c (Some session) bytes mark own None after rest used at served seen is = absurd seen
+served_used world next c (Some session) bytes mark own (Some sight) after rest used at served seen is =
     let hosts = new_hosts world.desktop.table next.desktop.table in
-    is
+    is world.desktop.table seen.hosts_are
     ∙ (λ i. seen.uses_are i ++ used_last (lookup next.sessions c) next.desktop.table (seen.look_is i) ++ hosts)
     ∙ ap (λ (l : List Use). l ++ hosts) (sym (seen_in_turn c world next bytes (mark_after mark own.short) session))
     ∙ ap (λ (o : Option Session). session_used c world next bytes (mark_after mark own.short) o ++ hosts) (sym at)

@@ -25,15 +25,14 @@ ghost use Rattle.r9_event.specs.declared.event.Opening.{Opening};
 ghost use Rattle.r9_hall.specs.Settling.{WaitsAt};
 ghost use Rattle.model_alone.specs.Uses.{event_used};
 ghost use Rattle.r9_hall.specs.StateView.{world_with, IsAnswered, IsLeft, IsMade, IsServed, IsTurn, IsWhole};
-ghost use Rattle.r9_hall.specs.Watching.{IsSeen, IsSeenOf};
+ghost use Rattle.r9_hall.specs.Watching.{IsSeenAs, IsSeenOf};
 
 use crate::settling::spelled;
-use crate::watching::hosts_of;
+use crate::watching::{Sight, answer_watched};
 use r9_desktop::Desktop;
 use r9_event::{Did, Event, Opening, Replies, Uses};
 use r9_geom::{Point, Rect};
 use r9_memory::Memory;
-use r9_seen::{Look, answer as answer_seen};
 use r9_session::Session;
 use r9_shared::leave as leave_shared;
 use r9_text::Bytes;
@@ -64,14 +63,11 @@ pub(crate) struct Stepped {
     pub(crate) pixels: u64,
 }
 
-/// What a message gave by itself: its reply, if it has one, what it used as far as that is seen then, with what was seen before, the mark
-/// with which it stands in the history where that is not its own, the tag by which it closed its session, and the serial of the window or
-/// rio whose file it wrote, 0 where it wrote none.
+/// What a message gave by itself: its reply, if it has one, the mark with which it stands in the history where that is not its own, the
+/// tag by which it closed its session, and the serial of the window or rio whose file it wrote, 0 where it wrote none.
 #[derive(Drop)]
 struct Own {
     replies: Replies,
-    uses: Uses,
-    look: Look,
     short: Option<u32>,
     closed: Option<u16>,
     wrote: u32,
@@ -98,26 +94,25 @@ fn answer(
     bytes: &[u8],
     mark: Option<u32>,
     watches: bool,
+    sight: &mut Option<Sight>,
 ) -> Result<Own, Memory>
     requires long { 7 ≤ length bytes.now }
     requires linked { IsLinked session found.old.made found.old.connections (desktop_of desktop.old).device }
     ensures answered { IfOk result (λ own. IsAnswered session found.old (desktop_of desktop.old) bytes.now mark own found.new (desktop_of desktop.new)) }
     ensures began { began_of desktop.new ≡ began_of desktop.old }
-    ensures seen { watches ≡ true → IfOk result (λ own. IsSeen session found.old (desktop_of desktop.old) bytes.now mark own) }
+    ensures seen { watches ≡ true → IfOk result (λ own. IsSeenAs session found.old (desktop_of desktop.old) bytes.now mark own.short sight.new) }
 {
     let closed = found.closing_tag(bytes);
-    let seen = answer_seen(alloc, found, desktop, session, bytes, mark, watches)?;
+    let answered = answer_watched(alloc, found, desktop, session, bytes, mark, watches, sight)?;
     let mut replies = Replies::new(alloc);
-    if let Some(reply) = &seen.answered.reply {
+    if let Some(reply) = &answered.reply {
         replies.push(spelled(alloc, session, reply)?)?;
     }
     Ok(Own {
         replies,
-        uses: seen.uses,
-        look: seen.look,
-        short: seen.answered.short,
+        short: answered.short,
         closed,
-        wrote: seen.answered.wrote,
+        wrote: answered.wrote,
     })
 }
 
@@ -130,17 +125,18 @@ fn answer_in(
     bytes: &[u8],
     mark: Option<u32>,
     watches: bool,
+    sight: &mut Option<Sight>,
 ) -> Result<Option<Own>, Memory>
     requires long { 7 ≤ length bytes.now }
     requires linked { AreLinked (desktop_of desktop.old).device sessions.old.entries }
-    ensures seen { watches ≡ true → IfOk result (λ own. IsSeenOf session (lookup sessions.old.entries session) (desktop_of desktop.old) bytes.now mark own) }
+    ensures seen { watches ≡ true → IfOk result (λ own. IsSeenOf session (lookup sessions.old.entries session) (desktop_of desktop.old) bytes.now mark own sight.new) }
     ensures served { IfOk result (λ own. IsServed session (lookup sessions.old.entries session) sessions.old.entries (desktop_of desktop.old) bytes.now mark own sessions.new.entries (desktop_of desktop.new)) }
     ensures linked { OnOk result (AreLinked (desktop_of desktop.new).device sessions.new.entries) }
     ensures began { began_of desktop.new ≡ began_of desktop.old }
 {
     match sessions.get_mut(&session) {
         Some(found) => {
-            let own = answer(alloc, found, desktop, session, bytes, mark, watches)?;
+            let own = answer(alloc, found, desktop, session, bytes, mark, watches, sight)?;
             Ok(Some(own))
         }
         None => Ok(None),
@@ -208,7 +204,7 @@ impl Sessions {
         ensures uses { watches ≡ true → IfOk result (λ made. (opening : Opening) → made.uses ≡ event_used (world_with opening self.old) (world_with opening self.new) (marked (Event.Msg session bytes.now mark) made.short)) }
         ensures began { began_of self.new.desktop ≡ began_of self.old.desktop }
     {
-        let hosts = hosts_of(alloc, &self.desktop, watches)?;
+        let mut sight = None;
         let own = answer_in(
             alloc,
             &mut self.live,
@@ -217,6 +213,7 @@ impl Sessions {
             bytes,
             mark,
             watches,
+            &mut sight,
         )?;
         let Some(own) = own else {
             return Ok(silent(alloc));
@@ -224,7 +221,7 @@ impl Sessions {
         let asked = self.woken(alloc, session, own.wrote)?;
         let mut replies = own.replies;
         self.settle(alloc, &asked, &mut replies)?;
-        let uses = self.uses_at_end(session, own.uses, &own.look, &hosts, watches)?;
+        let uses = self.uses_at_end(alloc, session, sight)?;
         Ok(Made {
             replies,
             uses,

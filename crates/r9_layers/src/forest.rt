@@ -14,7 +14,7 @@ ghost use Rattle.model_forest.specs.Cost as cost;
 ghost use Rattle.model_forest.specs.Paint.{paint};
 ghost use Rattle.model_forest.specs.View as model;
 ghost use Rattle.model_forest.specs.World.{image_at, parent_of, CanGo, IsForest, IsLive, SameSize};
-ghost use Rattle.model_exchanged.specs.Exchanged.{after_put_on, after_put_over, LeavesUnseen};
+ghost use Rattle.model_exchanged.specs.Exchanged.{after_put_on, after_put_under, LeavesUnseen};
 ghost use Rattle.model_resize.specs.Resize.{after_resize, CanResize};
 ghost use Rattle.model_kept.specs.Cells.{cell_of, cells_below, in_cell};
 ghost use Rattle.model_kept.specs.Keeping.{is_hidden, is_shown, outward, place_among};
@@ -286,8 +286,10 @@ impl Forest {
         Ok(ImageNo(number))
     }
 
-    /// Makes a window directly above another as `replace` does, but leaves the other where it stands, for where that goes next.
-    pub fn put_over<L: Ledger>(
+    /// Makes a window directly below another, with its parent, its fill and its depth, at the place of r's size whose min is
+    /// `corner`, and leaves the other where it stands, for where that goes next. It shows what the other shows, counted from
+    /// both mins, or one raw pixel.
+    pub fn put_under<L: Ledger>(
         &mut self,
         old: ImageNo,
         r: Rect,
@@ -304,7 +306,7 @@ impl Forest {
         requires size { keep ≡ true → SameSize r (image_at (world self.old) old.0).r }
         ensures number { IfOk result (λ i. i.0 ≡ next_number (numbers self.old)) }
         ensures free { IfOk result (λ i. world self.old i.0 ≡ None) }
-        ensures made { IfOk result (λ i. world self.new ≡ after_put_over (world self.old) i.0 old.0 r corner raw keep) }
+        ensures made { IfOk result (λ i. world self.new ≡ after_put_under (world self.old) i.0 old.0 r corner raw keep) }
         ensures taken { OnOk result (numbers self.new ≡ taken (numbers self.old)) }
         ensures room { room self.old ≤ room self.new }
         ensures err { OnErr result (IsUnchanged self.old self.new) }
@@ -313,7 +315,7 @@ impl Forest {
         ensures moment { moment self.new ≡ moment self.old }
         ensures writes { writes self.new + steps.old ≡ writes self.old + steps.new }
     {
-        let number = self.images.put_over(old.0, r, corner, raw, keep, steps)?;
+        let number = self.images.put_under(old.0, r, corner, raw, keep, steps)?;
         Ok(ImageNo(number))
     }
 

@@ -70,40 +70,6 @@ pub fn lowered(alloc: Global, windows: &[Window], images: &[ImageNo]) -> Result<
     group.lowered(alloc, windows)
 }
 
-/// Takes an image out of the list.
-pub fn without(windows: &mut Vec<Window>, i: u32)
-    ensures items { windows.new.items ≡ stack.without i windows.old.items }
-    ensures fewer { vec_len windows.new ≤ vec_len windows.old }
-{
-    windows.retain(|w| w.image != i);
-}
-
-/// Gives a window another place.
-pub fn moved(windows: &mut Vec<Window>, i: u32, place: Rect)
-    ensures items { windows.new.items ≡ stack.moved i place windows.old.items }
-    ensures len { vec_len windows.new ≡ vec_len windows.old }
-{
-    move_each(windows, i, place);
-}
-
-fn move_each(windows: &mut [Window], i: u32, place: Rect)
-    ensures { windows.new ≡ stack.moved i place windows.old }
-{
-    for k in 0..windows.len() {
-        windows[k] = moved_window(i, place, windows[k]);
-    }
-}
-
-fn moved_window(i: u32, place: Rect, w: Window) -> Window
-    ensures { result ≡ stack.moved_window i place w }
-{
-    if w.image == i {
-        Window { image: i, place }
-    } else {
-        w
-    }
-}
-
 /// The rectangle that stands to `to` as r stands to `from`.
 pub fn carried_rect(r: &Rect, from: Point, to: Point) -> Rect
     requires rect { IsRectNear r.now }

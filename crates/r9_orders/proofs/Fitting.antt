@@ -9,7 +9,7 @@ use Rattle.r9_geom.specs.Geometry.{HasPoints, IsRectNearBy, is_empty}
 use Rattle.model_images.specs.declared.ImageId.{ImageId}
 use Rattle.model_images.specs.declared.ScreenId.{ScreenId}
 use Rattle.model_images.specs.declared.Thing.TheVariants.{Screen}
-use Rattle.model_images.specs.Book.{Book, fill_of, image_id, image_of, new_screen, screen, screen_id, screen_numbered}
+use Rattle.model_images.specs.Book.{Book, fill_of, image_id, new_screen, screen, screen_id, screen_numbered}
 use Rattle.model_text.specs.Outcome.{value_or_refuse}
 use Rattle.model_forest.specs.World.{World as Images}
 use Rattle.model_images.specs.Release.{is_used}
@@ -19,7 +19,7 @@ use Rattle.model_draw.specs.Orders.{has_rio, has_window, image_shown, inside_bor
 use Rattle.r9_device.specs.Kept.{IsKept}
 use Rattle.r9_device.specs.Spare.{AreSpare}
 use Rattle.r9_device.proofs.Screens.{kept-screened, spare-screened}
-use Rattle.r9_device.proofs.Lookups.{fill-of-used, find-any, first_true, image-of-used, shown-used}
+use Rattle.r9_device.proofs.Lookups.{fill-of-used, find-any, first_true, shown-used}
 use Rattle.r9_device.proofs.Rects.{near-of, points-of}
 
 -- ---- windows
@@ -86,9 +86,6 @@ rio-used w host h = by (screen_id w.book 0 host) refl h
 pub rio-there : (w : World) (host : ℕ) → IsKept w.images w.book → has_rio w host ≡ true → is_some (screen_numbered w.book (rio_screen w host)) ≡ true
 rio-there w host kept h = kept.screens (rio_screen w host) (rio-used w host h)
 
-pub rio-image : (w : World) (host : ℕ) → IsKept w.images w.book → has_rio w host ≡ true → is_some (w.images (image_of w.book (rio_screen w host))) ≡ true
-rio-image w host kept h = kept.live _ (image-of-used w.book (rio_screen w host) (rio-there w host kept h))
-
 pub rio-fill : (w : World) (host : ℕ) → IsKept w.images w.book → has_rio w host ≡ true → is_some (w.images (fill_of w.book (rio_screen w host))) ≡ true
 rio-fill w host kept h = kept.live _ (fill-of-used w.book (rio_screen w host) (rio-there w host kept h))
 
@@ -109,6 +106,23 @@ rio-found w host n h e = by (screen_id w.book 0 host) h e
     by : (o : Option ScreenId) → is_some o ≡ true → value_or_refuse (option_map (λ e. e.screen) o) 5 ≡ Err n → ⊥
     by (Some x) h e = cc
     by None h e = cc
+
+-- where none is found there is no rio
+pub no-rio : (w : World) (host n : ℕ) → screen w.book 0 host ≡ Err n → has_rio w host ≡ false
+unfolding screen
+no-rio w host n e = by (screen_id w.book 0 host) e
+  where
+    by : (o : Option ScreenId) → value_or_refuse (option_map (λ e. e.screen) o) 5 ≡ Err n → is_some o ≡ false
+    by (Some x) e = absurd cc
+    by None e = refl
+
+pub rio-is : (w : World) (host s : ℕ) → screen w.book 0 host ≡ Ok s → has_rio w host ≡ true
+unfolding screen
+rio-is w host s e = by (screen_id w.book 0 host) e
+  where
+    by : (o : Option ScreenId) → value_or_refuse (option_map (λ e. e.screen) o) 5 ≡ Ok s → is_some o ≡ true
+    by (Some x) e = refl
+    by None e = absurd cc
 
 -- ---- a screen on a window, or none where its id is taken
 

@@ -1,6 +1,6 @@
 -- The screen of a rio that goes, and the one that comes.
 use Rattle.std.proofs.Common.{◌≡◌, ℕ, Bool, true, false, ℤ, pos, neg_ℤ, ◌+ℤ◌, ◌-ℤ◌, ◌≤ℤ◌, to_z, of_z, w64, List, [], ◌∷◌, Some, Result, Ok, Err, OnOk, OnErr, refl, sym, ap, ◌∙◌, arith, int_le, int_lt}
-use Rattle.std.specs.Prelude.{◌==◌, ◌&&◌, ◌||◌, ◌^◌, All, IsSome, find, is_some, not, if◌then◌else◌}
+use Rattle.std.specs.Prelude.{◌==◌, ◌&&◌, ◌^◌, All, IsSome, find, is_some, not, if◌then◌else◌}
 use Rattle.std.specs.Option.{option_map_or}
 use Rattle.std.specs.Result.{result_unwrap_or}
 use Rattle.std.specs.Ordering.{int_eq}
@@ -116,10 +116,6 @@ all-passed true true true false h = absurd cc
 all-passed true true false d h = absurd cc
 all-passed true false c d h = absurd cc
 all-passed false b c d h = absurd cc
-
-pub where-kept : (keep can : Bool) → keep ≡ true → (not keep || can) ≡ true → can ≡ true
-where-kept true can k h = h
-where-kept false can k h = absurd cc
 
 -- ---- other images
 

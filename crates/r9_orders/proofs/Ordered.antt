@@ -14,8 +14,8 @@ use Rattle.model_forest.specs.World.{Image, IsForest, World, image_at, no_image,
 use Rattle.model_forest.specs.Draw.{after_fill, with_canvas}
 use Rattle.model_forest.specs.View.{is_bare, view}
 use Rattle.model_forest.specs.Stack.{after_window, moved, new_window, seen}
-use Rattle.model_forest.specs.Steps.{after_origin, after_replace, after_replace_on, carried_rect, outside, put_above}
-use Rattle.model_exchanged.specs.Exchanged.{after_put_on, after_put_over}
+use Rattle.model_forest.specs.Steps.{after_origin, after_replace, after_replace_on, carried_rect, put_above}
+use Rattle.model_exchanged.specs.Exchanged.{after_put_on, after_put_under, put_below}
 use Rattle.r9_info.specs.declared.ImageNo.{ImageNo}
 use Rattle.model_forest.proofs.Releasing.{SameFrame, origin-at, Stays, changed-at, changed-other, relisted, relisted-stays, stays-after, stays-same, windows-stay}
 use Rattle.model_images.specs.declared.ImageId.{ImageId}
@@ -153,12 +153,11 @@ parent-stays a b n stays = ap (λ (o : Option Standing). option_map (λ (s : Sta
 new-lives : (images next : World) (i n : ℕ) (r : Rect) (standing : Option Standing) → IsNew images next i r standing → is_some (images n) ≡ true → is_some (next n) ≡ true
 new-lives images next i n r standing new live = (new.others n (live_apart images n i live new.free)).live ∙ live
 
-pub new-put_over : (images : World) (i old : ℕ) (r : Rect) (corner : Point) (raw : ℕ) (keep : Bool) → images i ≡ None → is_some (images old) ≡ true
-    → ((p : ℕ) → parent_of images old ≡ Some p → is_some (images p) ≡ true) → IsNew images (after_put_over images i old r corner raw keep) i r (image_at images old).standing
-unfolding after_put_over
-new-put_over images i old r corner raw keep free live parents =
+-- a window that comes beside another, white or of its contents
+abbrev beside : World → (old : ℕ) → Rect → (raw : ℕ) → (keep : Bool) → Image
+beside images old r raw keep =
     let image = image_at images old in
-    let x : Image = record {
+    record {
       r = r;
       clipr = r;
       repl = false;
@@ -167,10 +166,21 @@ new-put_over images i old r corner raw keep free live parents =
       depth = image.depth;
       canvas = seen r [] (λ p. if keep then view images old (carried p r.min image.r.min) else raw);
       windows = [];
-    } in
+    }
+
+-- wherever the list has it
+new-beside : (images : World) (i old : ℕ) (r : Rect) (raw : ℕ) (keep : Bool) (change : List Window → List Window) → images i ≡ None → is_some (images old) ≡ true
+    → ((p : ℕ) → parent_of images old ≡ Some p → is_some (images p) ≡ true)
+    → (let put : World = with_image images i (Some (beside images old r raw keep)) in IsNew images (relisted put change (parent_of put old)) i r (image_at images old).standing)
+new-beside images i old r raw keep change free live parents =
+    let x : Image = beside images old r raw keep in
     let put : World = with_image images i (Some x) in
-    let above : List Window → List Window = put_above (record { image = i; place = carried_rect r r.min corner }) old in
-    new-put images _ i x refl free (λ n. list-stays images put old n above parents (λ m h. still-live images i m x h) (parent-still images i old x (live_apart images old i live free)))
+    new-put images _ i x refl free (λ n. list-stays images put old n change parents (λ m h. still-live images i m x h) (parent-still images i old x (live_apart images old i live free)))
+
+pub new-put_under : (images : World) (i old : ℕ) (r : Rect) (corner : Point) (raw : ℕ) (keep : Bool) → images i ≡ None → is_some (images old) ≡ true
+    → ((p : ℕ) → parent_of images old ≡ Some p → is_some (images p) ≡ true) → IsNew images (after_put_under images i old r corner raw keep) i r (image_at images old).standing
+unfolding after_put_under
+new-put_under images i old r corner raw keep free live parents = new-beside images i old r raw keep (put_below (record { image = i; place = carried_rect r r.min corner }) old) free live parents
 
 pub new-put_on : (images : World) (i old parent fill : ℕ) (r : Rect) (corner : Point) (raw : ℕ) (keep : Bool) → images i ≡ None → is_some (images parent) ≡ true
     → IsNew images (after_put_on images i old parent fill r corner raw keep) i r (Some (record { parent = parent; fill = fill }))
@@ -197,10 +207,12 @@ new-away images put i old n r place standing live parents new =
 
 pub new-replace : (images : World) (i old : ℕ) (r : Rect) (corner : Point) (raw : ℕ) (keep : Bool) → images i ≡ None → is_some (images old) ≡ true
     → ((p : ℕ) → parent_of images old ≡ Some p → is_some (images p) ≡ true) → IsNew images (after_replace images i old r corner raw keep) i r (image_at images old).standing
-unfolding after_put_over after_replace
+unfolding after_replace
 new-replace images i old r corner raw keep free live parents =
-    let put : World = after_put_over images i old r corner raw keep in
-    let new : IsNew images put i r (image_at images old).standing = new-put_over images i old r corner raw keep free live parents in
+    let above : List Window → List Window = put_above (record { image = i; place = carried_rect r r.min corner }) old in
+    let came : World = with_image images i (Some (beside images old r raw keep)) in
+    let put : World = relisted came above (parent_of came old) in
+    let new : IsNew images put i r (image_at images old).standing = new-beside images i old r raw keep above free live parents in
     new-stays images put _ i r _ new (λ n. new-away images put i old n r _ _ live parents new)
 
 pub new-replace_on : (images : World) (i old parent fill : ℕ) (r : Rect) (corner : Point) (raw : ℕ) (keep : Bool) → images i ≡ None → is_some (images old) ≡ true → is_some (images parent) ≡ true
@@ -238,10 +250,10 @@ new-next images i next stays free can forest = by stays next.above
     raw_on = white (image_at images next.parent.0).chan
 
     by : (b above : Bool) → IsNew images
-        (if b then (if above then after_put_over images i old next.r to raw_over next.keep else after_put_on images i old next.parent.0 next.fill.0 next.r to raw_on next.keep)
+        (if b then (if above then after_put_under images i old next.r to raw_over next.keep else after_put_on images i old next.parent.0 next.fill.0 next.r to raw_on next.keep)
         else (if above then after_replace images i old next.r to raw_over next.keep else after_replace_on images i old next.parent.0 next.fill.0 next.r to raw_on next.keep))
         i next.r (if above then (image_at images old).standing else on)
-    by true true = new-put_over images i old next.r to raw_over next.keep free can.old parents
+    by true true = new-put_under images i old next.r to raw_over next.keep free can.old parents
     by true false = new-put_on images i old next.parent.0 next.fill.0 next.r to raw_on next.keep free can.parent
     by false true = new-replace images i old next.r to raw_over next.keep free can.old parents
     by false false = new-replace_on images i old next.parent.0 next.fill.0 next.r to raw_on next.keep free can.old can.parent parents

@@ -7,8 +7,8 @@ use Rattle.r9_geom.specs.declared.Point.{Point}
 use Rattle.model_forest.specs.Draw.{with_canvas}
 use Rattle.model_forest.specs.Steps.{after_release, after_replace, after_replace_on}
 use Rattle.model_forest.specs.World.{Image, IsForest, World, image_at, no_image}
-use Rattle.model_exchanged.specs.Exchanged.{LeavesUnseen, after_put_on, after_put_over}
-use Rattle.model_exchanged.proofs.Replaced.{on_goes, on_goes_drawn, on_same, over_goes, over_goes_drawn, over_same}
+use Rattle.model_exchanged.specs.Exchanged.{LeavesUnseen, after_put_on, after_put_under}
+use Rattle.model_exchanged.proofs.Replaced.{on_goes, on_goes_drawn, on_same, under_goes, under_goes_drawn, under_same}
 use Rattle.model_images.specs.declared.Thing.{Thing}
 use Rattle.model_images.specs.declared.Thing.TheVariants.{Image as Shown, Screen}
 use Rattle.model_draw.specs.Orders.{bordered, border_pixel, corner, on_border, white}
@@ -50,7 +50,7 @@ module _ (images : World) (i : ℕ) (next : Next) (forest : IsForest images) (fr
   on_raw = white (image_at images p).chan
 
   abbrev put : Bool → World
-  put above = if above then after_put_over images i old next.r to over_raw next.keep else after_put_on images i old p next.fill.0 next.r to on_raw next.keep
+  put above = if above then after_put_under images i old next.r to over_raw next.keep else after_put_on images i old p next.fill.0 next.r to on_raw next.keep
 
   abbrev replaced : Bool → World
   replaced above = if above then after_replace images i old next.r to over_raw next.keep else after_replace_on images i old p next.fill.0 next.r to on_raw next.keep
@@ -59,14 +59,14 @@ module _ (images : World) (i : ℕ) (next : Next) (forest : IsForest images) (fr
   same = by next.above
     where
       by : (above : Bool) → put above i ≡ replaced above i
-      by true = over_same images i old next.r to over_raw next.keep forest free can.window
+      by true = under_same images i old next.r to over_raw next.keep forest free can.window
       by false = on_same images i old next.r to on_raw next.keep forest free can.window p next.fill.0 can.parent
 
   goes : LeavesUnseen images old p → after_release (images_put images i next) old ≡ after_release (images_replaced images i next) old
   goes unseen = by next.above
     where
       by : (above : Bool) → after_release (put above) old ≡ after_release (replaced above) old
-      by true = over_goes images i old next.r to over_raw next.keep forest free can.window p unseen
+      by true = under_goes images i old next.r to over_raw next.keep forest free can.window p unseen
       by false = on_goes images i old next.r to on_raw next.keep forest free can.window p next.fill.0 can.parent unseen
 
   goes-drawn : (area : Point → Bool) (raws : Point → ℕ) → LeavesUnseen images old p
@@ -74,7 +74,7 @@ module _ (images : World) (i : ℕ) (next : Next) (forest : IsForest images) (fr
   goes-drawn area raws unseen = by next.above
     where
       by : (above : Bool) → after_release (with_canvas (put above) i area raws) old ≡ after_release (with_canvas (replaced above) i area raws) old
-      by true = over_goes_drawn images i old next.r to over_raw next.keep forest free can.window p area raws unseen
+      by true = under_goes_drawn images i old next.r to over_raw next.keep forest free can.window p area raws unseen
       by false = on_goes_drawn images i old next.r to on_raw next.keep forest free can.window p next.fill.0 can.parent area raws unseen
 
   -- also where the new one has got its border

@@ -1,28 +1,31 @@
 -- A window that comes, and what it gets in place of its image.
-use Rattle.std.proofs.Common.{◌≡◌, ℕ, Bool, true, false, ℤ, pos, neg_ℤ, ◌≤ℤ◌, ◌-ℤ◌, int_lt, List, Option, Some, None, Result, Ok, Err, OnOk, refl, sym, ap, subst, ◌∙◌, arith}
-use Rattle.std.specs.Prelude.{◌&&◌, ◌==◌, ◌^◌, not, is_some, if◌then◌else◌}
+use Rattle.std.proofs.Common.{◌≡◌, ℕ, Bool, true, false, ℤ, pos, neg_ℤ, ◌≤ℤ◌, ◌-ℤ◌, ◌+◌, ◌≤◌, int_lt, List, Option, Some, None, Result, Ok, Err, OnOk, refl, sym, ap, subst, ◌∙◌, arith}
+use Rattle.std.specs.Prelude.{◌&&◌, ◌||◌, ◌==◌, ◌^◌, not, is_some, if◌then◌else◌}
 use Rattle.std.specs.Ordering.{int_eq}
 use Rattle.std.specs.List.{list_any}
 use Rattle.std.specs.Option.{option_map_or}
 use Rattle.std.proofs.lemmas.Bool.{eqb-true}
 use Rattle.std.proofs.lemmas.Bool.Decides.{nat_tests}
 use Rattle.std.proofs.lemmas.Int.{ints}
+use Rattle.r9_event.specs.declared.rio.Order.{Order}
+use Rattle.r9_event.specs.declared.rio.Order.TheVariants.{Replace}
+use Rattle.model_cost.specs.Cost.{order_cost}
 use Rattle.r9_geom.specs.declared.Rect.{Rect}
 use Rattle.r9_geom.specs.Geometry.{HasPoints, IsRectNearBy, at_min, is_empty}
 use Rattle.model_forest.specs.World.{SameSize, World as Images, image_at}
 use Rattle.model_forest.specs.Steps.{after_replace, after_replace_on, outside}
 use Rattle.model_images.specs.declared.Thing.TheVariants.{Screen}
 use Rattle.model_images.specs.declared.ScreenId.{ScreenId}
-use Rattle.model_images.specs.Book.{fill_of, image_of, screen_id}
+use Rattle.model_images.specs.Book.{fill_of, image_of, screen_id, screen_of}
 use Rattle.model_images.specs.Release.{is_used}
 use Rattle.model_draw.specs.World.{World, after_freed, at_number, next_image, with_book}
 use Rattle.model_draw.specs.Making.{farthest, is_near, is_near_rect, with_made}
-use Rattle.model_draw.specs.Orders.{bordered, can_keep, corner, has_rio, has_window, image_freed, image_shown, inside_border, is_window_rect, stands_on, white, with_window, next_white, replace_window, rio_screen, with_window_name}
+use Rattle.model_draw.specs.Orders.{after_order, bordered, can_keep, corner, fits, has_rio, has_window, image_freed, image_shown, inside_border, is_window_rect, stands_on, white, with_window, next_white, ordered, replace_window, rio_screen, with_window_name}
 use Rattle.r9_orders.specs.declared.next.Next.{Next}
 use Rattle.r9_device.specs.Kept.{IsKept}
 use Rattle.r9_orders.specs.Ordering.{CanReplace, IsNext, images_replaced, is_used_by_id, renewed}
 use Rattle.r9_orders.proofs.Fitting.{window-lives, window-rect-near, window-rect-points}
-use Rattle.r9_orders.proofs.Hosting.{window-parent}
+use Rattle.r9_orders.proofs.Hosting.{all-passed, window-parent}
 use Rattle.r9_device.proofs.Lookups.{fill-of-used, find-any, image-of-used}
 
 -- ---- rectangles
@@ -189,3 +192,52 @@ rio-by-id w host h = by (screen_id w.book 0 host) refl h
     by : (o : Option ScreenId) → screen_id w.book 0 host ≡ o → is_some o ≡ true → list_any (λ y. y.screen == option_map_or (λ e. e.screen) o 0) w.book.screen_ids ≡ true
     by (Some x) e h = find-any _ (λ y. y.screen == x.screen) w.book.screen_ids x e (grind (arith, nat_tests))
     by None e h = absurd cc
+
+-- ---- the order for it
+
+-- what the order for another image wants
+pub replace-fits : (w : World) (window host : ℕ) (r : Rect) (name : List ℕ) (keep hidden : Bool) → fits w (Replace window host r name keep hidden) ≡ true
+    → (has_window w window ≡ true) × (has_rio w host ≡ true) × (is_window_rect r ≡ true) × ((not keep || can_keep w window (rio_screen w host) r) ≡ true)
+replace-fits w window host r name keep hidden h = all-passed (has_window w window) (has_rio w host) (is_window_rect r) (not keep || can_keep w window (rio_screen w host) r) h
+
+-- it does not fit where there is no such rio
+pub fits-no-rio : (w : World) (window host : ℕ) (r : Rect) (name : List ℕ) (keep hidden : Bool) → has_rio w host ≡ false → fits w (Replace window host r name keep hidden) ≡ false
+fits-no-rio w window host r name keep hidden h = by (has_window w window) (has_rio w host) h
+  where
+    by : (a b : Bool) → b ≡ false → (a && b && is_window_rect r && (not keep || can_keep w window (rio_screen w host) r)) ≡ false
+    by true true h = absurd cc
+    by true false h = refl
+    by false b h = refl
+
+-- where the window and the rio are there the rest is told by the rectangle
+pub fits-rest : (w : World) (window host s : ℕ) (r : Rect) (name : List ℕ) (keep hidden b : Bool) → has_window w window ≡ true → has_rio w host ≡ true → s ≡ rio_screen w host
+    → b ≡ (is_window_rect r && (not keep || can_keep w window s r)) → fits w (Replace window host r name keep hidden) ≡ b
+fits-rest w window host s r name keep hidden b h k at is =
+    (λ j. h j && k j && is_window_rect r && (not keep || can_keep w window (rio_screen w host) r)) ∙ sym (is ∙ ap (λ (n : ℕ). is_window_rect r && (not keep || can_keep w window n r)) at)
+
+-- what the rectangle tells
+pub come-tests : (a keep b : Bool) → (a && (not keep || b)) ≡ true → (a ≡ true) × (keep ≡ true → b ≡ true)
+come-tests true true b h = (refl, λ k. h)
+come-tests true false b h = (refl, λ k. absurd cc)
+come-tests false keep b h = absurd cc
+
+-- the next image, which goes where the window stands if it has the same screen
+pub next-is : (w : World) (window s on : ℕ) (next : Next) → next.old.0 ≡ image_shown w window → screen_of w.book next.old.0 ≡ Some on → next.above ≡ (on == s) → next.parent.0 ≡ image_of w.book s → next.fill.0 ≡ fill_of w.book s
+    → IsNext w window s next
+next-is w window s on next old stands above parent fill = record {
+  old = old;
+  above = above ∙ sym (ap (λ (o : Option ℕ). option_map_or (λ t. t == s) o false) (ap (screen_of w.book) (sym old) ∙ stands));
+  parent = parent;
+  fill = fill;
+}
+
+-- an order that fits is carried out, and its cost counts; another changes nothing
+pub ordered-where : {A E : Type 0} (o : Result A E) (w next : World) (order : Order) → fits w order ≡ true → OnOk o (next ≡ after_order w order) → OnOk o (next ≡ ordered w order)
+ordered-where o w next order fit done = subst (λ (b : Bool). OnOk o (next ≡ (if b then after_order w order else w))) (sym fit) done
+
+pub ordered-not : (w : World) (order : Order) → fits w order ≡ false → w ≡ ordered w order
+ordered-not w order fit = ap (λ (b : Bool). if b then after_order w order else w) (sym fit)
+
+pub cost-where : {A E : Type 0} (o : Result A E) (w : World) (order : Order) (before after : ℕ) → fits w order ≡ true → OnOk o (after ≤ before + order_cost w order)
+    → OnOk o (after ≤ before + (if fits w order then order_cost w order else 0))
+cost-where o w order before after fit within = subst (λ (b : Bool). OnOk o (after ≤ before + (if b then order_cost w order else 0))) (sym fit) within

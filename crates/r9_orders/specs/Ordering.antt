@@ -1,5 +1,5 @@
 -- What the steps of the window manager's orders need, and what they leave.
-use Rattle.std.specs.Prelude.{◌≡◌, ℕ, Bool, true, false, ◌+◌, ◌==◌, ◌^◌, List, [], ◌∷◌, is_some, IfSome, IsSome, IsTrue, if◌then◌else◌}
+use Rattle.std.specs.Prelude.{◌≡◌, ◌≢◌, ℕ, Bool, true, false, ◌+◌, ◌==◌, ◌^◌, List, [], ◌∷◌, is_some, IfSome, IsSome, IsTrue, if◌then◌else◌}
 use Rattle.std.specs.List.{list_any}
 use Rattle.std.specs.Result.{result_unwrap_or}
 use Rattle.r9_geom.specs.declared.Point.{Point}
@@ -8,9 +8,11 @@ use Rattle.r9_geom.specs.Geometry.{HasPoints, IsOrdered, IsRectNearBy, area_of, 
 use Rattle.model_forest.specs.World.{SameSize, World as Images, image_at, parent_of}
 use Rattle.model_forest.specs.Stack.{after_window}
 use Rattle.model_forest.specs.Steps.{after_origin, after_replace, after_replace_on, outside}
-use Rattle.model_exchanged.specs.Exchanged.{LeavesUnseen, after_put_on, after_put_over}
+use Rattle.model_exchanged.specs.Exchanged.{LeavesUnseen, after_put_on, after_put_under}
 use Rattle.model_kept.specs.Keeping.{place_among}
 use Rattle.model_cost.specs.Cost.{border, coming, moving}
+use Rattle.r9_event.specs.declared.rio.Order.{Order}
+use Rattle.r9_event.specs.declared.rio.Order.TheVariants.{Replace}
 use Rattle.model_images.specs.declared.Thing.{Thing}
 use Rattle.model_images.specs.declared.Thing.TheVariants.{Image, Screen}
 use Rattle.model_images.specs.Book.{Book, fill_of, image_of, new_screen}
@@ -28,6 +30,10 @@ pub record CanFill (r part : Rect) : Type 0 where
 -- an id has this screen
 abbrev pub is_used_by_id : Book → (screen : ℕ) → Bool
 is_used_by_id book s = list_any (λ e. e.screen == s) book.screen_ids
+
+-- an order for anything but another image of a window
+abbrev pub IsOther : Order → Type 0
+IsOther order = (window host : ℕ) (r : Rect) (name : List ℕ) (keep hidden : Bool) → order ≢ Replace window host r name keep hidden
 
 -- ---- a window that comes
 
@@ -75,7 +81,7 @@ images_replaced images i next =
 abbrev pub images_put : Images → ℕ → Next → Images
 images_put images i next =
     if next.above then
-    after_put_over images i next.old.0 next.r (corner next.r next.hidden) (white (image_at images next.old.0).chan) next.keep
+    after_put_under images i next.old.0 next.r (corner next.r next.hidden) (white (image_at images next.old.0).chan) next.keep
     else
     after_put_on images i next.old.0 next.parent.0 next.fill.0 next.r (corner next.r next.hidden)
     (white (image_at images next.parent.0).chan) next.keep

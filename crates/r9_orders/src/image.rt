@@ -1,7 +1,7 @@
 //! White images with the border of a window, and what the book of ids has of them.
 
 ghost use Rattle.model_cost.specs.Cost.{border, coming};
-ghost use Rattle.model_draw.specs.Orders.{bordered, new_white, inside_border, stands_on, white, with_window_id, with_window_name};
+ghost use Rattle.model_draw.specs.Orders.{bordered, new_white, inside_border, white, with_window_id, with_window_name};
 ghost use Rattle.model_forest.specs.Draw.{with_canvas};
 ghost use Rattle.model_forest.specs.Numbers.{next_number, taken};
 ghost use Rattle.model_forest.specs.Stack.{after_window};
@@ -31,16 +31,6 @@ pub(crate) fn white(chan: Chan) -> u32
     ensures range { result < 2 ^ channels.depth chan }
 {
     chan.pack(Colour::of_word(0xffff_ffff))
-}
-
-// Whether a window stands on this screen.
-pub(crate) fn stands_on(book: &Book, image: ImageNo, screen: u32) -> bool
-    ensures { result ≡ stands_on book.now.book image.0 screen }
-{
-    match book.screen_of(image.0) {
-        Some(on) => on == screen,
-        None => false,
-    }
 }
 
 // Parts of an image become one raw pixel, where they are bare.

@@ -16,10 +16,11 @@ use r9_memory::Memory;
 use r9_steps::Steps;
 use std::sync::ledger::Ledger;
 
-// What a window gets in place of its image: an image directly above the old one, or topmost on a parent.
+// What a window gets in place of its image: an image among the windows where the old one stands, or topmost on a parent.
 #[derive(Clone, Copy)]
 pub(crate) struct Next {
     pub old: ImageNo,
+    pub screen: u32,
     pub above: bool,
     pub parent: ImageNo,
     pub fill: ImageNo,
@@ -28,7 +29,8 @@ pub(crate) struct Next {
     pub hidden: bool,
 }
 
-// A white image that comes with another, which stays where it stands, or one of the same contents.
+// A white image, or one of the same contents, that comes directly below another or topmost on a parent. The other stays
+// where it stands.
 fn put_next<L: Ledger>(
     forest: &mut Forest,
     next: &Next,
@@ -49,7 +51,7 @@ fn put_next<L: Ledger>(
     let corner = corner(&next.r, next.hidden);
     if next.above {
         let raw = white(forest.info(next.old).chan);
-        return forest.put_over(next.old, next.r, corner, raw, next.keep, steps);
+        return forest.put_under(next.old, next.r, corner, raw, next.keep, steps);
     }
     let raw = white(forest.info(next.parent).chan);
     forest.put_on(

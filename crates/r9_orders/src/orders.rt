@@ -2,27 +2,30 @@
 //! connection 0. An order that does not fit changes nothing.
 
 ghost use Rattle.model_cost.specs.Cost.{order_cost, orders_cost};
-ghost use Rattle.model_draw.specs.Orders.{after_order, replace_window, carried_out, drop_window, fits, host_rio, make_window, ordered, place_window, rio_screen};
+ghost use Rattle.model_draw.specs.Orders.{after_order, replace_window, carried_out, drop_window, fits, host_rio, make_window, ordered, place_window};
 ghost use Rattle.r9_device.specs.World.{moment_of, world_of, writes_of};
-ghost use Rattle.r9_event.specs.declared.rio.Order.TheVariants.{Host};
+ghost use Rattle.r9_event.specs.declared.rio.Order.TheVariants.{Host, Replace};
+ghost use Rattle.r9_orders.specs.Ordering.{IsOther};
 ghost use Rattle.std.specs.Prelude.{OnOk, true, ◌<◌, ◌+◌, ◌≡◌, ◌≤◌, if◌then◌else◌};
 
 use crate::display::resize_display;
 use crate::rio::host_rio;
-use crate::there::{fits, rio_screen};
+use crate::there::fits;
 use crate::window::{
     drop_window, lower_window, make_window, next_of, place_window, raise_window, replace_window,
 };
 use r9_device::Device;
 use r9_event::{Order, Orders};
+use r9_geom::Rect;
 use r9_memory::Memory;
 use r9_steps::Steps;
 use std::sync::ledger::Ledger;
 
-// An order that fits.
+// An order that fits, for anything but another image of a window.
 #[tactic(auto, unfolding(model_cost::specs::Cost::order_cost))]
 fn obey<L: Ledger>(device: &mut Device, order: &Order, steps: &mut Steps<L>) -> Result<(), Memory>
-    requires { fits (world_of device.old) order.now ≡ true }
+    requires other { IsOther order.now }
+    requires fits { fits (world_of device.old) order.now ≡ true }
     ensures obeyed { OnOk result (world_of device.new ≡ after_order (world_of device.old) order.now) }
     ensures steps { OnOk result (steps.new ≤ steps.old + order_cost (world_of device.old) order.now) }
     ensures moment { moment_of device.new ≡ moment_of device.old }
@@ -38,24 +41,35 @@ fn obey<L: Ledger>(device: &mut Device, order: &Order, steps: &mut Steps<L>) -> 
             ..
         } => make_window(device, *window, *host, *r, name.as_slice(), *hide, steps),
         Order::Place { window, at } => place_window(device, *window, *at, steps),
-        Order::Replace {
-            window,
-            host,
-            r,
-            name,
-            keep,
-            hidden,
-        } => {
-            let screen = rio_screen(device, *host);
-            let next = next_of(device, *window, screen, *r, *keep, *hidden);
-            replace_window(device, *window, *host, &next, name.as_slice(), steps)
-        }
+        Order::Replace { .. } => unreachable!(),
         Order::Raise { window } => raise_window(device, *window, steps),
         Order::Lower { window } => lower_window(device, *window, steps),
         Order::Drop { window } => drop_window(device, *window, steps),
         Order::Host { window, fill } => host_rio(device, *window, *fill, steps),
         Order::Leave { client } => device.leave(*client, steps),
         Order::Size { width, height } => resize_display(device, *width, *height, steps),
+    }
+}
+
+// A window has another image, and another name, where that fits.
+fn replace<L: Ledger>(
+    device: &mut Device,
+    window: u32,
+    host: u32,
+    r: Rect,
+    name: &[u8],
+    keep: bool,
+    hidden: bool,
+    steps: &mut Steps<L>,
+) -> Result<(), Memory>
+    ensures ordered { OnOk result (world_of device.new ≡ ordered (world_of device.old) (Replace window host r name.now keep hidden)) }
+    ensures steps { OnOk result (steps.new ≤ steps.old + (if fits (world_of device.old) (Replace window host r name.now keep hidden) then order_cost (world_of device.old) (Replace window host r name.now keep hidden) else 0)) }
+    ensures moment { moment_of device.new ≡ moment_of device.old }
+    ensures writes { writes_of device.new + steps.old ≡ writes_of device.old + steps.new }
+{
+    match next_of(device, window, host, r, keep, hidden) {
+        Some(next) => replace_window(device, window, &next, name, steps),
+        None => Ok(()),
     }
 }
 
@@ -70,6 +84,26 @@ fn carry_out_order<L: Ledger>(
     ensures moment { moment_of device.new ≡ moment_of device.old }
     ensures writes { writes_of device.new + steps.old ≡ writes_of device.old + steps.new }
 {
+    if let Order::Replace {
+        window,
+        host,
+        r,
+        name,
+        keep,
+        hidden,
+    } = order
+    {
+        return replace(
+            device,
+            *window,
+            *host,
+            *r,
+            name.as_slice(),
+            *keep,
+            *hidden,
+            steps,
+        );
+    }
     if !fits(device, order) {
         return Ok(());
     }

@@ -1,7 +1,7 @@
 //! Windows that come, move, get another image, and go.
 
 ghost use Rattle.model_cost.specs.Cost.{border, coming, dropping, going_all, moving, rect_shown, replacing};
-ghost use Rattle.model_draw.specs.Orders.{bordered, can_keep, corner, new_white, replace_window, drop_window, has_rio, has_window, image_freed, image_shown, is_near_point, is_window_rect, make_window, place_window, rio_screen, stands_on, white, with_window_id, with_window_name};
+ghost use Rattle.model_draw.specs.Orders.{bordered, corner, fits, new_white, replace_window, drop_window, has_rio, has_window, image_freed, image_shown, is_near_point, is_window_rect, make_window, place_window, rio_screen, white, with_window_id, with_window_name};
 ghost use Rattle.model_draw.specs.Making.{with_made};
 ghost use Rattle.model_draw.specs.World.{after_freed, at_number, next_image, with_book, with_images};
 ghost use Rattle.model_forest.specs.Stack.{after_lower, after_raise};
@@ -12,15 +12,16 @@ ghost use Rattle.model_images.specs.declared.Thing.TheVariants.{Screen};
 ghost use Rattle.r9_orders.specs.Ordering.{CanReplace, IsNext, StandsAt, is_used_by_id, renewed, renewing, with_white};
 ghost use Rattle.r9_device.specs.Live.{IsLiveIn};
 ghost use Rattle.r9_device.specs.World.{moment_of, world_of, writes_of};
+ghost use Rattle.r9_event.specs.declared.rio.Order.TheVariants.{Replace};
 ghost use Rattle.r9_geom.specs.Geometry.{HasPoints, IsRectNearBy, at_min};
-ghost use Rattle.std.specs.Prelude.{IfOk, OnErr, OnOk, [], false, is_none, true, ◌+◌, ◌<◌, ◌==◌, ◌^◌, ◌≡◌, ◌≤◌, ◌∷◌};
+ghost use Rattle.std.specs.Prelude.{IfOk, IfSome, List, OnErr, OnOk, [], false, is_none, is_some, true, ℕ, ◌+◌, ◌<◌, ◌==◌, ◌^◌, ◌≡◌, ◌≤◌, ◌∷◌};
 
 use crate::going::{drop_alone, goes_unseen};
-use crate::image::{add_border, add_window, put_white, stands_on, tie_window};
+use crate::image::{add_border, add_window, put_white, tie_window};
 use crate::next::{Next, next_window};
 use crate::rects::OUTSIDE;
 use crate::rio::close_rio;
-use crate::there::{has_rio, rio_screen};
+use crate::there::{can_come, has_rio, rio_screen, window_shown};
 use model_images::free_id_frees;
 use r9_device::{Device, release};
 use r9_geom::{Point, Rect};
@@ -257,35 +258,45 @@ pub(crate) fn make_window<L: Ledger>(
     name_window(device, window, name)
 }
 
-// What a window gets in place of its image.
+// What a window gets in place of its image, where the order for that fits.
 pub(crate) fn next_of(
     device: &Device,
     window: u32,
-    screen: u32,
+    host: u32,
     r: Rect,
     keep: bool,
     hidden: bool,
-) -> Next
-    requires window { has_window (world_of device.now) window ≡ true }
-    requires screen { is_used (world_of device.now).book (Screen screen) ≡ true }
-    requires rect { is_window_rect r ≡ true }
-    requires keep { keep ≡ true → can_keep (world_of device.now) window screen r ≡ true }
-    ensures next { IsNext (world_of device.now) window screen result }
-    ensures rect { result.r ≡ r }
-    ensures keep { result.keep ≡ keep }
-    ensures hidden { result.hidden ≡ hidden }
-    ensures ready { CanReplace (world_of device.now).images result }
+) -> Option<Next>
+    ensures fits { (name : List ℕ) → is_some result ≡ fits (world_of device.now) (Replace window host r name keep hidden) }
+    ensures screen { IfSome result (λ next. next.screen ≡ rio_screen (world_of device.now) host) }
+    ensures next { IfSome result (λ next. IsNext (world_of device.now) window next.screen next) }
+    ensures rect { IfSome result (λ next. next.r ≡ r) }
+    ensures keep { IfSome result (λ next. next.keep ≡ keep) }
+    ensures hidden { IfSome result (λ next. next.hidden ≡ hidden) }
+    ensures ready { IfSome result (λ next. CanReplace (world_of device.now).images next) }
 {
-    let old = device.image_shown(window);
-    Next {
-        old,
-        above: stands_on(&device.book, old, screen),
-        parent: ImageNo(device.book.image_of(screen)),
+    let shown = match window_shown(device, window) {
+        Some(shown) => shown,
+        None => return None,
+    };
+    let screen = match device.book.screen(0, host) {
+        Ok(screen) => screen,
+        Err(_) => return None,
+    };
+    let parent = ImageNo(device.book.image_of(screen));
+    if !can_come(device, shown.image, parent, &r, keep) {
+        return None;
+    }
+    Some(Next {
+        old: shown.image,
+        screen,
+        above: shown.screen == screen,
+        parent,
         fill: ImageNo(device.book.fill_of(screen)),
         r,
         keep,
         hidden,
-    }
+    })
 }
 
 // A window has another image. The id of the old one goes first, and what nothing refers to any more goes when the new one
@@ -294,15 +305,14 @@ pub(crate) fn next_of(
 fn renew_window<L: Ledger>(
     device: &mut Device,
     window: u32,
-    screen: u32,
     next: &Next,
     steps: &mut Steps<L>,
 ) -> Result<(), Memory>
     requires window { has_window (world_of device.old) window ≡ true }
-    requires screen { is_used_by_id (world_of device.old).book screen ≡ true }
-    requires next { IsNext (world_of device.old) window screen next.now }
+    requires screen { is_used_by_id (world_of device.old).book next.now.screen ≡ true }
+    requires next { IsNext (world_of device.old) window next.now.screen next.now }
     requires ready { CanReplace (world_of device.old).images next.now }
-    ensures renewed { OnOk result (world_of device.new ≡ renewed (world_of device.old) window screen next.now) }
+    ensures renewed { OnOk result (world_of device.new ≡ renewed (world_of device.old) window next.now.screen next.now) }
     ensures steps { OnOk result (steps.new ≤ steps.old + (renewing (world_of device.old).images next.now + going_all (world_of device.old).images (image_freed (world_of device.old).book window).gone)) }
     ensures moment { moment_of device.new ≡ moment_of device.old }
     ensures writes { writes_of device.new + steps.old ≡ writes_of device.old + steps.new }
@@ -319,7 +329,7 @@ fn renew_window<L: Ledger>(
     release(&mut device.forest, gone.as_slice(), steps);
     match made {
         Ok(image) => {
-            add_window(&mut device.book, window, image, screen);
+            add_window(&mut device.book, window, image, next.screen);
             Ok(())
         }
         Err(memory) => Err(memory),
@@ -331,21 +341,19 @@ fn renew_window<L: Ledger>(
 pub(crate) fn replace_window<L: Ledger>(
     device: &mut Device,
     window: u32,
-    host: u32,
     next: &Next,
     name: &[u8],
     steps: &mut Steps<L>,
 ) -> Result<(), Memory>
     requires window { has_window (world_of device.old) window ≡ true }
-    requires rio { has_rio (world_of device.old) host ≡ true }
-    requires next { IsNext (world_of device.old) window (rio_screen (world_of device.old) host) next.now }
+    requires screen { is_used_by_id (world_of device.old).book next.now.screen ≡ true }
+    requires next { IsNext (world_of device.old) window next.now.screen next.now }
     requires ready { CanReplace (world_of device.old).images next.now }
-    ensures replaced { OnOk result (world_of device.new ≡ replace_window (world_of device.old) window host next.now.r name.now next.now.keep next.now.hidden) }
-    ensures steps { OnOk result (steps.new ≤ steps.old + replacing (world_of device.old) window host next.now.r next.now.keep) }
+    ensures replaced { (host : ℕ) → next.now.screen ≡ rio_screen (world_of device.old) host → OnOk result (world_of device.new ≡ replace_window (world_of device.old) window host next.now.r name.now next.now.keep next.now.hidden) }
+    ensures steps { (host : ℕ) → next.now.screen ≡ rio_screen (world_of device.old) host → OnOk result (steps.new ≤ steps.old + replacing (world_of device.old) window host next.now.r next.now.keep) }
     ensures moment { moment_of device.new ≡ moment_of device.old }
     ensures writes { writes_of device.new + steps.old ≡ writes_of device.old + steps.new }
 {
-    let screen = rio_screen(device, host);
-    renew_window(device, window, screen, next, steps)?;
+    renew_window(device, window, next, steps)?;
     name_window(device, window, name)
 }

@@ -1,3 +1,4 @@
+pub mod Away
 pub mod Covering
 pub mod Emptied
 pub mod Front

@@ -1,6 +1,6 @@
 -- The moments of planes where an image without one goes: a window has none.
-use Rattle.std.proofs.Common.{◌≡◌, ◌≢◌, ℕ, Bool, Option, None, Some, ◌∙◌, sym, ap, eq-eqb, ⊎_elim}
-use Rattle.std.specs.Prelude.{◌==◌, option_and_then, if◌then◌else◌}
+use Rattle.std.proofs.Common.{◌≡◌, ◌≢◌, ℕ, Option, None, Some, ◌∙◌, sym, ap, eq-eqb, ⊎_elim}
+use Rattle.std.specs.Prelude.{option_and_then, if◌then◌else◌}
 use Rattle.std.proofs.lemmas.Bool.{cases_eq, ne_eqb}
 use Rattle.model_forest.specs.World.{World, parent_of}
 use Rattle.r9_locate.specs.Forms.{forms_of}

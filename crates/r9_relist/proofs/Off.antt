@@ -310,6 +310,20 @@ module _ (world : World) (p w : ℕ) (ws : List Window) (is : IsRelisting world 
             (sym (relist_hidden world p ws is.live is.forest v.image x stands inside (unshown (holds (image_at world p).r (there v.image x)) refl same))
             ∙ in_hidden_is world p v.image ws x (relist_listed world p ws is.live is.forest v.image stands) inside ∙ shown)
 
+    -- and where it stood at no point of the image
+    pub unhidden_given : (n : ℕ) → IsFront had ws w n → ((z : Point) → holds (place_among had w) z ≡ true → holds (image_at world p).r z ≡ false) → HasGivenOff world p ws n (place_among ws w ∷ []) after
+    unhidden_given n front out at v x window inside off shown =
+        ⊎_elim
+        (λ (below : at < n). first_given n at v x front window below inside shown)
+        (λ (later : n ≤ at).
+        let stands = window_stands at v window in
+        let other = off_other (place_among ws w ∷ []) v.image x stands inside (λ q none. (or_parts (holds (place_among ws w) q) false none).0) (off later) in
+        other_given v.image x other stands inside
+        (λ y within below.
+        not_before (there v.image y) (false_from_ne_true (holds (place_among had w) (there v.image y)) (λ stood. true≢false (sym below ∙ out (there v.image y) stood))))
+        shown)
+        (cases_lt at n)
+
     -- and where it comes and has no place yet
     pub added_given : place_among had w ≡ no_rect → ((x : Point) → has (own w x) ≡ false) → (at : ℕ) (v : Window) (x : Point) → IsWindowAt ws at v → holds (image_at world v.image).r x ≡ true → hides_cell (image_at world p).r ws v.image (image_at world v.image).r (cell_of (image_at world v.image).r x) ≡ false → after (own v.image x) ≡ false
     added_given came bare at v x window inside shown =

@@ -1,20 +1,21 @@
 -- Another list of the windows of an image: what restacking asks for, and what holds then.
-use Rattle.std.proofs.Common.{◌≡◌, ◌≢◌, ◌∙◌, ℕ, ◌^◌, ◌≤◌, Bool, true, false, All, List, Option, Some, None, refl, sym, ap, subst, ⊎_elim}
+use Rattle.std.proofs.Common.{◌≡◌, ◌≢◌, ◌∙◌, ℕ, ◌^◌, ◌≤◌, Bool, true, false, All, List, Option, Some, None, refl, sym, ap, subst, ⊎_elim, ◌*◌, arith}
 use Rattle.std.specs.Prelude.{◌==◌, ◌&&◌, ◌||◌, is_some, not, option_map, unwrap_or, if◌then◌else◌}
 use Rattle.std.specs.Option.{option_map_or}
 use Rattle.std.specs.List.{list_any}
 use Rattle.std.proofs.lemmas.Bool.{and_parts, cases_eq, or_left, or_right, true≢false}
 use Rattle.std.proofs.lemmas.Bool.Decides.{Decides-eqb}
+use Rattle.std.proofs.lemmas.Int.{ints}
 use Rattle.std.proofs.lemmas.List.Elements.{All-weaker}
 use Rattle.r9_geom.specs.declared.Point.{Point}
 use Rattle.r9_geom.specs.declared.Rect.{Rect}
-use Rattle.r9_geom.specs.Geometry.{carried, holds, IsNear, IsOrdered, IsRectNear}
+use Rattle.r9_geom.specs.Geometry.{area_of, carried, holds, natural, IsNear, IsOrdered, IsRectNear}
 use Rattle.r9_geom.proofs.GeometryLemmas.{near_point}
 use Rattle.model_pixel.specs.Channels.{depth}
 use Rattle.model_forest.specs.declared.Window.{Window}
 use Rattle.model_forest.specs.Stack.{with_windows}
 use Rattle.model_forest.specs.View.{is_bare}
-use Rattle.model_forest.specs.World.{Image, World, image_at, no_image, parent_of, IsForest, IsLive, IsWindowOf}
+use Rattle.model_forest.specs.World.{Image, World, image_at, no_image, parent_of, IsForest, IsLive, IsWindowOf, SameSize}
 use Rattle.model_forest.proofs.Changes.{live-standing, with_image-at, with_image-each, with_image-other}
 use Rattle.model_forest.proofs.Listed.{All-listed, parent-apart, window_of}
 use Rattle.model_forest.proofs.Sound.{times, IsStill, IsWindowOf-still, SameStand, SameStand-itself}
@@ -46,6 +47,12 @@ or_false false = refl
 
 some_is : (a b : ℕ) → Some a ≡ Some b → a ≡ b
 some_is a b e = cc
+
+sized_ordered : (a b : Rect) → SameSize a b → IsOrdered b → IsOrdered a
+sized_ordered a b size is =
+    let width = size.width in
+    let height = size.height in
+    record { across = omega (arith, ints, width, is.across); down = omega (arith, ints, height, is.down) }
 
 -- ---- the world with the list, beside the one before
 
@@ -163,12 +170,31 @@ module _ (world : World) (p : ℕ) (ws : List Window) (live : IsLive world p) (o
       let found = All-listed (λ v. IsRectNear (place_among ws v.image)) ws n (λ k d below. subst IsRectNear (sym (relist_one k d below)) (relist_near k d below)) (relist_listed n stands) in
       subst (λ m. IsRectNear (place_among ws m)) found.1 found.2
 
+  -- it has as many points as the window
+  pub relist_area : (n : ℕ) → parent_of world n ≡ Some p → area_of (place_among ws n) ≡ area_of (image_at world n).r
+  relist_area n stands =
+      let found = All-listed (λ v. area_of (place_among ws v.image) ≡ area_of (image_at world v.image).r) ws n
+      (λ k d below.
+      let size = (relist_stand k d below).size in
+      ap area_of (relist_one k d below) ∙ (λ j. natural (size.width j) * natural (size.height j)))
+      (relist_listed n stands) in
+      subst (λ m. area_of (place_among ws m) ≡ area_of (image_at world m).r) found.1 found.2
+
   pub relist_stands : (n : ℕ) (z : Point) → parent_of world n ≡ Some p → holds (image_at world n).r z ≡ true → IsNear (carried z (image_at world n).r.min (place_among ws n).min)
   relist_stands n z stands inside =
       near_point (2 ^ 40) (place_among ws n) (carried z (image_at world n).r.min (place_among ws n).min) (relist_rect n stands) (relist_placed n z stands inside)
 
   pub relist_ordered : (n : ℕ) → parent_of world n ≡ Some p → IsOrdered (image_at world n).r
   relist_ordered n stands = subst IsOrdered (list_rect world p n ws live) (ok.images n (live-standing new n p (stands_then n stands))).ordered
+
+  pub relist_placed_ordered : (n : ℕ) → parent_of world n ≡ Some p → IsOrdered (place_among ws n)
+  relist_placed_ordered n stands =
+      let found = All-listed (λ v. IsOrdered (place_among ws v.image)) ws n
+      (λ k d below.
+      let window = relist_stand k d below in
+      subst IsOrdered (sym (relist_one k d below)) (sized_ordered _ _ window.size (relist_ordered _ window.stands)))
+      (relist_listed n stands) in
+      subst (λ m. IsOrdered (place_among ws m)) found.1 found.2
 
   -- the windows have as many bits as what they stand on
   pub relist_bits : HasBits world (forms_of world)
@@ -225,6 +251,20 @@ module _ (world : World) (p : ℕ) (ws : List Window) (live : IsLive world p) (o
           let z = carried x (image_at world i).r.min (place_among ws i).min in
           relist_hidden i x stands inside
           (ap (λ m. holds (image_at world p).r z && is_top ws m z) same ∙ unseen z (holds (image_at world p).r z) refl)
+
+  -- and where one of them had places for all its points, and the others keep theirs
+  pub relist_disclosed : (w : ℕ) (has mid : Place → Bool) → ((i : ℕ) → i ≢ w → place_among ws i ≡ place_among (image_at world p).windows i) → ((x : Point) → holds (image_at world w).r x ≡ true → has (own w x) ≡ true) → ((z : Point) → holds (image_at world p).r z ≡ true → has (keeping world p z) ≡ true) → ((i : ℕ) (x : Point) → parent_of world i ≡ Some p → holds (image_at world i).r x ≡ true → is_top (image_at world p).windows i (outward world p i x) ≡ false → has (own i x) ≡ true) → ((place : Place) → mid place ≡ (has place || in_hidden world p ws place)) → HasPlaces world p ws mid
+  relist_disclosed w has mid places of_w surface hidden taken = record {
+    surface = λ z h. taken (keeping world p z) ∙ or_left (has (keeping world p z)) (in_hidden world p ws (keeping world p z)) (surface z h);
+    old_own = λ i x stands inside none. taken (own i x) ∙ or_left (has (own i x)) (in_hidden world p ws (own i x)) (hidden i x stands inside none);
+    new_own = λ i x stands inside none.
+        ⊎_elim
+        (λ (same : i ≡ w).
+        let F : ℕ → Type 0 = λ n. holds (image_at world n).r x ≡ true → has (own n x) ≡ true in
+        taken (own i x) ∙ or_left (has (own i x)) (in_hidden world p ws (own i x)) (subst F (sym same) (of_w x) inside))
+        (λ (other : i ≢ w). taken (own i x) ∙ or_right (has (own i x)) (in_hidden world p ws (own i x)) (newly_hidden i x (places i other) stands inside none))
+        (cases_eq i w);
+  }
 
   -- those of other images have theirs
   pub relist_others : (has mid : Place → Bool) → HasOtherCells world p has → ((place : Place) → mid place ≡ (has place || in_hidden world p ws place)) → HasOtherCells world p mid

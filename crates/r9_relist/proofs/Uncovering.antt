@@ -1,5 +1,5 @@
 -- A window that goes: what is known of the lists without it, and where pixels lie then.
-use Rattle.std.proofs.Common.{◌≡◌, ◌≢◌, ◌∙◌, ℕ, suc, ◌<◌, ◌≤◌, ◌^◌, All, Bool, true, false, List, Option, Some, None, get_or, refl, sym, ap, subst, ⊎_elim, arith, eq-eqb}
+use Rattle.std.proofs.Common.{◌≡◌, ◌≢◌, ◌∙◌, ℕ, suc, ◌<◌, ◌≤◌, ◌^◌, All, Bool, true, false, List, Option, Some, None, get_or, inl, refl, sym, ap, subst, ⊎_elim, arith, eq-eqb}
 use Rattle.std.specs.Prelude.{◌==◌, ◌&&◌, ◌||◌, is_none, is_some, not, option_map, unwrap_or, if◌then◌else◌}
 use Rattle.std.specs.Option.{option_map_or}
 use Rattle.std.specs.List.{list_any}
@@ -186,7 +186,7 @@ module _ (world : World) (p w : ℕ) (going : IsGoing world p w) where
   }
 
   pub leaving_change : IsChange world p ws w
-  leaving_change = record { live = live_below; places = λ i z other h top. place-without w i old other; stand = stand; one = one_then }
+  leaving_change = record { live = live_below; places = λ i z other h top. inl (place-without w i old other); stand = stand; one = one_then }
 
   pub leaving_gone : (z : Point) (v : Window) → top_window ws z ≡ Some v → v.image ≢ w
   leaving_gone z v top is =

@@ -2,7 +2,7 @@
 use Rattle.std.proofs.Common.{◌≡◌, ◌≢◌, ◌∙◌, ℕ, suc, ◌+◌, ◌≤◌, Bool, true, false, All, List, [], ◌∷◌, ◌++◌, Some, cond, drop, find, take, refl, sym, ap, arith, eq-eqb}
 use Rattle.std.specs.Prelude.{◌==◌, ◌||◌, not, if◌then◌else◌}
 use Rattle.std.specs.Option.{option_map_or}
-use Rattle.std.specs.List.{after_first, before_first, list_any, position_or_len, AllByRecursion}
+use Rattle.std.specs.List.{after_first, before_first, list_any, position_or_len, remove, AllByRecursion}
 use Rattle.std.proofs.lemmas.Bool.{ne_eqb, or_right, true≢false}
 use Rattle.std.proofs.lemmas.Bool.Decides.{Decides-eqb}
 use Rattle.std.proofs.lemmas.List.Elements.{All-from_recursion, recursion_from_All}
@@ -133,3 +133,10 @@ parts-without w (v ∷ vs) most = by_test (parts-without w vs) (v.image == w) re
         sym (no_times w vs (omega (arith, count, one, most)))
     by_test rest false e =
         more ∙ ap (λ us. v ∷ us) (rest (omega (arith, count, most)))
+
+-- ---- it is taken out of its place
+
+pub removed : {T : Type 0} (xs : List T) (n : ℕ) → remove xs n ≡ take n xs ++ drop (n + 1) xs
+removed xs n =
+    let more : suc n ≡ n + 1 = omega arith in
+    (λ j. take n xs ++ drop (more j) xs)

@@ -8,7 +8,7 @@ use Rattle.model_forest.specs.Stack.{without}
 use Rattle.model_forest.specs.View.{is_bare}
 use Rattle.model_forest.specs.World.{World, image_at, parent_of, IsForest, IsLive}
 use Rattle.model_kept.specs.Cells.{cell_of, cell_part, hides, hides_on}
-use Rattle.model_kept.specs.Keeping.{is_top, keeping, outward, own, with_kept, Place}
+use Rattle.model_kept.specs.Keeping.{is_top, keeping, outward, own, place_among, with_kept, Place}
 use Rattle.model_kept.specs.Restack.{fill_of_top, with_list}
 
 -- the others stay as they are, and with that list it is a world of images
@@ -43,3 +43,8 @@ abbrev pub meet_from : Rect → Rect → Rect
 meet_from a b =
     let both = meet a b in
     if is_empty both then record { min = a.min; max = a.min } else both
+
+-- a window stands where image p has no point, nor does it stand then at any point at which it stood
+pub record IsAway (world : World) (p w : ℕ) (ws : List Window) : Type 0 where
+  pub off : (z : Point) → holds (place_among (image_at world p).windows w) z ≡ true → holds (image_at world p).r z ≡ false
+  pub apart : (z : Point) → holds (place_among (image_at world p).windows w) z ≡ true → holds (place_among ws w) z ≡ false

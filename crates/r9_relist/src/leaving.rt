@@ -19,7 +19,6 @@ ghost use Rattle.r9_relist.specs.Leaving.{gone, others, HasFill, HasPlaceOf, IsG
 
 use model_forest::Window;
 use r9_geom::Rect;
-use r9_lists::without;
 use r9_locate::Lists;
 use r9_pixels::KeptPixels;
 use r9_restack::{Source, leave};
@@ -79,6 +78,16 @@ fn uncover<S: Source, L: Ledger>(
     upper.len()
 }
 
+// Takes a window out of a list in which it stands at most once.
+fn leave_out(windows: &mut Vec<Window>, w: u32)
+    requires { count_by (λ v. v.image == w) windows.old.items ≤ 1 }
+    ensures { windows.new.items ≡ stack.without w windows.old.items }
+{
+    if let Some(at) = place_in(windows, w) {
+        windows.remove(at);
+    }
+}
+
 // Takes a window out of the list of an image.
 fn unlist(alloc: Global, lists: &mut Lists, p: u32, w: u32)
     requires { IsGoing (shape lists.old) p w }
@@ -86,7 +95,7 @@ fn unlist(alloc: Global, lists: &mut Lists, p: u32, w: u32)
     ensures made { made lists.new ≡ made lists.old }
 {
     let mut windows = lists.set_windows(p, Vec::new(alloc));
-    without(&mut windows, w);
+    leave_out(&mut windows, w);
     let _ = lists.set_windows(p, windows);
 }
 

@@ -5,4 +5,4 @@ mod leaving;
 mod relisting;
 
 pub use leaving::{take_away, take_whole};
-pub use relisting::{add, common, hide, relist, reorder_windows, reserve_move, settle};
+pub use relisting::{add, common, hide, relist, reorder_windows, reserve_move, settle, unhide};

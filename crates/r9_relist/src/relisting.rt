@@ -17,14 +17,14 @@ ghost use Rattle.r9_restack.specs.Areas.{AreApartIn};
 ghost use Rattle.r9_restack.specs.Moving.{IsReordering, IsSameTop};
 ghost use Rattle.r9_restack.specs.Stacks.{IsFront};
 ghost use Rattle.r9_relist.specs.Leaving.{HasFill, HasPlaceOf};
-ghost use Rattle.r9_relist.specs.Relisting.{meet_from, HasOtherCells, HasPlacesBefore, IsAsBefore, IsRelisting};
+ghost use Rattle.r9_relist.specs.Relisting.{meet_from, HasOtherCells, HasPlacesBefore, IsAsBefore, IsAway, IsRelisting};
 
 use model_forest::Window;
 use r9_geom::{Point, Rect};
 use r9_locate::{Lists, place_among};
 use r9_memory::Memory;
 use r9_pixels::KeptPixels;
-use r9_restack::{Source, conceal, count_front, reorder, restack};
+use r9_restack::{Source, conceal, count_front, disclose, reorder, restack};
 use r9_steps::Steps;
 use std::sync::ledger::Ledger;
 
@@ -313,6 +313,75 @@ pub fn hide<S: Source, L: Ledger>(
 {
     let from = conceal_pixels(lists, pixels, source, p, w, &list, area, steps);
     settle(lists, pixels, p, list, from, &[*area]);
+}
+
+// Takes tiles for what another list of windows hides, in which one of them moves from where it is not seen, and moves the pixels to
+// where they are kept with it. With how many windows both lists begin.
+fn disclose_pixels<S: Source, L: Ledger>(
+    lists: &Lists,
+    pixels: &mut KeptPixels,
+    source: &S,
+    p: u32,
+    w: u32,
+    new: &[Window],
+    place: &Rect,
+    steps: &mut Steps<L>,
+) -> usize
+    requires change { IsRelisting (shape lists.now) p w new.now }
+    requires before { IsForest (shape lists.now) }
+    requires away { IsAway (shape lists.now) p w new.now }
+    requires stands { place.now ≡ kept.place_among new.now w }
+    requires forms { form_at pixels.old ≡ forms_of (shape lists.now) }
+    requires cells { HasCells (shape lists.now) (has_place pixels.old) }
+    requires spare { wanted_in pixels.old (shape lists.now) p new.now ≤ spare_in pixels.old }
+    requires fill { (z : Spot) → S.fill source.now z < 2 ^ bits_in (form_at pixels.old) p }
+    ensures front { IsFront (image_at (shape lists.now) p).windows new.now w result }
+    ensures moved { with_kept (with_list (shape lists.now) p new.now) (kept_at pixels.new) ≡ with_windows (with_kept (shape lists.now) (kept_at pixels.old)) p new.now }
+    ensures others { HasOtherCells (shape lists.now) p (has_place pixels.new) }
+    ensures has { (place : Place) → has_place pixels.new place ≡ (has_place pixels.old place || in_hidden (shape lists.now) p new.now place) }
+    ensures forms { form_at pixels.new ≡ forms_of (shape lists.now) }
+    ensures steps { steps.new ≤ steps.old + 2 * area_of (image_at (shape lists.now) w).r }
+    ensures moment { moment pixels.new ≡ moment pixels.old }
+    ensures writes { writes pixels.new + steps.old ≡ writes pixels.old + steps.new }
+{
+    let from = count_front(&lists.get(p).windows, new, w);
+    pixels.take_hidden(lists, p, new, from, &[*place]);
+    let area = common(place, &lists.get(p).r);
+    disclose(lists, pixels, source, p, new, from, &area, steps);
+    from
+}
+
+/// Gives an image another list of windows, in which one of them moves from where the image has no point: what shows of it then comes
+/// from where it was kept with it. At most two pixels are written for each point of the window. Nothing becomes bare: that which
+/// fills is not asked for. Tiles for all cells that are hidden then are spare. It takes no memory.
+pub fn unhide<S: Source, L: Ledger>(
+    lists: &mut Lists,
+    pixels: &mut KeptPixels,
+    source: &S,
+    p: u32,
+    w: u32,
+    list: Vec<Window>,
+    steps: &mut Steps<L>,
+)
+    requires change { IsRelisting (shape lists.old) p w list.items }
+    requires before { IsForest (shape lists.old) }
+    requires away { IsAway (shape lists.old) p w list.items }
+    requires forms { form_at pixels.old ≡ forms_of (shape lists.old) }
+    requires cells { HasCells (shape lists.old) (has_place pixels.old) }
+    requires spare { wanted_in pixels.old (shape lists.old) p list.items ≤ spare_in pixels.old }
+    requires fill { (z : Spot) → S.fill source.now z < 2 ^ bits_in (form_at pixels.old) p }
+    ensures lists { shape lists.new ≡ with_list (shape lists.old) p list.items }
+    ensures made { made lists.new ≡ made lists.old }
+    ensures world { with_kept (shape lists.new) (kept_at pixels.new) ≡ with_windows (with_kept (shape lists.old) (kept_at pixels.old)) p list.items }
+    ensures cells { HasCells (shape lists.new) (has_place pixels.new) }
+    ensures forms { form_at pixels.new ≡ forms_of (shape lists.new) }
+    ensures steps { steps.new ≤ steps.old + 2 * area_of (image_at (shape lists.old) w).r }
+    ensures moment { moment pixels.new ≡ moment pixels.old }
+    ensures writes { writes pixels.new + steps.old ≡ writes pixels.old + steps.new }
+{
+    let place = place_among(&list, w);
+    let from = disclose_pixels(lists, pixels, source, p, w, &list, &place, steps);
+    settle(lists, pixels, p, list, from, &[place]);
 }
 
 // Takes tiles for what another order of windows hides, and moves the pixels to where they are kept with it.

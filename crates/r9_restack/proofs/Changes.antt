@@ -1,5 +1,5 @@
 -- Pixels that are moved when a window comes, goes or moves.
-use Rattle.std.proofs.Common.{◌≡◌, ◌≢◌, ◌∙◌, ℕ, ◌<◌, ◌^◌, Bool, true, false, List, Option, Some, None, refl, sym, ap, subst, eq-eqb, arith}
+use Rattle.std.proofs.Common.{◌≡◌, ◌≢◌, ◌∙◌, ℕ, ◌<◌, ◌^◌, Bool, true, false, List, Option, Some, None, refl, sym, ap, subst, eq-eqb, ⊎_elim, ◌⊎◌, arith}
 use Rattle.std.specs.Prelude.{◌==◌, ◌&&◌, All, is_none, unwrap_or, if◌then◌else◌}
 use Rattle.std.specs.Option.{option_map_or}
 use Rattle.std.proofs.lemmas.Bool.{and_parts, false_from_ne_true, ne_eqb, true≢false, false≢true, or_left, or_right}
@@ -23,7 +23,7 @@ use Rattle.model_kept.proofs.Storing.{inward-inside}
 use Rattle.r9_locate.specs.declared.lists.Lists.{Lists}
 use Rattle.r9_locate.specs.Table.{shape}
 use Rattle.r9_restack.specs.Moving.{more, more_in, IsFresh, IsFreshIn}
-use Rattle.r9_restack.specs.Changing.{IsChange, IsChanged, IsGiven, IsShownAnew, StaysTop, HasPlacesBut, IsOther, StaysAs}
+use Rattle.r9_restack.specs.Changing.{IsChange, IsChanged, IsGiven, IsShownAnew, IsUnseen, StaysTop, HasPlacesBut, IsOther, StaysAs}
 use Rattle.r9_locate.proofs.Locating.{keeping-up, strip_at}
 use Rattle.r9_locate.proofs.Apart.{keeping-depth, keeping-injective, own-apart}
 use Rattle.r9_restack.proofs.Orders.{or_cases, top_is, unshown-own}
@@ -40,14 +40,14 @@ IsTopOver ws r o = (z : Point) → holds r z ≡ true → top_window ws z ≡ o
 
 -- ---- the lists
 
--- the image of a window that shows then stands where it stood
-pub place_then : (world : World) (p : ℕ) (ws : List Window) (w : ℕ) → IsChanging world p ws w → (z : Point) (v : Window) → holds (image_at world p).r z ≡ true → top_window ws z ≡ Some v → v.image ≢ w → place_among ws v.image ≡ place_among (image_at world p).windows v.image
+-- the image of a window that shows then stands where it stood, or was not seen there
+pub place_then : (world : World) (p : ℕ) (ws : List Window) (w : ℕ) → IsChanging world p ws w → (z : Point) (v : Window) → holds (image_at world p).r z ≡ true → top_window ws z ≡ Some v → v.image ≢ w → (place_among ws v.image ≡ place_among (image_at world p).windows v.image) ⊎ IsUnseen world p ws v.image
 place_then world p ws w s z v inside top apart = s.change.places v.image z apart inside (top_is ws v.image z v top ∙ eq-eqb v.image v.image refl)
 
-pub out_new : (world : World) (p : ℕ) (ws : List Window) (w : ℕ) → IsChanging world p ws w → (z : Point) (v : Window) → holds (image_at world p).r z ≡ true → top_window ws z ≡ Some v → v.image ≢ w → outward world p v.image (inward world v z) ≡ z
-out_new world p ws w s z v inside top apart =
+pub out_new : (world : World) (p : ℕ) (ws : List Window) (w : ℕ) → IsChanging world p ws w → (z : Point) (v : Window) → top_window ws z ≡ Some v → place_among ws v.image ≡ place_among (image_at world p).windows v.image → outward world p v.image (inward world v z) ≡ z
+out_new world p ws w s z v top same =
     let one : place_among ws v.image ≡ v.place = All-top_window (λ u. place_among ws u.image ≡ u.place) ws z v s.change.one top in
-    let place : place_among (image_at world p).windows v.image ≡ v.place = sym (place_then world p ws w s z v inside top apart) ∙ one in
+    let place : place_among (image_at world p).windows v.image ≡ v.place = sym same ∙ one in
     ap (λ (r : Rect). carried (inward world v z) (image_at world v.image).r.min r.min) place ∙ carried-back z v.place.min (image_at world v.image).r.min
 
 pub out_old : (world : World) (p : ℕ) (ws : List Window) (w : ℕ) → IsChanging world p ws w → (z : Point) (v : Window) → top_window (image_at world p).windows z ≡ Some v → outward world p v.image (inward world v z) ≡ z
@@ -68,6 +68,34 @@ pub stood_new : (world : World) (p : ℕ) (ws : List Window) (w : ℕ) → IsCha
 stood_new world p ws w s z v top =
     let is : IsWindowOf world p v = All-top_window (IsWindowOf world p) ws z v s.change.stand top in
     is.stands
+
+-- where a window shows then is a point of it
+pub inside_new : (world : World) (p : ℕ) (ws : List Window) (w : ℕ) → IsChange world p ws w → (q : Point) (v : Window) → top_window ws q ≡ Some v → holds (image_at world v.image).r (inward world v q) ≡ true
+inside_new world p ws w change q v top =
+    let is : IsWindowOf world p v = All-top_window (IsWindowOf world p) ws q v change.stand top in
+    sym (holds-carried v.place (image_at world v.image).r q is.size) ∙ holds-top_window ws q v top
+
+-- an image that was not seen was topmost nowhere
+pub unseen-hidden : (world : World) (p : ℕ) (ws : List Window) (w : ℕ) → IsChanging world p ws w → (i : ℕ) → IsUnseen world p ws i → (z : Point) → holds (image_at world p).r z ≡ true → is_top (image_at world p).windows i z ≡ false
+unseen-hidden world p ws w s i unseen z inside = by_top (top_window (image_at world p).windows z) refl
+  where
+    named : Option Window → Bool
+    named o = option_map_or (λ (v : Window). v.image == i) o false
+
+    seen : (u : Window) → top_window (image_at world p).windows z ≡ Some u → is_shown world p u.image (outward world p u.image (inward world u z)) ≡ true
+    seen u e =
+        ap (is_shown world p u.image) (out_old world p ws w s z u e)
+        ∙ ap (λ b. b && is_top (image_at world p).windows u.image z) inside
+        ∙ top_is (image_at world p).windows u.image z u e ∙ eq-eqb u.image u.image refl
+
+    unshown : (u : Window) → top_window (image_at world p).windows z ≡ Some u → u.image ≡ i → is_shown world p u.image (outward world p u.image (inward world u z)) ≡ false
+    unshown u e is =
+        let F : ℕ → Type 0 = λ n. holds (image_at world n).r (inward world u z) ≡ true → is_shown world p n (outward world p n (inward world u z)) ≡ false in
+        subst F (sym is) (unseen.before (inward world u z)) (inward-inside world s.standing p z u s.change.live e)
+
+    by_top : (o : Option Window) → top_window (image_at world p).windows z ≡ o → is_top (image_at world p).windows i z ≡ false
+    by_top None e = ap named e
+    by_top (Some u) e = ap named e ∙ ne_eqb u.image i (λ is. true≢false (sym (seen u e) ∙ unshown u e is))
 
 and_false : (a b : Bool) → b ≡ false → (a && b) ≡ false
 and_false true b e = e
@@ -94,6 +122,16 @@ own-was world p ws w given fill before now done s m i x stands not_done =
     let same : outward world p j y ≡ outward world p i x = ap (λ (k : Place). outward world p k.image k.at) (sym e) in
     true≢false (sym d ∙ ap done same ∙ not_done))
 
+-- what was not seen is kept with the window before and then
+pub unseen-kept : (world : World) (p : ℕ) (ws : List Window) (w : ℕ) (given fill : Point → ℕ) (before now : Place → ℕ) (done : Point → Bool) → IsChanging world p ws w → IsChanged world p ws w given fill before now done → (i : ℕ) (x : Point) → i ≢ w → parent_of world i ≡ Some p → IsUnseen world p ws i → holds (image_at world i).r x ≡ true → now (own i x) ≡ before (keeping world i x)
+unseen-kept world p ws w given fill before now done s m i x apart stands unseen inside = by_done (done (outward world p i x)) refl
+  where
+    by_done : (d : Bool) → done (outward world p i x) ≡ d → now (own i x) ≡ before (keeping world i x)
+    by_done true d = m.hidden i x apart stands d (unseen.after x inside)
+    by_done false d =
+        own-was world p ws w given fill before now done s m i x stands d
+        ∙ ap before (sym (unshown-own world s.standing p i x stands (unseen.before x inside)))
+
 -- ---- a run over which the topmost window stays, and is not w
 
 pub stays-kept : (world : World) (p : ℕ) (ws : List Window) (w : ℕ) → IsChanging world p ws w → (z : Point) (v : Window) → holds (image_at world p).r z ≡ true → StaysTop world p ws w z → top_window ws z ≡ Some v → keeping world p z ≡ keeping world v.image (inward world v z)
@@ -102,13 +140,20 @@ stays-kept world p ws w s z v inside same top = by_old (top_window (image_at wor
     seen : is_top (image_at world p).windows v.image z ≡ true
     seen = sym (same.tops v.image) ∙ top_is ws v.image z v top ∙ eq-eqb v.image v.image refl
 
+    stood : place_among ws v.image ≡ place_among (image_at world p).windows v.image
+    stood =
+        ⊎_elim
+        (λ (kept : place_among ws v.image ≡ place_among (image_at world p).windows v.image). kept)
+        (λ (unseen : IsUnseen world p ws v.image). absurd (false≢true (sym (unseen-hidden world p ws w s v.image unseen z inside) ∙ seen)))
+        (place_then world p ws w s z v inside top (same.apart v top))
+
     by_old : (o : Option Window) → top_window (image_at world p).windows z ≡ o → keeping world p z ≡ keeping world v.image (inward world v z)
     by_old None e = absurd (false≢true (sym (ap (λ o. option_map_or (λ (u : Window). u.image == v.image) o false) e) ∙ seen))
     by_old (Some u) e =
         let image : u.image ≡ v.image = (Decides-eqb u.image v.image).0 (sym (top_is (image_at world p).windows v.image z u e) ∙ seen) in
         let new_place : place_among ws v.image ≡ v.place = All-top_window (λ t. place_among ws t.image ≡ t.place) ws z v s.change.one top in
         let old_place : place_among (image_at world p).windows u.image ≡ u.place = All-top_window (λ t. place_among (image_at world p).windows t.image ≡ t.place) (image_at world p).windows z u (s.places p s.change.live) e in
-        let place : u.place ≡ v.place = sym old_place ∙ ap (λ n. place_among (image_at world p).windows n) image ∙ sym (place_then world p ws w s z v inside top (same.apart v top)) ∙ new_place in
+        let place : u.place ≡ v.place = sym old_place ∙ ap (λ n. place_among (image_at world p).windows n) image ∙ sym stood ∙ new_place in
         sym (keeping-inward world s.standing s.places p z u s.change.live inside e)
         ∙ ap (λ n. keeping world n (carried z u.place.min (image_at world n).r.min)) image
         ∙ ap (λ (r : Rect). keeping world v.image (carried z r.min (image_at world v.image).r.min)) place
@@ -211,12 +256,17 @@ changed-in world p ws w given fill before old new done a b r s inside olds news 
         let b_is : b ≡ Some v = sym (news z h) ∙ top in
         let x = inward world v z in
         let stands : parent_of world v.image ≡ Some p = stood_new world p ws w s z v top in
-        let out : outward world p v.image x ≡ z = out_new world p ws w s z v (inside z h) top apart in
+        is.owned v b_is apart z h
+        ∙ ⊎_elim
+        (λ (kept : place_among ws v.image ≡ place_among (image_at world p).windows v.image).
+        let out : outward world p v.image x ≡ z = out_new world p ws w s z v top kept in
         let hid : is_top (image_at world p).windows v.image (outward world p v.image x) ≡ false =
         ap (is_top (image_at world p).windows v.image) out ∙ not_top z v h b_is apart a refl in
-        is.owned v b_is apart z h
-        ∙ own-was world p ws w given fill before old done s m v.image x stands (ap done out ∙ fresh z h)
-        ∙ ap before (sym (hidden-kept world p ws w s v.image x stands hid))
+        own-was world p ws w given fill before old done s m v.image x stands (ap done out ∙ fresh z h)
+        ∙ ap before (sym (hidden-kept world p ws w s v.image x stands hid)))
+        (λ (unseen : IsUnseen world p ws v.image).
+        unseen-kept world p ws w given fill before old done s m v.image x apart stands unseen (inside_new world p ws w s.change z v top))
+        (place_then world p ws w s z v (inside z h) top apart)
 
     own_unsaved : (i : ℕ) (x : Point) → parent_of world i ≡ Some p → holds r (outward world p i x) ≡ true → ((v : Window) → a ≡ Some v → v.image ≢ i) → is_top (image_at world p).windows i (outward world p i x) ≡ false → new (own i x) ≡ before (keeping world i x)
     own_unsaved i x stands h other was =
@@ -255,12 +305,6 @@ changed-in world p ws w given fill before old new done a b r s inside olds news 
             (top_is (image_at world p).windows i z u (olds z h ∙ a_is) ∙ e)
 
 -- ---- the whole
-
--- where a window shows then is a point of it
-pub inside_new : (world : World) (p : ℕ) (ws : List Window) (w : ℕ) → IsChange world p ws w → (q : Point) (v : Window) → top_window ws q ≡ Some v → holds (image_at world v.image).r (inward world v q) ≡ true
-inside_new world p ws w change q v top =
-    let is : IsWindowOf world p v = All-top_window (IsWindowOf world p) ws q v change.stand top in
-    sym (holds-carried v.place (image_at world v.image).r q is.size) ∙ holds-top_window ws q v top
 
 pub inside_w : (world : World) (p : ℕ) (ws : List Window) (w : ℕ) → IsChange world p ws w → (q : Point) (v : Window) → top_window ws q ≡ Some v → v.image ≡ w → holds (image_at world w).r (inward world v q) ≡ true
 inside_w world p ws w change q v top is_w =
@@ -377,7 +421,10 @@ changed-all world p ws w given fill before now as_before as_after done s w_stand
             false_from_ne_true (holds (image_at world p).r (outward world p i x) && is_top ws i (outward world p i x))
             (λ e.
             let parts = and_parts (holds (image_at world p).r (outward world p i x)) (is_top ws i (outward world p i x)) e in
-            false≢true (sym (unshown_at (s.change.places i (outward world p i x) apart parts.0 parts.1)) ∙ e))
+            ⊎_elim
+            (λ (kept : place_among ws i ≡ place_among (image_at world p).windows i). false≢true (sym (unshown_at kept) ∙ e))
+            (λ (unseen : IsUnseen world p ws i). true≢false (sym parts.1 ∙ unseen.after x h))
+            (s.change.places i (outward world p i x) apart parts.0 parts.1))
 
         by_done : (d : Bool) → done (outward world p i x) ≡ d → now (own i x) ≡ before (keeping world i x)
         by_done true d = m.hidden i x apart stands d (sym (ap (λ b. b && is_top ws i (outward world p i x)) (inside (outward world p i x) d)) ∙ unshown_new)
@@ -437,10 +484,13 @@ has_old world p ws w has s h a b r olds news other v a_is apart z here =
 pub has_new : (world : World) (p : ℕ) (ws : List Window) (w : ℕ) (has : Place → Bool) → IsChanging world p ws w → HasPlacesBut world p ws w has → (a b : Option Window) (r : Rect) → ((z : Point) → holds r z ≡ true → holds (image_at world p).r z ≡ true) → IsTopOver (image_at world p).windows r a → IsTopOver ws r b → IsOther a b w → (v : Window) → b ≡ Some v → v.image ≢ w → (z : Point) → holds r z ≡ true → has (own v.image (inward world v z)) ≡ true
 has_new world p ws w has s h a b r within olds news other v b_is apart z here =
     let top = news z here ∙ b_is in
-    let out = out_new world p ws w s z v (within z here) top apart in
     let is : IsWindowOf world p v = All-top_window (IsWindowOf world p) ws z v s.change.stand top in
     let inside : holds (image_at world v.image).r (inward world v z) ≡ true = sym (holds-carried v.place (image_at world v.image).r z is.size) ∙ holds-top_window ws z v top in
-    h.old_own v.image (inward world v z) apart is.stands inside (ap (is_top (image_at world p).windows v.image) out ∙ not_before a refl)
+    ⊎_elim
+    (λ (kept : place_among ws v.image ≡ place_among (image_at world p).windows v.image).
+    h.old_own v.image (inward world v z) apart is.stands inside (ap (is_top (image_at world p).windows v.image) (out_new world p ws w s z v top kept) ∙ not_before a refl))
+    (λ (unseen : IsUnseen world p ws v.image). h.new_own v.image (inward world v z) apart is.stands inside (unseen.after (inward world v z) inside))
+    (place_then world p ws w s z v (within z here) top apart)
   where
     not_before : (o : Option Window) → a ≡ o → is_top (image_at world p).windows v.image z ≡ false
     not_before None a_is = ap (λ o. option_map_or (λ (u : Window). u.image == v.image) o false) (olds z here ∙ a_is)

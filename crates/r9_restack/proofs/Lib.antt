@@ -3,6 +3,7 @@ pub mod Blocked
 pub mod Carrying
 pub mod Changes
 pub mod Concealing
+pub mod Disclosing
 pub mod Orders
 pub mod Parting
 pub mod Placed

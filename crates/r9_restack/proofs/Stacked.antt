@@ -40,14 +40,6 @@ top_none ws z all = by_recursion ws (recursion_from_All (λ w. holds w.place z �
     by_recursion [] all = refl
     by_recursion (w ∷ ws) all = ap (λ b. cond b (Some w) (top_window ws z)) all.0 ∙ by_recursion ws all.1
 
--- the first one that does is topmost
-pub top_first : (ws : List Window) (z : Point) (i : ℕ) (d : Window) → i < length ws → ((j : ℕ) → j < i → holds (get_or ws j d).place z ≡ false) → holds (get_or ws i d).place z ≡ true → top_window ws z ≡ Some (get_or ws i d)
-top_first [] z i d lt none is = absurd (omega arith)
-top_first (w ∷ ws) z zero d lt none is = ap (λ b. cond b (Some w) (top_window ws z)) is
-top_first (w ∷ ws) z (suc i) d lt none is =
-    ap (λ b. cond b (Some w) (top_window ws z)) (none 0 (omega arith))
-    ∙ top_first ws z i d (omega arith) (λ j h. none (suc j) (omega (arith, h))) is
-
 -- where one stands it is not bare
 pub not_bare : (ws : List Window) (z : Point) (i : ℕ) (d : Window) → i < length ws → holds (get_or ws i d).place z ≡ true → is_bare ws z ≡ false
 not_bare [] z i d lt is = absurd (omega arith)

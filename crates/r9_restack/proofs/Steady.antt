@@ -45,10 +45,6 @@ steady_block f at q d n columns rows v is fits downwards across z h =
     ∙ downwards (along q found.column) found.row (ap (λ (p : Point). holds (strip at columns) (along p found.column)) is ∙ row_part at d n columns found.column fits found.across) found.within
     ∙ across found.column found.across
 
--- the first row of a block
-pub across_first : {A : Type 0} (f : Point → A) (q : Point) (n rows : ℕ) (v : A) → 0 < rows → ((z : Point) → holds (block q n rows) z ≡ true → f z ≡ v) → (k : ℕ) → k < n → f (along q k) ≡ v
-across_first f q n rows v some here k below = here (along q k) (first_row q n rows (along q k) some (along_holds q n k below))
-
 -- a block over which it is the same is one of such rows
 pub steady_first : {A : Type 0} (f : Point → A) (at : Point) (n rows : ℕ) (v : A) → ((z : Point) → holds (block at n rows) z ≡ true → f z ≡ v) → (z : Point) (k : ℕ) → holds (strip at n) z ≡ true → k < rows → f (down z k) ≡ f z
 steady_first f at n rows v here z k h below =

@@ -1,6 +1,6 @@
 -- Another list of the windows of an image, in which one of them comes, goes or moves and the others keep their places: what
 -- was moved so far, and what is known of its pixels.
-use Rattle.std.specs.Prelude.{◌≡◌, ◌≢◌, ℕ, Bool, true, false, List, Option, Some, None, is_none, All, if◌then◌else◌}
+use Rattle.std.specs.Prelude.{◌≡◌, ◌≢◌, ◌⊎◌, ℕ, Bool, true, false, List, Option, Some, None, is_none, All, if◌then◌else◌}
 use Rattle.r9_geom.specs.declared.Point.{Point}
 use Rattle.r9_geom.specs.declared.Rect.{Rect}
 use Rattle.r9_geom.specs.Geometry.{holds}
@@ -10,10 +10,16 @@ use Rattle.model_forest.specs.View.{top_window, inward, is_bare}
 use Rattle.model_kept.specs.Keeping.{Place, own, outward, is_top, is_shown, keeping, place_among}
 use Rattle.model_kept.specs.Restack.{with_list}
 
--- another list of the windows of an image, in which all but image w keep their places that show somewhere
+-- nothing of a window shows where it stands, and none of these points shows it then
+pub record IsUnseen (world : World) (p : ℕ) (ws : List Window) (i : ℕ) : Type 0 where
+  pub before : (x : Point) → holds (image_at world i).r x ≡ true → is_shown world p i (outward world p i x) ≡ false
+  pub after : (x : Point) → holds (image_at world i).r x ≡ true → is_top ws i (outward world p i x) ≡ false
+
+-- another list of the windows of an image, in which all but image w that show somewhere keep their places, or come from where they
+-- are not seen
 pub record IsChange (world : World) (p : ℕ) (ws : List Window) (w : ℕ) : Type 0 where
   pub live : IsLive world p
-  pub places : (i : ℕ) (z : Point) → i ≢ w → holds (image_at world p).r z ≡ true → is_top ws i z ≡ true → place_among ws i ≡ place_among (image_at world p).windows i
+  pub places : (i : ℕ) (z : Point) → i ≢ w → holds (image_at world p).r z ≡ true → is_top ws i z ≡ true → (place_among ws i ≡ place_among (image_at world p).windows i) ⊎ IsUnseen world p ws i
   pub stand : All (IsWindowOf world p) ws
   pub one : All (λ v. place_among ws v.image ≡ v.place) ws
 
@@ -71,3 +77,11 @@ pub record IsConcealing (world : World) (p : ℕ) (ws : List Window) : Type 0 wh
   pub change : IsChange world p ws p
   pub above : parent_of world window ≡ Some p
   pub gone : (z : Point) → holds (image_at world p).r z ≡ true → is_top ws window z ≡ false
+
+-- another list of the windows of an image, in which one of them moves from where it is not seen and the others keep their places
+pub record IsDisclosing (world : World) (p : ℕ) (ws : List Window) : Type 0 where
+  pub window : ℕ
+  pub others : (i : ℕ) → i ≢ window → place_among ws i ≡ place_among (image_at world p).windows i
+  pub change : IsChange world p ws p
+  pub above : parent_of world window ≡ Some p
+  pub unseen : IsUnseen world p ws window

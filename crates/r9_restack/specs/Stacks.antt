@@ -1,10 +1,11 @@
 -- The windows of an image in two lists, before and after, and which are topmost at a point.
-use Rattle.std.specs.Prelude.{◌≡◌, ◌≢◌, ◌≤◌, ◌++◌, ◌==◌, ◌&&◌, length, take, ℕ, Bool, List, Option, Some, None, All, if◌then◌else◌}
+use Rattle.std.specs.Prelude.{◌≡◌, ◌≢◌, ◌≤◌, ◌++◌, ◌==◌, ◌&&◌, length, take, true, ℕ, Bool, List, Option, Some, None, All, if◌then◌else◌}
 use Rattle.r9_geom.specs.declared.Point.{Point}
-use Rattle.r9_geom.specs.Geometry.{is_point}
+use Rattle.r9_geom.specs.Geometry.{holds, is_point, strip}
 use Rattle.model_forest.specs.declared.Window.{Window}
 use Rattle.model_forest.specs.World.{World, image_at}
 use Rattle.model_forest.specs.View.{is_bare, top_window}
+use Rattle.r9_restack.specs.declared.stacks.Run.{Run}
 use Rattle.r9_restack.specs.declared.stacks.Stacks.{Stacks}
 use Rattle.r9_restack.specs.declared.stacks.Tops.{Tops}
 
@@ -24,6 +25,10 @@ unfoldable pub tops_at : Stacks → Point → Option Tops
 tops_at s z =
     if is_bare s.front.now z then Some (record { before = top_window s.old.now z; after = top_window (s.upper.now ++ s.lower.now) z })
     else None
+
+-- over the first row of a run that begins at a point the windows of the run are topmost
+abbrev pub IsRunAlong : Stacks → Point → Run → Type 0
+IsRunAlong s at run = (z : Point) → holds (strip at run.extent.columns) z ≡ true → tops_at s z ≡ run.tops
 
 -- before they are those of the image, and image w is not among those with which both lists begin
 pub record IsStacked (world : World) (p w : ℕ) (s : Stacks) : Type 0 where

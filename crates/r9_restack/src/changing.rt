@@ -1,6 +1,6 @@
 //! Pixels moved when one of the windows of an image comes, goes or moves.
 
-ghost use Rattle.std.specs.Prelude.{◌≡◌, ◌≢◌, ◌+◌, ◌++◌, ◌*◌, ◌^◌, ◌<◌, ◌≤◌, ℕ, Bool, false, true, length, slice_index, Some, None, IsTrue, All, Option, sum_by, ◌||◌};
+ghost use Rattle.std.specs.Prelude.{◌≡◌, ◌≢◌, ◌+◌, ◌++◌, ◌-◌, ◌*◌, ◌^◌, ◌<◌, ◌≤◌, ℕ, Bool, false, true, length, slice_index, Some, None, IsTrue, All, Option, sum_by, ◌||◌};
 ghost use Rattle.r9_geom.specs.declared.Point.{Point as Spot};
 ghost use Rattle.r9_geom.specs.Geometry.{area_of, holds, strip, IsNear, IsOrdered, IsRectNear};
 ghost use Rattle.r9_plane.specs.Pixels.{along};
@@ -16,11 +16,11 @@ ghost use Rattle.r9_restack.specs.Areas.{AreApartIn};
 ghost use Rattle.model_kept.specs.Restack.{with_list, IsRestacked};
 ghost use Rattle.r9_restack.specs.Moving.{more, more_in, IsFresh, IsFreshIn};
 ghost use Rattle.r9_shown.specs.Shown as spec;
-ghost use Rattle.r9_restack.specs.Stacks.{after_of, tops_at, IsFront, IsStacked};
+ghost use Rattle.r9_restack.specs.Stacks.{after_of, tops_at, IsFront, IsRunAlong, IsStacked};
 ghost use Rattle.r9_restack.specs.Changing.{HasPlacesBut, IsChange, IsChanged, IsGiven, IsOther, IsShownAnew, StaysAs, StaysTop};
 
 use super::giving::{Kind, Source, show_in};
-use super::stacks::{Stacks, Tops, run_of, stacks_around, stacks_within, steady_rows_of};
+use super::stacks::{Run, Stacks, Tops, last_run, run_of, stacks_around, stacks_within};
 use model_forest::Window;
 use r9_geom::{Point, Rect};
 use r9_locate::{Lists, Pixels, along, inward};
@@ -232,7 +232,27 @@ pub(crate) fn change_block<P: Pixels, S: Source, L: Ledger>(
     );
 }
 
-// The same of rows in each column of which the same windows are topmost.
+// What is topmost at a point of a row, of which so many columns are left and the last run is known.
+fn run_from(stacks: &Stacks, q: Point, columns: usize, rows: u64, last: &Run) -> Run
+    requires columns { 0 < columns }
+    requires rows { 0 < rows }
+    requires last { columns ≡ last.now.extent.columns → IsRunAlong stacks.now q last.now }
+    ensures some { 0 < result.extent.columns }
+    ensures most { result.extent.columns ≤ columns }
+    ensures short { result.extent.columns ≤ 2 ^ 40 }
+    ensures tops { IsRunAlong stacks.now q result }
+{
+    if columns == last.extent.columns && columns <= LONGEST {
+        return *last;
+    }
+    let most = Extent {
+        columns: columns.min(LONGEST),
+        rows,
+    };
+    run_of(stacks, q, most)
+}
+
+// The same of rows in each column of which the same windows are topmost, the last of whose runs is known.
 fn change_band<P: Pixels, S: Source, L: Ledger>(
     lists: &Lists,
     pixels: &mut P,
@@ -244,6 +264,7 @@ fn change_band<P: Pixels, S: Source, L: Ledger>(
     at: Point,
     columns: usize,
     rows: u64,
+    last: &Run,
     steps: &mut Steps<L>,
 )
     requires change { IsChange (shape lists.now) p (after_of stacks.now) w }
@@ -255,6 +276,7 @@ fn change_band<P: Pixels, S: Source, L: Ledger>(
     requires inside { (z : Spot) → IsTrue (holds (spec.block at columns rows) z) → IsTrue (holds (image_at (shape lists.now) p).r z) }
     requires same { (z : Spot) → IsTrue (holds (spec.block at columns rows) z) → tops_at near.now z ≡ tops_at stacks.now z }
     requires tops { (z : Spot) (k : ℕ) → IsTrue (holds (strip at columns) z) → k < rows → tops_at stacks.now (spec.down z k) ≡ tops_at stacks.now z }
+    requires last { last.now.extent.columns ≤ columns → IsRunAlong near.now (along at (columns - last.now.extent.columns)) last.now }
     requires near_new { All (λ v. IsNear v.place.min) (after_of stacks.now) }
     requires places { HasPlacesBut (shape lists.now) p (after_of stacks.now) w (P.has pixels.old) }
     requires bits { HasBits (shape lists.now) (P.forms pixels.old) }
@@ -271,11 +293,7 @@ fn change_band<P: Pixels, S: Source, L: Ledger>(
     let mut done = 0;
     while done < columns {
         let q = along(at, done);
-        let most = Extent {
-            columns: (columns - done).min(LONGEST),
-            rows,
-        };
-        let run = run_of(near, q, most);
+        let run = run_from(near, q, columns - done, rows, last);
         let len = run.extent.columns;
         change_block(
             lists, pixels, source, p, w, stacks, run.tops, q, len, rows, steps,
@@ -328,7 +346,15 @@ fn change_rows<P: Pixels, S: Source, L: Ledger>(
     };
     let first = run_of(near, at, most);
     let done = first.extent.columns;
-    let rows = steady_rows_of(near, at, columns, first.extent);
+    if done == columns {
+        let rows = first.extent.rows;
+        change_block(
+            lists, pixels, source, p, w, stacks, first.tops, at, done, rows, steps,
+        );
+        return rows;
+    }
+    let last = last_run(near, at, columns, &first);
+    let rows = last.extent.rows;
     change_block(
         lists, pixels, source, p, w, stacks, first.tops, at, done, rows, steps,
     );
@@ -344,6 +370,7 @@ fn change_rows<P: Pixels, S: Source, L: Ledger>(
         rest,
         columns - done,
         rows,
+        &last,
         steps,
     );
     rows

@@ -11,5 +11,5 @@ mod stacks;
 pub use changing::change;
 pub use giving::{Source, Supply};
 pub use ordering::{groups_are_orders, reorder};
-pub use restacking::{conceal, leave, restack};
+pub use restacking::{conceal, disclose, leave, restack};
 pub use stacks::count_front;

@@ -1,6 +1,6 @@
 //! A window that came or moved is put where it stands then: what shows of it on the image below, and what is hidden with it.
 
-ghost use Rattle.std.specs.Prelude.{◌≡◌, ◌≢◌, ◌+◌, ◌*◌, ◌^◌, ◌<◌, ◌≤◌, ◌&&◌, ◌||◌, ℕ, Bool, false, true, length, All, IsTrue, Some, None};
+ghost use Rattle.std.specs.Prelude.{◌≡◌, ◌≢◌, ◌+◌, ◌-◌, ◌*◌, ◌^◌, ◌<◌, ◌≤◌, ◌&&◌, ◌||◌, ℕ, Bool, false, true, length, All, IsTrue, Some, None};
 ghost use Rattle.r9_geom.specs.declared.Point.{Point as Spot};
 ghost use Rattle.r9_geom.specs.Geometry.{area_of, carried, holds, strip, IsNear, IsNearBy, IsOrdered, IsRectNear};
 ghost use Rattle.r9_plane.specs.Pixels.{along};
@@ -13,7 +13,7 @@ ghost use Rattle.r9_shown.specs.Shown as spec;
 ghost use Rattle.r9_restack.specs.Changing.{HasPlacesBut, IsChange};
 ghost use Rattle.r9_restack.specs.Placing.{comes, shows, with_coming, IsComing, IsPlaced};
 ghost use Rattle.r9_restack.specs.Stacks.{after_of, tops_at, IsStacked};
-ghost use Rattle.r9_restack.specs.Showing.{shown_at, shows_in};
+ghost use Rattle.r9_restack.specs.Showing.{shown_at, shows_in, IsPartAlong};
 
 use super::changing::{LONGEST, change_block};
 use super::giving::{Source, Supply};
@@ -89,37 +89,42 @@ fn is_after(tops: Option<Tops>, w: u32) -> bool
     }
 }
 
-// For how many rows down that is so as in so many columns of the first one, of which this is known of the first block.
-fn steady_band(
+// The last part of so many columns of the first row, of which the first part is known: in all of them that is so for its rows as
+// in the first one.
+fn last_part(
     below: &Rect,
     area: &Rect,
     stacks: &Stacks,
     w: u32,
     at: Point,
     columns: usize,
-    first: Extent,
-) -> u64
+    first: &Part,
+) -> Part
     requires near { IsNear at }
     requires columns { columns ≤ 2 ^ 41 }
-    requires rows { 0 < first.rows }
-    requires steady { (z : Spot) (k : ℕ) → IsTrue (holds (strip at first.columns) z) → k < first.rows → shown_at below.now area.now stacks.now w (spec.down z k) ≡ shown_at below.now area.now stacks.now w z }
+    requires some { 0 < first.now.extent.columns }
+    requires fits { first.now.extent.columns ≤ columns }
+    requires rows { 0 < first.now.extent.rows }
     requires apart { All (λ (v : Stood). v.image ≢ w) stacks.now.front.now }
-    ensures some { 0 < result }
-    ensures most { result ≤ first.rows }
-    ensures same { (z : Spot) (k : ℕ) → IsTrue (holds (strip at columns) z) → k < result → shown_at below.now area.now stacks.now w (spec.down z k) ≡ shown_at below.now area.now stacks.now w z }
+    requires same { (z : Spot) → IsTrue (holds (spec.block at first.now.extent.columns first.now.extent.rows) z) → shown_at below.now area.now stacks.now w z ≡ first.now.shown }
+    ensures some { 0 < result.extent.columns }
+    ensures fits { result.extent.columns ≤ columns }
+    ensures some_rows { 0 < result.extent.rows }
+    ensures most { result.extent.rows ≤ first.now.extent.rows }
+    ensures shown { IsPartAlong below.now area.now stacks.now w (along at (columns - result.extent.columns)) result }
+    ensures same { (z : Spot) (k : ℕ) → IsTrue (holds (strip at columns) z) → k < result.extent.rows → shown_at below.now area.now stacks.now w (spec.down z k) ≡ shown_at below.now area.now stacks.now w z }
 {
-    let mut rows = first.rows;
-    let mut done = first.columns;
+    let mut last = *first;
+    let mut done = last.extent.columns;
     while done < columns {
         let most = Extent {
             columns: columns - done,
-            rows,
+            rows: last.extent.rows,
         };
-        let extent = part_of(below, area, stacks, w, along(at, done), most).extent;
-        rows = extent.rows;
-        done += extent.columns;
+        last = part_of(below, area, stacks, w, along(at, done), most);
+        done += last.extent.columns;
     }
-    rows
+    last
 }
 
 // Writes given pixels of a window side by side with it.
@@ -270,7 +275,37 @@ fn place_block<P: Pixels, S: Source, L: Ledger>(
     }
 }
 
-// The same of rows in each column of which that is known.
+// Whether window w shows at a point of a row, of which so many columns are left and the last part is known.
+fn part_from(
+    below: &Rect,
+    area: &Rect,
+    stacks: &Stacks,
+    w: u32,
+    q: Point,
+    columns: usize,
+    rows: u64,
+    last: &Part,
+) -> Part
+    requires columns { 0 < columns }
+    requires rows { 0 < rows }
+    requires apart { All (λ (v : Stood). v.image ≢ w) stacks.now.front.now }
+    requires last { columns ≡ last.now.extent.columns → IsPartAlong below.now area.now stacks.now w q last.now }
+    ensures some { 0 < result.extent.columns }
+    ensures most { result.extent.columns ≤ columns }
+    ensures short { result.extent.columns ≤ 2 ^ 40 }
+    ensures shown { IsPartAlong below.now area.now stacks.now w q result }
+{
+    if columns == last.extent.columns && columns <= LONGEST {
+        return *last;
+    }
+    let most = Extent {
+        columns: columns.min(LONGEST),
+        rows,
+    };
+    part_of(below, area, stacks, w, q, most)
+}
+
+// The same of rows in each column of which that is known, and the last of whose parts is.
 fn place_band<P: Pixels, S: Source, L: Ledger>(
     lists: &Lists,
     pixels: &mut P,
@@ -284,6 +319,7 @@ fn place_band<P: Pixels, S: Source, L: Ledger>(
     q: Point,
     columns: usize,
     rows: u64,
+    last: &Part,
     steps: &mut Steps<L>,
 )
     requires change { IsChange (shape lists.now) p (after_of stacks.now) w }
@@ -297,6 +333,7 @@ fn place_band<P: Pixels, S: Source, L: Ledger>(
     requires apart { All (λ (v : Stood). v.image ≢ w) near.now.front.now }
     requires same { (z : Spot) → IsTrue (holds (spec.block q columns rows) z) → tops_at near.now z ≡ tops_at stacks.now z }
     requires shown { (z : Spot) (k : ℕ) → IsTrue (holds (strip q columns) z) → k < rows → shown_at (image_at (shape lists.now) p).r area.now stacks.now w (spec.down z k) ≡ shown_at (image_at (shape lists.now) p).r area.now stacks.now w z }
+    requires last { last.now.extent.columns ≤ columns → IsPartAlong (image_at (shape lists.now) p).r area.now near.now w (along q (columns - last.now.extent.columns)) last.now }
     requires near_new { All (λ v. IsNear v.place.min) (after_of stacks.now) }
     requires places { HasPlacesBut (shape lists.now) p (after_of stacks.now) w (P.has pixels.old) }
     requires bits { HasBits (shape lists.now) (P.forms pixels.old) }
@@ -317,11 +354,7 @@ fn place_band<P: Pixels, S: Source, L: Ledger>(
     let mut done = 0;
     while done < columns {
         let from = along(q, done);
-        let most = Extent {
-            columns: (columns - done).min(LONGEST),
-            rows,
-        };
-        let part = part_of(&below, area, near, w, from, most);
+        let part = part_from(&below, area, near, w, from, columns - done, rows, last);
         let len = part.extent.columns;
         place_block(
             lists,
@@ -393,22 +426,19 @@ fn place_rows<P: Pixels, S: Source, L: Ledger>(
         rows: n,
     };
     let first = part_of(&below, area, near, w, q, most);
+    let shown = first.shown;
     let done = first.extent.columns;
-    let rows = steady_band(&below, area, near, w, q, columns, first.extent);
+    if done == columns {
+        let rows = first.extent.rows;
+        place_block(
+            lists, pixels, source, p, w, stacks, area, shown, x, q, done, rows, steps,
+        );
+        return rows;
+    }
+    let last = last_part(&below, area, near, w, q, columns, &first);
+    let rows = last.extent.rows;
     place_block(
-        lists,
-        pixels,
-        source,
-        p,
-        w,
-        stacks,
-        area,
-        first.shown,
-        x,
-        q,
-        done,
-        rows,
-        steps,
+        lists, pixels, source, p, w, stacks, area, shown, x, q, done, rows, steps,
     );
     place_band(
         lists,
@@ -423,6 +453,7 @@ fn place_rows<P: Pixels, S: Source, L: Ledger>(
         along(q, done),
         columns - done,
         rows,
+        &last,
         steps,
     );
     rows

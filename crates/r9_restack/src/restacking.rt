@@ -11,7 +11,7 @@ ghost use Rattle.model_kept.specs.Keeping.{is_top, keeping, own, Place};
 ghost use Rattle.model_kept.specs.Restack.{with_list, with_own, IsRestacked};
 ghost use Rattle.r9_locate.specs.Forms.{bits_in, HasBits};
 ghost use Rattle.r9_locate.specs.Table.{shape};
-ghost use Rattle.r9_restack.specs.Changing.{HasPlacesBut, IsChange, IsConcealing, StaysTop};
+ghost use Rattle.r9_restack.specs.Changing.{HasPlacesBut, IsChange, IsConcealing, IsDisclosing, StaysTop};
 ghost use Rattle.r9_restack.specs.Moving.{HasPlaces};
 ghost use Rattle.r9_restack.specs.Placing.{shows};
 ghost use Rattle.r9_restack.specs.Stacks.{IsFront};
@@ -124,6 +124,41 @@ pub fn conceal<P: Pixels, S: Source, L: Ledger>(
 )
     requires front { IsFront (image_at (shape lists.now) p).windows new.now p from }
     requires change { IsConcealing (shape lists.now) p new.now }
+    requires near { IsRectNear area.now }
+    requires ordered { IsOrdered area.now }
+    requires inside { (z : Spot) → IsTrue (holds area.now z) → IsTrue (holds (image_at (shape lists.now) p).r z) }
+    requires outside { (z : Spot) → IsTrue (holds (image_at (shape lists.now) p).r z) → holds area.now z ≡ false → StaysTop (shape lists.now) p new.now p z }
+    requires near_new { All (λ v. IsNear v.place.min) new.now }
+    requires places { HasPlaces (shape lists.now) p new.now (P.has pixels.old) }
+    requires bits { HasBits (shape lists.now) (P.forms pixels.old) }
+    requires fill { (z : Spot) → S.fill source.now z < 2 ^ bits_in (P.forms pixels.old) p }
+    ensures moved { IsRestacked (shape lists.now) (with_list (shape lists.now) p new.now) p (P.kept pixels.old) (P.kept pixels.new) (S.fill source.now) }
+    ensures has { P.has pixels.new ≡ P.has pixels.old }
+    ensures forms { P.forms pixels.new ≡ P.forms pixels.old }
+    ensures moment { P.moment pixels.new ≡ P.moment pixels.old }
+    ensures spare { P.spare pixels.new ≡ P.spare pixels.old }
+    ensures steps { steps.new ≤ steps.old + 2 * area_of area.now }
+    ensures writes { P.writes pixels.new + steps.old ≡ P.writes pixels.old + steps.new }
+{
+    // No image is a window on itself: none of them is taken out.
+    let stacks = stacks_of(&lists.get(p).windows, new, from, p);
+    change_area(lists, pixels, source, p, p, &stacks, area, steps);
+}
+
+/// Moves all pixels to where they are kept when a window of an image moves from where it is not seen: what shows of it then comes
+/// from where it was kept with it, as that of any window that was hidden. Both lists begin with the same windows up to `from`.
+pub fn disclose<P: Pixels, S: Source, L: Ledger>(
+    lists: &Lists,
+    pixels: &mut P,
+    source: &S,
+    p: u32,
+    new: &[Window],
+    from: usize,
+    area: &Rect,
+    steps: &mut Steps<L>,
+)
+    requires front { IsFront (image_at (shape lists.now) p).windows new.now p from }
+    requires change { IsDisclosing (shape lists.now) p new.now }
     requires near { IsRectNear area.now }
     requires ordered { IsOrdered area.now }
     requires inside { (z : Spot) → IsTrue (holds area.now z) → IsTrue (holds (image_at (shape lists.now) p).r z) }

@@ -1,18 +1,19 @@
 //! Blocks of points over which the same windows are topmost, before and after.
 
-ghost use Rattle.std.specs.Prelude.{◌≡◌, ◌≢◌, ◌^◌, ◌++◌, ◌<◌, ◌≤◌, ◌<ℤ◌, ◌≤ℤ◌, ℕ, ℤ, true, false, length, drop, take, All, IsTrue};
+ghost use Rattle.std.specs.Prelude.{◌≡◌, ◌≢◌, ◌-◌, ◌^◌, ◌++◌, ◌<◌, ◌≤◌, ◌<ℤ◌, ◌≤ℤ◌, ℕ, ℤ, true, false, length, drop, take, All, IsTrue};
 ghost use Rattle.r9_geom.specs.declared.Point.{Point as Spot};
 ghost use Rattle.r9_geom.specs.Geometry.{holds, is_point, strip, IsNear};
+ghost use Rattle.r9_plane.specs.Pixels.{along};
 ghost use Rattle.model_forest.specs.declared.Window.{Window as Stood};
 ghost use Rattle.model_forest.specs.Stack.{without};
 ghost use Rattle.model_forest.specs.View.{is_bare, top_window};
 ghost use Rattle.r9_shown.specs.Shown as spec;
-ghost use Rattle.r9_restack.specs.Stacks.{after_of, before_of, is_window, tops_at, IsFront};
+ghost use Rattle.r9_restack.specs.Stacks.{after_of, before_of, is_window, tops_at, IsFront, IsRunAlong};
 
 use model_forest::Window;
 use r9_geom::{Point, Rect};
 use r9_locate::along;
-use r9_shown::{Extent, cover_over, cut};
+use r9_shown::{Extent, Top, cover_over, top_over};
 
 /// The windows of an image, before and after: those with which both lists begin, and the others. The others of the list of
 /// after are in two parts, the upper windows first.
@@ -38,40 +39,7 @@ pub(crate) struct Run {
     pub(crate) extent: Extent,
 }
 
-// The topmost window over a block.
-#[derive(Clone, Copy)]
-struct Top {
-    window: Option<Window>,
-    extent: Extent,
-}
-
-// The topmost window of a list at a point, and over how large a block from there on.
-fn top_over(windows: &[Window], q: Point, most: Extent) -> Top
-    requires columns { 0 < most.columns }
-    requires rows { 0 < most.rows }
-    ensures some { 0 < result.extent.columns }
-    ensures some_rows { 0 < result.extent.rows }
-    ensures most { result.extent.columns ≤ most.columns }
-    ensures most_rows { result.extent.rows ≤ most.rows }
-    ensures same { (z : Spot) → IsTrue (holds (spec.block q result.extent.columns result.extent.rows) z) → top_window windows.now z ≡ result.window }
-{
-    let mut extent = most;
-    for w in windows {
-        extent = cut(&w.place, q, extent);
-        if w.place.holds(q) {
-            return Top {
-                window: Some(*w),
-                extent,
-            };
-        }
-    }
-    Top {
-        window: None,
-        extent,
-    }
-}
-
-// The same of a list in two parts, the upper windows first.
+// The topmost window of a list in two parts, the upper windows first.
 fn top_of(upper: &[Window], lower: &[Window], q: Point, most: Extent) -> Top
     requires columns { 0 < most.columns }
     requires rows { 0 < most.rows }
@@ -186,29 +154,33 @@ pub(crate) fn run_of(stacks: &Stacks, q: Point, most: Extent) -> Run
     }
 }
 
-/// For how many rows down the same windows are topmost as in so many columns of the first one, of which this is known of the
-/// first block.
-pub(crate) fn steady_rows_of(stacks: &Stacks, at: Point, columns: usize, first: Extent) -> u64
+/// The last run of so many columns of the first row, of which the first run is known: in all of them the same windows are topmost
+/// for its rows as in the first one.
+pub(crate) fn last_run(stacks: &Stacks, at: Point, columns: usize, first: &Run) -> Run
     requires near { IsNear at }
     requires columns { columns ≤ 2 ^ 41 }
-    requires rows { 0 < first.rows }
-    requires steady { (z : Spot) (k : ℕ) → IsTrue (holds (strip at first.columns) z) → k < first.rows → tops_at stacks.now (spec.down z k) ≡ tops_at stacks.now z }
-    ensures some { 0 < result }
-    ensures most { result ≤ first.rows }
-    ensures same { (z : Spot) (k : ℕ) → IsTrue (holds (strip at columns) z) → k < result → tops_at stacks.now (spec.down z k) ≡ tops_at stacks.now z }
+    requires some { 0 < first.now.extent.columns }
+    requires fits { first.now.extent.columns ≤ columns }
+    requires rows { 0 < first.now.extent.rows }
+    requires same { (z : Spot) → IsTrue (holds (spec.block at first.now.extent.columns first.now.extent.rows) z) → tops_at stacks.now z ≡ first.now.tops }
+    ensures some { 0 < result.extent.columns }
+    ensures fits { result.extent.columns ≤ columns }
+    ensures some_rows { 0 < result.extent.rows }
+    ensures most { result.extent.rows ≤ first.now.extent.rows }
+    ensures tops { IsRunAlong stacks.now (along at (columns - result.extent.columns)) result }
+    ensures same { (z : Spot) (k : ℕ) → IsTrue (holds (strip at columns) z) → k < result.extent.rows → tops_at stacks.now (spec.down z k) ≡ tops_at stacks.now z }
 {
-    let mut rows = first.rows;
-    let mut done = first.columns;
+    let mut last = *first;
+    let mut done = last.extent.columns;
     while done < columns {
         let most = Extent {
             columns: columns - done,
-            rows,
+            rows: last.extent.rows,
         };
-        let extent = run_of(stacks, along(at, done), most).extent;
-        rows = extent.rows;
-        done += extent.columns;
+        last = run_of(stacks, along(at, done), most);
+        done += last.extent.columns;
     }
-    rows
+    last
 }
 
 // Whether two points are one.

@@ -5,7 +5,7 @@ use Rattle.std.specs.List.{position, position_or_len}
 use Rattle.std.specs.Option.{option_map_or}
 use Rattle.std.proofs.lemmas.Grind.{common_steps}
 use Rattle.std.proofs.lemmas.List.Quantifiers.{position-Some}
-use Rattle.std.proofs.lemmas.List.Sums.{fails_before_first}
+use Rattle.std.proofs.lemmas.List.Sums.{fails_before_first, position_or_len_is}
 use Rattle.r9_geom.specs.declared.Point.{Point}
 use Rattle.r9_geom.specs.Geometry.{holds}
 use Rattle.model_forest.specs.declared.Window.{Window}
@@ -47,6 +47,18 @@ bare_of [] q clear = refl
 bare_of (w ∷ ws) q clear =
     ap (λ t. is_none (cond t (Some w) (top_window ws q))) (clear 0 w (omega arith)) ∙ bare_of ws q (λ k d below. clear (suc k) d (omega (arith, below)))
 
+-- the first one that stands at a point is topmost
+pub top_none : (ws : List Window) (z : Point) → ((k : ℕ) (d : Window) → k < length ws → holds (get_or ws k d).place z ≡ false) → top_window ws z ≡ None
+top_none [] z clear = refl
+top_none (w ∷ ws) z clear = ap (λ b. cond b (Some w) (top_window ws z)) (clear 0 w (omega arith)) ∙ top_none ws z (λ k d below. clear (suc k) d (omega (arith, below)))
+
+pub top_first : (ws : List Window) (z : Point) (i : ℕ) (d : Window) → i < length ws → ((j : ℕ) → j < i → holds (get_or ws j d).place z ≡ false) → holds (get_or ws i d).place z ≡ true → top_window ws z ≡ Some (get_or ws i d)
+top_first [] z i d below none is = absurd (omega (arith, below))
+top_first (w ∷ ws) z zero d below none is = ap (λ b. cond b (Some w) (top_window ws z)) is
+top_first (w ∷ ws) z (suc i) d below none is =
+    ap (λ b. cond b (Some w) (top_window ws z)) (none 0 (omega arith))
+    ∙ top_first ws z i d (omega (arith, below)) (λ j before. none (suc j) (omega (arith, before))) is
+
 -- where the first window of an image stands in a list
 pub position_at : (i : ℕ) (ws : List Window) (k : ℕ) → position (λ w. w.image == i) ws ≡ Some k → position_or_len (λ w. w.image == i) ws ≡ k
 position_at i ws k found = grind (arith, common_steps)
@@ -83,3 +95,14 @@ pub nowhere_top : (i : ℕ) (ws : List Window) (q : Point) → position (λ w. w
 nowhere_top i ws q missing =
     let none : length ws ≤ position_or_len (λ (w : Window). w.image == i) ws = grind (arith, common_steps) in
     not_top i ws q (λ k d below. fails_before_first (λ (w : Window). w.image == i) ws k d (omega (arith, below, none)))
+
+-- the first window of an image is where none before it is its
+pub first_at : (i : ℕ) (ws : List Window) (k : ℕ) (d : Window) → k < length ws → ((get_or ws k d).image == i) ≡ true → ((j : ℕ) → j < k → ((get_or ws j d).image == i) ≡ false) → position (λ w. w.image == i) ws ≡ Some k
+first_at i ws k d below is before =
+    let at = position_or_len_is (λ (w : Window). w.image == i) ws k d (omega (arith, below)) before (λ within. is) in
+    grind (arith, common_steps)
+
+pub first_nowhere : (i : ℕ) (ws : List Window) (d : Window) → ((j : ℕ) → j < length ws → ((get_or ws j d).image == i) ≡ false) → position (λ w. w.image == i) ws ≡ None
+first_nowhere i ws d none =
+    let at = position_or_len_is (λ (w : Window). w.image == i) ws (length ws) d (omega arith) none (λ within. absurd (omega (arith, within))) in
+    grind (arith, common_steps)

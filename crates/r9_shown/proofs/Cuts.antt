@@ -1,11 +1,17 @@
 -- Blocks of points over which no edge of a rectangle lies.
-use Rattle.std.proofs.Common.{◌≡◌, ◌≤◌, ◌≤ℤ◌, ◌<ℤ◌, ℕ, true, arith}
+use Rattle.std.proofs.Common.{◌≡◌, ◌-◌, ◌^◌, ◌≤◌, ◌≤ℤ◌, ◌<ℤ◌, ℕ, ℤ, pos, negsuc, true, arith}
+use Rattle.std.specs.Int.{saturate_to_bits}
 use Rattle.std.proofs.lemmas.Int.{ints}
 use Rattle.r9_geom.specs.declared.Point.{Point}
 use Rattle.r9_geom.specs.declared.Rect.{Rect}
 use Rattle.r9_geom.specs.Geometry.{distance, holds}
 use Rattle.r9_geom.proofs.GeometryLemmas.{bounds_of, distance_is, holds_from, same_tests}
 use Rattle.r9_shown.specs.Shown.{block}
+
+-- what is from a sum of 64 bits on, and is not the last number of these, is from the whole sum on
+pub from_saturated : (z at high : ℤ) → saturate_to_bits 63 z ≤ℤ at → at <ℤ high → high ≤ℤ pos (2 ^ 63 - 1) → z ≤ℤ at
+from_saturated (pos n) at high from before most = omega (arith, ints, from, before, most)
+from_saturated (negsuc n) at high from before most = omega (arith, ints, from)
 
 -- one to the right of the rectangle, or below it
 pub cut_right : (r : Rect) (q z : Point) (columns rows : ℕ) → r.max.x ≤ℤ q.x → holds (block q columns rows) z ≡ true → holds r z ≡ holds r q

@@ -7,5 +7,5 @@ mod blocks;
 mod viewing;
 
 pub use bands::{block, down, steady_down, steady_rows};
-pub use blocks::{Block, Cover, Extent, block_of, cover_over, cut};
+pub use blocks::{Block, Cover, Extent, Top, block_of, cover_over, cut, top_over};
 pub use viewing::{paint_area, read_area, save_area, show_area, write_area};

@@ -217,7 +217,7 @@ each : (P : Tie → Type 0) → ((t : Tie) → P t) → (ties : List Tie) → Ea
 each P h [] = tt
 each P h (t ∷ ts) = (h t, each P h ts)
 
-pub removed : (n : ℕ) (t : Tie) (ties : List Tie) (order order_new : List Numbered) (owners owners_new : List Owned) (store store_new : ℕ → Option Tie) (names names_new : List ℕ → Option ℕ) (next : ℕ)
+removed : (n : ℕ) (t : Tie) (ties : List Tie) (order order_new : List Numbered) (owners owners_new : List Owned) (store store_new : ℕ → Option Tie) (names names_new : List ℕ → Option ℕ) (next : ℕ)
     → Holds ties order owners store names next → store n ≡ Some t
     → order_new ≡ without_key number_key (key n 0 0) order → owners_new ≡ without_key owned_key (owned_key (owned t)) owners
     → ((m : ℕ) → store_new m ≡ cond (n == m) None (store m)) → ((q : List ℕ) → names_new q ≡ cond (bytes_eq t.name q) None (names q))
@@ -244,23 +244,34 @@ removed n t ties order order_new owners owners_new store store_new names names_n
       below = all-filter (λ e. e.number < next) (λ e. not (e.number == n)) ties h.below;
     }
 
+-- the same where no tie may have the number
+pub ended : {P : Type 0} (n : ℕ) (ties : List Tie) (order order_new : List Numbered) (owners owners_new : List Owned) (store store_new : ℕ → Option Tie) (names names_new : List ℕ → Option ℕ) (next : ℕ)
+    → Holds ties order owners store names next
+    → MatchOption (store n) (order_new ≡ order) (λ t. order_new ≡ without_key number_key (key n 0 0) order)
+    → MatchOption (store n) (owners_new ≡ owners) (λ t. owners_new ≡ without_key owned_key (key t.client t.id t.number) owners)
+    → ((m : ℕ) → store_new m ≡ cond (n == m) None (store m))
+    → (P → (q : List ℕ) → names_new q ≡ names q) → MatchOption (store n) P (λ t. (q : List ℕ) → names_new q ≡ cond (bytes_eq t.name q) None (names q))
+    → Holds (filter (λ e. not (e.number == n)) ties) order_new owners_new store_new names_new next
+ended {P} n ties order order_new owners owners_new store store_new names names_new next h o w s same m = by (store n) refl o w m
+  where
+    by : (r : Option Tie) → store n ≡ r → MatchOption r (order_new ≡ order) (λ t. order_new ≡ without_key number_key (key n 0 0) order)
+        → MatchOption r (owners_new ≡ owners) (λ t. owners_new ≡ without_key owned_key (key t.client t.id t.number) owners)
+        → MatchOption r P (λ t. (q : List ℕ) → names_new q ≡ cond (bytes_eq t.name q) None (names q))
+        → Holds (filter (λ e. not (e.number == n)) ties) order_new owners_new store_new names_new next
+    by (Some t) is o w m = removed n t ties order order_new owners owners_new store store_new names names_new next h is o w s m
+    by None is o w m =
+        subst (λ (us : List Tie). Holds us order_new owners_new store_new names_new next) (sym (none-kept (λ (e : Tie). e.number == n) ties (sym (h.by_number n) ∙ is)))
+        (same-holds ties order order_new owners owners_new store store_new names names_new next h o w (λ i. s i ∙ other i (n == i) refl) (same m))
+      where
+        other : (i : ℕ) (b : Bool) → (n == i) ≡ b → cond b None (store i) ≡ store i
+        other i true at = sym (ap store (sym (eq-same n i at)) ∙ is)
+        other i false at = refl
+
 -- ---- as the code has them
 
 pub no-row : (n : ℕ) (ties : List Tie) → Each (λ e. e.number < n) ties → find (has_key number_key (key n 0 0)) (map numbered ties) ≡ None
 no-row n [] h = refl
 no-row n (t ∷ ts) h = let other : is_key (key t.number 0 0) (key n 0 0) ≡ false = one-is t.number n ∙ eq-less t.number n h.0 in rw other (no-row n ts h.1)
-
-pub is-some : {X : Type 0} (o : Option X) → is_some o ≡ true → (x : X) × (o ≡ Some x)
-is-some None h = absurd cc
-is-some (Some x) h = (x, refl)
-
-pub is-none : {X : Type 0} (o : Option X) → is_some o ≡ false → o ≡ None
-is-none None h = refl
-is-none (Some x) h = absurd cc
-
-pub matched : {X : Type 0} (o : Option X) (P : Type 0) (Q : X → Type 0) (x : X) → o ≡ Some x → MatchOption o P Q → Q x
-matched None P Q x is h = absurd cc
-matched (Some y) P Q x is h = let same : y ≡ x = cc in subst (λ z. Q z) same h
 
 pub test-true : (a b : ℕ) → a ≡ b → (a == b) ≡ true
 test-true a b h = grind (arith, nat_tests)

@@ -155,20 +155,20 @@ impl Index {
 
     // Takes out the tie of a number, where there is one, and keeps the memory of its texts for the next.
     pub(crate) fn remove(&mut self, number: u64)
-        ensures order { self.new.order.rows ≡ without_key number_key (key number 0 0) self.old.order.rows }
+        ensures order { MatchOption (get nat_eq self.old.store number) (self.new.order.rows ≡ self.old.order.rows) (λ _. self.new.order.rows ≡ without_key number_key (key number 0 0) self.old.order.rows) }
         ensures store { (n : ℕ) → get nat_eq self.new.store n ≡ cond (number == n) None (get nat_eq self.old.store n) }
         ensures owners { MatchOption (get nat_eq self.old.store number) (self.new.owners.rows ≡ self.old.owners.rows) (λ t. self.new.owners.rows ≡ without_key owned_key (key t.client t.id t.number) self.old.owners.rows) }
         ensures names { MatchOption (get nat_eq self.old.store number) (self.new.names ≡ self.old.names) (λ t. (q : List ℕ) → named self.new.names q ≡ cond (bytes_eq t.name q) None (named self.old.names q)) }
         ensures more { HasGrown self.old self.new }
     {
+        let Some(tie) = self.store.remove(&number) else {
+            return;
+        };
         let _ = self.order.remove(Key {
             first: number,
             second: 0,
             third: 0,
         });
-        let Some(tie) = self.store.remove(&number) else {
-            return;
-        };
         remove_name(&mut self.names, &mut self.key_text, tie.name.as_slice());
         let _ = self.owners.remove(Key {
             first: tie.client,

@@ -115,9 +115,7 @@ impl Ties {
         ensures next { self.new.next ≡ self.old.next }
         ensures room { self.old.room ≤ self.new.room }
     {
-        if self.index.store.contains_key(&number) {
-            self.index.remove(number);
-        }
+        self.index.remove(number);
     }
 
     // The number of the first tie that an id of a connection made.

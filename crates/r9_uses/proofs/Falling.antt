@@ -1,13 +1,16 @@
 -- One step of a release: less is left, and there is room for what is left.
-use Rattle.std.proofs.Common.{◌≡◌, ℕ, ◌+◌, ◌<◌, ◌≤◌, true, false, List, [], ◌∷◌, ◌++◌, length, vec_capacity, refl, sym, ap, subst, ◌∙◌, arith, length-append}
+use Rattle.std.proofs.Common.{◌≡◌, ℕ, ◌+◌, ◌<◌, ◌≤◌, true, false, List, [], ◌∷◌, ◌++◌, Option, Some, None, length, vec_capacity, refl, sym, ap, subst, ◌∙◌, arith, length-append}
 use Rattle.std.specs.Prelude.{◌||◌, All}
+use Rattle.std.specs.Option.{option_map_or}
 use Rattle.std.proofs.lemmas.List.Elements.{All-append}
 use Rattle.model_images.specs.declared.Thing.{Thing}
 use Rattle.model_images.specs.declared.Thing.TheVariants.{Image, Screen}
+use Rattle.model_images.specs.Book.{screen_of}
 use Rattle.model_images.specs.Release.{Freed, references, is_used, has_gone, with_gone, released, without}
 use Rattle.model_images.proofs.Steps as model
 use Rattle.r9_uses.specs.declared.uses.Uses.{Uses}
 use Rattle.r9_uses.specs.Freed.{freed_of, book_of, IsKnown, weight, left_of, HasRoom}
+use Rattle.r9_uses.proofs.Used.{all-one, window-counted, counted-known}
 
 weight-same : (things : List Thing) → weight things ≡ model.weight things
 weight-same [] = refl
@@ -75,3 +78,17 @@ pub all-known : (old new : Uses) (thing : Thing) (things more : List Thing) → 
 all-known old new thing things more is known first rest =
     subst (λ (ts : List Thing). All (IsKnown new) ts) (sym is)
     (all-of (IsKnown old) (IsKnown new) _ known (All-append (IsKnown old) (references (book_of old) thing) things first rest))
+
+-- what an image refers to is known
+pub refers-known : (u : Uses) (i : ℕ) → All (IsKnown u) (references (book_of u) (Image i))
+refers-known u i = by (screen_of (book_of u) i) refl
+  where
+    by : (o : Option ℕ) → screen_of (book_of u) i ≡ o → All (IsKnown u) (option_map_or (λ s. Screen s ∷ []) o [])
+    by None is = λ k d l. absurd (omega (arith, l))
+    by (Some s) is =
+        let some = window-counted i s u.windows.windows is in
+        all-one (IsKnown u) s (Some s) refl (counted-known u.numbers.uses s (omega (arith, some, u.screens_counted s)))
+
+-- the same of its screen, where that is told
+pub screen-first : (u : Uses) (i : ℕ) (o : Option ℕ) (things : List Thing) → o ≡ screen_of (book_of u) i → option_map_or (λ s. Screen s ∷ []) o [] ++ things ≡ references (book_of u) (Image i) ++ things
+screen-first u i o things is = ap (λ (s : Option ℕ). option_map_or (λ n. Screen n ∷ []) s [] ++ things) is

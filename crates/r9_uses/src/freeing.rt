@@ -112,7 +112,7 @@ impl Uses {
         if self.stays(Thing::Image(e.image)) {
             return;
         }
-        self.let_image_go(e.image);
+        let _ = self.let_image_go(e.image);
     }
 
     // An image id goes. There is room for all that may go.

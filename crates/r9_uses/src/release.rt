@@ -1,6 +1,7 @@
 //! What goes when a reference goes.
 
-ghost use Rattle.std.specs.Prelude.{◌≡◌, ◌==◌, ◌||◌, ◌<◌, ◌≤◌, ◌+◌, ◌*◌, ◌++◌, ◌∷◌, ℕ, [], List, All, length, true, vec_len, vec_capacity};
+ghost use Rattle.std.specs.Prelude.{◌≡◌, ◌==◌, ◌||◌, ◌<◌, ◌≤◌, ◌+◌, ◌*◌, ◌++◌, ◌∷◌, ℕ, [], List, All, find, length, true, vec_len, vec_capacity};
+ghost use Rattle.std.specs.Option.{option_map, option_map_or};
 ghost use Rattle.model_images.specs.Release as model;
 ghost use Rattle.model_images.specs.declared.Thing.{Thing as AThing};
 ghost use Rattle.model_images.specs.declared.Thing.TheVariants as thing;
@@ -10,6 +11,17 @@ ghost use Rattle.r9_uses.specs.Tally.{knows};
 use crate::pending::Pending;
 use crate::uses::Uses;
 use model_images::Thing;
+
+// Puts what an image refers to before the other things: its screen, where it is a window.
+fn refer_image(screen: Option<u32>, pending: &mut Pending)
+    requires { length (option_map_or (λ s. thing.Screen s ∷ []) screen []) + length pending.old.things ≤ pending.old.most }
+    ensures things { pending.new.things ≡ option_map_or (λ s. thing.Screen s ∷ []) screen [] ++ pending.old.things }
+    ensures most { pending.new.most ≡ pending.old.most }
+{
+    if let Some(screen) = screen {
+        pending.push(Thing::Screen(screen));
+    }
+}
 
 impl Uses {
     ghost use Rattle.r9_uses.specs.Room.{room};
@@ -22,18 +34,6 @@ impl Uses {
         match thing {
             Thing::Image(i) => self.images.stays(i),
             Thing::Screen(s) => self.numbers.stays(s),
-        }
-    }
-
-    // Puts what the image refers to before the other things: its screen, where it is a window.
-    fn refer_image(&self, image: u32, pending: &mut Pending)
-        requires { length (model.references (book_of self.now) (thing.Image image)) + length pending.old.things ≤ pending.old.most }
-        ensures things { (ties : List Tie) (next_tie : ℕ) → pending.new.things ≡ model.references (freed_of self.now ties next_tie).book (thing.Image image) ++ pending.old.things }
-        ensures known { All (IsKnown self.now) (model.references (book_of self.now) (thing.Image image)) }
-        ensures most { pending.new.most ≡ pending.old.most }
-    {
-        if let Some(screen) = self.screen_of(image) {
-            pending.push(Thing::Screen(screen));
         }
     }
 
@@ -53,9 +53,11 @@ impl Uses {
         pending.push(Thing::Image(image));
     }
 
-    pub(crate) fn let_image_go(&mut self, image: u32)
+    // Gives the screen on which the image stood, where it was a window.
+    pub(crate) fn let_image_go(&mut self, image: u32) -> Option<u32>
         requires known { IsKnown self.old (thing.Image image) }
         requires gone { length self.old.gone.items < vec_capacity self.old.gone }
+        ensures screen { result ≡ option_map (λ w. w.screen) (find (λ w. w.image == image) self.old.windows.windows) }
         ensures freed { (ties : List Tie) (next_tie : ℕ) → freed_of self.new ties next_tie ≡ model.with_gone (freed_of self.old ties next_tie) (thing.Image image) }
         ensures known { (t : AThing) → IsKnown self.old t → IsKnown self.new t }
         ensures gone { vec_capacity self.new.gone ≡ vec_capacity self.old.gone }
@@ -64,9 +66,10 @@ impl Uses {
         ensures screen_ids { self.new.screen_ids ≡ self.old.screen_ids }
         ensures more { room self.old ≤ room self.new }
     {
-        self.close(image);
+        let screen = self.close(image);
         self.images.mark(image);
         self.gone.push_reserved(Thing::Image(image));
+        screen
     }
 
     fn let_screen_go(&mut self, screen: u32)
@@ -105,8 +108,8 @@ impl Uses {
         if self.stays(Thing::Image(image)) {
             return;
         }
-        self.refer_image(image, pending);
-        self.let_image_go(image);
+        let screen = self.let_image_go(image);
+        refer_image(screen, pending);
     }
 
     // Looks at a screen that has lost a reference, which stands before the other things.

@@ -1,6 +1,7 @@
 //! Taking single references.
 
-ghost use Rattle.std.specs.Prelude.{◌≡◌, ◌==◌, ◌<◌, ◌≤◌, ◌+◌, ℕ, None, Some, not, true, false, filter, find, length, slice_set};
+ghost use Rattle.std.specs.Prelude.{◌≡◌, ◌==◌, ◌<◌, ◌≤◌, ◌+◌, ℕ, None, Some, not, true, filter, find, length, slice_set, IfSome};
+ghost use Rattle.std.specs.Option.{option_map};
 ghost use Rattle.model_images.specs.Release.{is_image_id, is_screen_id};
 ghost use Rattle.r9_uses.specs.Tally.{room_of, knows};
 
@@ -72,11 +73,12 @@ impl Uses {
         self.screens.remove(number);
     }
 
-    // The image's first window goes, where it has one.
-    fn take_window(&mut self, image: u32) -> bool
+    // The image's first window goes, where it has one. Gives the screen on which it stood.
+    fn take_window(&mut self, image: u32) -> Option<u32>
+        ensures screen { result ≡ option_map (λ w. w.screen) (find (λ w. w.image == image) self.old.windows.windows) }
         ensures others { filter (λ w. not (w.image == image)) self.new.windows.windows ≡ filter (λ w. not (w.image == image)) self.old.windows.windows }
-        ensures none { result ≡ false → self.new.windows.windows ≡ filter (λ w. not (w.image == image)) self.old.windows.windows }
-        ensures less { result ≡ true → length self.new.windows.windows < length self.old.windows.windows }
+        ensures none { result ≡ None → self.new.windows.windows ≡ filter (λ w. not (w.image == image)) self.old.windows.windows }
+        ensures less { IfSome result (λ _. length self.new.windows.windows < length self.old.windows.windows) }
         ensures known { (q : ℕ) → knows self.old.numbers.uses q ≡ true → knows self.new.numbers.uses q ≡ true }
         ensures room { self.old.windows.room ≤ self.new.windows.room }
         ensures image_ids { self.new.image_ids ≡ self.old.image_ids }
@@ -90,14 +92,14 @@ impl Uses {
         match self.windows.take(image) {
             Some(window) => {
                 self.numbers.take(window.screen);
-                true
+                Some(window.screen)
             }
-            None => false,
+            None => None,
         }
     }
 
-    // The image is no window any more.
-    pub(crate) fn close(&mut self, image: u32)
+    // The windows of the image go.
+    fn take_windows(&mut self, image: u32)
         ensures closed { self.new.windows.windows ≡ filter (λ w. not (w.image == image)) self.old.windows.windows }
         ensures known { (q : ℕ) → knows self.old.numbers.uses q ≡ true → knows self.new.numbers.uses q ≡ true }
         ensures room { self.old.windows.room ≤ self.new.windows.room }
@@ -109,6 +111,25 @@ impl Uses {
         ensures gone { self.new.gone ≡ self.old.gone }
         ensures more { room self.old ≤ room self.new }
     {
-        'closing: while self.take_window(image) {}
+        'closing: while self.take_window(image).is_some() {}
+    }
+
+    // The image is no window any more. Gives the screen on which it stood.
+    pub(crate) fn close(&mut self, image: u32) -> Option<u32>
+        ensures screen { result ≡ option_map (λ w. w.screen) (find (λ w. w.image == image) self.old.windows.windows) }
+        ensures closed { self.new.windows.windows ≡ filter (λ w. not (w.image == image)) self.old.windows.windows }
+        ensures known { (q : ℕ) → knows self.old.numbers.uses q ≡ true → knows self.new.numbers.uses q ≡ true }
+        ensures room { self.old.windows.room ≤ self.new.windows.room }
+        ensures image_ids { self.new.image_ids ≡ self.old.image_ids }
+        ensures screen_ids { self.new.screen_ids ≡ self.old.screen_ids }
+        ensures images { self.new.images ≡ self.old.images }
+        ensures screens { self.new.screens ≡ self.old.screens }
+        ensures spare { self.new.spare ≡ self.old.spare }
+        ensures gone { self.new.gone ≡ self.old.gone }
+        ensures more { room self.old ≤ room self.new }
+    {
+        let screen = self.take_window(image)?;
+        self.take_windows(image);
+        Some(screen)
     }
 }

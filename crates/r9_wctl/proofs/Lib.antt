@@ -3,6 +3,7 @@ mod Bounds
 mod Pushed
 mod Steps
 mod Naming
+mod Unlike
 mod Collecting
 mod Four
 mod Settled

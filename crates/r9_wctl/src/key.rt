@@ -47,10 +47,10 @@ pub fn key_named(name: &[u8]) -> Option<Key>
         Some(Key::Dy)
     } else if is_word(name, b"-pid") {
         Some(Key::Pid)
-    } else if is_word(name, b"-cd") {
-        Some(Key::Cd)
     } else if is_word(name, b"-id") {
         Some(Key::Id)
+    } else if is_word(name, b"-cd") {
+        Some(Key::Cd)
     } else if is_word(name, b"-hide") {
         Some(Key::Hide)
     } else if is_word(name, b"-scroll") {

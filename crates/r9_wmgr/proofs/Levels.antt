@@ -140,6 +140,15 @@ unfolding moved
 moved-step zero keep w r step h = absurd (h refl)
 moved-step (suc n) keep w r step h = rw (less n) refl
 
+not_followed : (move : Window → Rect → Step → Outcome Step) (host : ℕ) (fill : Bool) (by : Point) (step : Step) → is_host step.table host ≡ false → followed move host fill by step ≡ Ok step
+not_followed move host fill by step e = rw e refl
+
+-- a window in which no rio runs
+pub moved_alone : (keep : Bool) (w : Window) (r : Rect) (step : Step) → is_host step.table w.serial ≡ false → moved 9 keep w r step ≡ Ok (replaced keep w r step)
+unfolding replaced
+moved_alone keep w r step alone =
+    moved-step 9 keep w r step (λ e. absurd (omega (arith, e))) ∙ not_followed (moved 8 true) w.serial (not keep) (way w.r r) (replaced keep w r step) alone
+
 -- the windows of a rio in a window that moves
 pub moved-each : (n : ℕ) (keep : Bool) (w : Window) (r : Rect) (old led : Step) (by : Point) (inner shown : List Window) → (n ≡ 0 → ⊥)
     → ((move : Window → Rect → Step → Outcome Step) → each (carried move (way w.r r)) inner led ≡ followed move w.serial (not keep) (way w.r r) (replaced keep w r old))

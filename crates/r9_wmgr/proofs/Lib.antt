@@ -1,5 +1,6 @@
 mod Loops
 mod Names
 mod Levels
+mod Renewed
 mod Results
 mod Windows

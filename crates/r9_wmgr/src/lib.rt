@@ -3,6 +3,7 @@
 #![tactic(auto)]
 
 mod act;
+mod alone;
 mod draft;
 mod input;
 mod making;

@@ -96,7 +96,7 @@ fn first_rectangle(r: Rect) -> Rect
 }
 
 // The rectangle that options make of a first one.
-fn rectangle_by(options: &Options, start: Rect, moves: bool) -> Result<Bounds, ActFault>
+pub(crate) fn rectangle_by(options: &Options, start: Rect, moves: bool) -> Result<Bounds, ActFault>
     requires near { IsRectNear start }
     ensures rectangle { IfOk result (λ r. applied moves options.now start ≡ Some r) }
     ensures refused { IfErr result (λ f. IfRefused f (λ n. (n ≡ 47) × (applied moves options.now start ≡ None))) }

@@ -14,7 +14,6 @@ use r9_stacking::{
     Change, bottom_up, change_rios, changed, find_numbered, find_rio, find_topmost, find_window,
     lower, made_in, push_hosts, raise, replace, windows_off, without, without_rio,
 };
-use r9_text::Numbers;
 use r9_window::{Hold, Rio, Window};
 use std::alloc::Global;
 use std::marker::Model;

@@ -17,7 +17,7 @@ use r9_memory::Memory;
 use r9_window::{Bounds, Window};
 
 // The window with a new rectangle and the next name.
-fn renewed(w: &Window, r: Bounds) -> Window
+pub(crate) fn renewed(w: &Window, r: Bounds) -> Window
     ensures { result ≡ model.renewed r w.now }
 {
     Window {

@@ -95,6 +95,31 @@ impl Manager {
         Step { orders, notes }
     }
 
+    // What an act does, by a draft.
+    fn step_by_draft(&mut self, act: &Act) -> Result<Step, ActFault>
+        requires keys { AreKeys act.now }
+        ensures done { IfOk result (λ s. model.rio self.old (act_of act.now) ≡ Ok (record { table = self.new; orders = s.orders; notes = s.notes })) }
+        ensures refused { IfErr result (λ f. IfRefused f (λ n. model.rio self.old (act_of act.now) ≡ Err n)) }
+        ensures kept { OnErr result (self.new ≡ self.old) }
+    {
+        let mut draft = self.draft()?;
+        draft.act(act)?;
+        Ok(self.take_over(draft))
+    }
+
+    // What an act does, in place where that takes no draft.
+    fn carry_out(&mut self, act: &Act) -> Result<Step, ActFault>
+        requires keys { AreKeys act.now }
+        ensures done { IfOk result (λ s. model.rio self.old (act_of act.now) ≡ Ok (record { table = self.new; orders = s.orders; notes = s.notes })) }
+        ensures refused { IfErr result (λ f. IfRefused f (λ n. model.rio self.old (act_of act.now) ≡ Err n)) }
+        ensures kept { OnErr result (self.new ≡ self.old) }
+    {
+        if let Some(step) = self.move_alone(act)? {
+            return Ok(step);
+        }
+        self.step_by_draft(act)
+    }
+
     /// What an act does: the table changes, and it gives what that asks of the draw device and what windows are told.
     /// Refused by 42 exactly where the window, or the rio of a new one, is not there; then by 47 where a rectangle or a
     /// host is refused, by 49 where there would be too many windows, and by 50 where rios would be nested too deep; another
@@ -109,9 +134,7 @@ impl Manager {
         ensures sound { IsSound self.old → IsSound self.new }
         ensures in_turn { IfOk result (λ s. IsSound self.old → AreInTurn s.notes) }
     {
-        let mut draft = self.draft()?;
-        draft.act(&act)?;
-        Ok(self.take_over(draft))
+        self.carry_out(&act)
     }
 
     /// The serial of the live window of a path, the numbers from the root rio inward. None exactly where there is none.

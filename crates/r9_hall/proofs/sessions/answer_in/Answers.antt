@@ -25,7 +25,7 @@ returns-in_ok-own-in-Some c =
     let served : IsServed c.args.session (Some c.in-Some.found.now) before (desktop_of c.args.desktop.now) c.args.bytes.now c.args.mark (Some c.in_ok-own-in-Some.own) after left =
     (c.answer.new.found, written, c.in_ok-own-in-Some.ensures.answered) in
     record {
-      seen = λ watches. subst (λ (found : Option Session). IsSeenOf c.args.session found (desktop_of c.args.desktop.now) c.args.bytes.now c.args.mark (Some c.in_ok-own-in-Some.own)) (sym at) (c.in_ok-own-in-Some.ensures.seen watches);
+      seen = λ watches. subst (λ (found : Option Session). IsSeenOf c.args.session found (desktop_of c.args.desktop.now) c.args.bytes.now c.args.mark (Some c.in_ok-own-in-Some.own) c.answer.new.sight) (sym at) (c.in_ok-own-in-Some.ensures.seen watches);
       served = subst (λ (found : Option Session). IsServed c.args.session found before (desktop_of c.args.desktop.now) c.args.bytes.now c.args.mark (Some c.in_ok-own-in-Some.own) after left) (sym at) served;
       began = c.answer.ensures.began;
       linked = served_linked c.args.session before (desktop_of c.args.desktop.now) (Some c.in-Some.found.now) c.args.bytes.now c.args.mark (Some c.in_ok-own-in-Some.own) after left c.requires.linked at served;

@@ -1,4 +1,4 @@
-use Rattle.std.proofs.Common.{◌≡◌, ◌≢◌, ◌∙◌, ◌<◌, ◌^◌, false, true, All, Bool, List, [], ◌∷◌, Option, ℕ, refl, sym, subst, ap}
+use Rattle.std.proofs.Common.{◌≡◌, ◌≢◌, ◌∙◌, ◌<◌, ◌^◌, false, true, All, Bool, List, [], ◌∷◌, Option, ℕ, inl, refl, sym, subst, ap}
 use Rattle.std.specs.Prelude.{is_none}
 use Rattle.std.specs.Option.{option_map_or}
 use Rattle.std.proofs.lemmas.Bool.{true≢false}
@@ -82,7 +82,7 @@ conceal-requires-clause-change g c =
       others = λ i other. places g at.After-deref i other;
       change = record {
         live = is.live;
-        places = λ i z apart inside top. places g at.After-deref i (λ same. true≢false (sym top ∙ ap (λ m. is_top c.args.new.now m z) same ∙ c.requires.hidden z inside));
+        places = λ i z apart inside top. inl (places g at.After-deref i (λ same. true≢false (sym top ∙ ap (λ m. is_top c.args.new.now m z) same ∙ c.requires.hidden z inside)));
         stand = relist_stand world c.args.p c.args.new.now is.live is.forest;
         one = relist_one world c.args.p c.args.new.now is.live is.forest;
       };

@@ -1,4 +1,4 @@
-use Rattle.std.proofs.Common.{◌∙◌, ◌<◌, ◌^◌, ℕ, Bool, Option, sym, subst, ap}
+use Rattle.std.proofs.Common.{◌∙◌, ◌<◌, ◌^◌, ℕ, Bool, Option, inl, sym, subst, ap}
 use Rattle.std.proofs.lemmas.Bool.{or_right}
 use Rattle.model_forest.proofs.Changes.{live-standing}
 use Rattle.model_kept.specs.Keeping.{own, Place}
@@ -25,7 +25,7 @@ restack-requires-clause-change g c =
     let is = c.requires.change in
     record {
       live = is.live;
-      places = λ i z other inside top. others_places (shape c.args.lists.now) c.args.p c.args.w c.args.new.now (lists_places c.args.lists.now c.args.p is.live) is.others i other;
+      places = λ i z other inside top. inl (others_places (shape c.args.lists.now) c.args.p c.args.w c.args.new.now (lists_places c.args.lists.now c.args.p is.live) is.others i other);
       stand = relist_stand (shape c.args.lists.now) c.args.p c.args.new.now is.live is.forest;
       one = relist_one (shape c.args.lists.now) c.args.p c.args.new.now is.live is.forest;
     }

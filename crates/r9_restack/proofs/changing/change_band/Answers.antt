@@ -1,19 +1,21 @@
-use Rattle.std.proofs.Common.{◌≡◌, ◌∙◌, ℕ, ◌+◌, ◌*◌, ◌<◌, ◌≤◌, ◌^◌, ◌||◌, Option, refl, sym, subst, ap, arith}
+use Rattle.std.proofs.Common.{◌≡◌, ◌∙◌, ℕ, ◌+◌, ◌-◌, ◌*◌, ◌<◌, ◌≤◌, ◌^◌, ◌||◌, Option, true, refl, sym, subst, ap, arith}
 use Rattle.r9_geom.specs.declared.Point.{Point}
-use Rattle.r9_geom.specs.Geometry.{holds}
+use Rattle.r9_geom.specs.Geometry.{holds, strip}
 use Rattle.r9_geom.proofs.GeometryLemmas.{near_point}
+use Rattle.r9_plane.specs.Pixels.{along}
+use Rattle.r9_plane.proofs.PlaneLemmas.{along_holds}
 use Rattle.model_forest.specs.World.{image_at}
 use Rattle.r9_locate.specs.Forms.{bits_in, Form, HasBits}
 use Rattle.r9_locate.specs.Table.{shape}
 use Rattle.r9_restack.specs.Stacks.{after_of, tops_at}
 use Rattle.r9_shown.specs.Shown.{block}
-use Rattle.r9_shown.proofs.Pieces.{block_none, block_part, corner_in}
+use Rattle.r9_shown.proofs.Pieces.{block_none, block_part, corner_in, first_row}
 use Rattle.r9_restack.specs.Moving.{more_in, IsFreshIn}
 use Rattle.r9_restack.specs.Changing.{IsChanged}
 use Rattle.r9_restack.proofs.Changes.{changed-same}
 use Rattle.r9_restack.proofs.Parting.{nearby}
 use Rattle.r9_restack.proofs.Blocked.{done_right, fresh_right}
-use Rattle.r9_restack.proofs.Steady.{across_first, block_fewer, steady_block}
+use Rattle.r9_restack.proofs.Steady.{steady_block}
 use Rattle.r9_restack.proofs.changing.change_band.Goals as goal
 
 pub loop-done-init : goal.loop-done-init
@@ -31,35 +33,43 @@ loop-done-init g c = record {
 pub change_block-requires-clause-near : goal.change_block-requires-clause-near
 change_block-requires-clause-near g c =
     let r = (image_at (shape c.args.lists.now) c.args.p).r in
-    let len = c.run_of-run.result.extent.columns in
+    let len = c.run_from-run.result.extent.columns in
     let q = c.along-q.result in
-    let here = block_part c.args.at c.loop-done.done len c.args.columns c.args.rows q (omega (arith, c.run_of-run.ensures.most, c.min.ensures, c.loop-done-test.true))
-    (ap (λ (p : Point). holds (block p len c.args.rows) q) (sym c.along-q.ensures) ∙ corner_in q len c.args.rows c.run_of-run.ensures.some c.requires.some) in
+    let here = block_part c.args.at c.loop-done.done len c.args.columns c.args.rows q (omega (arith, c.run_from-run.ensures.most, c.loop-done-test.true))
+    (ap (λ (p : Point). holds (block p len c.args.rows) q) (sym c.along-q.ensures) ∙ corner_in q len c.args.rows c.run_from-run.ensures.some c.requires.some) in
     near_point (2 ^ 40) r q (nearby c.args.lists.now c.args.p c.requires.change.live).0 (c.requires.inside q here)
 
 pub change_block-requires-clause-columns : goal.change_block-requires-clause-columns
-change_block-requires-clause-columns g c = omega (arith, c.run_of-run.ensures.most, c.min.ensures, c.requires.columns)
+change_block-requires-clause-columns g c = omega (arith, c.run_from-run.ensures.short)
 
 pub change_block-requires-clause-inside : goal.change_block-requires-clause-inside
 change_block-requires-clause-inside g c z h =
-    let len = c.run_of-run.result.extent.columns in
-    c.requires.inside z (block_part c.args.at c.loop-done.done len c.args.columns c.args.rows z (omega (arith, c.run_of-run.ensures.most, c.min.ensures, c.loop-done-test.true)) (ap (λ p. holds (block p len c.args.rows) z) (sym c.along-q.ensures) ∙ h))
+    let len = c.run_from-run.result.extent.columns in
+    c.requires.inside z (block_part c.args.at c.loop-done.done len c.args.columns c.args.rows z (omega (arith, c.run_from-run.ensures.most, c.loop-done-test.true)) (ap (λ p. holds (block p len c.args.rows) z) (sym c.along-q.ensures) ∙ h))
+
+-- the last run begins where so many columns are left as it has
+pub run_from-run-requires-clause-last : goal.run_from-run-requires-clause-last
+run_from-run-requires-clause-last g c same z h =
+    let n = c.args.last.now.extent.columns in
+    let start : c.args.columns - n ≡ c.loop-done.done = omega (arith, same, c.loop-done-test.true) in
+    c.requires.last (omega (arith, same)) z
+    (ap (λ m. holds (strip (along c.args.at m) n) z) start ∙ ap (λ p. holds (strip p n) z) (sym c.along-q.ensures) ∙ h)
 
 -- what is told of its row is told of all of the block
 pub change_block-requires-clause-tops : goal.change_block-requires-clause-tops
 change_block-requires-clause-tops g c =
-    let run = c.run_of-run.result in
-    let extent = run.extent in
-    steady_block (tops_at c.args.stacks.now) c.args.at c.along-q.result c.loop-done.done extent.columns c.args.columns c.args.rows run.tops c.along-q.ensures
-    (omega (arith, c.run_of-run.ensures.most, c.min.ensures, c.loop-done-test.true))
-    c.requires.tops
-    (across_first (tops_at c.args.stacks.now) c.along-q.result extent.columns extent.rows run.tops c.run_of-run.ensures.some_rows
-    (λ z h.
+    let run = c.run_from-run.result in
+    let len = run.extent.columns in
+    let q = c.along-q.result in
+    let fits : c.loop-done.done + len ≤ c.args.columns = omega (arith, c.run_from-run.ensures.most, c.loop-done-test.true) in
+    steady_block (tops_at c.args.stacks.now) c.args.at q c.loop-done.done len c.args.columns c.args.rows run.tops c.along-q.ensures fits c.requires.tops
+    (λ k below.
+    let z = along q k in
+    let here : holds (strip q len) z ≡ true = along_holds q len k below in
     sym (c.requires.same z
-    (block_part c.args.at c.loop-done.done extent.columns c.args.columns c.args.rows z (omega (arith, c.run_of-run.ensures.most, c.min.ensures, c.loop-done-test.true))
-    (ap (λ p. holds (block p extent.columns c.args.rows) z) (sym c.along-q.ensures)
-    ∙ block_fewer c.along-q.result z extent.columns extent.rows extent.columns c.args.rows (omega arith) c.run_of-run.ensures.most_rows h)))
-    ∙ c.run_of-run.ensures.same z h))
+    (block_part c.args.at c.loop-done.done len c.args.columns c.args.rows z fits
+    (ap (λ p. holds (block p len c.args.rows) z) (sym c.along-q.ensures) ∙ first_row q len c.args.rows z c.requires.some here)))
+    ∙ c.run_from-run.ensures.tops z here)
 
 pub change_block-requires-clause-bits : goal.change_block-requires-clause-bits
 change_block-requires-clause-bits g c = subst (HasBits (shape c.args.lists.now)) (sym c.loop-done.invariant.forms) c.requires.bits
@@ -75,9 +85,9 @@ loop-done-preserved g c =
     let at = c.args.at in
     let rows = c.args.rows in
     let done_so = c.loop-done.done in
-    let len = c.run_of-run.result.extent.columns in
+    let len = c.run_from-run.result.extent.columns in
     let q = c.along-q.result in
-    let fits : done_so + len ≤ c.args.columns = omega (arith, c.run_of-run.ensures.most, c.min.ensures, c.loop-done-test.true) in
+    let fits : done_so + len ≤ c.args.columns = omega (arith, c.run_from-run.ensures.most, c.loop-done-test.true) in
     let more_steps : (done_so + len) * rows ≡ done_so * rows + len * rows = grind arith in
     record {
       within = fits;

@@ -1,4 +1,4 @@
-use Rattle.std.proofs.Common.{◌≡◌, ◌∙◌, All, List, sym, subst, ap}
+use Rattle.std.proofs.Common.{◌≡◌, ◌∙◌, All, List, inl, sym, subst, ap}
 use Rattle.std.proofs.lemmas.Nat.{pow_pos}
 use Rattle.r9_geom.specs.declared.Point.{Point}
 use Rattle.r9_geom.specs.Geometry.{IsNear}
@@ -30,7 +30,7 @@ change_areas-requires-clause-change g c =
     subst (λ (ws : List Window). IsChange (shape c.args.lists.now) c.args.p ws c.args.p) (after g (goal.at.change_areas-requires-clause-change g c).After-stacks_of-stacks)
     (record {
       live = c.requires.order.live;
-      places = λ i z other h top. c.requires.order.places i;
+      places = λ i z other h top. inl (c.requires.order.places i);
       stand = c.requires.order.stand;
       one = c.requires.order.one;
     })

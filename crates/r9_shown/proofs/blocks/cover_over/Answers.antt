@@ -8,24 +8,26 @@ use Rattle.r9_shown.proofs.Above.{bare_of, covered_by}
 use Rattle.r9_shown.proofs.Keepers.{block_within}
 use Rattle.r9_shown.proofs.blocks.cover_over.Goals as goal
 
-pub loop-left-preserved-then-begins_in : goal.loop-left-preserved-then-begins_in
-loop-left-preserved-then-begins_in c =
+pub loop-left-preserved-then-may_reach : goal.loop-left-preserved-then-may_reach
+loop-left-preserved-then-may_reach c =
     let now = c.loop-left.left - 1 in
     record {
       within = omega (arith, c.loop-left.invariant.within);
-      some = c.cut-extent.ensures.some;
-      some_rows = c.cut-extent.ensures.some_rows;
-      few = omega (arith, c.cut-extent.ensures.most, c.loop-left.invariant.few);
-      few_rows = omega (arith, c.cut-extent.ensures.most_rows, c.loop-left.invariant.few_rows);
+      some = c.cut_near-extent.ensures.some;
+      some_rows = c.cut_near-extent.ensures.some_rows;
+      few = omega (arith, c.cut_near-extent.ensures.most, c.loop-left.invariant.few);
+      few_rows = omega (arith, c.cut_near-extent.ensures.most_rows, c.loop-left.invariant.few_rows);
+      end = c.end_of-end-then-may_reach.ensures.columns;
+      end_rows = c.end_of-end-then-may_reach.ensures.rows;
       clear = λ j d z from there inside.
           ⊎_elim
           (λ (late : now < j).
           c.loop-left.invariant.clear j d z (omega (arith, late)) there
-          (block_within c.args.q z c.cut-extent.result.columns c.cut-extent.result.rows c.loop-left.extent.columns c.loop-left.extent.rows c.cut-extent.ensures.most c.cut-extent.ensures.most_rows inside))
+          (block_within c.args.q z c.cut_near-extent.result.columns c.cut_near-extent.result.rows c.loop-left.extent.columns c.loop-left.extent.rows c.cut_near-extent.ensures.most c.cut_near-extent.ensures.most_rows inside))
           (λ early.
           let here : j ≡ now = omega (arith, early, from) in
           ap (λ (w : Window). holds w.place z) (here_is c.args.windows.now j now d _ here there)
-          ∙ c.cut-extent.ensures.same z inside
+          ∙ c.cut_near-extent.ensures.same z inside
           ∙ sym c.if-holds.ensures)
           (cases_lt now j);
     }
@@ -39,12 +41,14 @@ loop-left-preserved c =
       some_rows = c.loop-left.invariant.some_rows;
       few = c.loop-left.invariant.few;
       few_rows = c.loop-left.invariant.few_rows;
+      end = c.loop-left.invariant.end;
+      end_rows = c.loop-left.invariant.end_rows;
       clear = λ j d z from there inside.
           ⊎_elim
           (λ (late : now < j). c.loop-left.invariant.clear j d z (omega (arith, late)) there inside)
           (λ early.
           let here : j ≡ now = omega (arith, early, from) in
-          ap (λ (w : Window). holds w.place z) (here_is c.args.windows.now j now d _ here there) ∙ c.begins_in.ensures c.if-begins_in.false z inside)
+          ap (λ (w : Window). holds w.place z) (here_is c.args.windows.now j now d _ here there) ∙ c.may_reach.ensures.off c.if-may_reach.false c.loop-left.extent.columns c.loop-left.extent.rows c.loop-left.invariant.end c.loop-left.invariant.end_rows z inside)
           (cases_lt now j);
     }
 
@@ -59,4 +63,4 @@ returns-then-holds-clause-same c z inside =
     let d : Window = record { image = 0; place = no_rect } in
     let there : now < length ws = omega (arith, c.loop-left-test.true, c.loop-left.invariant.within) in
     covered_by ws now d z there
-    (ap (λ (w : Window). holds w.place z) (here_is ws now now d _ refl there) ∙ c.cut.ensures.same z inside ∙ sym c.if-holds.ensures)
+    (ap (λ (w : Window). holds w.place z) (here_is ws now now d _ refl there) ∙ c.cut_near.ensures.same z inside ∙ sym c.if-holds.ensures)

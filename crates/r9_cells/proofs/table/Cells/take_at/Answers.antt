@@ -1,14 +1,11 @@
 use Rattle.std.proofs.Common.{◌∙◌, refl, sym, ap, subst, arith}
 use Rattle.std.specs.Prelude.{◌==◌, ◌&&◌, ◌||◌, nat_lt, is_some}
 use Rattle.r9_geom.specs.declared.Rect.{Rect}
-use Rattle.model_forest.specs.World.{image_at}
 use Rattle.model_kept.specs.Cells.{cell_count}
-use Rattle.r9_locate.specs.Table.{shape}
 use Rattle.r9_cells.specs.Cells.{all_rows}
 use Rattle.r9_cells.specs.Fitting.{hides_cell, wanted, IsTakenOff}
 use Rattle.r9_cells.specs.Rows.{cell_at}
 use Rattle.r9_cells.proofs.Listed.{celled_still}
-use Rattle.r9_cells.proofs.Still.{full_cell, still_taken, still_wanted}
 use Rattle.r9_cells.proofs.table.Cells.take_at.Goals as goal
 
 pub take_window-requires-clause-celled : goal.take_window-requires-clause-celled
@@ -20,14 +17,6 @@ take_window-requires-clause-still c = subst (IsTakenOff (all_rows c.args.self.no
 pub take_window-requires-clause-room : goal.take_window-requires-clause-room
 take_window-requires-clause-room c =
     omega (arith, c.requires.room, ap (λ (r : Rect). wanted (all_rows c.args.self.now) c.args.below.now c.args.windows.now c.args.w.now.image r) c.rect_of-r.ensures)
-
-pub returns-then-not-lacks-clause-spare : goal.returns-then-not-lacks-clause-spare
-returns-then-not-lacks-clause-spare c =
-    omega (arith, still_wanted (all_rows c.args.self.now) c.args.below.now c.args.windows.now c.args.w.now.image (image_at (shape c.args.lists.now) c.args.w.now.image).r (λ k lower e. full_cell (all_rows c.args.self.now) c.args.w.now.image k (omega (arith, lower, c.requires.windowed.cells.cells)) (sym c.lacks.ensures ∙ c.if-not-lacks.true)))
-
-pub returns-then-not-lacks-clause-taken : goal.returns-then-not-lacks-clause-taken
-returns-then-not-lacks-clause-taken c =
-    still_taken (all_rows c.args.self.now) c.args.below.now c.args.windows.now c.args.w.now.image (image_at (shape c.args.lists.now) c.args.w.now.image).r (λ k lower e. full_cell (all_rows c.args.self.now) c.args.w.now.image k (omega (arith, lower, c.requires.windowed.cells.cells)) (sym c.lacks.ensures ∙ c.if-not-lacks.true))
 
 pub returns-clause-spare : goal.returns-clause-spare
 returns-clause-spare c =

@@ -12,8 +12,8 @@ use Rattle.r9_cells.specs.Rows.{cell_at}
 use Rattle.r9_cells.specs.Cells.{all_rows}
 use Rattle.r9_cells.specs.Fitting.{hides_cell, hides_of, wanted, IsTakenOff}
 use Rattle.r9_cells.proofs.Listed.{any_done, any_next, celled_still, no_window, sum_next}
-use Rattle.r9_cells.proofs.Passed.{any_to, passed_taken, sum_to}
-use Rattle.r9_cells.proofs.Skipped.{one_at}
+use Rattle.r9_cells.proofs.Passed.{any_to, passed_full, sum_to}
+use Rattle.r9_cells.proofs.Skipped.{one_apart, one_at}
 use Rattle.r9_cells.proofs.Steps.{any_taken, or_none}
 use Rattle.r9_cells.proofs.Still.{fewer_wanted, still_wanted, taken_here}
 use Rattle.r9_cells.proofs.table.Cells.take_hidden.Goals as goal
@@ -26,9 +26,9 @@ loop-at-init c =
     let ws = c.args.windows.now in
     let areas = c.args.areas.now in
     let b = (image_at world c.args.p).r in
-    let at = c.next_near-at.result in
-    let near = c.next_near-at.ensures in
-    let full = λ (k : ℕ) (before : k < at) (below : k < length ws). passed_taken rows world c.args.p ws c.args.from areas c.requires.still c.requires.windows c.requires.one k below (λ late. near.off areas c.span-near.ensures k no_window late before below) in
+    let at = c.next_lacking-at.result in
+    let near = c.next_lacking-at.ensures in
+    let full = λ (k : ℕ) (before : k < at) (below : k < length ws). passed_full rows rows world c.args.p ws c.args.from areas c.requires.still c.requires.windows c.requires.one (λ j. refl) k below (λ n. refl) (λ late. near.off areas c.span-near.ensures k no_window late before below) in
     let skip = sum_to (λ (w : Window). wanted rows b ws w.image (image_at world w.image).r) ws 0 at (omega arith) (λ k past before below. still_wanted rows b ws (get_or ws k no_window).image (image_at world (get_or ws k no_window).image).r (full k before below)) in
     record {
       past = near.least;
@@ -36,12 +36,19 @@ loop-at-init c =
       spent = omega (arith, skip);
       pixels = λ j n x. refl;
       grows = λ j n e. e;
+      later = λ k n past below. refl;
       taken = λ j n.
           sym (any_to (hides_of world c.args.p ws j n) (is_some (cell_at rows j n)) ws 0 at (omega arith)
           (λ k past before below e. taken_here rows b ws (get_or ws k no_window).image (image_at world (get_or ws k no_window).image).r (full k before below) j n e));
       rows = refl;
       lengths = λ j. refl;
     }
+
+pub next_lacking-at-requires : goal.next_lacking-at-requires
+next_lacking-at-requires c = λ k d below. (c.requires.windows k d below).cells.image
+
+pub next_lacking-at-requires-in-loop-at : goal.next_lacking-at-requires-in-loop-at
+next_lacking-at-requires-in-loop-at c = λ k d below. omega (arith, (c.requires.windows k d below).cells.image, c.take_at.ensures.rows, c.loop-at.invariant.rows)
 
 pub take_at-requires-clause-window : goal.take_at-requires-clause-window
 take_at-requires-clause-window c = one_at c.args.windows.now c.loop-at.at c.requires.one c.loop-at-test.true
@@ -85,13 +92,20 @@ loop-at-preserved c =
     let areas = c.args.areas.now in
     let b = (image_at world c.args.p).r in
     let at = c.loop-at.at in
-    let later = c.next_near-at-in-loop-at.result in
-    let near = c.next_near-at-in-loop-at.ensures in
+    let later = c.next_lacking-at-in-loop-at.result in
+    let near = c.next_lacking-at-in-loop-at.ensures in
     let w = get_or ws at no_window in
     let r = (image_at world w.image).r in
     let test = λ (j n : ℕ). hides_of world c.args.p ws j n in
     let past : c.args.from ≤ later = omega (arith, c.loop-at.invariant.past, near.least) in
-    let full = λ (k : ℕ) (from : at + 1 ≤ k) (before : k < later) (below : k < length ws). passed_taken rows world c.args.p ws c.args.from areas c.requires.still c.requires.windows c.requires.one k below (λ late. near.off areas c.span-near.ensures k no_window from before below) in
+    let alike : (k n : ℕ) → at + 1 ≤ k → k < length ws → is_some (cell_at (all_rows c.take_at.new.self) (get_or ws k no_window).image n) ≡ is_some (cell_at rows (get_or ws k no_window).image n) =
+    λ k n after below.
+    let i = (get_or ws k no_window).image in
+    c.take_at.ensures.taken i n
+    ∙ ap (λ t. (t && (nat_lt n (cell_count r) && hides_cell c.rect_of-below.result ws w.image r n)) || is_some (cell_at (all_rows c.loop-at.self) i n)) (one_apart ws at k c.requires.one (omega (arith, after)) below)
+    ∙ c.loop-at.invariant.later k n (omega (arith, after)) below in
+    let long = λ (j : ℕ). c.take_at.ensures.lengths j ∙ c.loop-at.invariant.lengths j in
+    let full = λ (k : ℕ) (from : at + 1 ≤ k) (before : k < later) (below : k < length ws). passed_full rows (all_rows c.take_at.new.self) world c.args.p ws c.args.from areas c.requires.still c.requires.windows c.requires.one long k below (λ n. alike k n from below) (λ late. near.off areas c.span-near.ensures k no_window from before below) in
     let same : (j n : ℕ) → ((j == w.image) && (nat_lt n (cell_count r) && hides_cell c.rect_of-below.result ws w.image r n)) ≡ test j n w = λ j n i. (j == w.image) && (nat_lt n (cell_count r) && hides_cell (c.rect_of-below.ensures i) ws w.image r n) in
     let less = fewer_wanted rows (all_rows c.loop-at.self) b c.rect_of-below.result ws w.image r c.rect_of-below.ensures (c.loop-at.invariant.grows w.image) in
     let f = λ (v : Window). wanted rows b ws v.image (image_at world v.image).r in
@@ -104,6 +118,7 @@ loop-at-preserved c =
       spent = omega (arith, less, sum, skip, c.loop-at.invariant.spent, c.take_at.ensures.spare);
       pixels = λ j n x. c.take_at.ensures.pixels j n x ∙ c.loop-at.invariant.pixels j n x;
       grows = grows;
+      later = λ k n after below. alike k n (omega (arith, near.least, after)) below;
       taken = λ j n.
           let left = list_any (test j n) (drop (at + 1) ws) in
           let mid = is_some (cell_at (all_rows c.loop-at.self) j n) in
@@ -115,7 +130,7 @@ loop-at-preserved c =
           ∙ ap (λ t. mid || t) (sym (any_next (test j n) ws at c.loop-at-test.true))
           ∙ c.loop-at.invariant.taken j n;
       rows = c.take_at.ensures.rows ∙ c.loop-at.invariant.rows;
-      lengths = λ j. c.take_at.ensures.lengths j ∙ c.loop-at.invariant.lengths j;
+      lengths = long;
     }
 
 pub returns-clause-taken : goal.returns-clause-taken

@@ -8,7 +8,7 @@ use Rattle.r9_locate.specs.Table.{shape}
 use Rattle.r9_cells.specs.Cells.{all_rows}
 use Rattle.r9_cells.specs.Fitting.{wanted_near}
 use Rattle.r9_cells.proofs.Listed.{no_window, sum_next}
-use Rattle.r9_cells.proofs.Passed.{passed_near, sum_to}
+use Rattle.r9_cells.proofs.Passed.{passed_lacking, sum_to}
 use Rattle.r9_cells.proofs.Skipped.{one_at}
 use Rattle.r9_cells.proofs.table.Cells.wanted_from.Goals as goal
 
@@ -18,10 +18,16 @@ loop-at-init c =
     let world = shape c.args.lists.now in
     let ws = c.args.windows.now in
     let areas = c.args.areas.now in
-    let near = c.next_near-at.ensures in
+    let near = c.next_lacking-at.ensures in
     let f = λ (w : Window). wanted_near rows (image_at world c.args.p).r ws areas w.image (image_at world w.image).r in
-    let skip = sum_to f ws c.args.from c.next_near-at.result near.least (λ k past before below. passed_near rows world c.args.p ws areas c.requires.windows c.requires.one k below (near.off areas c.span-near.ensures k no_window past before below)) in
+    let skip = sum_to f ws c.args.from c.next_lacking-at.result near.least (λ k past before below. passed_lacking rows world c.args.p ws areas c.requires.windows c.requires.one k below (near.off areas c.span-near.ensures k no_window past before below)) in
     record { counted = omega (arith, skip) }
+
+pub next_lacking-at-requires : goal.next_lacking-at-requires
+next_lacking-at-requires c = λ k d below. (c.requires.windows k d below).cells.image
+
+pub next_lacking-at-requires-in-loop-at : goal.next_lacking-at-requires-in-loop-at
+next_lacking-at-requires-in-loop-at c = λ k d below. (c.requires.windows k d below).cells.image
 
 pub wanted_at-more-requires-clause-window : goal.wanted_at-more-requires-clause-window
 wanted_at-more-requires-clause-window c = one_at c.args.windows.now c.loop-at.at c.requires.one c.loop-at-test.true
@@ -40,9 +46,9 @@ loop-at-preserved c =
     let areas = c.args.areas.now in
     let at = c.loop-at.at in
     let w = get_or ws at no_window in
-    let near = c.next_near-at-in-loop-at.ensures in
+    let near = c.next_lacking-at-in-loop-at.ensures in
     let f = λ (v : Window). wanted_near rows (image_at world c.args.p).r ws areas v.image (image_at world v.image).r in
-    let skip = sum_to f ws (at + 1) c.next_near-at-in-loop-at.result near.least (λ k past before below. passed_near rows world c.args.p ws areas c.requires.windows c.requires.one k below (near.off areas c.span-near.ensures k no_window past before below)) in
+    let skip = sum_to f ws (at + 1) c.next_lacking-at-in-loop-at.result near.least (λ k past before below. passed_lacking rows world c.args.p ws areas c.requires.windows c.requires.one k below (near.off areas c.span-near.ensures k no_window past before below)) in
     let sum = sum_next f ws at c.loop-at-test.true in
     let more : c.wanted_at-more.result ≡ f w = c.wanted_at-more.ensures ∙ ap (λ (b : Rect). wanted_near rows b ws areas w.image (image_at world w.image).r) c.rect_of-below.ensures in
     record { counted = omega (arith, skip, sum, more, c.loop-at.invariant.counted, c.in-Some.ensures) }

@@ -1,4 +1,4 @@
-use Rattle.std.proofs.Common.{◌≡◌, ◌∙◌, ℕ, ◌+◌, ◌<◌, ◌≤◌, ◌^◌, true, All, List, Some, None, ◌∷◌, [], get_or, length, sym, ap, subst, arith}
+use Rattle.std.proofs.Common.{◌≡◌, ◌∙◌, ℕ, ◌+◌, ◌<◌, ◌≤◌, ◌^◌, true, All, List, ◌∷◌, [], get_or, length, sym, ap, subst, arith}
 use Rattle.std.specs.Prelude.{is_some, option_map, vec_capacity, vec_len, if◌then◌else◌}
 use Rattle.r9_geom.specs.declared.Point.{Point}
 use Rattle.r9_geom.specs.declared.Rect.{Rect}
@@ -7,7 +7,7 @@ use Rattle.r9_plane.specs.Pixels.{number_of}
 use Rattle.model_pixel.specs.Channels.{depth}
 use Rattle.model_forest.specs.declared.Window.{Window}
 use Rattle.model_forest.specs.Numbers.{next_number, taken}
-use Rattle.model_forest.specs.World.{Image, World, image_at, IsForest, IsLive, SameSize}
+use Rattle.model_forest.specs.World.{Image, World, image_at, SameSize}
 use Rattle.model_forest.proofs.Changes.{live-standing}
 use Rattle.model_kept.specs.Keeping.{place_among}
 use Rattle.model_kept.proofs.Worlds.{pictured}
@@ -26,7 +26,6 @@ use Rattle.r9_arrive.proofs.Windows.{later_stands}
 use Rattle.r9_forest.specs.declared.coming.Given.{Given}
 use Rattle.r9_forest.specs.Given.{given_at}
 use Rattle.r9_forest.specs.Images.{numbers, world}
-use Rattle.r9_forest.specs.Numbered.{numbers_of}
 use Rattle.r9_forest.specs.Replaced.{moved_out, put_in, replaced, IsFarOff, IsLater, IsReplacing, IsShown}
 use Rattle.r9_forest.proofs.Exchanged.{came, came_forest, first_stands, given_comes, given_fits, given_keeps, if_some_more, left_cells, left_forest, left_hidden, left_live, left_moved, left_ones, left_own, left_world, list_comes, old_rect, old_stands, stands_at}
 use Rattle.r9_forest.proofs.Going.{parent_is}
@@ -61,16 +60,16 @@ few : (g : Over) (c : After-given-given g) → ((image_at (shape c.given-given.n
 few g c =
     subst (λ (l : Lists). ((image_at (shape l) c.args.standing.parent).depth + 1 < 2 ^ 32) × (length (image_at (shape l) c.args.standing.parent).windows + 1 < 2 ^ 32)) (sym c.given-given.ensures.lists) c.in_ok-exchange.ensures.few
 
-listed : (g : Over) (c : After-given-given g) → c.in_ok-exchange.exchange.list.items ≡ put_in c.args.over c.in_ok-exchange.exchange.window (image_at (shape c.given-given.new.self.lists) c.args.standing.parent).windows
+listed : (g : Over) (c : After-given-given g) → c.in_ok-exchange.exchange.list.items ≡ put_in c.args.rank c.in_ok-exchange.exchange.window (image_at (shape c.given-given.new.self.lists) c.args.standing.parent).windows
 listed g c =
-    c.in_ok-exchange.ensures.list ∙ ap (λ (l : Lists). put_in c.args.over c.in_ok-exchange.exchange.window (image_at (shape l) c.args.standing.parent).windows) (sym c.given-given.ensures.lists)
+    c.in_ok-exchange.ensures.list ∙ ap (λ (l : Lists). put_in c.args.rank c.in_ok-exchange.exchange.window (image_at (shape l) c.args.standing.parent).windows) (sym c.given-given.ensures.lists)
 
 moves : (g : Over) (c : After-given-given g) → IsLater (shape c.given-given.new.self.lists) c.args.old c.args.left.parent c.args.standing.parent c.in_ok-exchange.exchange.list.items c.in_ok-exchange.exchange.later.items
 moves g c =
     subst (λ (l : Lists). IsLater (shape l) c.args.old c.args.left.parent c.args.standing.parent c.in_ok-exchange.exchange.list.items c.in_ok-exchange.exchange.later.items) (sym c.given-given.ensures.lists) c.in_ok-exchange.ensures.later
 
 -- what the new window needs, by the world and by the lists
-needs : (g : Over) (c : After-given-given g) → IsReplacing (world c.given-given.new.self) c.in_ok-exchange.exchange.window.image c.args.old c.args.left c.args.standing c.args.over c.args.r c.args.corner c.args.raw c.args.keep
+needs : (g : Over) (c : After-given-given g) → IsReplacing (world c.given-given.new.self) c.in_ok-exchange.exchange.window.image c.args.old c.args.left c.args.standing c.args.rank c.args.r c.args.corner c.args.raw c.args.keep
 unfolding world numbers
 needs g c =
     let now = c.given-given.new.self in
@@ -116,12 +115,12 @@ fits g c p =
     (live-standing w c.args.old c.args.left.parent (stands_at w c.args.old c.args.left is.left_at)) is.chan is.fits p
 
 -- the world when it came
-comes : (g : Over) (c : After-given-given g) → after_coming (world c.given-given.new.self) c.in_ok-exchange.exchange.window.image c.args.standing.parent c.args.standing.fill c.args.r (given_at c.given-given.result c.args.r c.given-given.new.self.room.items) c.in_ok-exchange.exchange.list.items ≡ replaced (world c.given-given.new.self) c.in_ok-exchange.exchange.window.image c.args.old c.args.standing c.args.over c.args.r c.args.corner c.args.raw c.args.keep
+comes : (g : Over) (c : After-given-given g) → after_coming (world c.given-given.new.self) c.in_ok-exchange.exchange.window.image c.args.standing.parent c.args.standing.fill c.args.r (given_at c.given-given.result c.args.r c.given-given.new.self.room.items) c.in_ok-exchange.exchange.list.items ≡ replaced (world c.given-given.new.self) c.in_ok-exchange.exchange.window.image c.args.old c.args.standing c.args.rank c.args.r c.args.corner c.args.raw c.args.keep
 unfolding world
 comes g c =
     let now = c.given-given.new.self in
     let made = c.in_ok-exchange.exchange in
-    came (shape now.lists) (kept_at now.pixels) made.window c.args.old c.args.left c.args.standing c.args.over c.args.r c.args.corner c.args.raw c.args.keep now.sound.forest (needs g c) c.in_ok-exchange.ensures.place made.list.items (listed g c) (given_at c.given-given.result c.args.r now.room.items)
+    came (shape now.lists) (kept_at now.pixels) made.window c.args.old c.args.left c.args.standing c.args.rank c.args.r c.args.corner c.args.raw c.args.keep now.sound.forest (needs g c) c.in_ok-exchange.ensures.place made.list.items (listed g c) (given_at c.given-given.result c.args.r now.room.items)
     (given_comes (world now) c.args.old c.args.r c.args.raw c.args.keep now.room.items (given_at c.given-given.result c.args.r now.room.items) (told g c) (sized g c) (shows g c) made.window.image c.args.standing.parent c.args.standing.fill made.list.items)
 
 -- ---- what is asked for then
@@ -159,7 +158,7 @@ come-requires-clause-coming g c =
     let at = (goal.at.come-requires-clause-coming g c).After-given-given in
     let now = c.given-given.new.self in
     let made = c.in_ok-exchange.exchange in
-    list_comes (shape now.lists) (kept_at now.pixels) made.window c.args.old c.args.left c.args.standing c.args.over c.args.r c.args.corner c.args.raw c.args.keep now.sound.forest (needs g at) c.in_ok-exchange.ensures.place made.list.items (listed g at)
+    list_comes (shape now.lists) (kept_at now.pixels) made.window c.args.old c.args.left c.args.standing c.args.rank c.args.r c.args.corner c.args.raw c.args.keep now.sound.forest (needs g at) c.in_ok-exchange.ensures.place made.list.items (listed g at)
 
 pub come-requires-clause-forest : goal.come-requires-clause-forest
 unfolding world
@@ -167,7 +166,7 @@ come-requires-clause-forest g c =
     let at = (goal.at.come-requires-clause-forest g c).After-given-given in
     let now = c.given-given.new.self in
     let made = c.in_ok-exchange.exchange in
-    came_forest (shape now.lists) (kept_at now.pixels) made.window c.args.old c.args.left c.args.standing c.args.over c.args.r c.args.corner c.args.raw c.args.keep now.sound.forest (needs g at) c.in_ok-exchange.ensures.place made.list.items (listed g at) (given_at c.given-given.result c.args.r now.room.items) (comes g at)
+    came_forest (shape now.lists) (kept_at now.pixels) made.window c.args.old c.args.left c.args.standing c.args.rank c.args.r c.args.corner c.args.raw c.args.keep now.sound.forest (needs g at) c.in_ok-exchange.ensures.place made.list.items (listed g at) (given_at c.given-given.result c.args.r now.room.items) (comes g at)
 
 pub come-requires-clause-given : goal.come-requires-clause-given
 unfolding world
@@ -180,7 +179,7 @@ pub come-requires-clause-also : goal.come-requires-clause-also
 unfolding world
 come-requires-clause-also g c =
     let now = c.given-given.new.self in
-    sound_live now.lists (kept_at now.pixels) c.args.left.parent (left_live (world now) c.in_ok-exchange.exchange.window.image c.args.old c.args.left c.args.standing c.args.over c.args.r c.args.corner c.args.raw c.args.keep now.sound.forest (needs g (goal.at.come-requires-clause-also g c).After-given-given))
+    sound_live now.lists (kept_at now.pixels) c.args.left.parent (left_live (world now) c.in_ok-exchange.exchange.window.image c.args.old c.args.left c.args.standing c.args.rank c.args.r c.args.corner c.args.raw c.args.keep now.sound.forest (needs g (goal.at.come-requires-clause-also g c).After-given-given))
 
 pub come-requires-clause-later : goal.come-requires-clause-later
 unfolding world numbers
@@ -193,7 +192,7 @@ come-requires-clause-later g c =
     let is = needs g at in
     let ws = made.list.items in
     let given = given_at c.given-given.result c.args.r now.room.items in
-    let live = sound_live now.lists (kept_at now.pixels) c.args.left.parent (left_live (world now) i c.args.old c.args.left c.args.standing c.args.over c.args.r c.args.corner c.args.raw c.args.keep now.sound.forest is) in
+    let live = sound_live now.lists (kept_at now.pixels) c.args.left.parent (left_live (world now) i c.args.old c.args.left c.args.standing c.args.rank c.args.r c.args.corner c.args.raw c.args.keep now.sound.forest is) in
     subst (All (StandsOn (with_coming (shape now.lists) i p c.args.standing.fill c.args.r) c.args.left.parent)) (sym c.deref-2.ensures.value)
     (later_stands (shape now.lists) (kept_at now.pixels) i p c.args.standing.fill c.args.r
     (record {
@@ -203,7 +202,7 @@ come-requires-clause-later g c =
       live = sound_live now.lists (kept_at now.pixels) p is.parent_live;
     })
     given ws c.args.left.parent made.later.items live
-    (left_forest (shape now.lists) (kept_at now.pixels) made.window c.args.old c.args.left c.args.standing c.args.over c.args.r c.args.corner c.args.raw c.args.keep now.sound.forest is c.in_ok-exchange.ensures.place ws (listed g at)
+    (left_forest (shape now.lists) (kept_at now.pixels) made.window c.args.old c.args.left c.args.standing c.args.rank c.args.r c.args.corner c.args.raw c.args.keep now.sound.forest is c.in_ok-exchange.ensures.place ws (listed g at)
     (after_coming (world now) i p c.args.standing.fill c.args.r given ws) made.later.items (comes g at) (moves g at)))
 
 pub come-requires-clause-later_one : goal.come-requires-clause-later_one
@@ -213,7 +212,7 @@ come-requires-clause-later_one g c =
     let now = c.given-given.new.self in
     let made = c.in_ok-exchange.exchange in
     subst AreOne (sym c.deref-2.ensures.value)
-    (left_ones (shape now.lists) (kept_at now.pixels) made.window c.args.old c.args.left c.args.standing c.args.over c.args.r c.args.corner c.args.raw c.args.keep now.sound.forest (needs g at) c.in_ok-exchange.ensures.place made.list.items (listed g at)
+    (left_ones (shape now.lists) (kept_at now.pixels) made.window c.args.old c.args.left c.args.standing c.args.rank c.args.r c.args.corner c.args.raw c.args.keep now.sound.forest (needs g at) c.in_ok-exchange.ensures.place made.list.items (listed g at)
     (after_coming (world now) made.window.image c.args.standing.parent c.args.standing.fill c.args.r (given_at c.given-given.result c.args.r now.room.items) made.list.items) made.later.items (comes g at) (moves g at))
 
 pub come-requires-clause-left : goal.come-requires-clause-left
@@ -222,7 +221,7 @@ come-requires-clause-left g c =
     let at = (goal.at.come-requires-clause-left g c).After-given-given in
     let now = c.given-given.new.self in
     let made = c.in_ok-exchange.exchange in
-    let cells = left_cells (shape now.lists) (kept_at now.pixels) made.window c.args.old c.args.left c.args.standing c.args.over c.args.r c.args.corner c.args.raw c.args.keep now.sound.forest (needs g at) c.in_ok-exchange.ensures.place made.list.items (listed g at)
+    let cells = left_cells (shape now.lists) (kept_at now.pixels) made.window c.args.old c.args.left c.args.standing c.args.rank c.args.r c.args.corner c.args.raw c.args.keep now.sound.forest (needs g at) c.in_ok-exchange.ensures.place made.list.items (listed g at)
     made.later.items (sound_forest now.lists (kept_at now.pixels) now.sound.forest) (moves g at) in
     let place : c.place_among.result ≡ place_among made.later.items c.args.old = c.place_among.ensures ∙ (λ j. place_among (c.deref.ensures.value j) c.args.old) in
     subst (λ (vs : List Window). IsLeft (shape now.lists) c.args.standing.parent made.list.items c.args.left.parent vs (c.place_among.result ∷ [])) (sym c.deref-2.ensures.value)
@@ -234,7 +233,7 @@ come-requires-clause-left_own g c =
     let at = (goal.at.come-requires-clause-left_own g c).After-given-given in
     let now = c.given-given.new.self in
     let made = c.in_ok-exchange.exchange in
-    let cells = left_own (shape now.lists) (kept_at now.pixels) made.window c.args.old c.args.left c.args.standing c.args.over c.args.r c.args.corner c.args.raw c.args.keep now.sound.forest (needs g at) c.in_ok-exchange.ensures.place made.list.items (listed g at)
+    let cells = left_own (shape now.lists) (kept_at now.pixels) made.window c.args.old c.args.left c.args.standing c.args.rank c.args.r c.args.corner c.args.raw c.args.keep now.sound.forest (needs g at) c.in_ok-exchange.ensures.place made.list.items (listed g at)
     made.later.items (sound_forest now.lists (kept_at now.pixels) now.sound.forest) (moves g at) in
     let place : c.place_among.result ≡ place_among made.later.items c.args.old = c.place_among.ensures ∙ (λ j. place_among (c.deref.ensures.value j) c.args.old) in
     subst (λ (vs : List Window). IsLeftOf (shape now.lists) c.args.standing.parent made.list.items c.args.left.parent vs (c.place_among.result ∷ []) made.window.image c.args.r) (sym c.deref-2.ensures.value)
@@ -246,11 +245,11 @@ come-requires-clause-stands g c =
     let at = (goal.at.come-requires-clause-stands g c).After-given-given in
     let now = c.given-given.new.self in
     let made = c.in_ok-exchange.exchange in
-    first_stands (shape now.lists) (kept_at now.pixels) made.window c.args.old c.args.left c.args.standing c.args.over c.args.r c.args.corner c.args.raw c.args.keep now.sound.forest (needs g at) c.in_ok-exchange.ensures.place made.list.items (listed g at)
+    first_stands (shape now.lists) (kept_at now.pixels) made.window c.args.old c.args.left c.args.standing c.args.rank c.args.r c.args.corner c.args.raw c.args.keep now.sound.forest (needs g at) c.in_ok-exchange.ensures.place made.list.items (listed g at)
 
 -- ---- and when it came
 
-after : (g : Over) (c : In_ok-come g) → after_coming (world c.given-given.new.self) c.in_ok-exchange.exchange.window.image c.args.standing.parent c.args.standing.fill c.args.r (given_at c.given-given.result c.args.r c.given-given.new.self.room.items) c.in_ok-exchange.exchange.list.items ≡ replaced (world c.given-given.new.self) c.in_ok-exchange.exchange.window.image c.args.old c.args.standing c.args.over c.args.r c.args.corner c.args.raw c.args.keep → world c.come.new.self ≡ replaced (world c.given-given.new.self) c.in_ok-exchange.exchange.window.image c.args.old c.args.standing c.args.over c.args.r c.args.corner c.args.raw c.args.keep
+after : (g : Over) (c : In_ok-come g) → after_coming (world c.given-given.new.self) c.in_ok-exchange.exchange.window.image c.args.standing.parent c.args.standing.fill c.args.r (given_at c.given-given.result c.args.r c.given-given.new.self.room.items) c.in_ok-exchange.exchange.list.items ≡ replaced (world c.given-given.new.self) c.in_ok-exchange.exchange.window.image c.args.old c.args.standing c.args.rank c.args.r c.args.corner c.args.raw c.args.keep → world c.come.new.self ≡ replaced (world c.given-given.new.self) c.in_ok-exchange.exchange.window.image c.args.old c.args.standing c.args.rank c.args.r c.args.corner c.args.raw c.args.keep
 after g c comes = c.in_ok-come.ensures.world ∙ comes
 
 pub move_away-requires-clause-stands : goal.move_away-requires-clause-stands
@@ -259,10 +258,10 @@ move_away-requires-clause-stands g c =
     let at = goal.at.move_away-requires-clause-stands g c in
     let now = c.given-given.new.self in
     ap (λ (w : World). (image_at w c.args.old).standing) (after g at.In_ok-come (comes g at.After-given-given))
-    ∙ old_stands (world now) c.in_ok-exchange.exchange.window.image c.args.old c.args.left c.args.standing c.args.over c.args.r c.args.corner c.args.raw c.args.keep now.sound.forest (needs g at.After-given-given)
+    ∙ old_stands (world now) c.in_ok-exchange.exchange.window.image c.args.old c.args.left c.args.standing c.args.rank c.args.r c.args.corner c.args.raw c.args.keep now.sound.forest (needs g at.After-given-given)
 
 -- the other is as large as it was
-size : (g : Over) (c : In_ok-come g) (own : (image_at (replaced (world c.given-given.new.self) c.in_ok-exchange.exchange.window.image c.args.old c.args.standing c.args.over c.args.r c.args.corner c.args.raw c.args.keep) c.args.old).r ≡ (image_at (world c.given-given.new.self) c.args.old).r) → world c.come.new.self ≡ replaced (world c.given-given.new.self) c.in_ok-exchange.exchange.window.image c.args.old c.args.standing c.args.over c.args.r c.args.corner c.args.raw c.args.keep → area_of (image_at (world c.come.new.self) c.args.old).r ≡ area_of (image_at (world c.given-given.new.self) c.args.old).r
+size : (g : Over) (c : In_ok-come g) (own : (image_at (replaced (world c.given-given.new.self) c.in_ok-exchange.exchange.window.image c.args.old c.args.standing c.args.rank c.args.r c.args.corner c.args.raw c.args.keep) c.args.old).r ≡ (image_at (world c.given-given.new.self) c.args.old).r) → world c.come.new.self ≡ replaced (world c.given-given.new.self) c.in_ok-exchange.exchange.window.image c.args.old c.args.standing c.args.rank c.args.r c.args.corner c.args.raw c.args.keep → area_of (image_at (world c.come.new.self) c.args.old).r ≡ area_of (image_at (world c.given-given.new.self) c.args.old).r
 size g c own came_so = ap (λ (w : World). area_of (image_at w c.args.old).r) came_so ∙ ap area_of own
 
 pub move_away-requires-clause-rows : goal.move_away-requires-clause-rows
@@ -270,7 +269,7 @@ unfolding world
 move_away-requires-clause-rows g c =
     let at = goal.at.move_away-requires-clause-rows g c in
     let now = c.given-given.new.self in
-    let own = old_rect (world now) c.in_ok-exchange.exchange.window.image c.args.old c.args.left c.args.standing c.args.over c.args.r c.args.corner c.args.raw c.args.keep now.sound.forest (needs g at.After-given-given) in
+    let own = old_rect (world now) c.in_ok-exchange.exchange.window.image c.args.old c.args.left c.args.standing c.args.rank c.args.r c.args.corner c.args.raw c.args.keep now.sound.forest (needs g at.After-given-given) in
     let same_size = size g at.In_ok-come own (after g at.In_ok-come (comes g at.After-given-given)) in
     let bare = ap area_of ((bare_canvas (shape now.lists) (kept_at now.pixels)).r c.args.old) in
     let lists = ap (λ (l : Lists). area_of (image_at (shape l) c.args.old).r) c.given-given.ensures.lists in
@@ -283,7 +282,7 @@ move_away-requires-clause-list g c =
     let at = goal.at.move_away-requires-clause-list g c in
     let now = c.given-given.new.self in
     let made = c.in_ok-exchange.exchange in
-    left_moved (shape now.lists) (kept_at now.pixels) made.window c.args.old c.args.left c.args.standing c.args.over c.args.r c.args.corner c.args.raw c.args.keep now.sound.forest (needs g at.After-given-given) c.in_ok-exchange.ensures.place made.list.items (listed g at.After-given-given)
+    left_moved (shape now.lists) (kept_at now.pixels) made.window c.args.old c.args.left c.args.standing c.args.rank c.args.r c.args.corner c.args.raw c.args.keep now.sound.forest (needs g at.After-given-given) c.in_ok-exchange.ensures.place made.list.items (listed g at.After-given-given)
     (world c.come.new.self) made.later.items (after g at.In_ok-come (comes g at.After-given-given)) (moves g at.After-given-given)
 
 pub move_away-requires-clause-hidden : goal.move_away-requires-clause-hidden
@@ -292,7 +291,7 @@ move_away-requires-clause-hidden g c none z inside =
     let at = goal.at.move_away-requires-clause-hidden g c in
     let now = c.given-given.new.self in
     let made = c.in_ok-exchange.exchange in
-    left_hidden (shape now.lists) (kept_at now.pixels) made.window c.args.old c.args.left c.args.standing c.args.over c.args.r c.args.corner c.args.raw c.args.keep now.sound.forest (needs g at.After-given-given) c.in_ok-exchange.ensures.place made.list.items (listed g at.After-given-given)
+    left_hidden (shape now.lists) (kept_at now.pixels) made.window c.args.old c.args.left c.args.standing c.args.rank c.args.r c.args.corner c.args.raw c.args.keep now.sound.forest (needs g at.After-given-given) c.in_ok-exchange.ensures.place made.list.items (listed g at.After-given-given)
     (world c.come.new.self) made.later.items (after g at.In_ok-come (comes g at.After-given-given)) (moves g at.After-given-given)
     (subst (λ (l : Lists). IsFarOff (shape l) c.args.old c.args.left.parent) (sym c.given-given.ensures.lists) (c.in_ok-exchange.ensures.hidden none)) z inside
 
@@ -302,7 +301,7 @@ move_away-requires-clause-forest g c =
     let at = goal.at.move_away-requires-clause-forest g c in
     let now = c.given-given.new.self in
     let made = c.in_ok-exchange.exchange in
-    left_forest (shape now.lists) (kept_at now.pixels) made.window c.args.old c.args.left c.args.standing c.args.over c.args.r c.args.corner c.args.raw c.args.keep now.sound.forest (needs g at.After-given-given) c.in_ok-exchange.ensures.place made.list.items (listed g at.After-given-given)
+    left_forest (shape now.lists) (kept_at now.pixels) made.window c.args.old c.args.left c.args.standing c.args.rank c.args.r c.args.corner c.args.raw c.args.keep now.sound.forest (needs g at.After-given-given) c.in_ok-exchange.ensures.place made.list.items (listed g at.After-given-given)
     (world c.come.new.self) made.later.items (after g at.In_ok-come (comes g at.After-given-given)) (moves g at.After-given-given)
 
 pub move_away-requires-clause-spare : goal.move_away-requires-clause-spare
@@ -312,7 +311,7 @@ move_away-requires-clause-spare g c =
 pub returns-clause-needs : goal.returns-clause-needs
 returns-clause-needs g c =
     let at = (goal.at.returns-clause-needs g c).After-given-given in
-    subst (λ (w : World). IsReplacing w c.in_ok-exchange.exchange.window.image c.args.old c.args.left c.args.standing c.args.over c.args.r c.args.corner c.args.raw c.args.keep) (same g at) (needs g at)
+    subst (λ (w : World). IsReplacing w c.in_ok-exchange.exchange.window.image c.args.old c.args.left c.args.standing c.args.rank c.args.r c.args.corner c.args.raw c.args.keep) (same g at) (needs g at)
 
 pub returns-clause-number : goal.returns-clause-number
 returns-clause-number g c =
@@ -326,9 +325,9 @@ returns-clause-made g c =
     let now = c.given-given.new.self in
     let made = c.in_ok-exchange.exchange in
     c.move_away.ensures.world
-    ∙ left_world (shape now.lists) (kept_at now.pixels) made.window c.args.old c.args.left c.args.standing c.args.over c.args.r c.args.corner c.args.raw c.args.keep now.sound.forest (needs g at.After-given-given) c.in_ok-exchange.ensures.place made.list.items (listed g at.After-given-given)
+    ∙ left_world (shape now.lists) (kept_at now.pixels) made.window c.args.old c.args.left c.args.standing c.args.rank c.args.r c.args.corner c.args.raw c.args.keep now.sound.forest (needs g at.After-given-given) c.in_ok-exchange.ensures.place made.list.items (listed g at.After-given-given)
     (world c.come.new.self) made.later.items (after g at.In_ok-come (comes g at.After-given-given)) (moves g at.After-given-given)
-    ∙ ap (λ (w : World). moved_out (replaced w made.window.image c.args.old c.args.standing c.args.over c.args.r c.args.corner c.args.raw c.args.keep) c.args.left.parent c.args.old (image_at w c.args.old).r) (same g at.After-given-given)
+    ∙ ap (λ (w : World). moved_out (replaced w made.window.image c.args.old c.args.standing c.args.rank c.args.r c.args.corner c.args.raw c.args.keep) c.args.left.parent c.args.old (image_at w c.args.old).r) (same g at.After-given-given)
 
 pub returns-clause-taken : goal.returns-clause-taken
 returns-clause-taken g c =
@@ -340,7 +339,7 @@ unfolding world
 returns-clause-steps g c =
     let at = goal.at.returns-clause-steps g c in
     let now = c.given-given.new.self in
-    let own = old_rect (world now) c.in_ok-exchange.exchange.window.image c.args.old c.args.left c.args.standing c.args.over c.args.r c.args.corner c.args.raw c.args.keep now.sound.forest (needs g at.After-given-given) in
+    let own = old_rect (world now) c.in_ok-exchange.exchange.window.image c.args.old c.args.left c.args.standing c.args.rank c.args.r c.args.corner c.args.raw c.args.keep now.sound.forest (needs g at.After-given-given) in
     let same_size = size g at.In_ok-come own (after g at.In_ok-come (comes g at.After-given-given)) in
     let was = ap (λ (w : World). area_of (image_at w c.args.old).r) (same g at.After-given-given) in
     omega (arith, same_size, was, c.come.ensures.steps, c.move_away.ensures.steps)

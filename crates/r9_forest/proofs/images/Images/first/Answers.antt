@@ -1,9 +1,7 @@
-use Rattle.std.proofs.Common.{◌≡◌, ◌∙◌, ◌^◌, List, Some, length, lit≤, sym, subst, ap, arith}
+use Rattle.std.proofs.Common.{◌∙◌, ◌^◌, length, lit≤, sym, ap, arith}
 use Rattle.r9_geom.proofs.GeometryLemmas.{near_wider, rect_near_wider}
-use Rattle.model_forest.specs.declared.Window.{Window}
 use Rattle.model_forest.specs.Numbers.{next_number}
-use Rattle.model_forest.specs.World.{Image, parent_of}
-use Rattle.r9_locate.specs.Table.{shape}
+use Rattle.model_forest.specs.World.{Image}
 use Rattle.r9_pixels.specs.Kept.{kept_at}
 use Rattle.r9_forest.specs.Images.{numbers, world}
 use Rattle.r9_forest.specs.Numbered.{numbers_of}
@@ -41,4 +39,4 @@ returns-clause-few c =
 pub returns-clause-list : goal.returns-clause-list
 returns-clause-list c =
     c.in_ok-list.ensures
-    ∙ ap (put_in c.args.over (record { image = c.peek_number-image.result; place = c.carried_rect-place.result })) (c.deref-2.ensures.value ∙ sym (ap (λ (im : Image). im.windows) c.get-below.ensures))
+    ∙ ap (put_in c.args.rank (record { image = c.peek_number-image.result; place = c.carried_rect-place.result })) (c.deref-2.ensures.value ∙ sym (ap (λ (im : Image). im.windows) c.get-below.ensures))

@@ -1,5 +1,4 @@
 use Rattle.model_forest.proofs.Changes.{live-standing}
-use Rattle.r9_locate.specs.Table.{shape}
 use Rattle.r9_pixels.specs.Kept.{kept_at}
 use Rattle.r9_forest.specs.Images.{world}
 use Rattle.r9_forest.proofs.Sounding.{sound_live}

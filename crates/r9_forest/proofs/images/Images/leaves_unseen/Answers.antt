@@ -1,13 +1,10 @@
 use Rattle.std.proofs.Common.{◌≡◌, ◌∙◌, ℕ, true, List, [], ◌∷◌, Option, Some, length, refl, sym, ap, subst, arith}
 use Rattle.std.proofs.lemmas.Bool.{eqb-true}
-use Rattle.std.specs.Prelude.{option_map, IfSome}
-use Rattle.r9_geom.specs.declared.Rect.{Rect}
+use Rattle.std.specs.Prelude.{IfSome}
 use Rattle.r9_geom.specs.Geometry.{is_empty, meet}
-use Rattle.model_forest.specs.declared.Standing.{Standing}
 use Rattle.model_forest.specs.declared.Window.{Window}
 use Rattle.model_forest.specs.Steps.{carried_rect, outside}
-use Rattle.model_forest.specs.World.{Image, World, fill_of, image_at, parent_of, IsLive}
-use Rattle.model_forest.proofs.Changes.{live-standing}
+use Rattle.model_forest.specs.World.{Image, image_at}
 use Rattle.r9_locate.specs.Table.{shape}
 use Rattle.r9_pixels.specs.Kept.{kept_at}
 use Rattle.r9_arrive.proofs.Canvases.{bare_canvas}

@@ -1,10 +1,10 @@
 use Rattle.std.proofs.Common.{◌≡◌, ◌∙◌, ◌≤◌, ℕ, Bool, true, false, List, map, ap, sym, subst, arith}
-use Rattle.std.specs.Prelude.{◌&&◌, if◌then◌else◌, sum_by, IsSome}
+use Rattle.std.specs.Prelude.{◌&&◌, if◌then◌else◌, IsSome}
 use Rattle.std.proofs.lemmas.Bool.{and_parts}
 use Rattle.std.proofs.lemmas.List.Elements.{All-map}
 use Rattle.std.proofs.lemmas.Result.{on_ok_weaker}
 use Rattle.r9_geom.specs.declared.Point.{Point}
-use Rattle.r9_geom.specs.Geometry.{area_of, holds}
+use Rattle.r9_geom.specs.Geometry.{holds}
 use Rattle.r9_region.specs.Region.{covers, how_many_hold}
 use Rattle.r9_region.proofs.Counted.{areas_apart}
 use Rattle.r9_info.specs.declared.ImageNo.{ImageNo}

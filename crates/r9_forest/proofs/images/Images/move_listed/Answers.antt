@@ -1,14 +1,15 @@
-use Rattle.std.proofs.Common.{◌≡◌, ◌∙◌, ◌<◌, ◌≤◌, ◌^◌, ℕ, sym, ap, subst, arith}
-use Rattle.r9_geom.specs.declared.Rect.{Rect}
+use Rattle.std.proofs.Common.{◌≡◌, ◌∙◌, ◌<◌, ◌≤◌, ◌^◌, List, sym, ap, subst, arith}
 use Rattle.r9_geom.specs.Geometry.{area_of, holds}
 use Rattle.model_pixel.specs.Channels.{depth}
+use Rattle.model_forest.specs.declared.Window.{Window}
 use Rattle.model_forest.specs.Stack.{with_windows}
 use Rattle.model_forest.specs.World.{World, image_at, IsForest}
 use Rattle.r9_locate.specs.declared.lists.Lists.{Lists}
 use Rattle.r9_locate.specs.Table.{shape}
 use Rattle.r9_pixels.specs.declared.keeping.KeptPixels.{KeptPixels}
-use Rattle.r9_pixels.specs.Kept.{kept_at, spare_in, wanted_in, moment, writes}
+use Rattle.r9_pixels.specs.Kept.{spare_in, wanted_in, moment, writes}
 use Rattle.r9_fills.specs.Fills.{fill_at}
+use Rattle.r9_relist.specs.Relisting.{IsAway}
 use Rattle.r9_arrive.proofs.Entering.{on_err}
 use Rattle.r9_forest.specs.Given.{filled_at, left_of, IsEnough}
 use Rattle.r9_forest.specs.Groups.{IsMoved}
@@ -20,6 +21,10 @@ use Rattle.r9_forest.proofs.images.Images.move_listed.Goals.{In_ok-fill}
 
 same : (g : Over) (c : In_ok-fill g) → world c.fill_left.new.self ≡ world c.args.self.now
 same g c = still_world c.args.self.now c.fill_left.new.self c.fill_left.ensures.lists c.fill_left.ensures.pixels
+
+pub come_back-requires-clause-away : goal.come_back-requires-clause-away
+come_back-requires-clause-away g c =
+    subst (λ (ws : List Window). IsAway (shape c.args.self.now.lists) c.args.standing.parent c.args.i ws) c.deref.ensures.value (c.is_away.ensures c.if-is_away.true)
 
 pub take_place-requires-clause-stands : goal.take_place-requires-clause-stands
 take_place-requires-clause-stands g c =

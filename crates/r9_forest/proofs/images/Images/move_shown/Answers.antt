@@ -1,5 +1,4 @@
-use Rattle.std.proofs.Common.{◌≡◌, ◌∙◌, ◌<◌, ◌≤◌, ◌^◌, ℕ, sym, ap, subst, arith}
-use Rattle.r9_geom.specs.declared.Rect.{Rect}
+use Rattle.std.proofs.Common.{◌≡◌, ◌∙◌, ◌<◌, ◌≤◌, ◌^◌, sym, ap, subst, arith}
 use Rattle.r9_geom.specs.Geometry.{area_of, holds}
 use Rattle.model_pixel.specs.Channels.{depth}
 use Rattle.model_forest.specs.Stack.{with_windows}

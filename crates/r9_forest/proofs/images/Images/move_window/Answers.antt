@@ -1,6 +1,5 @@
-use Rattle.std.proofs.Common.{◌≡◌, ◌∙◌, ◌≤◌, ◌^◌, List, Some, drop, length, get_or, lit≤, refl, sym, subst, ap, arith}
+use Rattle.std.proofs.Common.{◌≡◌, ◌∙◌, ◌≤◌, ◌^◌, List, Some, lit≤, refl, sym, subst, ap, arith}
 use Rattle.std.proofs.lemmas.Bool.{false≢true}
-use Rattle.std.proofs.lemmas.List.{take_all, take-append-le}
 use Rattle.std.specs.Prelude.{option_map, OnErr, OnOk}
 use Rattle.r9_geom.specs.declared.Rect.{Rect}
 use Rattle.r9_geom.specs.Geometry.{area_of, holds, is_empty, IsRectNear}
@@ -9,12 +8,10 @@ use Rattle.model_forest.specs.declared.Standing.{Standing}
 use Rattle.model_forest.specs.declared.Window.{Window}
 use Rattle.model_forest.specs.Stack.{moved, with_windows}
 use Rattle.model_forest.specs.Steps.{carried_rect}
-use Rattle.model_forest.specs.View.{view}
 use Rattle.model_forest.specs.World.{Image, World, image_at, parent_of, IsForest, IsLive}
 use Rattle.model_forest.proofs.Changes.{live-standing}
 use Rattle.model_forest.proofs.Steps.{IsForest-moved_to}
 use Rattle.model_kept.specs.Keeping.{place_among, with_kept}
-use Rattle.r9_plane.specs.Pixels.{number_of}
 use Rattle.r9_locate.specs.Table.{shape}
 use Rattle.r9_pixels.specs.Kept.{kept_at, spare_in, wanted_in}
 use Rattle.r9_relist.proofs.Lists.{lists_near}

@@ -1,15 +1,10 @@
-use Rattle.std.proofs.Common.{◌≡◌, ◌∙◌, ◌^◌, List, Some, length, lit≤, sym, subst, ap, arith}
-use Rattle.r9_geom.proofs.GeometryLemmas.{near_wider, rect_near_wider}
+use Rattle.std.proofs.Common.{◌≡◌, List, Some, subst}
 use Rattle.model_forest.specs.declared.Window.{Window}
-use Rattle.model_forest.specs.Numbers.{next_number}
-use Rattle.model_forest.specs.World.{Image, parent_of}
+use Rattle.model_forest.specs.World.{parent_of}
 use Rattle.r9_locate.specs.Table.{shape}
-use Rattle.r9_pixels.specs.Kept.{kept_at}
-use Rattle.r9_forest.specs.Images.{numbers, world}
-use Rattle.r9_forest.specs.Numbered.{numbers_of}
-use Rattle.r9_forest.specs.Replaced.{put_in, IsLater}
+use Rattle.r9_forest.specs.Images.{world}
+use Rattle.r9_forest.specs.Replaced.{IsLater}
 use Rattle.r9_forest.proofs.Exchanged.{stands_at}
-use Rattle.r9_forest.proofs.Sounding.{sound_live}
 use Rattle.r9_forest.proofs.images.Images.prepare.Goals as goal
 use Rattle.r9_forest.proofs.images.Images.prepare.Goals.{Start}
 

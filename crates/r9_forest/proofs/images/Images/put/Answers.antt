@@ -1,40 +1,34 @@
-use Rattle.std.proofs.Common.{◌≡◌, ◌∙◌, ℕ, ◌+◌, ◌<◌, ◌≤◌, ◌^◌, true, All, List, Some, None, ◌∷◌, [], get_or, length, sym, ap, subst, arith}
+use Rattle.std.proofs.Common.{◌≡◌, ◌∙◌, ℕ, ◌+◌, ◌<◌, ◌≤◌, ◌^◌, true, Some, None, [], get_or, length, sym, ap, subst, arith}
 use Rattle.std.specs.List.{count_by}
 use Rattle.std.proofs.lemmas.List.Elements.{All-nil}
-use Rattle.std.specs.Prelude.{◌==◌, is_some, option_map, vec_capacity, vec_len, if◌then◌else◌}
+use Rattle.std.specs.Prelude.{◌==◌, is_some, option_map, vec_capacity, if◌then◌else◌}
 use Rattle.r9_geom.specs.declared.Point.{Point}
-use Rattle.r9_geom.specs.declared.Rect.{Rect}
 use Rattle.r9_geom.specs.Geometry.{area_of, holds}
 use Rattle.r9_plane.specs.Pixels.{number_of}
 use Rattle.model_pixel.specs.Channels.{depth}
 use Rattle.model_forest.specs.declared.Window.{Window}
 use Rattle.model_forest.specs.Numbers.{next_number, taken}
-use Rattle.model_forest.specs.World.{Image, World, image_at, IsForest, IsLive, SameSize}
+use Rattle.model_forest.specs.World.{Image, World, image_at, SameSize}
 use Rattle.model_forest.proofs.Changes.{live-standing}
-use Rattle.model_kept.specs.Keeping.{place_among}
 use Rattle.model_kept.proofs.Worlds.{pictured}
 use Rattle.r9_locate.specs.declared.lists.Lists.{Lists}
 use Rattle.r9_locate.specs.Table.{shape, HasRoom}
 use Rattle.r9_locate.specs.Table as table
 use Rattle.r9_pixels.specs.declared.keeping.KeptPixels.{KeptPixels}
-use Rattle.r9_pixels.specs.Kept.{kept_at, room_of, spare_in, wanted_in, moment, writes}
+use Rattle.r9_pixels.specs.Kept.{kept_at, room_of, moment, writes}
 use Rattle.r9_pixels.specs.Places.{StandsOn}
-use Rattle.r9_cells.specs.Fitting.{AreOne}
-use Rattle.r9_arrive.specs.Arriving.{after_coming, with_coming, IsLeft, IsLeftOf}
-use Rattle.r9_arrive.proofs.Bare.{bared_lists}
+use Rattle.r9_arrive.specs.Arriving.{after_coming, with_coming}
 use Rattle.r9_arrive.proofs.Canvases.{bare_canvas}
 use Rattle.r9_arrive.proofs.Entering.{on_err}
-use Rattle.r9_arrive.proofs.Windows.{later_stands}
 use Rattle.r9_forest.specs.declared.coming.Given.{Given}
 use Rattle.r9_forest.specs.Given.{given_at}
 use Rattle.r9_forest.specs.Images.{numbers, world}
-use Rattle.r9_forest.specs.Numbered.{numbers_of}
-use Rattle.r9_forest.specs.Replaced.{moved_out, put_in, replaced, IsFarOff, IsLater, IsReplacing, IsShown}
-use Rattle.r9_forest.proofs.Exchanged.{came, came_forest, first_stands, given_comes, given_fits, given_keeps, if_some_more, left_cells, left_forest, left_hidden, left_live, left_moved, left_ones, left_own, left_world, list_comes, old_rect, old_stands, stands_at}
+use Rattle.r9_forest.specs.Replaced.{put_in, replaced, IsReplacing, IsShown}
+use Rattle.r9_forest.proofs.Exchanged.{came, came_forest, first_stands, given_comes, given_fits, given_keeps, list_comes, stands_at}
 use Rattle.r9_forest.proofs.Going.{parent_is}
 use Rattle.r9_forest.proofs.Numbers.{peeked}
 use Rattle.r9_forest.proofs.Placing.{still_numbers, still_world}
-use Rattle.r9_forest.proofs.Sounding.{sound_forest, sound_live}
+use Rattle.r9_forest.proofs.Sounding.{sound_live}
 use Rattle.r9_forest.proofs.images.Images.put.Given.{Over}
 use Rattle.r9_forest.proofs.images.Images.put.Goals as goal
 use Rattle.r9_forest.proofs.images.Images.put.Goals.{After-given-given, In_ok-come}
@@ -63,12 +57,12 @@ few : (g : Over) (c : After-given-given g) → ((image_at (shape c.given-given.n
 few g c =
     subst (λ (l : Lists). ((image_at (shape l) c.args.standing.parent).depth + 1 < 2 ^ 32) × (length (image_at (shape l) c.args.standing.parent).windows + 1 < 2 ^ 32)) (sym c.given-given.ensures.lists) c.in_ok-coming.ensures.few
 
-listed : (g : Over) (c : After-given-given g) → c.in_ok-coming.coming.list.items ≡ put_in c.args.over c.in_ok-coming.coming.window (image_at (shape c.given-given.new.self.lists) c.args.standing.parent).windows
+listed : (g : Over) (c : After-given-given g) → c.in_ok-coming.coming.list.items ≡ put_in c.args.rank c.in_ok-coming.coming.window (image_at (shape c.given-given.new.self.lists) c.args.standing.parent).windows
 listed g c =
-    c.in_ok-coming.ensures.list ∙ ap (λ (l : Lists). put_in c.args.over c.in_ok-coming.coming.window (image_at (shape l) c.args.standing.parent).windows) (sym c.given-given.ensures.lists)
+    c.in_ok-coming.ensures.list ∙ ap (λ (l : Lists). put_in c.args.rank c.in_ok-coming.coming.window (image_at (shape l) c.args.standing.parent).windows) (sym c.given-given.ensures.lists)
 
 -- what the new window needs, by the world and by the lists
-needs : (g : Over) (c : After-given-given g) → IsReplacing (world c.given-given.new.self) c.in_ok-coming.coming.window.image c.args.old c.args.left c.args.standing c.args.over c.args.r c.args.corner c.args.raw c.args.keep
+needs : (g : Over) (c : After-given-given g) → IsReplacing (world c.given-given.new.self) c.in_ok-coming.coming.window.image c.args.old c.args.left c.args.standing c.args.rank c.args.r c.args.corner c.args.raw c.args.keep
 unfolding world numbers
 needs g c =
     let now = c.given-given.new.self in
@@ -114,12 +108,12 @@ fits g c p =
     (live-standing w c.args.old c.args.left.parent (stands_at w c.args.old c.args.left is.left_at)) is.chan is.fits p
 
 -- the world when it came
-comes : (g : Over) (c : After-given-given g) → after_coming (world c.given-given.new.self) c.in_ok-coming.coming.window.image c.args.standing.parent c.args.standing.fill c.args.r (given_at c.given-given.result c.args.r c.given-given.new.self.room.items) c.in_ok-coming.coming.list.items ≡ replaced (world c.given-given.new.self) c.in_ok-coming.coming.window.image c.args.old c.args.standing c.args.over c.args.r c.args.corner c.args.raw c.args.keep
+comes : (g : Over) (c : After-given-given g) → after_coming (world c.given-given.new.self) c.in_ok-coming.coming.window.image c.args.standing.parent c.args.standing.fill c.args.r (given_at c.given-given.result c.args.r c.given-given.new.self.room.items) c.in_ok-coming.coming.list.items ≡ replaced (world c.given-given.new.self) c.in_ok-coming.coming.window.image c.args.old c.args.standing c.args.rank c.args.r c.args.corner c.args.raw c.args.keep
 unfolding world
 comes g c =
     let now = c.given-given.new.self in
     let made = c.in_ok-coming.coming in
-    came (shape now.lists) (kept_at now.pixels) made.window c.args.old c.args.left c.args.standing c.args.over c.args.r c.args.corner c.args.raw c.args.keep now.sound.forest (needs g c) c.in_ok-coming.ensures.place made.list.items (listed g c) (given_at c.given-given.result c.args.r now.room.items)
+    came (shape now.lists) (kept_at now.pixels) made.window c.args.old c.args.left c.args.standing c.args.rank c.args.r c.args.corner c.args.raw c.args.keep now.sound.forest (needs g c) c.in_ok-coming.ensures.place made.list.items (listed g c) (given_at c.given-given.result c.args.r now.room.items)
     (given_comes (world now) c.args.old c.args.r c.args.raw c.args.keep now.room.items (given_at c.given-given.result c.args.r now.room.items) (told g c) (sized g c) (shows g c) made.window.image c.args.standing.parent c.args.standing.fill made.list.items)
 
 -- ---- what is asked for then
@@ -157,7 +151,7 @@ come-requires-clause-coming g c =
     let at = (goal.at.come-requires-clause-coming g c).After-given-given in
     let now = c.given-given.new.self in
     let made = c.in_ok-coming.coming in
-    list_comes (shape now.lists) (kept_at now.pixels) made.window c.args.old c.args.left c.args.standing c.args.over c.args.r c.args.corner c.args.raw c.args.keep now.sound.forest (needs g at) c.in_ok-coming.ensures.place made.list.items (listed g at)
+    list_comes (shape now.lists) (kept_at now.pixels) made.window c.args.old c.args.left c.args.standing c.args.rank c.args.r c.args.corner c.args.raw c.args.keep now.sound.forest (needs g at) c.in_ok-coming.ensures.place made.list.items (listed g at)
 
 pub come-requires-clause-forest : goal.come-requires-clause-forest
 unfolding world
@@ -165,7 +159,7 @@ come-requires-clause-forest g c =
     let at = (goal.at.come-requires-clause-forest g c).After-given-given in
     let now = c.given-given.new.self in
     let made = c.in_ok-coming.coming in
-    came_forest (shape now.lists) (kept_at now.pixels) made.window c.args.old c.args.left c.args.standing c.args.over c.args.r c.args.corner c.args.raw c.args.keep now.sound.forest (needs g at) c.in_ok-coming.ensures.place made.list.items (listed g at) (given_at c.given-given.result c.args.r now.room.items) (comes g at)
+    came_forest (shape now.lists) (kept_at now.pixels) made.window c.args.old c.args.left c.args.standing c.args.rank c.args.r c.args.corner c.args.raw c.args.keep now.sound.forest (needs g at) c.in_ok-coming.ensures.place made.list.items (listed g at) (given_at c.given-given.result c.args.r now.room.items) (comes g at)
 
 pub come-requires-clause-given : goal.come-requires-clause-given
 unfolding world
@@ -199,17 +193,17 @@ come-requires-clause-stands g c =
     let at = (goal.at.come-requires-clause-stands g c).After-given-given in
     let now = c.given-given.new.self in
     let made = c.in_ok-coming.coming in
-    first_stands (shape now.lists) (kept_at now.pixels) made.window c.args.old c.args.left c.args.standing c.args.over c.args.r c.args.corner c.args.raw c.args.keep now.sound.forest (needs g at) c.in_ok-coming.ensures.place made.list.items (listed g at)
+    first_stands (shape now.lists) (kept_at now.pixels) made.window c.args.old c.args.left c.args.standing c.args.rank c.args.r c.args.corner c.args.raw c.args.keep now.sound.forest (needs g at) c.in_ok-coming.ensures.place made.list.items (listed g at)
 
 -- ---- and when it came
 
-after : (g : Over) (c : In_ok-come g) → after_coming (world c.given-given.new.self) c.in_ok-coming.coming.window.image c.args.standing.parent c.args.standing.fill c.args.r (given_at c.given-given.result c.args.r c.given-given.new.self.room.items) c.in_ok-coming.coming.list.items ≡ replaced (world c.given-given.new.self) c.in_ok-coming.coming.window.image c.args.old c.args.standing c.args.over c.args.r c.args.corner c.args.raw c.args.keep → world c.come.new.self ≡ replaced (world c.given-given.new.self) c.in_ok-coming.coming.window.image c.args.old c.args.standing c.args.over c.args.r c.args.corner c.args.raw c.args.keep
+after : (g : Over) (c : In_ok-come g) → after_coming (world c.given-given.new.self) c.in_ok-coming.coming.window.image c.args.standing.parent c.args.standing.fill c.args.r (given_at c.given-given.result c.args.r c.given-given.new.self.room.items) c.in_ok-coming.coming.list.items ≡ replaced (world c.given-given.new.self) c.in_ok-coming.coming.window.image c.args.old c.args.standing c.args.rank c.args.r c.args.corner c.args.raw c.args.keep → world c.come.new.self ≡ replaced (world c.given-given.new.self) c.in_ok-coming.coming.window.image c.args.old c.args.standing c.args.rank c.args.r c.args.corner c.args.raw c.args.keep
 after g c comes = c.in_ok-come.ensures.world ∙ comes
 
 pub returns-clause-needs : goal.returns-clause-needs
 returns-clause-needs g c =
     let at = (goal.at.returns-clause-needs g c).After-given-given in
-    subst (λ (w : World). IsReplacing w c.in_ok-coming.coming.window.image c.args.old c.args.left c.args.standing c.args.over c.args.r c.args.corner c.args.raw c.args.keep) (same g at) (needs g at)
+    subst (λ (w : World). IsReplacing w c.in_ok-coming.coming.window.image c.args.old c.args.left c.args.standing c.args.rank c.args.r c.args.corner c.args.raw c.args.keep) (same g at) (needs g at)
 
 pub returns-clause-number : goal.returns-clause-number
 returns-clause-number g c =
@@ -221,7 +215,7 @@ unfolding world
 returns-clause-made g c =
     let at = goal.at.returns-clause-made g c in
     after g at.In_ok-come (comes g at.After-given-given)
-    ∙ ap (λ (w : World). replaced w c.in_ok-coming.coming.window.image c.args.old c.args.standing c.args.over c.args.r c.args.corner c.args.raw c.args.keep) (same g at.After-given-given)
+    ∙ ap (λ (w : World). replaced w c.in_ok-coming.coming.window.image c.args.old c.args.standing c.args.rank c.args.r c.args.corner c.args.raw c.args.keep) (same g at.After-given-given)
 
 pub returns-clause-taken : goal.returns-clause-taken
 returns-clause-taken g c =

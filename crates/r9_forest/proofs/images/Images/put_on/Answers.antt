@@ -6,6 +6,7 @@ use Rattle.model_forest.specs.World.{Image, image_at}
 use Rattle.r9_locate.specs.Table.{shape}
 use Rattle.r9_pixels.specs.Kept.{kept_at}
 use Rattle.r9_arrive.proofs.Canvases.{bare_canvas}
+use Rattle.r9_forest.specs.declared.ranking.Rank.TheVariants.{Top}
 use Rattle.r9_forest.specs.Images.{world}
 use Rattle.r9_forest.specs.Replaced.{replaced, IsReplacing}
 use Rattle.r9_forest.proofs.Exchanged.{if_ok_both, put_on_world}
@@ -47,7 +48,7 @@ returns-clause-made g c =
     let left = c.in-Some.left in
     let standing : Standing = record { parent = c.args.parent; fill = c.args.fill } in
     if_ok_both
-    (λ i. IsReplacing w i c.args.old left standing None c.args.r c.args.corner c.args.raw c.args.keep)
-    (λ i. world c.put.new.self ≡ replaced w i c.args.old standing None c.args.r c.args.corner c.args.raw c.args.keep)
+    (λ i. IsReplacing w i c.args.old left standing Top c.args.r c.args.corner c.args.raw c.args.keep)
+    (λ i. world c.put.new.self ≡ replaced w i c.args.old standing Top c.args.r c.args.corner c.args.raw c.args.keep)
     (λ i. world c.put.new.self ≡ after_put_on w i c.args.old c.args.parent c.args.fill c.args.r c.args.corner c.args.raw c.args.keep) c.put.result c.put.ensures.needs c.put.ensures.made
     (λ i is made. made ∙ put_on_world w i c.args.old left standing c.args.r c.args.corner c.args.raw c.args.keep c.args.self.now.sound.forest is)

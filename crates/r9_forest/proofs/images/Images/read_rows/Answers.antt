@@ -1,7 +1,7 @@
 use Rattle.std.proofs.Common.{◌≡◌, ◌∙◌, ◌+◌, ◌*◌, ◌-◌, ◌<◌, ◌≤◌, ◌^◌, length, lit≤, sym, ap, subst, arith}
 use Rattle.std.proofs.lemmas.Bool.{false≢true}
 use Rattle.r9_geom.specs.declared.Point.{Point as Spot}
-use Rattle.r9_geom.specs.Geometry.{height, holds, point_at, width, IsNearBy}
+use Rattle.r9_geom.specs.Geometry.{height, holds, IsNearBy}
 use Rattle.r9_geom.proofs.GeometryLemmas.{band, band_all, band_none, near_wider, width_most}
 use Rattle.model_forest.specs.View.{at}
 use Rattle.r9_locate.proofs.Parts.{length-part, put_mid_before, put_mid_inside, row_within}

@@ -6,6 +6,7 @@ use Rattle.model_forest.specs.World.{Image, image_at}
 use Rattle.r9_locate.specs.Table.{shape}
 use Rattle.r9_pixels.specs.Kept.{kept_at}
 use Rattle.r9_arrive.proofs.Canvases.{bare_canvas}
+use Rattle.r9_forest.specs.declared.ranking.Rank.TheVariants.{Above}
 use Rattle.r9_forest.specs.Images.{world}
 use Rattle.r9_forest.specs.Replaced.{moved_out, replaced, IsReplacing}
 use Rattle.r9_forest.proofs.Exchanged.{if_ok_both, left_chan, replace_world, stands_at}
@@ -70,7 +71,7 @@ returns-clause-made g c =
     let w = world c.args.self.now in
     let left = c.in-Some.left in
     if_ok_both
-    (λ i. IsReplacing w i c.args.old left left (Some c.args.old) c.args.r c.args.corner c.args.raw c.args.keep)
-    (λ i. world c.exchange.new.self ≡ moved_out (replaced w i c.args.old left (Some c.args.old) c.args.r c.args.corner c.args.raw c.args.keep) left.parent c.args.old (image_at w c.args.old).r)
+    (λ i. IsReplacing w i c.args.old left left (Above c.args.old) c.args.r c.args.corner c.args.raw c.args.keep)
+    (λ i. world c.exchange.new.self ≡ moved_out (replaced w i c.args.old left (Above c.args.old) c.args.r c.args.corner c.args.raw c.args.keep) left.parent c.args.old (image_at w c.args.old).r)
     (λ i. world c.exchange.new.self ≡ after_replace w i c.args.old c.args.r c.args.corner c.args.raw c.args.keep) c.exchange.result c.exchange.ensures.needs c.exchange.ensures.made
     (λ i is made. made ∙ replace_world w i c.args.old left c.args.r c.args.corner c.args.raw c.args.keep c.args.self.now.sound.forest is)

@@ -49,10 +49,10 @@ returns-clause-uses c = λ watches opening.
     let after : List (ℕ × Session) = c.answer_in.new.sessions.entries in
     let desktop = desktop_of c.args.self.now.desktop in
     let left = desktop_of c.answer_in.new.desktop in
-    served_used (world_with opening c.args.self.now) (world_with opening c.settle.new.self) c.args.session (lookup before c.args.session) c.args.bytes.now c.args.mark c.in-Some.own after left c.in_ok-uses.uses refl
+    served_used (world_with opening c.args.self.now) (world_with opening c.settle.new.self) c.args.session (lookup before c.args.session) c.args.bytes.now c.args.mark c.in-Some.own c.answer_in.new.sight after left c.in_ok-uses.uses refl
     (subst (λ (o : Option Own). IsServed c.args.session (lookup before c.args.session) before desktop c.args.bytes.now c.args.mark o after left) c.in-Some.is c.in_ok-own.ensures.served)
-    (subst (λ (o : Option Own). IsSeenOf c.args.session (lookup before c.args.session) desktop c.args.bytes.now c.args.mark o) c.in-Some.is (c.in_ok-own.ensures.seen watches))
-    (c.in_ok-uses.ensures watches (desktop_of c.args.self.now.desktop).table (c.deref-2.ensures.value ∙ c.in_ok-hosts.ensures watches))
+    (subst (λ (o : Option Own). IsSeenOf c.args.session (lookup before c.args.session) desktop c.args.bytes.now c.args.mark o c.answer_in.new.sight) c.in-Some.is (c.in_ok-own.ensures.seen watches))
+    c.in_ok-uses.ensures
 
 pub returns-clause-made : goal.returns-clause-made
 returns-clause-made c = λ opening.

@@ -1,4 +1,6 @@
-use Rattle.std.proofs.Common.{arith, refl}
+use Rattle.std.proofs.Common.{arith, refl, sym, ap, ◌∙◌}
+use Rattle.std.specs.Option.{option_map}
+use Rattle.model_images.specs.declared.OnScreen.{OnScreen}
 use Rattle.r9_uses.proofs.Counts.{is-counted}
 use Rattle.r9_uses.proofs.Parts.{le-refl, le-same, room-kept}
 use Rattle.r9_uses.proofs.uses.Uses.take_window.Goals as goal
@@ -19,3 +21,9 @@ returns-in-Some-clause-more c =
 pub returns-in-None-clause-more : goal.returns-in-None-clause-more
 returns-in-None-clause-more c =
     room-kept c.args.self.now _ (le-refl _) (le-refl _) (le-refl _) c.take.ensures.room (le-refl _) (le-refl _) (le-refl _)
+
+pub returns-in-Some-clause-screen : goal.returns-in-Some-clause-screen
+returns-in-Some-clause-screen c = ap (option_map (λ (w : OnScreen). w.screen)) (sym c.in-Some.is ∙ c.take.ensures.found)
+
+pub returns-in-None-clause-screen : goal.returns-in-None-clause-screen
+returns-in-None-clause-screen c = ap (option_map (λ (w : OnScreen). w.screen)) (sym c.in-None.is ∙ c.take.ensures.found)
