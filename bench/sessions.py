@@ -1,7 +1,6 @@
-"""What sessions send, which several benches make: messages of 9P, spelled by the names of their fields (tools/record.py)."""
-import formats
-import record
-from record import NOFID, NOTAG
+"""What sessions send, which several benches make: messages of 9P, spelled by the names of their fields (python/rio9/record.py)."""
+from rio9 import formats, record
+from rio9.record import NOFID, NOTAG
 
 TOP = 0  # the fid of the root of a session's tree
 

@@ -13,10 +13,10 @@ from dataclasses import dataclass
 HERE = os.path.dirname(os.path.abspath(__file__))
 ROOT = os.path.dirname(HERE)
 sys.path[:0] = [os.path.join(HERE, "drawing"), os.path.join(HERE, "replay"), os.path.join(ROOT, "tools")]
-import formats
+from rio9 import formats
 import run
 from chance import EVERYWHERE, READ, READWRITE, WRITE, drawing
-from record import OPERATORS
+from rio9.record import OPERATORS
 from sessions import TOP, arrived, opened, said, written
 
 REPLAY, SEED = ("replay",), 7
@@ -416,8 +416,8 @@ for name, rounds in (("draw", 1_000), ("ask", 10_000), ("note", 1_000)):
 
 def text_of(kind):
     """A text behind its font; a front of it is checked."""
-    texts, path = bench("text"), os.path.join(ROOT, "tools", "font.py")
-    font = subprocess.run([sys.executable, path], capture_output=True, check=True).stdout
+    texts, program = bench("text"), os.path.join(ROOT, "python", "rio9d")
+    font = subprocess.run([sys.executable, program, "font"], capture_output=True, check=True).stdout
     whole = texts.texts(1_000_000)[kind]
     return Work(font + whole, tuple(texts.WORDS), checked=font + texts.front(whole))
 

@@ -4,12 +4,12 @@
 #     crates/rio9/out/rio9 serve --size 320x240 --listen 127.0.0.1:5640 --workers 4 --conns 100 > serve.record &
 #     examples/serve.sh 127.0.0.1:5640 serve.png
 #
-# Each line that begins with `rio` is a session of its own, made by tools/client.py.
+# Each line that begins with `rio` is a session of its own, made by python/rio9d client.
 set -eu
 address=$1
 picture=$2
-tools=$(dirname "$0")/../tools
-rio() { "$tools/client.py" "$address" "$@"; }
+python=$(dirname "$0")/../python
+rio() { "$python/rio9d" client "$address" "$@"; }
 
 # Lines of draw messages: an image of one pixel that repeats, and a rectangle of a window filled with one. Id 9 is the full mask.
 colour() { echo "b id=$1 screenid=0 refresh=0 chan=x8r8g8b8 repl=1 r=0,0,1,1 clipr=-10000,-10000,10000,10000 color=$2"; }

@@ -19,9 +19,8 @@ import threading
 
 EXAMPLES = pathlib.Path(__file__).resolve().parent
 ROOT = EXAMPLES.parent
-sys.path.insert(0, str(ROOT / "tools"))
-import formats
-import picture
+sys.path[:0] = [str(ROOT / "tools"), str(ROOT / "python" / "tests")]
+from rio9 import formats, picture
 import served
 from test_picture import pixels_of
 

@@ -29,9 +29,9 @@ import sys
 import time
 from dataclasses import dataclass, field
 
-import formats
+from rio9 import formats
 from cases import DONE, PROGRAM, run
-from formats import BEGIN, MESSAGE
+from rio9.formats import BEGIN, MESSAGE
 from guests import guests
 from made_records import Made
 from soak import Ending, difference, smaller

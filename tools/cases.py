@@ -11,12 +11,11 @@ import subprocess
 from dataclasses import dataclass
 from typing import Callable
 
-import font
-import formats
+from rio9 import font, formats
 
 PROGRAM = os.path.join(os.path.dirname(os.path.dirname(os.path.abspath(__file__))), "crates", "rio9", "out", "rio9")
 SECONDS = 600  # that a run may take, on a machine that does much else
-DISPLAY = (640, 480)
+DISPLAY = formats.USUAL_SIZE
 DONE, USAGE, BAD_INPUT = 0, 1, 11
 LIMIT = 1 << 20  # bytes of an input that are too many
 REFUSED = 107

@@ -10,10 +10,9 @@ import random
 from collections import Counter
 from dataclasses import dataclass, field
 
-import formats
-import record
-from formats import BEGIN, END, MESSAGE, STOP, TAKE, Event
-from record import NOFID, NOTAG
+from rio9 import formats, record
+from rio9.formats import BEGIN, END, MESSAGE, STOP, TAKE, Event
+from rio9.record import NOFID, NOTAG
 
 READ, WRITE, READWRITE = 0, 1, 2
 DEVICE_FILES = ("draw", "hwsize", "kbdin", "mousein", "screen", "snarf", "wctl", "wsys")

@@ -3,16 +3,13 @@
 It is outside the proof: it shares nothing with the proved program, and the proved program nothing with it.
 """
 
-import re
 from dataclasses import dataclass, field
 from typing import Tuple
 
-import record
+from rio9 import record
+from rio9.events import EVENT_BYTES, Mouse, read_event
 from cases import BORDER, DISPLAY, EDGE, GREY, LIMIT, NotSo, read_session
 
-EVENT_BYTES, FIELD_BYTES = 49, 12
-FIELD = re.compile(rb" *-?[0-9]+ ")
-MOST_BUTTONS, MOST_MSEC = 31, 2**32 - 1
 MOST_WINDOWS, LEAST_SIDE = 64, 12
 RIGHT_BUTTON = 4
 
@@ -25,32 +22,6 @@ WHITE = bytes.fromhex("ffffff00")
 
 
 # The input.
-
-
-@dataclass(frozen=True)
-class Mouse:
-    """An event of the mouse (mouse(3))."""
-
-    x: int
-    y: int
-    buttons: int
-    msec: int
-
-    def text(self):
-        return b"m%11d %11d %11d %11d " % (self.x, self.y, self.buttons, self.msec)
-
-    def point(self):
-        return self.x, self.y
-
-
-def read_event(text):
-    """The event that a text tells, of a point of the display, or None."""
-    fields = [text[at : at + FIELD_BYTES] for at in range(1, EVENT_BYTES, FIELD_BYTES)]
-    if len(text) != EVENT_BYTES or text[:1] != b"m" or not all(map(FIELD.fullmatch, fields)):
-        return None
-    numbers = list(map(int, fields))
-    most = (DISPLAY[0] - 1, DISPLAY[1] - 1, MOST_BUTTONS, MOST_MSEC)
-    return Mouse(*numbers) if all(0 <= number <= high for number, high in zip(numbers, most)) else None
 
 
 def read_events(data):

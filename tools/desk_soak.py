@@ -22,7 +22,8 @@ from dataclasses import dataclass
 
 import desk_model
 from cases import BAD_INPUT, BORDER, DISPLAY, DONE, LIMIT, Command, NotSo, check_replies, output_of, replayed, soak_of
-from desk_model import EVENT_BYTES, FIELD_BYTES, ITEM, ITEMS, Mouse
+from desk_model import ITEM, ITEMS
+from rio9.events import EVENT_BYTES, FIELD_BYTES, Mouse
 
 RIGHT_BUTTON, LEFT_BUTTON = 4, 1
 

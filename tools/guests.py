@@ -8,12 +8,11 @@ each reason of docs/ISOLATION.md.
 
 from collections import Counter
 
-import formats
-import record
+from rio9 import formats, record
 from chance import CHANNELS, DRAWINGS, READ, READWRITE, SCREENS, WINDOW_FILES, WRITE, Chance, Maker, Session, drawing
-from formats import BEGIN, TAKE, Event
+from rio9.formats import BEGIN, TAKE, Event
 from made_records import USUAL_DISPLAY, Made, words_of
-from record import NOFID, NOTAG
+from rio9.record import NOFID, NOTAG
 
 DISPLAYS = [(33, 17), (64, 48), (64, 48), (96, 70), (130, 65)]
 LEAST_SIDE, MOST_GUESTS, MOST_HOSTS, MOST_WINDOWS = 12, 3, 3, 12

@@ -4,10 +4,9 @@ junk. soak.py runs them through programs. It is outside the proof.
 
 from dataclasses import dataclass
 
-import formats
-import record
+from rio9 import formats, record
 from chance import CHANNELS, COLOURS, Chance, Maker, draw_operator, drawing
-from formats import MESSAGE, Event
+from rio9.formats import MESSAGE, Event
 
 DISPLAYS = [(1, 1), (7, 5), (33, 17), (64, 48), (64, 48), (96, 70), (130, 65)]
 USUAL_DISPLAY = (64, 48), formats.channels_word("x8r8g8b8")

@@ -4,7 +4,7 @@
     tools/refused_memory.py [--program PATH] [--every K] [--jobs N]
 
 The runs are `replay` of a case of crates/tests_rows in which a session has a window, draws and waits, `alone` of a session of
-examples/guest.record, `gen 3`, `text` with the font of tools/font.txt, and `desk` with the first events of examples/desk.txt. What refuses is refused_memory.c, which cc builds and the
+examples/guest.record, `gen 3`, `text` with the font of python/rio9/font.txt, and `desk` with the first events of examples/desk.txt. What refuses is refused_memory.c, which cc builds and the
 program is started with. Each run has to end with status 5, its line on standard error and a front of what is printed where no request is
 refused, or with status 0 and all of that. With --every only each K-th request is refused. It prints how many requests a run makes, how
 many were refused, and how the runs ended. Status 1 tells that one ended otherwise, 2 that a word or a file is wrong.
@@ -20,10 +20,8 @@ import sys
 import tempfile
 from dataclasses import dataclass
 
-import events
-import font
-import formats
-from desk_model import EVENT_BYTES
+from rio9 import events, font, formats
+from rio9.events import EVENT_BYTES
 
 HERE = os.path.dirname(os.path.abspath(__file__))
 ROOT = os.path.dirname(HERE)

@@ -9,7 +9,7 @@ import subprocess
 import time
 from dataclasses import dataclass
 
-import formats
+from rio9 import formats
 
 LISTENS = 10  # seconds until a server that was started listens
 HEADER = b"rio9 2 1\n"

@@ -31,7 +31,7 @@ import time
 from dataclasses import dataclass, field
 from typing import Optional
 
-import formats
+from rio9 import formats
 import made_records
 
 ROOT = os.path.dirname(os.path.dirname(os.path.abspath(__file__)))

@@ -8,10 +8,10 @@ import tempfile
 import unittest
 
 import alone_soak
-import formats
+from rio9 import formats
 import guests
 from chance import Chance
-from formats import MESSAGE
+from rio9.formats import MESSAGE
 from guests import BREACHES, Meeting
 from made_records import USUAL_DISPLAY, Made
 from soak import Ending

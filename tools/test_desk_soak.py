@@ -10,7 +10,7 @@ import unittest
 import cases
 import desk_model
 import desk_soak
-from desk_model import Mouse
+from rio9.events import Mouse
 
 # Events, what they write, and the windows that are left.
 DESKS = [

@@ -5,8 +5,7 @@ import shutil
 import unittest
 from dataclasses import replace
 
-import formats
-import record
+from rio9 import formats, record
 import try_player
 
 MOUSE = 'session 1\n1 Tversion msize=65560 version=9P2000\n1 Tattach fid=0 aname=""\n' + try_player.MOUSE_OPENED

@@ -9,9 +9,8 @@ import tempfile
 import unittest
 
 import chance
-import formats
+from rio9 import formats, record
 import made_records
-import record
 import soak
 
 ECHO = "#!/bin/sh\ncat\n"

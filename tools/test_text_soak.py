@@ -8,8 +8,7 @@ import tempfile
 import unittest
 
 import cases
-import font
-import formats
+from rio9 import font, formats
 import text_model
 import text_soak
 

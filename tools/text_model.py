@@ -6,8 +6,7 @@ It is outside the proof: it shares nothing with the proved program, and the prov
 import re
 from dataclasses import dataclass
 
-import font
-import record
+from rio9 import font, record
 from cases import BORDER, EDGE, GREY, LIMIT, NotSo, read_session
 
 CHANNELS, FIELD_BYTES, ROWS_AT = b"         k8 ", 12, 60

@@ -20,7 +20,7 @@ import random
 import sys
 from dataclasses import dataclass
 
-import font
+from rio9 import font
 import text_model
 from cases import BAD_INPUT, BORDER, DISPLAY, DONE, LIMIT, USAGE, Command, NotSo, check_replies, output_of, replayed, soak_of
 

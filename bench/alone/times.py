@@ -20,11 +20,10 @@ import tempfile
 HERE = os.path.dirname(os.path.abspath(__file__))
 ROOT = os.path.dirname(os.path.dirname(HERE))
 sys.path[:0] = [os.path.join(ROOT, folder) for folder in ("bench", "bench/replay", "tools")]
-import formats
-import record
+from rio9 import formats, record
 from beside import best
 from chance import EVERYWHERE, READ, READWRITE, WRITE, drawing
-from formats import BEGIN, MESSAGE, Event
+from rio9.formats import BEGIN, MESSAGE, Event
 from run import PROGRAM
 from sessions import TOP, arrived, opened, said, written
 

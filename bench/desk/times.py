@@ -20,7 +20,7 @@ HERE = os.path.dirname(os.path.abspath(__file__))
 ROOT = os.path.dirname(os.path.dirname(HERE))
 sys.path[:0] = [os.path.join(ROOT, "bench", "replay"), os.path.join(ROOT, "tools")]
 from beside import row, verdict
-from desk_model import Mouse
+from rio9.events import Mouse
 from desk_soak import Hand, events_of, spelled
 from run import PROGRAM, need_peer
 

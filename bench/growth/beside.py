@@ -23,7 +23,7 @@ import tempfile
 HERE = os.path.dirname(os.path.abspath(__file__))
 ROOT = os.path.dirname(os.path.dirname(HERE))
 sys.path[:0] = [os.path.join(ROOT, folder) for folder in ("bench/drawing", "bench/replay", "tools")]
-import formats
+from rio9 import formats
 from run import PROGRAM, message, number, string, use
 from times import K1, POINT, WIDE, X8R8G8B8, allocate, draw, rect, topen, walk
 

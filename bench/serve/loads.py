@@ -9,7 +9,7 @@ HERE = os.path.dirname(os.path.abspath(__file__))
 ROOT = os.path.dirname(os.path.dirname(HERE))
 PROGRAM = os.path.join(ROOT, "crates", "rio9", "out", "rio9")
 sys.path.insert(0, os.path.join(ROOT, "tools"))
-import formats
+from rio9 import formats
 import served
 
 WORKERS = 8

@@ -5,7 +5,7 @@
 
 The peer is a plain program with the same words, which is given by its path. Wants Python 3 and the built program (`cd
 crates/rio9 && rt run -- replay < stdin` builds it; --program names another one). Each text has N bytes, 1,000,000 where nothing is
-said: lines of words of 0 to 120 characters, newlines alone, and one long line; the window has 64 by 20 characters of tools/font.py.
+said: lines of words of 0 to 120 characters, newlines alone, and one long line; the window has 64 by 20 characters of `rio9d font`.
 
 It prints processor seconds, of the user and the system, the least of nine runs of each program, their ratio, the most
 memory of each, and the length of the record. The records need not be equal. So the peer is asked whether the program's
@@ -58,7 +58,7 @@ def main(words):
         options[words[-2]], words = words[-1], words[:-2]
     program = options["--program"]
     peer = need_peer(program, words)
-    font = subprocess.run([sys.executable, os.path.join(ROOT, "tools", "font.py")], capture_output=True, check=True).stdout
+    font = subprocess.run([sys.executable, os.path.join(ROOT, "python", "rio9d"), "font"], capture_output=True, check=True).stdout
     with tempfile.TemporaryDirectory() as room:
         path = os.path.join(room, "record")
         for name, text in texts(int(options["--bytes"])).items():

@@ -1,7 +1,6 @@
-#!/usr/bin/env python3
 """Writes a session record and its reply lines as a capture that Wireshark's 9P dissector reads.
 
-    tools/wireshark.py RECORD REPLIES OUT.pcap
+    rio9d wireshark RECORD REPLIES OUT.pcap
     tshark -r OUT.pcap -Y 9p
     tshark -r OUT.pcap -Y _ws.malformed
 
@@ -21,7 +20,7 @@ message that let it be answered.
 import struct
 import sys
 
-import formats
+from rio9 import formats
 
 SERVER = bytes([10, 9, 0, 1])
 CLIENT = bytes([10, 9, 0, 2])
@@ -138,7 +137,7 @@ def write_capture(record, replies):
 
 def main(words):
     if len(words) != 3:
-        formats.stop("wireshark.py", "the names of a record, of its replies and of the capture are wanted")
+        formats.stop("rio9d wireshark", "the names of a record, of its replies and of the capture are wanted")
     try:
         with open(words[0], "rb") as file:
             record = file.read()
@@ -148,13 +147,9 @@ def main(words):
         with open(words[2], "wb") as file:
             file.write(capture)
     except formats.BadText as error:
-        sys.stderr.write(f"wireshark.py: {error}\n")
+        sys.stderr.write(f"rio9d wireshark: {error}\n")
         return 1
     except OSError as error:
-        formats.stop("wireshark.py", formats.why_not(error))
+        formats.stop("rio9d wireshark", formats.why_not(error))
     sys.stderr.write(f"{counts[0]} messages, {counts[1]} replies\n")
     return 0
-
-
-if __name__ == "__main__":
-    sys.exit(main(sys.argv[1:]))

@@ -1,12 +1,10 @@
-#!/usr/bin/env python3
-"""Tests of picture.py: small pictures whose colours were worked out by hand from image(6) and draw(2)."""
+"""Tests of rio9.picture: small pictures whose colours were worked out by hand from image(6) and draw(2)."""
 
 import struct
 import unittest
 import zlib
 
-import formats
-import picture
+from rio9 import formats, picture
 
 # Channels, left and right edge, height, rows, and the pixels that the PNG has.
 PICTURES = [

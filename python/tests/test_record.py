@@ -1,7 +1,6 @@
-#!/usr/bin/env python3
-"""Tests of record.py.
+"""Tests of rio9.record.
 
-    tools/test_record.py [FOLDER ...]
+    python3 -m tests.test_record [FOLDER ...]
 
 It takes all records of the repository, and those of further folders, to readable lines and back. The other
 expected values were written by hand, from the tables of docs/FORMATS.md.
@@ -13,10 +12,9 @@ import sys
 import unittest
 import unittest.mock
 
-import formats
-import record
+from rio9 import formats, record
 
-TOP = pathlib.Path(__file__).resolve().parent.parent
+TOP = pathlib.Path(__file__).resolve().parent.parent.parent
 FURTHER_FOLDERS = []
 
 # Readable lines, and the bytes of their message or of their event's line.

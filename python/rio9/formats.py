@@ -17,6 +17,9 @@ LAST_SESSION, LAST_MARK = 0xFFFFFFFF, 0xFFFF
 
 LAST_LIVE, BYTES_OF_NO_RECORD = 1024, 2**30
 
+# The display where nothing is said of it.
+USUAL_SIZE, USUAL_CHANNELS = (640, 480), "x8r8g8b8"
+
 NUMBER, MARK = re.compile(rb"0|[1-9][0-9]{0,9}"), re.compile(rb"!(?:0|[1-9][0-9]{0,9})")
 HEX_DIGITS = re.compile(rb"(?:[0-9a-f]{2})+")
 

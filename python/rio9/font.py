@@ -1,10 +1,9 @@
-#!/usr/bin/env python3
 """Writes the font that is drawn in a text, as what `rio9 text` reads before its own text.
 
-    tools/font.py > font
-    tools/font.py FILE > font
+    rio9d font > font
+    rio9d font FILE > font
 
-FILE is tools/font.txt where nothing is said. Its first lines, up to an empty one, are not looked at. Then come blocks with an
+FILE is rio9/font.txt where nothing is said. Its first lines, up to an empty one, are not looked at. Then come blocks with an
 empty line between them: a line of names, and the rows of sixteen characters side by side, in the last block of fifteen, with a
 blank between each two. `#` is a point with ink, `.` one without. All characters are of one size, 1 to 8 points wide and 1 to 16
 high, and they are those from 0x20 to 0x7E in order; a name stands over its character, so that whoever reads the text finds it.
@@ -17,7 +16,7 @@ It is outside the proof. Needs: Python 3.9 or later, its standard library alone.
 import os
 import sys
 
-import formats
+from rio9 import formats
 
 DRAWN = os.path.join(os.path.dirname(os.path.abspath(__file__)), "font.txt")
 FIRST, LAST, IN_A_BLOCK = 0x20, 0x7E, 16
@@ -90,7 +89,7 @@ def font_file(cells):
 
 
 def main(words):
-    parser = formats.Words(prog="font.py", description=__doc__.split("\n")[0])
+    parser = formats.Words(prog="rio9d font", description=__doc__.split("\n")[0])
     parser.add_argument("file", nargs="?", default=DRAWN, metavar="FILE", help="the text in which the font is drawn")
     options = parser.parse_args(words)
     try:
@@ -99,12 +98,8 @@ def main(words):
         sys.stdout.buffer.write(made)
         sys.stdout.buffer.flush()
     except (formats.BadText, UnicodeDecodeError) as error:
-        sys.stderr.write(f"font.py: {error}\n")
+        sys.stderr.write(f"rio9d font: {error}\n")
         return 1
     except OSError as error:
-        formats.stop("font.py", formats.why_not(error))
+        formats.stop("rio9d font", formats.why_not(error))
     return 0
-
-
-if __name__ == "__main__":
-    sys.exit(main(sys.argv[1:]))

@@ -1,16 +1,14 @@
-#!/usr/bin/env python3
-"""Tests of font.py: the font that is drawn in font.txt, and texts that draw none."""
+"""Tests of rio9.font: the font that is drawn in font.txt, and texts that draw none."""
 
 import pathlib
 import subprocess
 import sys
 import unittest
 
-import font
-import formats
+from rio9 import font, formats
 
-TOOLS = pathlib.Path(__file__).resolve().parent
-DRAWN = (TOOLS / "font.txt").read_text()
+PYTHON = pathlib.Path(__file__).resolve().parent.parent
+DRAWN = (PYTHON / "rio9" / "font.txt").read_text()
 WIDTH, HEIGHT = 6, 10
 HEADER_BYTES = 60
 
@@ -37,7 +35,7 @@ def cell(file, code):
 
 class Fonts(unittest.TestCase):
     def test_the_drawn_font(self):
-        file = subprocess.run([sys.executable, str(TOOLS / "font.py")], capture_output=True, check=True).stdout
+        file = subprocess.run([sys.executable, str(PYTHON / "rio9d"), "font"], capture_output=True, check=True).stdout
         self.assertEqual(file[:HEADER_BYTES], b"         k8           0           0         570          10 ")
         self.assertEqual(len(file), HEADER_BYTES + font.CELLS * WIDTH * HEIGHT)
         self.assertEqual(set(file[HEADER_BYTES:]), {0, 255})

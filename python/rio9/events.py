@@ -1,7 +1,6 @@
-#!/usr/bin/env python3
 """Writes events of the mouse as `rio9 desk` reads them, from lines that a person writes.
 
-    tools/events.py < examples/desk.txt > events
+    rio9d events < examples/desk.txt > events
 
 A line has the column and the row of a point of the display and the buttons that are down there, as their sum: 1 the left one, 2
 the middle one, 4 the right one, 0 none. What stands behind `#` and empty lines are not looked at. Events are spelled as mouse(3)
@@ -11,12 +10,44 @@ Status 1 where a line is no event, 2 where a word is wrong; one line tells why.
 It is outside the proof. Needs: Python 3.9 or later, its standard library alone.
 """
 
+import re
 import sys
+from dataclasses import dataclass
 
-import formats
-from desk_model import Mouse, read_event
+from rio9 import formats
 
 MSEC = 20
+EVENT_BYTES, FIELD_BYTES = 49, 12
+FIELD = re.compile(rb" *-?[0-9]+ ")
+MOST_BUTTONS, MOST_MSEC = 31, 2**32 - 1
+
+
+@dataclass(frozen=True)
+class Mouse:
+    """An event of the mouse (mouse(3))."""
+
+    x: int
+    y: int
+    buttons: int
+    msec: int
+
+    def text(self):
+        """The event as `mousein` takes it."""
+        return b"m%11d %11d %11d %11d " % (self.x, self.y, self.buttons, self.msec)
+
+    def point(self):
+        """Where the mouse is."""
+        return self.x, self.y
+
+
+def read_event(text):
+    """The event that a text tells, of a point of the usual display, or None."""
+    fields = [text[at : at + FIELD_BYTES] for at in range(1, EVENT_BYTES, FIELD_BYTES)]
+    if len(text) != EVENT_BYTES or text[:1] != b"m" or not all(map(FIELD.fullmatch, fields)):
+        return None
+    numbers = list(map(int, fields))
+    most = (formats.USUAL_SIZE[0] - 1, formats.USUAL_SIZE[1] - 1, MOST_BUTTONS, MOST_MSEC)
+    return Mouse(*numbers) if all(0 <= number <= high for number, high in zip(numbers, most)) else None
 
 
 def event_of(number, words, msec):
@@ -40,14 +71,10 @@ def events_of(text):
 
 
 def main(words):
-    formats.Words(prog="events.py", description=__doc__.split("\n")[0]).parse_args(words)
+    formats.Words(prog="rio9d events", description=__doc__.split("\n")[0]).parse_args(words)
     try:
         sys.stdout.buffer.write(events_of(sys.stdin.buffer.read().decode("utf-8", "backslashreplace")))
     except formats.BadText as error:
-        sys.stderr.write(f"events.py: {error}\n")
+        sys.stderr.write(f"rio9d events: {error}\n")
         return 1
     return 0
-
-
-if __name__ == "__main__":
-    sys.exit(main(sys.argv[1:]))

@@ -1,13 +1,12 @@
-#!/usr/bin/env python3
 """A client of a rio9 server: 9P2000 (intro(5)) over TCP, as commands and as a module.
 
-    tools/client.py 127.0.0.1:5640 new -r 16 16 176 128
-    tools/client.py 127.0.0.1:5640 draw 'n id=1 name=window.1.1' 'O op=Clear' \\
+    rio9d client 127.0.0.1:5640 new -r 16 16 176 128
+    rio9d client 127.0.0.1:5640 draw 'n id=1 name=window.1.1' 'O op=Clear' \\
         'd dstid=1 srcid=1 maskid=1 dstr=40,40,80,60 srcp=40,40 maskp=40,40'
-    tools/client.py 127.0.0.1:5640 click 40 40
-    tools/client.py 127.0.0.1:5640 type 'hello\\n'
-    tools/client.py 127.0.0.1:5640 cat wsys/1/cons
-    tools/client.py 127.0.0.1:5640 screen screen.png
+    rio9d client 127.0.0.1:5640 click 40 40
+    rio9d client 127.0.0.1:5640 type 'hello\\n'
+    rio9d client 127.0.0.1:5640 cat wsys/1/cons
+    rio9d client 127.0.0.1:5640 screen screen.png
 
 The words are [--attach NAME] [--seconds S] HOST:PORT COMMAND WORD.. with one of these commands. Each is a session of its own,
 which attaches to the device tree, or to what --attach names, and ends before the command does.
@@ -26,7 +25,7 @@ which attaches to the device tree, or to what --attach names, and ends before th
     click X Y [X2 Y2] [--button N]
                                 presses a button of the mouse and lets go, where four numbers stand after dragging it
     draw [LINE..]               draw messages on a new connection, one in each word, or in each line of standard input, spelled
-                                as tools/record.py does. Where the last one is `r` the bytes that it asks for are printed
+                                as `rio9d write` takes them. Where the last one is `r` the bytes that it asks for are printed
 
 S is how long an answer may take: 10 seconds where nothing is said, and no limit for `cat` of a file whose reads wait. A server
 with as many clients as workers answers a further one only when another ends.
@@ -42,10 +41,8 @@ import socket
 import sys
 import time
 
-import formats
-import picture
-import record
-from record import NOFID, NOTAG
+from rio9 import formats, picture, record
+from rio9.record import NOFID, NOTAG
 
 MSIZE = formats.MOST_OF_A_MESSAGE
 READ_HEAD, WRITE_HEAD = 11, 23  # the bytes of an Rread and of a Twrite before their data
@@ -313,7 +310,7 @@ def stat_line(stat):
 
 def parser_of(usage):
     """A reader of a command's words."""
-    return formats.Words(prog="client.py", usage=f"client.py [--attach NAME] [--seconds S] HOST:PORT {usage}")
+    return formats.Words(prog="rio9d client", usage=f"rio9d client [--attach NAME] [--seconds S] HOST:PORT {usage}")
 
 
 def positive(text):
@@ -459,7 +456,7 @@ def new(words):
 
 def wctl(words):
     if not words:
-        formats.stop("client.py", "a window command is wanted, as move -minx 40 -id 1")
+        formats.stop("rio9d client", "a window command is wanted, as move -minx 40 -id 1")
     return lambda client, root: write_file(client, root, "wctl", text_bytes(words))
 
 
@@ -468,12 +465,12 @@ def keys_of(text):
     try:
         return json.loads('"' + re.sub(r'(?<!\\)((?:\\\\)*)"', r'\1\\"', text) + '"', strict=False)
     except ValueError:
-        formats.stop("client.py", "what stands behind a \\ is as in JSON: \\n, \\b, \\t, \\\\ or \\uXXXX")
+        formats.stop("rio9d client", "what stands behind a \\ is as in JSON: \\n, \\b, \\t, \\\\ or \\uXXXX")
 
 
 def type_keys(words):
     if not words:
-        formats.stop("client.py", "a text is wanted")
+        formats.stop("rio9d client", "a text is wanted")
     keys = keys_of(" ".join(words))
 
     def job(client, root):
@@ -564,7 +561,7 @@ def run(options, job):
 
 
 def main(words):
-    parser = formats.Words(prog="client.py", description=__doc__, formatter_class=argparse.RawDescriptionHelpFormatter)
+    parser = formats.Words(prog="rio9d client", description=__doc__, formatter_class=argparse.RawDescriptionHelpFormatter)
     parser.add_argument("--attach", default="", metavar="NAME", help="the name of the tree to attach to")
     parser.add_argument("--seconds", type=seconds_of, metavar="S", help="how long an answer may take")
     parser.add_argument("address", type=address_of, metavar="HOST:PORT", help="where the server listens")
@@ -574,16 +571,12 @@ def main(words):
     try:
         run(options, COMMANDS[options.command](options.words))
     except (Failure, ValueError) as error:
-        sys.stderr.write(f"client.py: {error}\n")
+        sys.stderr.write(f"rio9d client: {error}\n")
         return 1
     except formats.BadText as error:
-        formats.stop("client.py", error)
+        formats.stop("rio9d client", error)
     except OSError as error:
-        formats.stop("client.py", formats.why_not(error))
+        formats.stop("rio9d client", formats.why_not(error))
     except KeyboardInterrupt:
         return 130
     return 0
-
-
-if __name__ == "__main__":
-    sys.exit(main(sys.argv[1:]))

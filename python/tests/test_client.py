@@ -1,5 +1,4 @@
-#!/usr/bin/env python3
-"""Tests of client.py: what it sends and takes, byte for byte as the examples spell it, and its commands before a small server."""
+"""Tests of rio9.client: what it sends and takes, byte for byte as the examples spell it, and its commands before a small server."""
 
 import contextlib
 import io
@@ -9,12 +8,10 @@ import tempfile
 import threading
 import unittest
 
-import client
-import formats
-import record
+from rio9 import client, formats, record
 from test_picture import IMAGE_FILE, pixels_of
 
-EXAMPLES = pathlib.Path(__file__).resolve().parent.parent / "examples"
+EXAMPLES = pathlib.Path(__file__).resolve().parent.parent.parent / "examples"
 
 
 def reply(kind, tag, body=b""):
@@ -313,9 +310,9 @@ class Commands(unittest.TestCase):
 
     def test_one_line_tells_what_is_wrong(self):
         cases = [
-            (["cat", "nope"], 1, "client.py: file does not exist"),
-            (["cat", "kbdin"], 1, "client.py: permission denied"),
-            (["wctl", "dance"], 1, "client.py: bad wctl command"),
+            (["cat", "nope"], 1, "rio9d client: file does not exist"),
+            (["cat", "kbdin"], 1, "rio9d client: permission denied"),
+            (["wctl", "dance"], 1, "rio9d client: bad wctl command"),
             (["wctl"], 2, "window command"),
             (["cat"], 2, "path"),
             (["dance"], 2, "dance"),
@@ -337,7 +334,7 @@ class Commands(unittest.TestCase):
                 err = io.StringIO()
                 with contextlib.redirect_stderr(err):
                     self.assertEqual(client.main(words), 1)
-                self.assertEqual(err.getvalue(), "client.py: no answer within 0.01 seconds\n")
+                self.assertEqual(err.getvalue(), "rio9d client: no answer within 0.01 seconds\n")
 
     def test_addresses(self):
         self.assertEqual(client.address_of("[::1]:564"), ("::1", 564))
@@ -350,7 +347,7 @@ class Commands(unittest.TestCase):
         err = io.StringIO()
         with contextlib.redirect_stderr(err):
             self.assertEqual(client.main([f"127.0.0.1:{port}", "ls"]), 1)
-        self.assertTrue(err.getvalue().startswith(f"client.py: no connection to 127.0.0.1:{port}: "), err.getvalue())
+        self.assertTrue(err.getvalue().startswith(f"rio9d client: no connection to 127.0.0.1:{port}: "), err.getvalue())
 
 
 if __name__ == "__main__":

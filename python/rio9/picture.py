@@ -1,10 +1,9 @@
-#!/usr/bin/env python3
 """Writes a picture of what `rio9 replay` gives, as a PNG file.
 
-    tools/picture.py screen.png < output
-    tools/picture.py screen.png --scale 4 < file
-    tools/picture.py middle.png --size 128x96 --chan x8r8g8b8 < replies
-    tools/picture.py middle.png --size 128x96 --chan x8r8g8b8 --read 1 < replies
+    rio9d picture screen.png < output
+    rio9d picture screen.png --scale 4 < file
+    rio9d picture middle.png --size 128x96 --chan x8r8g8b8 < replies
+    rio9d picture middle.png --size 128x96 --chan x8r8g8b8 --read 1 < replies
 
 The input is what a run printed: reply lines, and with --screen the line `S n` and an image file (image(6)) of n
 bytes behind them. It may also be such a file alone. The picture is the image file's; with --size and --chan it is
@@ -23,8 +22,7 @@ import struct
 import sys
 import zlib
 
-import formats
-import record
+from rio9 import formats, record
 
 HEADER_BYTES = 60
 HEADER = re.compile(rb" *([rgbkax][1-8]){1,4}( +-?[0-9]+){4} ")
@@ -145,7 +143,7 @@ def chosen_picture(replies, options):
 
 
 def main(words):
-    parser = formats.Words(prog="picture.py", description=__doc__.split("\n")[0])
+    parser = formats.Words(prog="rio9d picture", description=__doc__.split("\n")[0])
     parser.add_argument("out", help="the PNG file")
     parser.add_argument("--size", type=size_of, metavar="WxH", help="width and height of what an Rread has")
     parser.add_argument("--chan", type=formats.channels_option, metavar="C", help="its channels")
@@ -159,12 +157,8 @@ def main(words):
         with open(options.out, "wb") as file:
             file.write(png)
     except (NoPicture, formats.BadText, ValueError) as error:
-        sys.stderr.write(f"picture.py: {error}\n")
+        sys.stderr.write(f"rio9d picture: {error}\n")
         return 1
     except OSError as error:
-        formats.stop("picture.py", formats.why_not(error))
+        formats.stop("rio9d picture", formats.why_not(error))
     return 0
-
-
-if __name__ == "__main__":
-    sys.exit(main(sys.argv[1:]))

@@ -1,14 +1,13 @@
-#!/usr/bin/env python3
 """Writes session records from readable lines, and explains records and reply lines in such lines.
 
-    tools/record.py write < shapes.txt > shapes.record
-    tools/record.py explain < shapes.record
-    tools/record.py explain < shapes.replies
+    rio9d write < shapes.txt > shapes.record
+    rio9d explain < shapes.record
+    rio9d explain < shapes.replies
 
 What explain gives for a record is what write takes, and write gives the same record back, byte for byte.
 Explained replies are for reading alone. Both refuse what is no record, as the program does, and tell the line and
 the word at fault: status 1. Wrong options are status 2. This tool is outside the proof: it shares nothing with the program,
-and nothing in it is proved; tools/test_record.py tests it. Needs: Python 3.9 or later, its standard library.
+and nothing in it is proved. Needs: Python 3.9 or later, its standard library.
 
 The readable lines. A word that begins with `#` begins a comment.
 
@@ -44,8 +43,8 @@ import sys
 from dataclasses import dataclass
 from typing import Callable, Optional
 
-import formats
-from formats import BEGIN, END, MESSAGE, STOP, TAKE, BadEvent, BadText, Event
+from rio9 import formats
+from rio9.formats import BEGIN, END, MESSAGE, STOP, TAKE, BadEvent, BadText, Event
 
 # Bytes to values: what fields take theirs from.
 
@@ -855,21 +854,30 @@ def stat_lines(payload):
     return lines
 
 
-def main(words):
-    parser = formats.Words(prog="record.py", description=__doc__.split("\n")[0])
-    parser.add_argument("job", choices=["write", "explain"])
+def write_main(words):
+    """The command `rio9d write`."""
+    formats.Words(prog="rio9d write", description="Writes a record of readable lines, from standard input.").parse_args(words)
+    return turn("rio9d write", lambda data: write(readable_text(data)))
+
+
+def explain_main(words):
+    """The command `rio9d explain`."""
+    parser = formats.Words(prog="rio9d explain", description="Explains a record or reply lines, from standard input.")
     parser.add_argument("--chan", type=formats.channels_option, default="x8r8g8b8", help="the display's channels")
     options = parser.parse_args(words)
+    return turn("rio9d explain", lambda data: explain(data, options.chan).encode())
+
+
+def turn(name, made_of):
+    """Writes what is made of standard input to standard output, and gives the status."""
     try:
-        data = sys.stdin.buffer.read()
-        made = write(readable_text(data)) if options.job == "write" else explain(data, options.chan).encode()
-        sys.stdout.buffer.write(made)
+        sys.stdout.buffer.write(made_of(sys.stdin.buffer.read()))
         sys.stdout.buffer.flush()
     except BadText as error:
-        sys.stderr.write(f"record.py: {error}\n")
+        sys.stderr.write(f"{name}: {error}\n")
         return 1
     except OSError as error:
-        formats.stop("record.py", formats.why_not(error))
+        formats.stop(name, formats.why_not(error))
     return 0
 
 
@@ -878,7 +886,3 @@ def readable_text(data):
         return data.decode()
     except UnicodeDecodeError as error:
         raise BadText(data.count(b"\n", 0, error.start) + 1, "no UTF-8") from None
-
-
-if __name__ == "__main__":
-    sys.exit(main(sys.argv[1:]))

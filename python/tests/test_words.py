@@ -1,0 +1,71 @@
+"""Tests that each command tells in one line what is wrong with its words, its files or its input, and ends with a status."""
+
+import pathlib
+import subprocess
+import sys
+import tempfile
+import unittest
+
+PYTHON = pathlib.Path(__file__).resolve().parent.parent
+EXAMPLES = PYTHON.parent / "examples"
+FIRST = (EXAMPLES / "first.record").read_bytes()
+NOT_THERE = str(EXAMPLES / "not-there" / "file")
+KEEPS_NOTHING = b"         k8           0           0           1           1 \0"
+
+# A command and its words, its input, its status, and what the line names.
+CASES = [
+    ("explain --chan q8", FIRST, 2, "q8"),
+    ("explain", FIRST[:-1], 1, "line 5: "),
+    ("write", b"session 2\n", 1, "line 1, word 2 `2`: "),
+    ("write", b"\n# \xff\n", 1, "line 2: "),
+    ("picture", b"", 2, "out"),
+    ("picture OUT --size 0x3 --chan k8", b"", 2, "0x3"),
+    ("picture OUT --size 3x3", b"", 2, "--chan"),
+    ("picture OUT --scale 17", b"", 2, "17"),
+    ("picture OUT", b"", 1, "S n"),
+    ("picture OUT", b"rio9 1\n", 1, "line 1, word 1 `rio9`: "),
+    ("picture OUT --size 1x1 --chan k8", b"", 1, "0 Rreads"),
+    (f"picture {NOT_THERE}", KEEPS_NOTHING, 2, NOT_THERE),
+    ("wireshark", b"", 2, "record"),
+    (f"wireshark {NOT_THERE} {EXAMPLES}/first.replies OUT", b"", 2, NOT_THERE),
+    (f"wireshark {EXAMPLES}/first.record {EXAMPLES}/first.record OUT", b"", 1, "line 1, word 1 `rio9`: "),
+    (f"font {NOT_THERE}", b"", 2, NOT_THERE),
+    (f"font {EXAMPLES}/first.record", b"", 1, "0 characters"),
+    ("events file", b"", 2, "file"),
+    ("events", b"# none\n1 2\n", 1, "line 2: "),
+    ("events", b"640 0 0\n", 1, "line 1: columns"),
+]
+
+
+def run(words, given=b""):
+    """How `rio9d` ends with some words."""
+    return subprocess.run([sys.executable, str(PYTHON / "rio9d"), *words], input=given, capture_output=True)
+
+
+class Lines(unittest.TestCase):
+    def test_one_line_tells_what_is_wrong(self):
+        with tempfile.TemporaryDirectory() as room:
+            for words, given, status, told in CASES:
+                command, *rest = words.replace("OUT", f"{room}/out").split()
+                with self.subTest(words):
+                    ended = run([command, *rest], given)
+                    line = ended.stderr.decode()
+                    self.assertEqual((ended.returncode, ended.stdout, line.count("\n")), (status, b"", 1), line)
+                    self.assertTrue(line.startswith(f"rio9d {command}: ") and told in line, line)
+
+
+class Words(unittest.TestCase):
+    def test_no_command(self):
+        for words, told in (([], b"a command is wanted"), (["dance"], b"no command: dance")):
+            ended = run(words)
+            self.assertEqual((ended.returncode, ended.stdout, ended.stderr.count(b"\n")), (2, b"", 1))
+            self.assertIn(told, ended.stderr)
+
+    def test_help(self):
+        ended = run(["--help"])
+        self.assertEqual((ended.returncode, ended.stderr), (0, b""))
+        self.assertIn(b"  picture ", ended.stdout)
+
+
+if __name__ == "__main__":
+    unittest.main()
