@@ -1,4 +1,2 @@
-pub mod Uses
-pub mod Own
-pub mod Lone
-pub mod Isolated
+pub mod alone
+pub mod used

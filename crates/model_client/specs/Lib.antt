@@ -1,4 +1,4 @@
-pub mod Saying
-pub mod Files
-pub mod Messages
-pub mod Pointing
+pub mod cursor
+pub mod desk
+pub mod mirror
+pub mod textwin

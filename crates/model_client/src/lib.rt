@@ -1,3 +1,7 @@
-//! What a server answers to a client that is its only session, message by message, and to the draw messages that it sends.
-//! Definitions, and the lemmas about them that proofs of other crates cite; no code.
+//! These parts, each with a text of its own at its head: `cursor`, `desk`, `mirror`, `textwin`.
 #![tactic(auto)]
+
+pub mod cursor;
+pub mod desk;
+pub mod mirror;
+pub mod textwin;

@@ -1,11 +1,4 @@
-pub mod World
-pub mod Making
-pub mod Drawing
-pub mod Moving
-pub mod Naming
-pub mod Writing
-pub mod Act
-pub mod Files
-pub mod Memory
-pub mod Orders
-pub mod Sound
+pub mod cost
+pub mod draw
+pub mod imgfile
+pub mod looked

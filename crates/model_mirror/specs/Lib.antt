@@ -1,3 +1,5 @@
-pub mod Picture
-pub mod Lines
-pub mod Frames
+pub mod Shown
+pub mod Sent
+pub mod Frame
+pub mod Pictures
+pub mod Mirror

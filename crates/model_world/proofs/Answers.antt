@@ -5,15 +5,15 @@ use Rattle.std.specs.List.{fold}
 use Rattle.std.specs.Option.{option_map}
 use Rattle.std.proofs.lemmas.Grind.{common_steps}
 use Rattle.std.proofs.lemmas.Bool.Decides.{nat_tests}
-use Rattle.model_text.specs.Outcome.{Outcome, ◌>>=◌, refuse_if}
-use Rattle.model_text.specs.Map.{without}
-use Rattle.model_wire.specs.Message.{T, Rversion, Ropen, Rclunk, Tversion, Tauth, Tattach, Tflush, Twalk, Topen, Tcreate, Tread, Twrite, Tclunk, Tremove, Tstat, Twstat, R, no_fid, no_tag, tag_of_t}
-use Rattle.model_wire.specs.Reading.{message_of, tag_of}
-use Rattle.model_tree.specs.declared.Kind.TheVariants.{New}
-use Rattle.model_tree.specs.Attach.{attach_of}
-use Rattle.model_tree.specs.Node.{Node, qid, may, reads, writes}
-use Rattle.model_tree.specs.Tree.{check_live}
-use Rattle.model_draw.specs.World as draw
+use Rattle.model_text.specs.text.Outcome.{Outcome, ◌>>=◌, refuse_if}
+use Rattle.model_text.specs.text.Map.{without}
+use Rattle.model_files.specs.wire.Message.{T, Rversion, Ropen, Rclunk, Tversion, Tauth, Tattach, Tflush, Twalk, Topen, Tcreate, Tread, Twrite, Tclunk, Tremove, Tstat, Twstat, R, no_fid, no_tag, tag_of_t}
+use Rattle.model_files.specs.wire.Reading.{message_of, tag_of}
+use Rattle.model_files.specs.declared.tree.Kind.TheVariants.{New}
+use Rattle.model_files.specs.tree.Attach.{attach_of}
+use Rattle.model_files.specs.tree.Node.{Node, qid, may, reads, writes}
+use Rattle.model_files.specs.tree.Tree.{check_live}
+use Rattle.model_draw.specs.draw.World as draw
 use Rattle.model_world.specs.Session.{Fid, Session, Wait, max_msize}
 use Rattle.model_world.specs.Outside.{Outside}
 use Rattle.model_world.specs.Refusal.{refusal}

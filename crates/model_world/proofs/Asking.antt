@@ -4,11 +4,11 @@ use Rattle.std.specs.Prelude.{◌<◌, ◌==◌, ◌&&◌}
 use Rattle.std.specs.List.{filter}
 use Rattle.std.specs.Map.{keys_of}
 use Rattle.std.proofs.lemmas.Bool.{eqb-true}
-use Rattle.r9_event.specs.declared.event.Reply.{Reply}
-use Rattle.model_text.specs.Map.{lookup, without}
-use Rattle.model_map.specs.Ascending.{AreAbove, Ascend}
-use Rattle.model_map.proofs.Ascending.{without-here}
-use Rattle.model_map.proofs.Maps.{with-others, without-others}
+use Rattle.r9_event.specs.declared.event.event.Reply.{Reply}
+use Rattle.model_text.specs.text.Map.{lookup, without}
+use Rattle.model_text.specs.map.Ascending.{AreAbove, Ascend}
+use Rattle.model_text.proofs.map.Ascending.{without-here}
+use Rattle.model_text.proofs.map.Maps.{with-others, without-others}
 use Rattle.model_world.specs.Session.{Session}
 use Rattle.model_world.specs.Desktop.{Desktop}
 use Rattle.model_world.specs.Whole.{desktop_for}

@@ -1,10 +1,10 @@
 -- A session that is closed has nothing, and answers to nothing.
 use Rattle.std.proofs.Common.{◌≡◌, ℕ, Bool, true, false, List, [], ◌∷◌, ◌++◌, Option, Some, None, Ok, Err, refl, sym, ap, subst, ◌∙◌}
 use Rattle.std.specs.Prelude.{◌&&◌, ◌==◌, is_some, length, not, nat_lt, if◌then◌else◌}
-use Rattle.r9_event.specs.declared.event.Event.{Event}
-use Rattle.r9_event.specs.declared.event.Opening.{Opening}
-use Rattle.model_text.specs.Outcome.{Outcome}
-use Rattle.model_wire.specs.Reading.{kind_of, message_of, tag_of}
+use Rattle.r9_event.specs.declared.event.event.Event.{Event}
+use Rattle.r9_event.specs.declared.event.event.Opening.{Opening}
+use Rattle.model_text.specs.text.Outcome.{Outcome}
+use Rattle.model_files.specs.wire.Reading.{kind_of, message_of, tag_of}
 use Rattle.model_world.specs.Session.{Session, Wait}
 use Rattle.model_world.specs.Outside.{Outside}
 use Rattle.model_world.specs.Desktop.{Desktop}

@@ -9,30 +9,30 @@ use Rattle.std.proofs.lemmas.Map.{keys-set_value}
 use Rattle.std.proofs.lemmas.Grind.{common_steps}
 use Rattle.r9_geom.specs.declared.Rect.{Rect}
 use Rattle.r9_geom.specs.declared.Point.{Point}
-use Rattle.model_text.specs.Outcome.{Outcome, ◌>>=◌, refuse_if}
-use Rattle.model_text.specs.Map.{is_key}
-use Rattle.model_dmsg.specs.Message.{Message, LowB, UpA, LowC, LowD, UpD, LowF, UpF, LowI, LowL, UpN, LowN, LowO, UpO, LowR, LowS, UpS, LowT, LowV, LowX, LowY, Writing}
-use Rattle.model_images.specs.declared.Thing.{Thing}
-use Rattle.model_images.specs.declared.Thing.TheVariants.{Image, Screen}
+use Rattle.model_text.specs.text.Outcome.{Outcome, ◌>>=◌, refuse_if}
+use Rattle.model_text.specs.text.Map.{is_key}
+use Rattle.model_draw_parts.specs.dmsg.Message.{Message, LowB, UpA, LowC, LowD, UpD, LowF, UpF, LowI, LowL, UpN, LowN, LowO, UpO, LowR, LowS, UpS, LowT, LowV, LowX, LowY, Writing}
+use Rattle.model_draw_parts.specs.declared.images.Thing.{Thing}
+use Rattle.model_draw_parts.specs.declared.images.Thing.TheVariants.{Image, Screen}
 use Rattle.model_pixel.specs.Channels.{is_descriptor}
-use Rattle.model_imgfile.specs.ImageFile.{rows_len}
+use Rattle.model_draw.specs.imgfile.ImageFile.{rows_len}
 use Rattle.r9_geom.specs.Geometry.{is_empty}
-use Rattle.model_images.specs.Book.{Book, is_image_id_taken, add_id}
-use Rattle.model_images.specs.Release.{Freed}
-use Rattle.model_draw.specs.World.{World, Client, next_image, at_number, client_of, with_client, with_images, without_thing, after_freed}
-use Rattle.model_draw.specs.Making.{allocate, clashes, make_screen, share_screen, set_clip, free_image, free_screen_id, flag, farthest, fill_raw, is_near_rect, is_too_large, screen_named, with_made, with_new_image, with_size}
-use Rattle.model_draw.specs.Moving.{look_window, move_window, restack}
-use Rattle.model_draw.specs.Drawing.{draw, set_operator, read_pixels, write_pixels}
-use Rattle.model_draw.specs.Naming.{name_image, use_name}
-use Rattle.model_draw.specs.Writing.{make_font, load_cell, write_string}
-use Rattle.model_draw.specs.Act.{act, one_message, written, written_within, Written}
-use Rattle.model_draw.specs.Files.{read_data, write_ctl}
-use Rattle.r9_event.specs.declared.rio.Order.{Order}
-use Rattle.r9_event.specs.declared.rio.Order.TheVariants as order
+use Rattle.model_draw_parts.specs.images.Book.{Book, is_image_id_taken, add_id}
+use Rattle.model_draw_parts.specs.images.Release.{Freed}
+use Rattle.model_draw.specs.draw.World.{World, Client, next_image, at_number, client_of, with_client, with_images, without_thing, after_freed}
+use Rattle.model_draw.specs.draw.Making.{allocate, clashes, make_screen, share_screen, set_clip, free_image, free_screen_id, flag, farthest, fill_raw, is_near_rect, is_too_large, screen_named, with_made, with_new_image, with_size}
+use Rattle.model_draw.specs.draw.Moving.{look_window, move_window, restack}
+use Rattle.model_draw.specs.draw.Drawing.{draw, set_operator, read_pixels, write_pixels}
+use Rattle.model_draw.specs.draw.Naming.{name_image, use_name}
+use Rattle.model_draw.specs.draw.Writing.{make_font, load_cell, write_string}
+use Rattle.model_draw.specs.draw.Act.{act, one_message, written, written_within, Written}
+use Rattle.model_draw.specs.draw.Files.{read_data, write_ctl}
+use Rattle.r9_event.specs.declared.event.rio.Order.{Order}
+use Rattle.r9_event.specs.declared.event.rio.Order.TheVariants as order
 use Rattle.model_pixel.specs.Channels.{colour_of, pack}
 use Rattle.model_forest.specs.Draw.{after_fill}
 use Rattle.model_forest.specs.Steps.{outside}
-use Rattle.model_draw.specs.Orders.{after_order, bordered, carried_out, drop_window, fits, host_rio, image_freed, image_shown, inside_border, make_window, next_white, ordered, place_window, replace_window, resize_display, rio_screen, screen_freed}
+use Rattle.model_draw.specs.draw.Orders.{after_order, bordered, carried_out, drop_window, fits, host_rio, image_freed, image_shown, inside_border, make_window, next_white, ordered, place_window, replace_window, resize_display, rio_screen, screen_freed}
 use Rattle.model_world.proofs.Orders.{EndNone, ends}
 
 -- the numbers of a device's connections

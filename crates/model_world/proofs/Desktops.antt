@@ -5,21 +5,21 @@ use Rattle.std.specs.Int.{w32, from_le_bytes}
 use Rattle.std.specs.List.{fold}
 use Rattle.std.specs.Map.{keys_of}
 use Rattle.std.proofs.lemmas.Bool.{cond_both}
-use Rattle.model_text.specs.Outcome.{Outcome, ◌>>=◌, refuse_if, value_or_refuse}
-use Rattle.model_words.specs.declared.Size.{Size}
-use Rattle.model_wctl.specs.Command.{Wctl}
-use Rattle.model_wctl.specs.Command as wctl
-use Rattle.model_wctl.specs.Reading.{command_of}
-use Rattle.model_mouse.specs.declared.Mouse.{Mouse as Pointer}
-use Rattle.model_tree.specs.Attach.{Attach, Whole, Existing, Fresh, Unknown}
-use Rattle.model_images.specs.Book.{Book, image, image_id, is_stale}
-use Rattle.model_rio.specs.Table.{Table, found, is_host}
-use Rattle.model_rio.specs.Act as act
-use Rattle.model_rio.specs.Rio.{rio}
-use Rattle.model_rio.specs.Step.{Step}
-use Rattle.model_draw.specs.World as draw
-use Rattle.model_draw.specs.Act.{no_memory}
-use Rattle.model_draw.specs.Files.{is_known, read_ctl, read_data, write_ctl}
+use Rattle.model_text.specs.text.Outcome.{Outcome, ◌>>=◌, refuse_if, value_or_refuse}
+use Rattle.model_history.specs.declared.words.Size.{Size}
+use Rattle.model_files.specs.wctl.Command.{Wctl}
+use Rattle.model_files.specs.wctl.Command as wctl
+use Rattle.model_files.specs.wctl.Reading.{command_of}
+use Rattle.model_files.specs.declared.mouse.Mouse.{Mouse as Pointer}
+use Rattle.model_files.specs.tree.Attach.{Attach, Whole, Existing, Fresh, Unknown}
+use Rattle.model_draw_parts.specs.images.Book.{Book, image, image_id, is_stale}
+use Rattle.model_rio.specs.rio.Table.{Table, found, is_host}
+use Rattle.model_rio.specs.rio.Act as act
+use Rattle.model_rio.specs.rio.Rio.{rio}
+use Rattle.model_rio.specs.rio.Step.{Step}
+use Rattle.model_draw.specs.draw.World as draw
+use Rattle.model_draw.specs.draw.Act.{no_memory}
+use Rattle.model_draw.specs.draw.Files.{is_known, read_ctl, read_data, write_ctl}
 use Rattle.model_world.specs.Desktop.{Desktop, is_user, stepped, stepped_if, stepped_or, users_of, without_user}
 use Rattle.model_world.specs.Whole.{attached, client, commanded, ctl_written, data_read, desktop_for, device_commanded, device_commanded_by, host_of, left_one, made_by, moused, resized, serial_of, typed, window_made, with_device, written_data}
 use Rattle.model_world.proofs.Others.{IsOther, IsTold, behind_known, behind_step, refused_by, value_by}

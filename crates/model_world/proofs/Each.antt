@@ -1,12 +1,12 @@
 -- What each session keeps, each session of a world has.
 use Rattle.std.proofs.Common.{◌≡◌, ℕ, Bool, true, false, eqb, List, [], ◌∷◌, Option, Some, None, refl, sym, ap, subst, ◌∙◌}
 use Rattle.std.proofs.lemmas.Bool.{eqb-true, eqb-false}
-use Rattle.r9_event.specs.declared.event.Event.{Event}
-use Rattle.r9_event.specs.declared.event.Event.TheVariants.{Begin, Msg, Take, End, Stop}
-use Rattle.r9_event.specs.declared.event.Opening.{Opening}
-use Rattle.model_text.specs.Map.{lookup, with, and, without}
-use Rattle.model_map.proofs.Maps.{and-here, and-others, with-here, with-others, without-others}
-use Rattle.model_map.proofs.Ascending.{without-here, ascend-with, ascend-without}
+use Rattle.r9_event.specs.declared.event.event.Event.{Event}
+use Rattle.r9_event.specs.declared.event.event.Event.TheVariants.{Begin, Msg, Take, End, Stop}
+use Rattle.r9_event.specs.declared.event.event.Opening.{Opening}
+use Rattle.model_text.specs.text.Map.{lookup, with, and, without}
+use Rattle.model_text.proofs.map.Maps.{and-here, and-others, with-here, with-others, without-others}
+use Rattle.model_text.proofs.map.Ascending.{without-here, ascend-with, ascend-without}
 use Rattle.model_world.specs.Session.{Session, fresh}
 use Rattle.model_world.specs.Desktop.{Desktop}
 use Rattle.model_world.specs.Whole.{desktop_for}

@@ -3,17 +3,17 @@ use Rattle.std.proofs.Common.{ℕ, Bool, not, List, length, Option, Some, None, 
 use Rattle.std.specs.Prelude.{◌+◌, ◌==◌, ◌&&◌, ◌||◌, codes, nat_le, nat_lt}
 use Rattle.std.specs.Option.{option_map}
 use Rattle.std.specs.Str.{bytes_eq}
-use Rattle.model_text.specs.Outcome.{Outcome, ◌>>=◌, refuse_if, value_or_refuse}
-use Rattle.model_words.specs.Values.{sides_of}
-use Rattle.model_mouse.specs.Pointer.{pointer_of}
-use Rattle.model_mouse.specs.Queue.{answer_text}
-use Rattle.model_console.specs.Console as console
-use Rattle.model_window.specs.Heard.{ConsoleRead, Labelled, MouseRead, Raw, Written, wctl_answer, wctl_text}
-use Rattle.model_tree.specs.declared.Kind.{Kind}
-use Rattle.model_tree.specs.declared.Kind.TheVariants as kind
-use Rattle.model_tree.specs.Node.{Node, is_directory}
-use Rattle.model_tree.specs.Listing.{fitting, stats}
-use Rattle.model_draw.specs.World as draw
+use Rattle.model_text.specs.text.Outcome.{Outcome, ◌>>=◌, refuse_if, value_or_refuse}
+use Rattle.model_history.specs.words.Values.{sides_of}
+use Rattle.model_files.specs.mouse.Pointer.{pointer_of}
+use Rattle.model_files.specs.mouse.Queue.{answer_text}
+use Rattle.model_files.specs.console.Console as console
+use Rattle.model_rio.specs.window.Heard.{ConsoleRead, Labelled, MouseRead, Raw, Written, wctl_answer, wctl_text}
+use Rattle.model_files.specs.declared.tree.Kind.{Kind}
+use Rattle.model_files.specs.declared.tree.Kind.TheVariants as kind
+use Rattle.model_files.specs.tree.Node.{Node, is_directory}
+use Rattle.model_files.specs.tree.Listing.{fitting, stats}
+use Rattle.model_draw.specs.draw.World as draw
 use Rattle.model_world.specs.Session.{Fid, Kept}
 use Rattle.model_world.specs.Outside.{Outside}
 use Rattle.model_world.specs.Reading.{Given, ctl_len, ctl_read, directory_read, file_read, given, given_in, given_now, goes_on, mouse_len, node_read, read_from, wctl_len}

@@ -4,10 +4,10 @@ use Rattle.std.specs.Prelude.{◌==◌, ◌||◌}
 use Rattle.std.specs.List.{list_any}
 use Rattle.std.proofs.lemmas.List.Folds.{list_any-append}
 use Rattle.std.proofs.lemmas.Map.Views.{any-filter_same}
-use Rattle.model_map.proofs.Keys.{eqb-same}
-use Rattle.model_text.specs.Outcome.{Outcome, ◌>>=◌, refuse_if}
-use Rattle.model_wire.specs.Message.{T, Tflush, R, Rflush}
-use Rattle.model_wire.specs.Reading.{message_of, tag_of}
+use Rattle.model_text.proofs.map.Keys.{eqb-same}
+use Rattle.model_text.specs.text.Outcome.{Outcome, ◌>>=◌, refuse_if}
+use Rattle.model_files.specs.wire.Message.{T, Tflush, R, Rflush}
+use Rattle.model_files.specs.wire.Reading.{message_of, tag_of}
 use Rattle.model_world.specs.Session.{Session, Wait}
 use Rattle.model_world.specs.Outside.{Outside}
 use Rattle.model_world.specs.Fids.{Left}

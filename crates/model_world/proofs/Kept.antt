@@ -2,13 +2,13 @@
 use Rattle.std.proofs.Common.{◌≡◌, ℕ, Bool, true, false, List, [], ◌∷◌, Option, refl, ap, ◌∙◌}
 use Rattle.std.specs.Prelude.{is_some, if◌then◌else◌}
 use Rattle.std.specs.List.{fold}
-use Rattle.model_words.specs.declared.Size.{Size}
-use Rattle.model_mouse.specs.declared.Mouse.{Mouse as Pointer}
-use Rattle.model_tree.specs.declared.Kind.TheVariants as kind
-use Rattle.model_tree.specs.Attach.{Attach}
-use Rattle.model_tree.specs.Node.{Node}
-use Rattle.model_window.specs.Heard.{Heard, ConsctlHeld, MouseHeld}
-use Rattle.model_draw.specs.World as draw
+use Rattle.model_history.specs.declared.words.Size.{Size}
+use Rattle.model_files.specs.declared.mouse.Mouse.{Mouse as Pointer}
+use Rattle.model_files.specs.declared.tree.Kind.TheVariants as kind
+use Rattle.model_files.specs.tree.Attach.{Attach}
+use Rattle.model_files.specs.tree.Node.{Node}
+use Rattle.model_rio.specs.window.Heard.{Heard, ConsctlHeld, MouseHeld}
+use Rattle.model_draw.specs.draw.World as draw
 use Rattle.model_world.specs.Session.{Fid}
 use Rattle.model_world.specs.Outside.{Outside}
 use Rattle.model_world.specs.Fids.{is_kind, let_go, with_held}

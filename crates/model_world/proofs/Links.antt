@@ -7,13 +7,13 @@ use Rattle.std.proofs.lemmas.Bool.{eqb-true, eqb-false}
 use Rattle.std.proofs.lemmas.List.Folds.{list_any-append}
 use Rattle.std.proofs.lemmas.Map.Made.{is_some-lookup}
 use Rattle.std.proofs.lemmas.Map.Views.{any-filter_same}
-use Rattle.model_text.specs.Map.{is_key, lookup, without}
-use Rattle.model_map.specs.Ascending.{AreAbove, Ascend}
-use Rattle.model_map.proofs.Keys.{not_key, eqb-same}
-use Rattle.model_map.proofs.Maps.{and-here, and-others, without-others}
-use Rattle.model_map.proofs.Ascending.{without-here, ascend-and, ascend-without}
-use Rattle.model_images.specs.Release.{leave}
-use Rattle.model_draw.specs.World as draw
+use Rattle.model_text.specs.text.Map.{is_key, lookup, without}
+use Rattle.model_text.specs.map.Ascending.{AreAbove, Ascend}
+use Rattle.model_text.proofs.map.Keys.{not_key, eqb-same}
+use Rattle.model_text.proofs.map.Maps.{and-here, and-others, without-others}
+use Rattle.model_text.proofs.map.Ascending.{without-here, ascend-and, ascend-without}
+use Rattle.model_draw_parts.specs.images.Release.{leave}
+use Rattle.model_draw.specs.draw.World as draw
 use Rattle.model_world.specs.Session.{Session}
 use Rattle.model_world.specs.Outside.{Outside}
 use Rattle.model_world.specs.Fids.{cleared, fids_gone, left_by, let_go, settled}

@@ -3,20 +3,20 @@ use Rattle.std.proofs.Common.{◌≡◌, ◌<◌, ◌≤◌, ◌+◌, ℕ, zero,
 use Rattle.std.specs.Prelude.{IfSome}
 use Rattle.std.specs.Result.{result_ok}
 use Rattle.std.specs.Option.{option_map_or}
-use Rattle.r9_event.specs.declared.event.Event.{Event}
-use Rattle.r9_event.specs.declared.event.Event.TheVariants.{Begin, Msg, Take, End, Stop}
-use Rattle.model_text.specs.Outcome.{Outcome, ◌>>=◌, refuse_if}
-use Rattle.model_wire.specs.Message.{T, Twrite}
-use Rattle.model_wire.specs.Spelling.{message, spelling_of_t}
-use Rattle.model_wire.specs.Reading.{message_of}
-use Rattle.model_wire.proofs.Laws.{t_takes}
-use Rattle.model_dmsg.specs.Message.{Message, spelled_len, LowB, UpA, LowC, LowD, UpD, LowF, UpF, LowI, LowL, UpN, LowN, LowO, UpO, LowR, LowS, UpS, LowT, LowV, LowX, LowY}
-use Rattle.model_dmsg.specs.Reading.{First, IsMessage, IsShort, IsUnknown, IsUnsupported, first_message}
-use Rattle.model_dmsg.proofs.Rest.{first_message-rest, rest-shorter}
-use Rattle.model_draw.specs.World as draw
-use Rattle.model_draw.specs.Act.{act, behind, is_marked, no_memory, one_message, spelled}
-use Rattle.model_draw.specs.Memory.{MayRunOut, reached, takes_no_memory}
-use Rattle.model_event.specs.Legal.{Roll, Allowed, IsMessage as IsWhole}
+use Rattle.r9_event.specs.declared.event.event.Event.{Event}
+use Rattle.r9_event.specs.declared.event.event.Event.TheVariants.{Begin, Msg, Take, End, Stop}
+use Rattle.model_text.specs.text.Outcome.{Outcome, ◌>>=◌, refuse_if}
+use Rattle.model_files.specs.wire.Message.{T, Twrite}
+use Rattle.model_files.specs.wire.Spelling.{message, spelling_of_t}
+use Rattle.model_files.specs.wire.Reading.{message_of}
+use Rattle.model_files.proofs.wire.Laws.{t_takes}
+use Rattle.model_draw_parts.specs.dmsg.Message.{Message, spelled_len, LowB, UpA, LowC, LowD, UpD, LowF, UpF, LowI, LowL, UpN, LowN, LowO, UpO, LowR, LowS, UpS, LowT, LowV, LowX, LowY}
+use Rattle.model_draw_parts.specs.dmsg.Reading.{First, IsMessage, IsShort, IsUnknown, IsUnsupported, first_message}
+use Rattle.model_draw_parts.proofs.dmsg.Rest.{first_message-rest, rest-shorter}
+use Rattle.model_draw.specs.draw.World as draw
+use Rattle.model_draw.specs.draw.Act.{act, behind, is_marked, no_memory, one_message, spelled}
+use Rattle.model_draw.specs.draw.Memory.{MayRunOut, reached, takes_no_memory}
+use Rattle.model_history.specs.event.Legal.{Roll, Allowed, IsMessage as IsWhole}
 use Rattle.model_world.specs.Session.{Session}
 use Rattle.model_world.specs.Desktop.{Desktop}
 use Rattle.model_world.specs.Whole.{client}

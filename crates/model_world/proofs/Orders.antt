@@ -7,23 +7,23 @@ use Rattle.std.proofs.lemmas.List.Folds.{list_any-append}
 use Rattle.r9_geom.specs.declared.Rect.{Rect}
 use Rattle.r9_geom.specs.declared.Point.{Point}
 use Rattle.r9_geom.specs.Geometry.{shifted}
-use Rattle.r9_window.specs.Ways.{way}
-use Rattle.r9_event.specs.declared.rio.Note.TheVariants as note
-use Rattle.r9_event.specs.declared.rio.Order.{Order}
-use Rattle.r9_event.specs.declared.rio.Order.TheVariants as order
-use Rattle.model_text.specs.Outcome.{Outcome, refuse_if, value_or_refuse}
-use Rattle.model_mouse.specs.declared.Mouse.{Mouse}
-use Rattle.model_wctl.specs.declared.Choice.{Choice}
-use Rattle.model_wctl.specs.Command.{Wctl}
-use Rattle.model_wctl.specs.Command as wctl
-use Rattle.model_wctl.specs.Rectangle.{applied, box, is_near}
-use Rattle.model_rio.specs.Table.{Window, Table, Hold, Free, Held, Nobody, current_of, deepest, hold_of, is_host, made_in, name_by, path_of, rectangle_of, rio_of, topmost, window_of, windows_in}
-use Rattle.model_rio.specs.Act.{Act}
-use Rattle.model_rio.specs.Act as act
-use Rattle.model_rio.specs.Step.{Step, begun, in_place, is_held, is_same, not_current, noted, ordered, raised, retired, told_current, with_current, with_hold, with_rio, with_windows}
-use Rattle.model_rio.specs.Moving.{carried, deleted, dropped, each, followed, moved, replaced}
-use Rattle.model_rio.specs.Routing.{focus, given, keyed, keys_of, moused, point_of, pressed, reacted, receiver}
-use Rattle.model_rio.specs.Rio.{command_to, commanded, entered, first_rectangle, hidden, hosted, is_full, made, made_current, moved_by, new_in, new_window, outside, resized, rio, shown, to_corner, to_top, windows_off}
+use Rattle.r9_event.specs.window.Ways.{way}
+use Rattle.r9_event.specs.declared.event.rio.Note.TheVariants as note
+use Rattle.r9_event.specs.declared.event.rio.Order.{Order}
+use Rattle.r9_event.specs.declared.event.rio.Order.TheVariants as order
+use Rattle.model_text.specs.text.Outcome.{Outcome, refuse_if, value_or_refuse}
+use Rattle.model_files.specs.declared.mouse.Mouse.{Mouse}
+use Rattle.model_files.specs.declared.wctl.Choice.{Choice}
+use Rattle.model_files.specs.wctl.Command.{Wctl}
+use Rattle.model_files.specs.wctl.Command as wctl
+use Rattle.model_files.specs.wctl.Rectangle.{applied, box, is_near}
+use Rattle.model_rio.specs.rio.Table.{Window, Table, Hold, Free, Held, Nobody, current_of, deepest, hold_of, is_host, made_in, name_by, path_of, rectangle_of, rio_of, topmost, window_of, windows_in}
+use Rattle.model_rio.specs.rio.Act.{Act}
+use Rattle.model_rio.specs.rio.Act as act
+use Rattle.model_rio.specs.rio.Step.{Step, begun, in_place, is_held, is_same, not_current, noted, ordered, raised, retired, told_current, with_current, with_hold, with_rio, with_windows}
+use Rattle.model_rio.specs.rio.Moving.{carried, deleted, dropped, each, followed, moved, replaced}
+use Rattle.model_rio.specs.rio.Routing.{focus, given, keyed, keys_of, moused, point_of, pressed, reacted, receiver}
+use Rattle.model_rio.specs.rio.Rio.{command_to, commanded, entered, first_rectangle, hidden, hosted, is_full, made, made_current, moved_by, new_in, new_window, outside, resized, rio, shown, to_corner, to_top, windows_off}
 use Rattle.model_world.proofs.Others.{IsOther, behind_known, behind_step, by_case, refused_by, value_by}
 
 -- the order ends a connection

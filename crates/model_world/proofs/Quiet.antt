@@ -7,17 +7,17 @@ use Rattle.std.specs.Option.{option_map_or}
 use Rattle.std.proofs.lemmas.Bool.{eqb-true, eqb-false}
 use Rattle.std.proofs.lemmas.List.Elements.{All-append, All-cons, All-head, All-nil, All-tail}
 use Rattle.std.proofs.lemmas.List.Folds.{list_any-append}
-use Rattle.r9_event.specs.declared.event.Event.{Event}
-use Rattle.r9_event.specs.declared.event.Event.TheVariants.{Begin, Msg, Take, End, Stop}
-use Rattle.r9_event.specs.declared.event.Opening.{Opening}
-use Rattle.r9_event.specs.declared.event.Reply.{Reply}
-use Rattle.model_text.specs.Map.{lookup, with, and, without}
-use Rattle.model_text.specs.Outcome.{Outcome}
-use Rattle.model_wire.specs.Message.{R, Rflush, Tflush}
-use Rattle.model_wire.specs.Reading.{message_of, tag_of}
-use Rattle.model_wire.specs.Spelling.{spelling_of_r}
-use Rattle.model_map.proofs.Maps.{and-here, and-others, with-here, with-others, without-others}
-use Rattle.model_map.proofs.Ascending.{without-here, ascend-with, ascend-without}
+use Rattle.r9_event.specs.declared.event.event.Event.{Event}
+use Rattle.r9_event.specs.declared.event.event.Event.TheVariants.{Begin, Msg, Take, End, Stop}
+use Rattle.r9_event.specs.declared.event.event.Opening.{Opening}
+use Rattle.r9_event.specs.declared.event.event.Reply.{Reply}
+use Rattle.model_text.specs.text.Map.{lookup, with, and, without}
+use Rattle.model_text.specs.text.Outcome.{Outcome}
+use Rattle.model_files.specs.wire.Message.{R, Rflush, Tflush}
+use Rattle.model_files.specs.wire.Reading.{message_of, tag_of}
+use Rattle.model_files.specs.wire.Spelling.{spelling_of_r}
+use Rattle.model_text.proofs.map.Maps.{and-here, and-others, with-here, with-others, without-others}
+use Rattle.model_text.proofs.map.Ascending.{without-here, ascend-with, ascend-without}
 use Rattle.model_world.specs.Session.{Session, Wait, fresh}
 use Rattle.model_world.specs.Outside.{Outside}
 use Rattle.model_world.specs.Desktop.{Desktop}

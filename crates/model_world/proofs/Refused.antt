@@ -2,18 +2,18 @@
 use Rattle.std.proofs.Common.{◌≡◌, ℕ, Bool, true, false, List, [], ◌∷◌, Option, Some, None, Ok, Err, refl, sym, ap, subst, ◌∙◌}
 use Rattle.std.specs.Prelude.{◌&&◌, ◌==◌, length, not, is_none, is_some, nat_le, nat_lt, IfOk, if◌then◌else◌}
 use Rattle.std.specs.Option.{option_map_or}
-use Rattle.model_text.specs.Outcome.{Outcome, ◌>>=◌, refuse_if, value_or_refuse}
-use Rattle.model_text.specs.Map.{lookup}
-use Rattle.model_wire.specs.Message.{T, Tversion, Tauth, Tattach, Tflush, Twalk, Topen, Tcreate, Tread, Twrite, Tclunk, Tremove, Tstat, Twstat, R, no_fid, no_tag, tag_of_t}
-use Rattle.model_wire.specs.Reading.{message_of, tag_of}
-use Rattle.model_words.specs.Values.{sides_of}
-use Rattle.model_mouse.specs.Pointer.{pointer_of}
-use Rattle.model_tree.specs.declared.Kind.{Kind}
-use Rattle.model_tree.specs.declared.Kind.TheVariants.{New}
-use Rattle.model_tree.specs.declared.Kind.TheVariants as kind
-use Rattle.model_tree.specs.Attach.{attach_of}
-use Rattle.model_tree.specs.Node.{Node, may, reads, row, writes}
-use Rattle.model_tree.specs.Tree.{check_live}
+use Rattle.model_text.specs.text.Outcome.{Outcome, ◌>>=◌, refuse_if, value_or_refuse}
+use Rattle.model_text.specs.text.Map.{lookup}
+use Rattle.model_files.specs.wire.Message.{T, Tversion, Tauth, Tattach, Tflush, Twalk, Topen, Tcreate, Tread, Twrite, Tclunk, Tremove, Tstat, Twstat, R, no_fid, no_tag, tag_of_t}
+use Rattle.model_files.specs.wire.Reading.{message_of, tag_of}
+use Rattle.model_history.specs.words.Values.{sides_of}
+use Rattle.model_files.specs.mouse.Pointer.{pointer_of}
+use Rattle.model_files.specs.declared.tree.Kind.{Kind}
+use Rattle.model_files.specs.declared.tree.Kind.TheVariants.{New}
+use Rattle.model_files.specs.declared.tree.Kind.TheVariants as kind
+use Rattle.model_files.specs.tree.Attach.{attach_of}
+use Rattle.model_files.specs.tree.Node.{Node, may, reads, row, writes}
+use Rattle.model_files.specs.tree.Tree.{check_live}
 use Rattle.model_world.specs.Session.{Fid, Session}
 use Rattle.model_world.specs.Outside.{Outside}
 use Rattle.model_world.specs.Refusal.{refusal}

@@ -5,15 +5,15 @@ use Rattle.std.specs.List.{list_any}
 use Rattle.std.proofs.lemmas.Bool.{cond_both}
 use Rattle.std.proofs.lemmas.Bool.Decides.{nat_tests}
 use Rattle.std.proofs.lemmas.List.Folds.{list_any-append}
-use Rattle.model_text.specs.Map.{without}
-use Rattle.model_text.specs.Outcome.{Outcome, refuse_if}
-use Rattle.model_wire.specs.Message.{T, Tversion, Tauth, Tattach, Tflush, Twalk, Topen, Tcreate, Tread, Twrite, Tclunk, Tremove, Tstat, Twstat, R, Rclunk, no_fid, no_tag, tag_of_t}
-use Rattle.model_wire.specs.Reading.{message_of, tag_of}
-use Rattle.model_map.proofs.Keys.{not_key}
-use Rattle.model_tree.specs.declared.Kind.TheVariants.{New}
-use Rattle.model_tree.specs.Attach.{attach_of}
-use Rattle.model_tree.specs.Node.{Node, may, reads, writes}
-use Rattle.model_tree.specs.Tree.{check_live}
+use Rattle.model_text.specs.text.Map.{without}
+use Rattle.model_text.specs.text.Outcome.{Outcome, refuse_if}
+use Rattle.model_files.specs.wire.Message.{T, Tversion, Tauth, Tattach, Tflush, Twalk, Topen, Tcreate, Tread, Twrite, Tclunk, Tremove, Tstat, Twstat, R, Rclunk, no_fid, no_tag, tag_of_t}
+use Rattle.model_files.specs.wire.Reading.{message_of, tag_of}
+use Rattle.model_text.proofs.map.Keys.{not_key}
+use Rattle.model_files.specs.declared.tree.Kind.TheVariants.{New}
+use Rattle.model_files.specs.tree.Attach.{attach_of}
+use Rattle.model_files.specs.tree.Node.{Node, may, reads, writes}
+use Rattle.model_files.specs.tree.Tree.{check_live}
 use Rattle.model_world.specs.Session.{Fid, Session, Wait}
 use Rattle.model_world.specs.Outside.{Outside}
 use Rattle.model_world.specs.Refusal.{refusal}

@@ -2,65 +2,65 @@
 use Rattle.std.specs.Prelude.{◌≡◌, refl, ℕ, ◌+◌, ◌*◌, ◌^◌, List, [], ◌∷◌, ◌++◌, codes, filter, map, Option, Some, None}
 use Rattle.std.specs.Fmt.{digits}
 use Rattle.std.specs.Str.{is_utf8, chars}
-use Rattle.r9_event.specs.declared.event.Event.{Event}
-use Rattle.r9_event.specs.declared.event.Event.TheVariants.{Begin, Msg, End}
-use Rattle.r9_event.specs.declared.event.Opening.{Opening}
-use Rattle.r9_event.specs.declared.event.Reply.{Reply}
-use Rattle.model_wire.specs.Message.{Qid, T, Tversion, Tattach, Tflush, Twalk, Topen, Tread, Twrite, Tclunk, R, Rversion, Rattach, Rerror, Rflush, Rwalk, Ropen, Rread, Rwrite, Rclunk, no_fid, no_tag}
-use Rattle.model_wire.specs.Spelling.{spelling_of_t, spelling_of_r}
-use Rattle.model_text.specs.Map.{lookup}
+use Rattle.r9_event.specs.declared.event.event.Event.{Event}
+use Rattle.r9_event.specs.declared.event.event.Event.TheVariants.{Begin, Msg, End}
+use Rattle.r9_event.specs.declared.event.event.Opening.{Opening}
+use Rattle.r9_event.specs.declared.event.event.Reply.{Reply}
+use Rattle.model_files.specs.wire.Message.{Qid, T, Tversion, Tattach, Tflush, Twalk, Topen, Tread, Twrite, Tclunk, R, Rversion, Rattach, Rerror, Rflush, Rwalk, Ropen, Rread, Rwrite, Rclunk, no_fid, no_tag}
+use Rattle.model_files.specs.wire.Spelling.{spelling_of_t, spelling_of_r}
+use Rattle.model_text.specs.text.Map.{lookup}
 use Rattle.model_world.specs.Replay.{replay, replies}
 use Rattle.model_world.specs.Session.{Session}
 use Rattle.model_world.specs.Answer.{answer}
 use Rattle.model_world.specs.Sleeping.{may_wake, stirred, written_at}
 use Rattle.model_world.specs.Whole.{desktop_for}
 use Rattle.model_world.specs.World.{World}
-use Rattle.model_text.specs.Field as text_field
-use Rattle.model_text.specs.Word as text_word
-use Rattle.model_wire.specs.Reading as wire_reading
-use Rattle.model_wire.specs.Spelling as wire_spelling
-use Rattle.model_wctl.specs.Reading as wctl_reading
-use Rattle.model_wctl.specs.Rectangle as wctl_rectangle
-use Rattle.model_wctl.specs.Words as wctl_words
-use Rattle.model_mouse.specs.Happening as mouse_happening
-use Rattle.model_mouse.specs.Pointer as mouse_pointer
-use Rattle.model_mouse.specs.Queue as mouse_queue
-use Rattle.model_console.specs.Console as console_console
-use Rattle.model_console.specs.Happening as console_happening
-use Rattle.model_window.specs.Heard as window_heard
-use Rattle.model_window.specs.Pane as window_pane
-use Rattle.model_rio.specs.Moving as rio_moving
-use Rattle.model_rio.specs.Rio as rio_rio
-use Rattle.model_rio.specs.Routing as rio_routing
-use Rattle.model_rio.specs.Step as rio_step
-use Rattle.model_rio.specs.Table as rio_table
-use Rattle.model_tree.specs.Attach as tree_attach
-use Rattle.model_tree.specs.Listing as tree_listing
-use Rattle.model_tree.specs.Node as tree_node
-use Rattle.model_tree.specs.Tree as tree_tree
+use Rattle.model_text.specs.text.Field as text_field
+use Rattle.model_text.specs.text.Word as text_word
+use Rattle.model_files.specs.wire.Reading as wire_reading
+use Rattle.model_files.specs.wire.Spelling as wire_spelling
+use Rattle.model_files.specs.wctl.Reading as wctl_reading
+use Rattle.model_files.specs.wctl.Rectangle as wctl_rectangle
+use Rattle.model_files.specs.wctl.Words as wctl_words
+use Rattle.model_files.specs.mouse.Happening as mouse_happening
+use Rattle.model_files.specs.mouse.Pointer as mouse_pointer
+use Rattle.model_files.specs.mouse.Queue as mouse_queue
+use Rattle.model_files.specs.console.Console as console_console
+use Rattle.model_files.specs.console.Happening as console_happening
+use Rattle.model_rio.specs.window.Heard as window_heard
+use Rattle.model_rio.specs.window.Pane as window_pane
+use Rattle.model_rio.specs.rio.Moving as rio_moving
+use Rattle.model_rio.specs.rio.Rio as rio_rio
+use Rattle.model_rio.specs.rio.Routing as rio_routing
+use Rattle.model_rio.specs.rio.Step as rio_step
+use Rattle.model_rio.specs.rio.Table as rio_table
+use Rattle.model_files.specs.tree.Attach as tree_attach
+use Rattle.model_files.specs.tree.Listing as tree_listing
+use Rattle.model_files.specs.tree.Node as tree_node
+use Rattle.model_files.specs.tree.Tree as tree_tree
 use Rattle.model_pixel.specs.Channels as pixel_channels
 use Rattle.model_pixel.specs.Composition as pixel_composition
 use Rattle.model_pixel.specs.Rows as pixel_rows
-use Rattle.model_dmsg.specs.Reading as dmsg_reading
-use Rattle.model_fonts.specs.Font as fonts_font
-use Rattle.model_images.specs.Book as images_book
-use Rattle.model_images.specs.Release as images_release
+use Rattle.model_draw_parts.specs.dmsg.Reading as dmsg_reading
+use Rattle.model_draw_parts.specs.fonts.Font as fonts_font
+use Rattle.model_draw_parts.specs.images.Book as images_book
+use Rattle.model_draw_parts.specs.images.Release as images_release
 use Rattle.model_forest.specs.Draw as forest_draw
 use Rattle.model_forest.specs.Paint as forest_paint
 use Rattle.model_forest.specs.Stack as forest_stack
 use Rattle.model_forest.specs.Steps as forest_steps
 use Rattle.model_forest.specs.View as forest_view
 use Rattle.model_forest.specs.World as forest_world
-use Rattle.model_resize.specs.Resize as resize_resize
-use Rattle.model_draw.specs.Act as draw_act
-use Rattle.model_draw.specs.Drawing as draw_drawing
-use Rattle.model_draw.specs.Files as draw_files
-use Rattle.model_draw.specs.Making as draw_making
-use Rattle.model_draw.specs.Moving as draw_moving
-use Rattle.model_draw.specs.Naming as draw_naming
-use Rattle.model_draw.specs.Orders as draw_orders
-use Rattle.model_draw.specs.World as draw_world
-use Rattle.model_draw.specs.Writing as draw_writing
+use Rattle.model_exchanged.specs.resize.Resize as resize_resize
+use Rattle.model_draw.specs.draw.Act as draw_act
+use Rattle.model_draw.specs.draw.Drawing as draw_drawing
+use Rattle.model_draw.specs.draw.Files as draw_files
+use Rattle.model_draw.specs.draw.Making as draw_making
+use Rattle.model_draw.specs.draw.Moving as draw_moving
+use Rattle.model_draw.specs.draw.Naming as draw_naming
+use Rattle.model_draw.specs.draw.Orders as draw_orders
+use Rattle.model_draw.specs.draw.World as draw_world
+use Rattle.model_draw.specs.draw.Writing as draw_writing
 use Rattle.model_world.specs.Answer as world_answer
 use Rattle.model_world.specs.Desktop as world_desktop
 use Rattle.model_world.specs.Fids as world_fids

@@ -3,10 +3,10 @@ use Rattle.std.proofs.Common.{◌≡◌, ℕ, zero, suc, false, eqb, List, [], �
 use Rattle.std.specs.Prelude.{IfSome}
 use Rattle.std.specs.Map.{keys_of}
 use Rattle.std.specs.Option.{option_map_or}
-use Rattle.r9_event.specs.declared.event.Reply.{Reply}
-use Rattle.model_text.specs.Map.{lookup}
-use Rattle.model_map.specs.Ascending.{AreAbove, Ascend}
-use Rattle.model_map.proofs.Keys.{eqb-same, not_key}
+use Rattle.r9_event.specs.declared.event.event.Reply.{Reply}
+use Rattle.model_text.specs.text.Map.{lookup}
+use Rattle.model_text.specs.map.Ascending.{AreAbove, Ascend}
+use Rattle.model_text.proofs.map.Keys.{eqb-same, not_key}
 use Rattle.model_world.specs.Session.{Session}
 use Rattle.model_world.specs.Desktop.{Desktop}
 use Rattle.model_world.specs.Whole.{desktop_for}

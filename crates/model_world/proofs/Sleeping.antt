@@ -4,24 +4,24 @@ use Rattle.std.specs.Prelude.{◌==◌, ◌&&◌, filter, map, is_none, is_some,
 use Rattle.std.specs.List.{fold}
 use Rattle.std.specs.Option.{option_map, option_map_or}
 use Rattle.std.proofs.lemmas.Bool.{cond_both}
-use Rattle.model_text.specs.Outcome.{Outcome, ◌>>=◌, refuse_if, value_or_refuse}
-use Rattle.model_text.specs.Map.{lookup, without}
-use Rattle.model_wire.specs.Message.{T, R, Tversion, Tauth, Tattach, Tflush, Twalk, Topen, Tcreate, Tread, Twrite, Tclunk, Tremove, Tstat, Twstat, Rclunk, no_fid, no_tag, tag_of_t}
-use Rattle.model_wire.specs.Reading.{message_of, tag_of}
-use Rattle.model_words.specs.Values.{sides_of}
-use Rattle.model_mouse.specs.Pointer.{pointer_of}
-use Rattle.model_mouse.specs.Queue.{answer_text}
-use Rattle.model_console.specs.Console as console
-use Rattle.model_window.specs.Heard.{MouseRead, ConsoleRead, MouseHeld, ConsctlHeld, Labelled, Written, Raw, wctl_answer, wctl_text}
-use Rattle.model_tree.specs.Attach.{attach_of}
-use Rattle.model_tree.specs.declared.Kind.{Kind}
-use Rattle.model_tree.specs.declared.Kind.TheVariants as kind
-use Rattle.model_tree.specs.Node.{Node, is_directory, may, reads, writes}
-use Rattle.model_tree.specs.Listing.{stats}
-use Rattle.model_tree.specs.Tree.{check_live}
-use Rattle.model_draw.specs.Act.{written}
-use Rattle.model_draw.specs.Files.{read_data, write_ctl}
-use Rattle.model_cost.specs.Cost.{leave_cost, messages_cost}
+use Rattle.model_text.specs.text.Outcome.{Outcome, ◌>>=◌, refuse_if, value_or_refuse}
+use Rattle.model_text.specs.text.Map.{lookup, without}
+use Rattle.model_files.specs.wire.Message.{T, R, Tversion, Tauth, Tattach, Tflush, Twalk, Topen, Tcreate, Tread, Twrite, Tclunk, Tremove, Tstat, Twstat, Rclunk, no_fid, no_tag, tag_of_t}
+use Rattle.model_files.specs.wire.Reading.{message_of, tag_of}
+use Rattle.model_history.specs.words.Values.{sides_of}
+use Rattle.model_files.specs.mouse.Pointer.{pointer_of}
+use Rattle.model_files.specs.mouse.Queue.{answer_text}
+use Rattle.model_files.specs.console.Console as console
+use Rattle.model_rio.specs.window.Heard.{MouseRead, ConsoleRead, MouseHeld, ConsctlHeld, Labelled, Written, Raw, wctl_answer, wctl_text}
+use Rattle.model_files.specs.tree.Attach.{attach_of}
+use Rattle.model_files.specs.declared.tree.Kind.{Kind}
+use Rattle.model_files.specs.declared.tree.Kind.TheVariants as kind
+use Rattle.model_files.specs.tree.Node.{Node, is_directory, may, reads, writes}
+use Rattle.model_files.specs.tree.Listing.{stats}
+use Rattle.model_files.specs.tree.Tree.{check_live}
+use Rattle.model_draw.specs.draw.Act.{written}
+use Rattle.model_draw.specs.draw.Files.{read_data, write_ctl}
+use Rattle.model_draw.specs.cost.Cost.{leave_cost, messages_cost}
 use Rattle.model_world.specs.Session.{Fid, Wait, Session}
 use Rattle.model_world.specs.Desktop.{Desktop}
 use Rattle.model_world.specs.Whole.{attached, client, commanded, ctl_written, data_read, desktop_for, device_commanded, left_one, moused, resized, typed, written_data}

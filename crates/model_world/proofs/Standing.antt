@@ -4,19 +4,19 @@ use Rattle.std.specs.List.{sum_by}
 use Rattle.std.specs.Option.{option_map, option_map_or}
 use Rattle.std.specs.Ordering.{match_ordering}
 use Rattle.std.proofs.lemmas.List.Sums.{sum_by-cons}
-use Rattle.r9_event.specs.declared.event.Event.{Event}
-use Rattle.r9_event.specs.declared.event.Event.TheVariants.{Begin, Msg, Take, End, Stop}
-use Rattle.r9_event.specs.declared.event.Opening.{Opening}
-use Rattle.r9_event.specs.declared.event.Reply.{Reply}
-use Rattle.r9_event.specs.declared.rio.Note.{Note}
-use Rattle.model_text.specs.Map.{lookup, with, and, without}
-use Rattle.model_text.specs.Outcome.{Outcome}
-use Rattle.model_mouse.specs.Queue.{answer_text}
-use Rattle.model_console.specs.Console as console
-use Rattle.model_window.specs.Heard.{wctl_answer, wctl_text}
-use Rattle.model_tree.specs.declared.Kind.{Kind}
-use Rattle.model_tree.specs.declared.Kind.TheVariants as kind
-use Rattle.model_map.proofs.Ascending.{ascend-and, ascend-with, ascend-without}
+use Rattle.r9_event.specs.declared.event.event.Event.{Event}
+use Rattle.r9_event.specs.declared.event.event.Event.TheVariants.{Begin, Msg, Take, End, Stop}
+use Rattle.r9_event.specs.declared.event.event.Opening.{Opening}
+use Rattle.r9_event.specs.declared.event.event.Reply.{Reply}
+use Rattle.r9_event.specs.declared.event.rio.Note.{Note}
+use Rattle.model_text.specs.text.Map.{lookup, with, and, without}
+use Rattle.model_text.specs.text.Outcome.{Outcome}
+use Rattle.model_files.specs.mouse.Queue.{answer_text}
+use Rattle.model_files.specs.console.Console as console
+use Rattle.model_rio.specs.window.Heard.{wctl_answer, wctl_text}
+use Rattle.model_files.specs.declared.tree.Kind.{Kind}
+use Rattle.model_files.specs.declared.tree.Kind.TheVariants as kind
+use Rattle.model_text.proofs.map.Ascending.{ascend-and, ascend-with, ascend-without}
 use Rattle.model_world.specs.Session.{Fid, Session, Wait, fresh}
 use Rattle.model_world.specs.Outside.{Outside}
 use Rattle.model_world.specs.Desktop.{Desktop}

@@ -2,16 +2,16 @@
 use Rattle.std.proofs.Common.{◌≡◌, ◌<◌, ◌^◌, ℕ, Bool, true, false, eqb, List, [], Option, Some, None, refl, sym, ap, subst, ◌∙◌, arith, lit<}
 use Rattle.std.specs.Map.{keys_of}
 use Rattle.std.proofs.lemmas.Bool.{eqb-true, eqb-false}
-use Rattle.r9_event.specs.declared.event.Event.{Event}
-use Rattle.r9_event.specs.declared.event.Event.TheVariants.{Begin, Msg, Take, End, Stop}
-use Rattle.r9_event.specs.declared.event.Opening.{Opening}
-use Rattle.model_text.specs.Map.{lookup, with, and, without}
-use Rattle.model_map.specs.Ascending.{Ascend}
-use Rattle.model_map.proofs.Maps.{and-here, and-others, with-here, with-others, without-others}
-use Rattle.model_map.proofs.Ascending.{without-here, ascend-and, ascend-with, ascend-without}
-use Rattle.model_event.specs.Legal.{Roll, AllowedTo, roll_after}
-use Rattle.model_draw.specs.World as draw
-use Rattle.model_draw.specs.Orders.{with_root_rio}
+use Rattle.r9_event.specs.declared.event.event.Event.{Event}
+use Rattle.r9_event.specs.declared.event.event.Event.TheVariants.{Begin, Msg, Take, End, Stop}
+use Rattle.r9_event.specs.declared.event.event.Opening.{Opening}
+use Rattle.model_text.specs.text.Map.{lookup, with, and, without}
+use Rattle.model_text.specs.map.Ascending.{Ascend}
+use Rattle.model_text.proofs.map.Maps.{and-here, and-others, with-here, with-others, without-others}
+use Rattle.model_text.proofs.map.Ascending.{without-here, ascend-and, ascend-with, ascend-without}
+use Rattle.model_history.specs.event.Legal.{Roll, AllowedTo, roll_after}
+use Rattle.model_draw.specs.draw.World as draw
+use Rattle.model_draw.specs.draw.Orders.{with_root_rio}
 use Rattle.model_world.specs.Session.{Session, fresh}
 use Rattle.model_world.specs.Desktop.{Desktop, first_desktop}
 use Rattle.model_world.specs.Whole.{client, desktop_for}

@@ -4,9 +4,9 @@ use Rattle.std.specs.Prelude.{◌==◌, nat_lt, if◌then◌else◌}
 use Rattle.std.specs.Int.{w8, w16, w32, w64, from_le_bytes}
 use Rattle.std.specs.Option.{option_map_or}
 use Rattle.std.proofs.lemmas.Bool.{cond_both}
-use Rattle.model_text.specs.Reading.{◌>>=◌, ◌&◌, all_of, number_at}
-use Rattle.model_wire.specs.Message.{T, Tversion, Tauth, Tattach, Tflush, Twalk, Topen, Tcreate, Tread, Twrite, Tclunk, Tremove, Tstat, Twstat, tag_of_t}
-use Rattle.model_wire.specs.Reading.{body_at, head_at, counted_at, string_at, names_at, message_of, tag_of, t_version, t_auth, t_attach, t_flush, t_walk, t_open, t_create, t_read, t_write, t_clunk, t_remove, t_stat, t_wstat}
+use Rattle.model_text.specs.text.Reading.{◌>>=◌, ◌&◌, all_of, number_at}
+use Rattle.model_files.specs.wire.Message.{T, Tversion, Tauth, Tattach, Tflush, Twalk, Topen, Tcreate, Tread, Twrite, Tclunk, Tremove, Tstat, Twstat, tag_of_t}
+use Rattle.model_files.specs.wire.Reading.{body_at, head_at, counted_at, string_at, names_at, message_of, tag_of, t_version, t_auth, t_attach, t_flush, t_walk, t_open, t_create, t_read, t_write, t_clunk, t_remove, t_stat, t_wstat}
 use Rattle.model_world.proofs.Others.{some_is}
 
 -- ---- where it stands

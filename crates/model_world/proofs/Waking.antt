@@ -5,16 +5,16 @@ use Rattle.std.specs.List.{list_any}
 use Rattle.std.specs.Option.{option_map, option_map_or}
 use Rattle.std.proofs.lemmas.Bool.{eqb-true, eqb-false}
 use Rattle.std.proofs.lemmas.List.Elements.{All-cons, All-head, All-nil, All-tail}
-use Rattle.r9_event.specs.declared.rio.Note.{Note}
-use Rattle.model_text.specs.Outcome.{Outcome, ◌>>=◌, refuse_if, value_or_refuse}
-use Rattle.model_text.specs.Map.{lookup}
-use Rattle.model_mouse.specs.Queue.{answer_text}
-use Rattle.model_console.specs.Console as console
-use Rattle.model_window.specs.Heard.{wctl_answer, wctl_text}
-use Rattle.model_rio.specs.Notes.{is_told}
-use Rattle.model_tree.specs.declared.Kind.{Kind}
-use Rattle.model_tree.specs.declared.Kind.TheVariants as kind
-use Rattle.model_tree.specs.Tree.{check_live, is_ended, is_gone}
+use Rattle.r9_event.specs.declared.event.rio.Note.{Note}
+use Rattle.model_text.specs.text.Outcome.{Outcome, ◌>>=◌, refuse_if, value_or_refuse}
+use Rattle.model_text.specs.text.Map.{lookup}
+use Rattle.model_files.specs.mouse.Queue.{answer_text}
+use Rattle.model_files.specs.console.Console as console
+use Rattle.model_rio.specs.window.Heard.{wctl_answer, wctl_text}
+use Rattle.model_rio.specs.rio.Notes.{is_told}
+use Rattle.model_files.specs.declared.tree.Kind.{Kind}
+use Rattle.model_files.specs.declared.tree.Kind.TheVariants as kind
+use Rattle.model_files.specs.tree.Tree.{check_live, is_ended, is_gone}
 use Rattle.model_world.specs.Session.{Fid, Wait, Session}
 use Rattle.model_world.specs.Desktop.{Desktop}
 use Rattle.model_world.specs.Whole.{desktop_for, view_of}

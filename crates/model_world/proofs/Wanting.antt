@@ -4,15 +4,15 @@ use Rattle.std.specs.Prelude.{◌||◌, ◌&&◌, ◌==◌, codes, length, not, 
 use Rattle.std.specs.Str.{bytes_eq}
 use Rattle.std.proofs.lemmas.Bool.{eqb-true}
 use Rattle.std.proofs.lemmas.Slice.Eq.{bytes_eq-Decides}
-use Rattle.model_text.specs.Outcome.{Outcome, refuse_if}
-use Rattle.model_text.specs.Map.{lookup}
-use Rattle.model_wire.specs.Message.{T, Tversion, Tauth, Tattach, Tflush, Twalk, Topen, Tcreate, Tread, Twrite, Tclunk, Tremove, Tstat, Twstat, R, Rclunk, no_fid, no_tag, tag_of_t}
-use Rattle.model_tree.specs.declared.Kind.TheVariants.{New}
-use Rattle.model_tree.specs.Attach.{attach_of}
-use Rattle.model_tree.specs.Node.{Node, is_directory, may, reads, writes}
-use Rattle.model_tree.specs.Tree.{View, check_live, is_ended, is_gone, walk}
-use Rattle.model_draw.specs.World as draw
-use Rattle.model_draw.specs.Act.{no_memory}
+use Rattle.model_text.specs.text.Outcome.{Outcome, refuse_if}
+use Rattle.model_text.specs.text.Map.{lookup}
+use Rattle.model_files.specs.wire.Message.{T, Tversion, Tauth, Tattach, Tflush, Twalk, Topen, Tcreate, Tread, Twrite, Tclunk, Tremove, Tstat, Twstat, R, Rclunk, no_fid, no_tag, tag_of_t}
+use Rattle.model_files.specs.declared.tree.Kind.TheVariants.{New}
+use Rattle.model_files.specs.tree.Attach.{attach_of}
+use Rattle.model_files.specs.tree.Node.{Node, is_directory, may, reads, writes}
+use Rattle.model_files.specs.tree.Tree.{View, check_live, is_ended, is_gone, walk}
+use Rattle.model_draw.specs.draw.World as draw
+use Rattle.model_draw.specs.draw.Act.{no_memory}
 use Rattle.model_world.specs.Session.{Session}
 use Rattle.model_world.specs.Outside.{Outside}
 use Rattle.model_world.specs.Refusal.{IsRefused, Refuses, draw_texts, file_texts, refusal, refusal_text, text_in}

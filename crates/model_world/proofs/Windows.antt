@@ -5,29 +5,29 @@ use Rattle.std.specs.List.{fold}
 use Rattle.std.specs.Option.{unwrap_or}
 use Rattle.std.proofs.lemmas.Bool.{cond_both, eqb-true, eqb-false}
 use Rattle.r9_geom.specs.declared.Point.{Point}
-use Rattle.r9_event.specs.declared.rio.Note.{Note}
-use Rattle.r9_event.specs.declared.rio.Note.TheVariants as note
-use Rattle.model_text.specs.Outcome.{Outcome, value_or_refuse}
-use Rattle.model_text.specs.Map.{lookup, with}
-use Rattle.model_map.proofs.Maps.{and-others, with-here, with-others, without-others}
-use Rattle.model_mouse.specs.Queue.{Queue, answer, answer_text, answered}
-use Rattle.model_mouse.specs.declared.Mouse.{Mouse as Pointer}
-use Rattle.model_console.specs.Console.{Console, after_read, read, with_raw}
-use Rattle.model_window.specs.Heard.{Heard, Noted, Raw, Written, Labelled, MouseRead, ConsoleRead, MouseHeld, ConsctlHeld}
-use Rattle.model_window.specs.Pane.{Pane, new_pane, pane_heard}
-use Rattle.model_words.specs.declared.Size.{Size}
-use Rattle.model_wctl.specs.Command.{Wctl}
-use Rattle.model_wctl.specs.Command as wctl
-use Rattle.model_wctl.specs.Reading.{command_of}
-use Rattle.model_rio.specs.Table.{window_of}
-use Rattle.model_rio.specs.Act.{Act}
-use Rattle.model_rio.specs.Act as act
-use Rattle.model_rio.specs.Rio.{rio}
-use Rattle.model_rio.specs.Step.{Step}
-use Rattle.model_rio.specs.Notes.{is_told}
-use Rattle.model_rio.proofs.Lives.{acts_tell, told_parts}
-use Rattle.model_tree.specs.Attach.{Attach, Whole, Existing, Fresh, Unknown}
-use Rattle.model_draw.specs.World as draw
+use Rattle.r9_event.specs.declared.event.rio.Note.{Note}
+use Rattle.r9_event.specs.declared.event.rio.Note.TheVariants as note
+use Rattle.model_text.specs.text.Outcome.{Outcome, value_or_refuse}
+use Rattle.model_text.specs.text.Map.{lookup, with}
+use Rattle.model_text.proofs.map.Maps.{and-others, with-here, with-others, without-others}
+use Rattle.model_files.specs.mouse.Queue.{Queue, answer, answer_text, answered}
+use Rattle.model_files.specs.declared.mouse.Mouse.{Mouse as Pointer}
+use Rattle.model_files.specs.console.Console.{Console, after_read, read, with_raw}
+use Rattle.model_rio.specs.window.Heard.{Heard, Noted, Raw, Written, Labelled, MouseRead, ConsoleRead, MouseHeld, ConsctlHeld}
+use Rattle.model_rio.specs.window.Pane.{Pane, new_pane, pane_heard}
+use Rattle.model_history.specs.declared.words.Size.{Size}
+use Rattle.model_files.specs.wctl.Command.{Wctl}
+use Rattle.model_files.specs.wctl.Command as wctl
+use Rattle.model_files.specs.wctl.Reading.{command_of}
+use Rattle.model_rio.specs.rio.Table.{window_of}
+use Rattle.model_rio.specs.rio.Act.{Act}
+use Rattle.model_rio.specs.rio.Act as act
+use Rattle.model_rio.specs.rio.Rio.{rio}
+use Rattle.model_rio.specs.rio.Step.{Step}
+use Rattle.model_rio.specs.rio.Notes.{is_told}
+use Rattle.model_rio.proofs.rio.Lives.{acts_tell, told_parts}
+use Rattle.model_files.specs.tree.Attach.{Attach, Whole, Existing, Fresh, Unknown}
+use Rattle.model_draw.specs.draw.World as draw
 use Rattle.model_world.specs.Desktop.{Desktop, is_user, pane_of, pane_told, panes_told, stepped, stepped_if, stepped_or, users_of, without_user}
 use Rattle.model_world.specs.Whole.{attached, commanded, desktop_for, device_commanded, device_commanded_by, host_of, left_one, made_by, moused, resized, serial_of, typed, used_by, window_made, with_cost, with_device}
 use Rattle.model_world.specs.Sleeping.{SleepsOn, stirs}

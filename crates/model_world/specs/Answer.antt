@@ -2,10 +2,10 @@
 use Rattle.std.specs.Prelude.{ℕ, ◌==◌, ◌&&◌, Bool, true, false, not, is_some, min, nat_lt, List, length, codes, Option, Some, None, Ok, Err, if◌then◌else◌}
 use Rattle.std.specs.List.{before_first}
 use Rattle.std.specs.Str.{bytes_eq}
-use Rattle.model_text.specs.Outcome.{Outcome, ◌>>=◌, refuse_if}
-use Rattle.model_wire.specs.Message.{T, Tversion, Tauth, Tattach, Tflush, Twalk, Topen, Tcreate, Tread, Twrite, Tclunk, Tremove, Tstat, Twstat, R, Rversion, Rflush, Rclunk, Rstat, no_tag, tag_of_t}
-use Rattle.model_wire.specs.Reading.{message_of, kind_of, tag_of}
-use Rattle.model_tree.specs.Tree.{check_live, stat}
+use Rattle.model_text.specs.text.Outcome.{Outcome, ◌>>=◌, refuse_if}
+use Rattle.model_files.specs.wire.Message.{T, Tversion, Tauth, Tattach, Tflush, Twalk, Topen, Tcreate, Tread, Twrite, Tclunk, Tremove, Tstat, Twstat, R, Rversion, Rflush, Rclunk, Rstat, no_tag, tag_of_t}
+use Rattle.model_files.specs.wire.Reading.{message_of, kind_of, tag_of}
+use Rattle.model_files.specs.tree.Tree.{check_live, stat}
 use Rattle.model_world.specs.Session.{Session, max_msize}
 use Rattle.model_world.specs.Outside.{Outside}
 use Rattle.model_world.specs.Refusal.{refusal}

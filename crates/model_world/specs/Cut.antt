@@ -1,14 +1,14 @@
 -- A data write that stops before its end, for want of memory.
 use Rattle.std.specs.Prelude.{◌≡◌, ◌⊎◌, ℕ, true, List, Option, Some}
-use Rattle.r9_event.specs.declared.event.Event.{Event}
-use Rattle.r9_event.specs.declared.event.Event.TheVariants.{Msg}
-use Rattle.model_text.specs.Map.{lookup}
-use Rattle.model_wire.specs.Message.{T, Twrite}
-use Rattle.model_wire.specs.Reading.{message_of}
-use Rattle.model_tree.specs.declared.Kind.TheVariants.{Data}
-use Rattle.model_tree.specs.Node.{writes}
-use Rattle.model_draw.specs.Act.{no_memory}
-use Rattle.model_draw.specs.Memory.{MayRunOut}
+use Rattle.r9_event.specs.declared.event.event.Event.{Event}
+use Rattle.r9_event.specs.declared.event.event.Event.TheVariants.{Msg}
+use Rattle.model_text.specs.text.Map.{lookup}
+use Rattle.model_files.specs.wire.Message.{T, Twrite}
+use Rattle.model_files.specs.wire.Reading.{message_of}
+use Rattle.model_files.specs.declared.tree.Kind.TheVariants.{Data}
+use Rattle.model_files.specs.tree.Node.{writes}
+use Rattle.model_draw.specs.draw.Act.{no_memory}
+use Rattle.model_draw.specs.draw.Memory.{MayRunOut}
 use Rattle.model_world.specs.Session.{Fid, Session}
 use Rattle.model_world.specs.Fids.{is_kind}
 use Rattle.model_world.specs.Reading.{is_open_for}

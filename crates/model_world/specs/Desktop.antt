@@ -5,19 +5,19 @@ use Rattle.std.specs.Option.{unwrap_or}
 use Rattle.r9_geom.specs.declared.Point.{Point}
 use Rattle.r9_geom.specs.declared.Rect.{Rect}
 use Rattle.r9_geom.specs.Geometry.{width, height}
-use Rattle.r9_event.specs.declared.rio.Note.{Note}
-use Rattle.r9_event.specs.declared.rio.Note.TheVariants as note
-use Rattle.r9_event.specs.declared.rio.Order.{Order}
-use Rattle.r9_event.specs.declared.rio.Order.TheVariants as order
-use Rattle.model_text.specs.Map.{lookup, with, without, and}
-use Rattle.model_text.specs.Outcome.{Outcome}
-use Rattle.model_window.specs.Heard.{Heard, Noted}
-use Rattle.model_window.specs.Pane.{Pane, new_pane, pane_heard}
-use Rattle.model_rio.specs.Table as rio
-use Rattle.model_rio.specs.Step.{Step}
-use Rattle.model_draw.specs.World as draw
-use Rattle.model_draw.specs.Orders.{carried_out, with_root_rio}
-use Rattle.model_cost.specs.Cost.{orders_cost}
+use Rattle.r9_event.specs.declared.event.rio.Note.{Note}
+use Rattle.r9_event.specs.declared.event.rio.Note.TheVariants as note
+use Rattle.r9_event.specs.declared.event.rio.Order.{Order}
+use Rattle.r9_event.specs.declared.event.rio.Order.TheVariants as order
+use Rattle.model_text.specs.text.Map.{lookup, with, without, and}
+use Rattle.model_text.specs.text.Outcome.{Outcome}
+use Rattle.model_rio.specs.window.Heard.{Heard, Noted}
+use Rattle.model_rio.specs.window.Pane.{Pane, new_pane, pane_heard}
+use Rattle.model_rio.specs.rio.Table as rio
+use Rattle.model_rio.specs.rio.Step.{Step}
+use Rattle.model_draw.specs.draw.World as draw
+use Rattle.model_draw.specs.draw.Orders.{carried_out, with_root_rio}
+use Rattle.model_draw.specs.cost.Cost.{orders_cost}
 use Rattle.model_world.specs.Fids.{put}
 
 -- The draw device; the windows of all rios; whether the display has changed its size; what the files of each live window have, by

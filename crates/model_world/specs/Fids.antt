@@ -1,13 +1,13 @@
 -- A session's fids, what a message leaves, and what goes with a fid (intro(5), clunk(5)).
 use Rattle.std.specs.Prelude.{ℕ, ◌==◌, ◌&&◌, ◌||◌, Bool, false, not, is_some, nat_le, nat_lt, List, [], ◌∷◌, length, filter, map, Option, Some, None, Ok, Err, if◌then◌else◌}
 use Rattle.std.specs.List.{fold, list_any}
-use Rattle.model_text.specs.Outcome.{Outcome, value_or_refuse}
-use Rattle.model_text.specs.Map.{lookup, with, and, without}
-use Rattle.model_wire.specs.Message.{R, no_fid}
-use Rattle.model_tree.specs.declared.Kind.{Kind}
-use Rattle.model_tree.specs.declared.Kind.TheVariants.{Ctl, Data, Refresh, Consctl, Mouse}
-use Rattle.model_window.specs.Heard.{MouseHeld, ConsctlHeld}
-use Rattle.model_tree.specs.Node.{Node, row}
+use Rattle.model_text.specs.text.Outcome.{Outcome, value_or_refuse}
+use Rattle.model_text.specs.text.Map.{lookup, with, and, without}
+use Rattle.model_files.specs.wire.Message.{R, no_fid}
+use Rattle.model_files.specs.declared.tree.Kind.{Kind}
+use Rattle.model_files.specs.declared.tree.Kind.TheVariants.{Ctl, Data, Refresh, Consctl, Mouse}
+use Rattle.model_rio.specs.window.Heard.{MouseHeld, ConsctlHeld}
+use Rattle.model_files.specs.tree.Node.{Node, row}
 use Rattle.model_world.specs.Session.{Fid, Session}
 use Rattle.model_world.specs.Outside.{Outside}
 

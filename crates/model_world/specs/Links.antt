@@ -2,11 +2,11 @@
 use Rattle.std.specs.Prelude.{◌≡◌, ◌<◌, ◌≤◌, ◌+◌, ◌^◌, ◌==◌, ℕ, Bool, false, is_some, List, [], ◌∷◌, Option, Some, None}
 use Rattle.std.specs.List.{list_any}
 use Rattle.std.specs.Map.{keys_of}
-use Rattle.r9_event.specs.declared.event.Event.{Event}
-use Rattle.r9_event.specs.declared.event.Event.TheVariants.{Begin}
-use Rattle.model_text.specs.Map.{lookup}
-use Rattle.model_map.specs.Ascending.{Ascend}
-use Rattle.model_draw.specs.World as draw
+use Rattle.r9_event.specs.declared.event.event.Event.{Event}
+use Rattle.r9_event.specs.declared.event.event.Event.TheVariants.{Begin}
+use Rattle.model_text.specs.text.Map.{lookup}
+use Rattle.model_text.specs.map.Ascending.{Ascend}
+use Rattle.model_draw.specs.draw.World as draw
 use Rattle.model_world.specs.Session.{Session}
 use Rattle.model_world.specs.Whole.{client}
 

@@ -1,14 +1,14 @@
 -- What a session finds outside itself: the draw device and the windows. A whole server is such an outside, and what a session
 -- does is defined once, over any.
 use Rattle.std.specs.Prelude.{ℕ, List, Option}
-use Rattle.model_text.specs.Outcome.{Outcome}
-use Rattle.model_words.specs.declared.Size.{Size}
-use Rattle.model_tree.specs.Attach.{Attach}
-use Rattle.model_tree.specs.Node.{Node}
-use Rattle.model_tree.specs.Tree.{View}
-use Rattle.model_window.specs.Heard.{Heard}
-use Rattle.model_mouse.specs.declared.Mouse.{Mouse as Pointer}
-use Rattle.model_window.specs.Pane.{Pane}
+use Rattle.model_text.specs.text.Outcome.{Outcome}
+use Rattle.model_history.specs.declared.words.Size.{Size}
+use Rattle.model_files.specs.tree.Attach.{Attach}
+use Rattle.model_files.specs.tree.Node.{Node}
+use Rattle.model_files.specs.tree.Tree.{View}
+use Rattle.model_rio.specs.window.Heard.{Heard}
+use Rattle.model_files.specs.declared.mouse.Mouse.{Mouse as Pointer}
+use Rattle.model_rio.specs.window.Pane.{Pane}
 
 -- Over states of the outside. The connections are those of one session, by their numbers in it; windows are named by their
 -- serials. A refusal in place of a new state changes nothing.

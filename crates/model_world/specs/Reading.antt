@@ -2,19 +2,19 @@
 use Rattle.std.specs.Prelude.{ℕ, ◌+◌, ◌-◌, ◌==◌, ◌&&◌, pos, Bool, false, not, min, nat_le, nat_lt, is_none, List, [], ◌∷◌, ◌++◌, length, take, drop, Option, Some, None, Ok, Err, if◌then◌else◌}
 use Rattle.std.specs.List.{concat}
 use Rattle.std.specs.Option.{option_map, option_map_or}
-use Rattle.model_imgfile.specs.ImageFile.{file_part}
-use Rattle.model_text.specs.Field.{number_field}
-use Rattle.model_text.specs.Outcome.{Outcome, ◌>>=◌, refuse_if}
-use Rattle.model_words.specs.declared.Size.{Size}
-use Rattle.model_wire.specs.Message.{Rread}
-use Rattle.model_mouse.specs.Queue.{answer_text}
-use Rattle.model_console.specs.Console as console
-use Rattle.model_window.specs.Heard.{MouseRead, ConsoleRead, wctl_answer, wctl_text, winid_text}
-use Rattle.model_tree.specs.declared.Kind.{Kind}
-use Rattle.model_tree.specs.declared.Kind.TheVariants as kind
-use Rattle.model_tree.specs.Node.{Node, reads, is_directory}
-use Rattle.model_tree.specs.Tree.{check_live}
-use Rattle.model_tree.specs.Listing.{stats, fitting}
+use Rattle.model_draw.specs.imgfile.ImageFile.{file_part}
+use Rattle.model_text.specs.text.Field.{number_field}
+use Rattle.model_text.specs.text.Outcome.{Outcome, ◌>>=◌, refuse_if}
+use Rattle.model_history.specs.declared.words.Size.{Size}
+use Rattle.model_files.specs.wire.Message.{Rread}
+use Rattle.model_files.specs.mouse.Queue.{answer_text}
+use Rattle.model_files.specs.console.Console as console
+use Rattle.model_rio.specs.window.Heard.{MouseRead, ConsoleRead, wctl_answer, wctl_text, winid_text}
+use Rattle.model_files.specs.declared.tree.Kind.{Kind}
+use Rattle.model_files.specs.declared.tree.Kind.TheVariants as kind
+use Rattle.model_files.specs.tree.Node.{Node, reads, is_directory}
+use Rattle.model_files.specs.tree.Tree.{check_live}
+use Rattle.model_files.specs.tree.Listing.{stats, fitting}
 use Rattle.model_world.specs.Session.{Kept, Fid, Wait, Session}
 use Rattle.model_world.specs.Outside.{Outside}
 use Rattle.model_world.specs.Fids.{Left, left, unanswered, fid_of, with_fid}

@@ -1,6 +1,6 @@
 -- The texts of the refusals, by their numbers.
 use Rattle.std.specs.Prelude.{◌≡◌, ◌==◌, ℕ, nat_lt, List, [], ◌∷◌, codes, Option, Some, None, if◌then◌else◌}
-use Rattle.model_wire.specs.Message.{R, Rerror}
+use Rattle.model_files.specs.wire.Message.{R, Rerror}
 
 abbrev pub text_in : List (ℕ × List ℕ) → ℕ → List ℕ
 text_in [] n = []

@@ -1,10 +1,10 @@
 -- What a refusal leaves.
 use Rattle.std.specs.Prelude.{ℕ, Bool, true, false, is_some, List}
 use Rattle.std.specs.Option.{option_map_or}
-use Rattle.model_text.specs.Map.{lookup}
-use Rattle.model_wire.specs.Message.{T, Twrite, Tremove, R, Rerror}
-use Rattle.model_wire.specs.Reading.{message_of}
-use Rattle.model_tree.specs.declared.Kind.TheVariants.{Data}
+use Rattle.model_text.specs.text.Map.{lookup}
+use Rattle.model_files.specs.wire.Message.{T, Twrite, Tremove, R, Rerror}
+use Rattle.model_files.specs.wire.Reading.{message_of}
+use Rattle.model_files.specs.declared.tree.Kind.TheVariants.{Data}
 use Rattle.model_world.specs.Session.{Session}
 use Rattle.model_world.specs.Fids.{is_kind}
 

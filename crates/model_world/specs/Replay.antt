@@ -2,16 +2,16 @@
 use Rattle.std.specs.Prelude.{ℕ, zero, suc, ◌==◌, ◌+◌, List, [], ◌∷◌, ◌++◌, length, Option, Some, None, filter, if◌then◌else◌}
 use Rattle.std.specs.List.{flat_map, sum_by}
 use Rattle.std.specs.Option.{option_map_or}
-use Rattle.r9_event.specs.declared.event.Event.{Event}
-use Rattle.r9_event.specs.declared.event.Event.TheVariants.{Begin, Msg, Take, End, Stop}
-use Rattle.r9_event.specs.declared.event.Opening.{Opening}
-use Rattle.r9_event.specs.declared.event.Reply.{Reply}
-use Rattle.r9_event.specs.declared.rio.Note.{Note}
-use Rattle.model_wire.specs.Message.{R}
-use Rattle.model_wire.specs.Reading.{tag_of}
-use Rattle.model_wire.specs.Spelling.{spelling_of_r}
-use Rattle.model_event.specs.Journal.{Journal}
-use Rattle.model_text.specs.Map.{lookup, with, and, without}
+use Rattle.r9_event.specs.declared.event.event.Event.{Event}
+use Rattle.r9_event.specs.declared.event.event.Event.TheVariants.{Begin, Msg, Take, End, Stop}
+use Rattle.r9_event.specs.declared.event.event.Opening.{Opening}
+use Rattle.r9_event.specs.declared.event.event.Reply.{Reply}
+use Rattle.r9_event.specs.declared.event.rio.Note.{Note}
+use Rattle.model_files.specs.wire.Message.{R}
+use Rattle.model_files.specs.wire.Reading.{tag_of}
+use Rattle.model_files.specs.wire.Spelling.{spelling_of_r}
+use Rattle.model_history.specs.event.Journal.{Journal}
+use Rattle.model_text.specs.text.Map.{lookup, with, and, without}
 use Rattle.model_world.specs.Session.{Session, fresh}
 use Rattle.model_world.specs.Fids.{Left, cleared}
 use Rattle.model_world.specs.Answer.{answer, Taking, Closes, taking}

@@ -1,6 +1,6 @@
 -- What a server keeps of a session (intro(5)).
 use Rattle.std.specs.Prelude.{ℕ, Bool, false, List, [], Option, None}
-use Rattle.model_tree.specs.Node.{Node}
+use Rattle.model_files.specs.tree.Node.{Node}
 
 -- the stats of a directory's listing that are left, and the offset of the read that goes on with them (read(5))
 pub record Kept : Type 0 where

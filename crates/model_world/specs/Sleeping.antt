@@ -2,17 +2,17 @@
 use Rattle.std.specs.Prelude.{◌≡◌, ℕ, ◌==◌, ◌&&◌, ◌||◌, Bool, true, false, not, is_some, List, ◌∷◌, map, All, Option, Some, None}
 use Rattle.std.specs.List.{list_any}
 use Rattle.std.specs.Option.{option_map_or}
-use Rattle.r9_event.specs.declared.rio.Note.{Note}
-use Rattle.model_text.specs.Map.{lookup}
-use Rattle.model_wire.specs.Message.{T, Twrite}
-use Rattle.model_wire.specs.Reading.{message_of}
-use Rattle.model_mouse.specs.Queue.{answer_text}
-use Rattle.model_console.specs.Console.{read}
-use Rattle.model_window.specs.Heard.{Heard, Noted, Raw}
-use Rattle.model_tree.specs.declared.Kind.{Kind}
-use Rattle.model_tree.specs.declared.Kind.TheVariants as kind
-use Rattle.model_rio.specs.Table.{window_of}
-pub use Rattle.model_rio.specs.Notes.{is_told}
+use Rattle.r9_event.specs.declared.event.rio.Note.{Note}
+use Rattle.model_text.specs.text.Map.{lookup}
+use Rattle.model_files.specs.wire.Message.{T, Twrite}
+use Rattle.model_files.specs.wire.Reading.{message_of}
+use Rattle.model_files.specs.mouse.Queue.{answer_text}
+use Rattle.model_files.specs.console.Console.{read}
+use Rattle.model_rio.specs.window.Heard.{Heard, Noted, Raw}
+use Rattle.model_files.specs.declared.tree.Kind.{Kind}
+use Rattle.model_files.specs.declared.tree.Kind.TheVariants as kind
+use Rattle.model_rio.specs.rio.Table.{window_of}
+pub use Rattle.model_rio.specs.rio.Notes.{is_told}
 use Rattle.model_world.specs.Session.{Fid, Wait, Session}
 use Rattle.model_world.specs.Desktop.{Desktop, pane_of}
 use Rattle.model_world.specs.Links.{is_among}

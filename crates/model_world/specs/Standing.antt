@@ -2,14 +2,14 @@
 use Rattle.std.specs.Prelude.{◌≡◌, ℕ, Bool, true, false, is_some, [], Some, None}
 use Rattle.std.specs.Option.{option_map_or}
 use Rattle.std.specs.Map.{keys_of}
-use Rattle.model_map.specs.Ascending.{Ascend}
-use Rattle.model_text.specs.Map.{lookup}
-use Rattle.r9_event.specs.declared.event.Event.{Event}
-use Rattle.r9_event.specs.declared.event.Event.TheVariants.{Msg}
-use Rattle.r9_event.specs.declared.event.Reply.{Reply}
-use Rattle.model_wire.specs.Message.{R, Rversion, Rattach, Rerror, Rflush, Rwalk, Ropen, Rread, Rwrite, Rclunk, Rstat}
-use Rattle.model_wire.specs.Reading.{tag_of}
-use Rattle.model_wire.specs.Spelling.{spelling_of_r}
+use Rattle.model_text.specs.map.Ascending.{Ascend}
+use Rattle.model_text.specs.text.Map.{lookup}
+use Rattle.r9_event.specs.declared.event.event.Event.{Event}
+use Rattle.r9_event.specs.declared.event.event.Event.TheVariants.{Msg}
+use Rattle.r9_event.specs.declared.event.event.Reply.{Reply}
+use Rattle.model_files.specs.wire.Message.{R, Rversion, Rattach, Rerror, Rflush, Rwalk, Ropen, Rread, Rwrite, Rclunk, Rstat}
+use Rattle.model_files.specs.wire.Reading.{tag_of}
+use Rattle.model_files.specs.wire.Spelling.{spelling_of_r}
 use Rattle.model_world.specs.Session.{Session}
 use Rattle.model_world.specs.Waiting.{waits_for}
 use Rattle.model_world.specs.World.{World}

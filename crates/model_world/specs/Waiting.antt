@@ -2,9 +2,9 @@
 use Rattle.std.specs.Prelude.{ℕ, Bool, ◌==◌, not, List, [], ◌∷◌, ◌++◌, Option, Some, None, Ok, Err}
 use Rattle.std.specs.List.{filter, list_any}
 use Rattle.std.specs.Option.{option_map}
-use Rattle.model_text.specs.Outcome.{Outcome, ◌>>=◌}
-use Rattle.model_wire.specs.Message.{Rread}
-use Rattle.model_tree.specs.Tree.{check_live}
+use Rattle.model_text.specs.text.Outcome.{Outcome, ◌>>=◌}
+use Rattle.model_files.specs.wire.Message.{Rread}
+use Rattle.model_files.specs.tree.Tree.{check_live}
 use Rattle.model_world.specs.Session.{Fid, Wait, Session}
 use Rattle.model_world.specs.Outside.{Outside}
 use Rattle.model_world.specs.Refusal.{refusal}

@@ -1,14 +1,14 @@
 -- Attaching, walking and opening (attach(5), walk(5), open(5)).
 use Rattle.std.specs.Prelude.{ℕ, ◌+◌, ◌==◌, ◌&&◌, ◌||◌, Bool, true, not, is_some, nat_le, List, [], ◌∷◌, ◌++◌, length, map, Option, Some, None, Ok, Err, if◌then◌else◌}
 use Rattle.std.specs.List.{list_any}
-use Rattle.model_text.specs.Outcome.{Outcome, ◌>>=◌, refuse_if}
-use Rattle.model_wire.specs.Message.{Rattach, Rwalk, Ropen, no_fid}
-use Rattle.model_tree.specs.Node.{Node, qid, may}
-use Rattle.model_tree.specs.Attach.{attach_of}
-use Rattle.model_tree.specs.declared.Kind.TheVariants.{New, Ctl, Consctl, Mouse}
-use Rattle.model_tree.specs.Tree.{View, root_of, check_live, walk}
+use Rattle.model_text.specs.text.Outcome.{Outcome, ◌>>=◌, refuse_if}
+use Rattle.model_files.specs.wire.Message.{Rattach, Rwalk, Ropen, no_fid}
+use Rattle.model_files.specs.tree.Node.{Node, qid, may}
+use Rattle.model_files.specs.tree.Attach.{attach_of}
+use Rattle.model_files.specs.declared.tree.Kind.TheVariants.{New, Ctl, Consctl, Mouse}
+use Rattle.model_files.specs.tree.Tree.{View, root_of, check_live, walk}
 use Rattle.model_world.specs.Session.{Fid, Session, fid_at}
-use Rattle.model_text.specs.Map.{with}
+use Rattle.model_text.specs.text.Map.{with}
 use Rattle.model_world.specs.Outside.{Outside}
 use Rattle.model_world.specs.Fids.{Done, done, Left, left, fid_of, with_fid, and_fid, is_bound, is_full, is_kind, is_open_on, with_held}
 

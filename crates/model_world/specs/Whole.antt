@@ -2,27 +2,27 @@
 use Rattle.std.specs.Prelude.{ℕ, ◌+◌, ◌*◌, ◌^◌, ◌==◌, true, false, not, List, [], ◌∷◌, length, map, is_some, Option, Some, Ok, Err, if◌then◌else◌}
 use Rattle.std.specs.List.{fold}
 use Rattle.std.specs.Option.{option_map_or, unwrap_or}
-use Rattle.model_text.specs.Map.{lookup, with}
-use Rattle.model_text.specs.Outcome.{Outcome, ◌>>=◌, refuse_if, value_or_refuse}
-use Rattle.model_words.specs.declared.Size.{Size}
+use Rattle.model_text.specs.text.Map.{lookup, with}
+use Rattle.model_text.specs.text.Outcome.{Outcome, ◌>>=◌, refuse_if, value_or_refuse}
+use Rattle.model_history.specs.declared.words.Size.{Size}
 use Rattle.r9_geom.specs.Geometry.{width, height}
-use Rattle.model_wctl.specs.Command.{Wctl}
-use Rattle.model_wctl.specs.Command as wctl
-use Rattle.model_wctl.specs.Reading.{command_of}
-use Rattle.model_rio.specs.Table.{Table, window_of, is_host, made_in, found}
-use Rattle.model_rio.specs.Act as act
-use Rattle.model_mouse.specs.declared.Mouse.{Mouse as Pointer}
-use Rattle.model_rio.specs.Rio.{rio}
-use Rattle.model_tree.specs.declared.Kind.{Kind}
-use Rattle.model_tree.specs.declared.Kind.TheVariants as kind
-use Rattle.model_tree.specs.Node.{Node}
-use Rattle.model_tree.specs.Tree.{View}
-use Rattle.model_tree.specs.Attach.{Attach, Whole, Existing, Fresh, Unknown}
-use Rattle.model_draw.specs.World as draw
-use Rattle.model_draw.specs.Act.{written}
-use Rattle.model_draw.specs.Files.{read_data, read_ctl, write_ctl}
-use Rattle.model_draw.specs.Orders.{picture_of}
-use Rattle.model_cost.specs.Cost.{leave_cost, messages_cost}
+use Rattle.model_files.specs.wctl.Command.{Wctl}
+use Rattle.model_files.specs.wctl.Command as wctl
+use Rattle.model_files.specs.wctl.Reading.{command_of}
+use Rattle.model_rio.specs.rio.Table.{Table, window_of, is_host, made_in, found}
+use Rattle.model_rio.specs.rio.Act as act
+use Rattle.model_files.specs.declared.mouse.Mouse.{Mouse as Pointer}
+use Rattle.model_rio.specs.rio.Rio.{rio}
+use Rattle.model_files.specs.declared.tree.Kind.{Kind}
+use Rattle.model_files.specs.declared.tree.Kind.TheVariants as kind
+use Rattle.model_files.specs.tree.Node.{Node}
+use Rattle.model_files.specs.tree.Tree.{View}
+use Rattle.model_files.specs.tree.Attach.{Attach, Whole, Existing, Fresh, Unknown}
+use Rattle.model_draw.specs.draw.World as draw
+use Rattle.model_draw.specs.draw.Act.{written}
+use Rattle.model_draw.specs.draw.Files.{read_data, read_ctl, write_ctl}
+use Rattle.model_draw.specs.draw.Orders.{picture_of}
+use Rattle.model_draw.specs.cost.Cost.{leave_cost, messages_cost}
 use Rattle.model_world.specs.Outside.{Outside}
 use Rattle.model_world.specs.Desktop.{Desktop, pane_of, pane_told, stepped_or, stepped_if, users_of, is_user, with_user, without_user}
 

@@ -1,7 +1,7 @@
 -- What the server has after an event.
 use Rattle.std.specs.Prelude.{ℕ, pos, List, []}
-use Rattle.r9_event.specs.declared.event.Opening.{Opening}
-use Rattle.model_draw.specs.World as draw
+use Rattle.r9_event.specs.declared.event.event.Opening.{Opening}
+use Rattle.model_draw.specs.draw.World as draw
 use Rattle.model_world.specs.Session.{Session}
 use Rattle.model_world.specs.Desktop.{Desktop, first_desktop}
 

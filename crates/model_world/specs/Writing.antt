@@ -2,15 +2,15 @@
 use Rattle.std.specs.Prelude.{ℕ, ◌+◌, ◌-◌, ◌==◌, ◌^◌, ◌&&◌, ◌||◌, Bool, true, false, not, is_none, nat_le, List, ◌++◌, length, take, slice_index, codes, Option, Some, None, Ok, Err, if◌then◌else◌}
 use Rattle.std.specs.List.{list_any}
 use Rattle.std.specs.Str.{bytes_eq, is_utf8, chars}
-use Rattle.model_text.specs.Outcome.{Outcome, ◌>>=◌, refuse_if, value_or_refuse}
-use Rattle.model_words.specs.Values.{sides_of}
-use Rattle.model_wire.specs.Message.{R, Rwrite}
-use Rattle.model_mouse.specs.Pointer.{pointer_of}
-use Rattle.model_window.specs.Heard.{Raw, Written, Labelled}
-use Rattle.model_tree.specs.declared.Kind.{Kind}
-use Rattle.model_tree.specs.declared.Kind.TheVariants as kind
-use Rattle.model_tree.specs.Node.{Node, writes}
-use Rattle.model_tree.specs.Tree.{check_live}
+use Rattle.model_text.specs.text.Outcome.{Outcome, ◌>>=◌, refuse_if, value_or_refuse}
+use Rattle.model_history.specs.words.Values.{sides_of}
+use Rattle.model_files.specs.wire.Message.{R, Rwrite}
+use Rattle.model_files.specs.mouse.Pointer.{pointer_of}
+use Rattle.model_rio.specs.window.Heard.{Raw, Written, Labelled}
+use Rattle.model_files.specs.declared.tree.Kind.{Kind}
+use Rattle.model_files.specs.declared.tree.Kind.TheVariants as kind
+use Rattle.model_files.specs.tree.Node.{Node, writes}
+use Rattle.model_files.specs.tree.Tree.{check_live}
 use Rattle.model_world.specs.Session.{Session}
 use Rattle.model_world.specs.Outside.{Outside}
 use Rattle.model_world.specs.Refusal.{refusal}

@@ -3,13 +3,13 @@
 #![tactic(auto)]
 
 ghost use Rattle.std.specs.Prelude.{◌≡◌, ◌≤◌, ◌==◌, ◌∷◌, All, IfSome, List, None, Option, Some, Ok, drop, length, true, false, is_some, ℕ};
-ghost use Rattle.model_wire.specs.Message.{R, Rflush, Tflush, Twrite};
-ghost use Rattle.model_wire.specs.Reading.{message_of, tag_of};
-ghost use Rattle.model_text.specs.Map.{lookup};
-ghost use Rattle.model_rio.specs.Act.{Act};
-ghost use Rattle.model_rio.specs.Rio.{rio};
-ghost use Rattle.model_rio.specs.Step.{Step};
-ghost use Rattle.model_window.specs.Heard.{Heard};
+ghost use Rattle.model_files.specs.wire.Message.{R, Rflush, Tflush, Twrite};
+ghost use Rattle.model_files.specs.wire.Reading.{message_of, tag_of};
+ghost use Rattle.model_text.specs.text.Map.{lookup};
+ghost use Rattle.model_rio.specs.rio.Act.{Act};
+ghost use Rattle.model_rio.specs.rio.Rio.{rio};
+ghost use Rattle.model_rio.specs.rio.Step.{Step};
+ghost use Rattle.model_rio.specs.window.Heard.{Heard};
 ghost use Rattle.model_world.specs.Answer.{answer};
 ghost use Rattle.model_world.specs.Desktop.{Desktop, stepped};
 ghost use Rattle.model_world.specs.Fids.{Left, cleared, left, unanswered};
@@ -22,9 +22,9 @@ ghost use Rattle.model_world.specs.Standing.{AllWaitOn, AreEmptied, AreInOrder, 
 ghost use Rattle.model_world.specs.Waiting.{one_answered, waits_for};
 ghost use Rattle.model_world.specs.Whole.{desktop_for};
 ghost use Rattle.model_world.specs.World.{World};
-ghost use Rattle.r9_event.specs.declared.event.Event.{Event};
-ghost use Rattle.r9_event.specs.declared.event.Event.TheVariants.{Msg};
-ghost use Rattle.r9_event.specs.declared.event.Opening.{Opening};
+ghost use Rattle.r9_event.specs.declared.event.event.Event.{Event};
+ghost use Rattle.r9_event.specs.declared.event.event.Event.TheVariants.{Msg};
+ghost use Rattle.r9_event.specs.declared.event.event.Opening.{Opening};
 
 /// A refusal leaves the session and all outside as they were, but that of a remove and of a write to `data`.
 pub fn refusal_leaves_all()

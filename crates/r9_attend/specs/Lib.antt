@@ -1,4 +1,2 @@
-pub mod Passes
-pub mod Sessions
-pub mod Steps
-pub mod Calls
+pub mod attend
+pub mod workers

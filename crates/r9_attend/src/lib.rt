@@ -1,13 +1,5 @@
-//! One session of a server: a reader that asks what comes from its one end, and a writer that gives what waits to the other.
+//! These parts, each with a text of its own at its head: `attend`, `workers`.
 #![tactic(auto)]
 
-mod ends;
-mod reading;
-mod room;
-mod serves;
-mod session;
-mod writing;
-
-pub use ends::{Attended, ReadEnd, WriteEnd};
-pub use serves::Serves;
-pub use session::attend;
+pub mod attend;
+pub mod workers;

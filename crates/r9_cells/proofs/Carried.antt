@@ -8,7 +8,7 @@ use Rattle.r9_geom.specs.Geometry.{carried, holds, strip}
 use Rattle.r9_geom.proofs.GeometryLemmas.{bounds_of, holds_from, same_point, same_tests}
 use Rattle.r9_plane.specs.Pixels.{along}
 use Rattle.r9_plane.proofs.PlaneLemmas.{along_holds}
-use Rattle.r9_locate.proofs.Locating.{along-along, strip_at}
+use Rattle.r9_locate.proofs.locate.Locating.{along-along, strip_at}
 
 pub carried_along : (at from : Point) (n : ℕ) → carried (along at n) at from ≡ along from n
 carried_along at from n = same_point (carried (along at n) at from) (along from n) (omega (arith, ints)) (omega (arith, ints))

@@ -14,7 +14,7 @@ use Rattle.model_forest.specs.declared.Window.{Window}
 use Rattle.model_forest.specs.World.{no_rect}
 use Rattle.model_kept.specs.Cells.{above, cell_count, cell_of, cell_part, cells_across, hides_under}
 use Rattle.model_kept.specs.Keeping.{place_among}
-use Rattle.r9_locate.proofs.Locating.{no_rect_near, place_near}
+use Rattle.r9_locate.proofs.locate.Locating.{no_rect_near, place_near}
 use Rattle.r9_cells.specs.Fitting.{hides_above}
 
 -- a cell begins within the rectangle

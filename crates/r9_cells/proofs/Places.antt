@@ -9,7 +9,7 @@ use Rattle.r9_geom.specs.declared.Rect.{Rect}
 use Rattle.r9_geom.specs.Geometry.{distance, holds, strip, IsNear, IsRectNear}
 use Rattle.r9_geom.proofs.GeometryLemmas.{bounds_of, cell_of as place_of, holds_from, same_point, strip_distance}
 use Rattle.r9_plane.specs.Pixels.{along}
-use Rattle.r9_locate.proofs.Locating.{along-along}
+use Rattle.r9_locate.proofs.locate.Locating.{along-along}
 use Rattle.r9_store.specs.Tiles.{cell}
 use Rattle.model_kept.specs.Cells.{cell_of, cells_across, in_cell}
 use Rattle.r9_cells.specs.declared.table.Row.{Row}

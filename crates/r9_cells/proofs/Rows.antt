@@ -8,7 +8,7 @@ use Rattle.r9_geom.specs.declared.Point.{Point}
 use Rattle.r9_geom.specs.Geometry.{holds, strip}
 use Rattle.r9_plane.specs.Pixels.{along}
 use Rattle.r9_plane.proofs.PlaneLemmas.{along_holds}
-use Rattle.r9_locate.proofs.Locating.{strip_at}
+use Rattle.r9_locate.proofs.locate.Locating.{strip_at}
 use Rattle.r9_store.specs.Tiles.{Tiles, pixel}
 use Rattle.r9_cells.specs.Rows.{cell_at, pixel_at, CellPlace, IsKept}
 

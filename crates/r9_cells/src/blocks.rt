@@ -10,15 +10,15 @@ ghost use Rattle.r9_plane.specs.Pixels.{chan_of, pixel_at, rect_of};
 ghost use Rattle.r9_store.specs.Tiles.{cell, place_of, spare};
 ghost use Rattle.model_kept.specs.Cells.{cell_of, in_cell};
 ghost use Rattle.r9_cells.specs.Blocks.{band_from, part_from, IsInCell, IsInRow};
-ghost use Rattle.r9_watched.specs.Watched.{count_of, moment_of};
+ghost use Rattle.r9_locate.specs.watched.Watched.{count_of, moment_of};
 ghost use Rattle.r9_cells.specs.Rows.{cell_place, has_tile, CellPlace};
 
 use super::hiding::cells_across;
 use super::table::Cells;
 use r9_geom::{Point, Rect, distance};
+use r9_locate::watched::Watched;
+use r9_marks::steps::Steps;
 use r9_plane::{Plane, copy_rows};
-use r9_steps::Steps;
-use r9_watched::Watched;
 use std::sync::ledger::Ledger;
 
 // How many points there are from one on, of n, to the end of its cell.

@@ -7,17 +7,17 @@ ghost use Rattle.model_pixel.specs.Channels.{depth};
 ghost use Rattle.r9_plane.specs.Pixels.{along, chan_of, pixel_at, rect_of};
 ghost use Rattle.r9_store.specs.Tiles.{cell, is_held, pixel, spare};
 ghost use Rattle.model_kept.specs.Cells.{cell_of, in_cell};
-ghost use Rattle.r9_watched.specs.Watched.{count_of, moment_of};
+ghost use Rattle.r9_locate.specs.watched.Watched.{count_of, moment_of};
 ghost use Rattle.r9_cells.specs.Rows.{cell_at, cell_place, has_tile, CellPlace};
 
 use super::hiding::cells_across;
 use super::table::Cells;
 use r9_geom::{Point, Rect, distance};
-use r9_locate::along;
+use r9_locate::locate::along;
+use r9_locate::watched::Watched;
+use r9_marks::steps::Steps;
 use r9_plane::Plane;
-use r9_steps::Steps;
 use r9_store::TileNo;
-use r9_watched::Watched;
 use std::sync::ledger::Ledger;
 
 /// A point of a tile, counted from its corner.

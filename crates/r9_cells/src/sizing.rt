@@ -11,7 +11,7 @@ ghost use Rattle.r9_store.specs.Tiles.{spare};
 ghost use Rattle.model_forest.specs.declared.Window.{Window as Listed};
 ghost use Rattle.model_forest.specs.World.{image_at, IsLive};
 ghost use Rattle.model_kept.specs.Cells.{cell_count};
-ghost use Rattle.r9_locate.specs.Table.{shape};
+ghost use Rattle.r9_locate.specs.locate.Table.{shape};
 ghost use Rattle.r9_cells.specs.Rows.{cell_at, row_at};
 ghost use Rattle.r9_cells.specs.Fitting as spec;
 ghost use Rattle.r9_cells.specs.Fitting.{hides_cell, hides_of, shows_of, wanted_all, wanted_among, wanted_later, AreGivenOff, AreOne, AreTakenOff, IsGivenOff, IsLaterTaken, IsSpan, IsTakenOff, IsWindowAt, IsWindowed};
@@ -20,7 +20,7 @@ use super::hiding::{is_nowhere, next_near, span};
 use super::table::Cells;
 use model_forest::Window;
 use r9_geom::Rect;
-use r9_locate::Lists;
+use r9_locate::locate::Lists;
 use r9_memory::Memory;
 
 // The rectangle of an image.

@@ -10,9 +10,9 @@ ghost use Rattle.r9_store.specs.Tiles.{cell, held, spare};
 ghost use Rattle.r9_cells.specs.Rows.{cell_at, row_at, rows_of, tiles_of, CellPlace, IsKept};
 
 use r9_geom::{Point, Rect};
+use r9_marks::steps::Steps;
 use r9_memory::Memory;
 use r9_plane::Plane;
-use r9_steps::Steps;
 use r9_store::{Store, TileNo};
 use std::alloc::Global;
 use std::sync::ledger::Ledger;

@@ -1,9 +1,9 @@
 -- A line that ends waits behind the others.
 use Rattle.std.proofs.Common.{◌≡◌, ℕ, ◌+◌, ◌≤◌, Bool, List, [], ◌∷◌, ◌++◌, length, drop, refl, ap, ◌∙◌, arith, length-append, slice_index_or}
 use Rattle.std.specs.List.{concat}
-use Rattle.model_console.specs.Console.{last_of}
-use Rattle.model_console.proofs.Bounds.{length-concat, one_more_ended}
-use Rattle.model_console.proofs.Ends.{length-last_of}
+use Rattle.model_files.specs.console.Console.{last_of}
+use Rattle.model_files.proofs.console.Bounds.{length-concat, one_more_ended}
+use Rattle.model_files.proofs.console.Ends.{length-last_of}
 use Rattle.r9_cons.specs.Waiting.{unread, IsConsole}
 
 pub unread-push : (taken : ℕ) (ended : List (List ℕ)) (line : List ℕ) → taken ≤ length (slice_index_or ended 0 []) → unread taken (ended ++ line ∷ []) ≡ unread taken ended ++ line ∷ []

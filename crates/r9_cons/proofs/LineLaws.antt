@@ -3,8 +3,8 @@ use Rattle.std.proofs.Common.{◌≡◌, ℕ, ◌+◌, ◌-◌, List, [], ◌∷
 use Rattle.std.proofs.lemmas.List.{take-append-drop, take-append-le, drop-append-le, take_all}
 use Rattle.std.proofs.lemmas.List.Sums.{sum_by-append, sum_by-cons}
 use Rattle.std.specs.List.{sum_by, concat}
-use Rattle.model_console.specs.Console.{without_last}
-use Rattle.model_console.proofs.Bounds.{length-concat}
+use Rattle.model_files.specs.console.Console.{without_last}
+use Rattle.model_files.proofs.console.Bounds.{length-concat}
 use Rattle.r9_cons.specs.Line.{cut, total}
 
 total-cons : (len : ℕ) (lens : List ℕ) → total (len ∷ lens) ≡ len + total lens

@@ -4,8 +4,8 @@ use Rattle.std.proofs.lemmas.List.{take_all}
 use Rattle.std.proofs.lemmas.List.Edits.{take-paste}
 use Rattle.std.proofs.Math.Seq.{paste}
 use Rattle.std.specs.List.{copy_within}
-use Rattle.model_console.specs.Console.{last_of}
-use Rattle.model_console.proofs.Ends.{last_of-last_of}
+use Rattle.model_files.specs.console.Console.{last_of}
+use Rattle.model_files.proofs.console.Ends.{last_of-last_of}
 
 moved : (n : ℕ) (text : List ℕ) → n ≤ length text → take n (copy_within text (length text - n) (length text) 0) ≡ last_of n text
 moved n text le =

@@ -1,6 +1,6 @@
 -- What a console holds beside what its model tells.
 use Rattle.std.specs.Prelude.{◌≡◌, ℕ, ◌+◌, ◌≤◌, min, List, [], ◌∷◌, length, drop, slice_index_or}
-use Rattle.model_console.specs.Console as model
+use Rattle.model_files.specs.console.Console as model
 
 -- the lines that wait, where so many bytes of the first were read
 abbrev pub unread : ℕ → List (List ℕ) → List (List ℕ)

@@ -1,7 +1,7 @@
 //! The keys and the text of one console.
 
 ghost use Rattle.std.specs.Prelude.{◌≡◌, ◌+◌, ◌≤◌, ◌<◌, ◌++◌, ◌∷◌, ◌||◌, [], false, length, IsTrue, IsOk, IfOk, OnOk, OnErr};
-ghost use Rattle.model_console.specs.Console.{empty, held, has_room, is_key, keyed, cooked_key, raw_key, with_line_ended, without_last, with_raw, with_text, read, after_read, given, rest, text, remembered};
+ghost use Rattle.model_files.specs.console.Console.{empty, held, has_room, is_key, keyed, cooked_key, raw_key, with_line_ended, without_last, with_raw, with_text, read, after_read, given, rest, text, remembered};
 
 use crate::line::Line;
 use crate::transcript::Transcript;
@@ -39,7 +39,7 @@ pub struct Console {
 }
 
 impl Model for Console {
-    ghost use Rattle.model_console.specs.Console as model;
+    ghost use Rattle.model_files.specs.console.Console as model;
 
     ghost Value = { model.Console };
 
@@ -76,7 +76,7 @@ impl Console {
     /// takes the line's last character away and control-U the whole line; a newline ends the line and belongs to it,
     /// control-D ends it and does not; any other character is added. What would make more than 8,192 bytes wait is
     /// dropped; each ended line counts as one byte more. Where memory is short, nothing changes.
-    #[tactic(auto, unfolding(model_console::specs::Console::keyed))]
+    #[tactic(auto, unfolding(model_files::specs::console::Console::keyed))]
     pub fn key(&mut self, bytes: &[u8]) -> Result<(), Memory>
         ensures ok { OnOk result (self.new ≡ remembered (keyed bytes.now self.old)) }
         ensures err { OnErr result (self.new ≡ self.old) }
@@ -191,7 +191,7 @@ impl Console {
     /// What a read of so many bytes gives: at most that many of the oldest ended line, whose rest waits on. A read of 0
     /// bytes gives none and takes nothing. None exactly where the count is not 0 and no line has ended. Where memory is
     /// short, nothing changes.
-    #[tactic(auto, unfolding(model_console::specs::Console::read, model_console::specs::Console::after_read))]
+    #[tactic(auto, unfolding(model_files::specs::console::Console::read, model_files::specs::console::Console::after_read))]
     pub fn read(&mut self, count: u32) -> Result<Option<Bytes>, Memory>
         ensures gives { IfOk result (λ given. given ≡ read count self.old) }
         ensures takes { OnOk result (self.new ≡ after_read count self.old) }
@@ -236,7 +236,7 @@ impl Console {
 
     /// Keys are given raw from now on, or lines are edited again. The first ends a line that is not empty. Where memory
     /// is short, nothing changes.
-    #[tactic(auto, unfolding(model_console::specs::Console::with_raw))]
+    #[tactic(auto, unfolding(model_files::specs::console::Console::with_raw))]
     pub fn set_raw(&mut self, raw: bool) -> Result<(), Memory>
         ensures ok { OnOk result (self.new ≡ remembered (with_raw raw self.old)) }
         ensures err { OnErr result (self.new ≡ self.old) }

@@ -2,7 +2,7 @@
 
 ghost use Rattle.std.specs.Prelude.{◌≡◌, ◌+◌, ◌<◌, ◌^◌, ◌==◌, ◌++◌, [], ◌∷◌, length, IfOk, OnOk, OnErr};
 ghost use Rattle.std.specs.List.{concat, sum_by};
-ghost use Rattle.model_console.specs.Console.{without_last};
+ghost use Rattle.model_files.specs.console.Console.{without_last};
 
 use r9_memory::Memory;
 use r9_text::Bytes;

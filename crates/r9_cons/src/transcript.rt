@@ -1,7 +1,7 @@
 //! The end of a text that grows.
 
 ghost use Rattle.std.specs.Prelude.{◌≡◌, ◌≤◌, ◌++◌, [], length, OnOk, OnErr};
-ghost use Rattle.model_console.specs.Console.{last_of};
+ghost use Rattle.model_files.specs.console.Console.{last_of};
 
 use r9_memory::Memory;
 use std::alloc::Global;
@@ -19,7 +19,7 @@ pub struct Transcript {
 
 impl Model for Transcript {
     ghost use Rattle.std.specs.Prelude.{List, ℕ};
-    ghost use Rattle.model_console.specs.Console.{last_of};
+    ghost use Rattle.model_files.specs.console.Console.{last_of};
 
     ghost Value = { List ℕ };
 

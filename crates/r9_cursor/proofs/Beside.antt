@@ -10,8 +10,8 @@ use Rattle.r9_geom.specs.Geometry.{distance, height, natural, point_at, width, I
 use Rattle.r9_geom.proofs.GeometryLemmas.{distance_below, distance_is, width_most}
 use Rattle.model_pixel.specs.Channels.{depth, is_depth}
 use Rattle.model_pixel.specs.Rows.{row_bytes, skip}
-use Rattle.model_cursor.specs.Cursor.{cursor_at, has, shape_at}
-use Rattle.model_cursor.specs.Rows.{put_in}
+use Rattle.model_client.specs.cursor.Cursor.{cursor_at, has, shape_at}
+use Rattle.model_client.specs.cursor.Rows.{put_in}
 use Rattle.r9_plane.proofs.PackedLemmas.{by_depth, by_whole, depth_most}
 use Rattle.r9_plane.proofs.RowLemmas.{row_fits}
 use Rattle.r9_cursor.specs.Bytes.{byte_under}

@@ -8,7 +8,7 @@ use Rattle.r9_geom.specs.declared.Point.{Point}
 use Rattle.r9_geom.specs.declared.Rect.{Rect}
 use Rattle.model_pixel.specs.Channels.{depth, is_depth}
 use Rattle.model_pixel.specs.Rows.{byte_at, joined, raw_at, row_bytes}
-use Rattle.model_cursor.specs.Rows.{over_byte, put_in}
+use Rattle.model_client.specs.cursor.Rows.{over_byte, put_in}
 use Rattle.r9_cursor.specs.Bytes.{byte_under, old_bits}
 use Rattle.r9_plane.proofs.PackedLemmas.{by_depth, byte_small, byte_whole, raw_at_small}
 use Rattle.r9_plane.proofs.RunLemmas.{byte_back}

@@ -12,8 +12,8 @@ use Rattle.r9_geom.specs.Geometry.{distance, height, holds, width, point_at, IsO
 use Rattle.r9_geom.proofs.GeometryLemmas.{cell_of, same_point}
 use Rattle.model_pixel.specs.Channels.{colour_of, depth, is_depth, pack}
 use Rattle.model_pixel.specs.Rows.{joined, little, raw_at, row_bytes, row_pixel, skip}
-use Rattle.model_cursor.specs.Cursor.{black, white, cursor_at, has, is_edge}
-use Rattle.model_cursor.specs.Rows.{over_byte, put_in}
+use Rattle.model_client.specs.cursor.Cursor.{black, white, cursor_at, has, is_edge}
+use Rattle.model_client.specs.cursor.Rows.{over_byte, put_in}
 use Rattle.r9_plane.proofs.PackedLemmas.{by_depth, little-same, little-written, raw_at_small, raw_at_whole, size_of, within_at}
 use Rattle.r9_plane.proofs.RowLemmas.{row_fits}
 use Rattle.r9_cursor.specs.Bytes.{byte_under, old_bits}

@@ -5,9 +5,9 @@ ghost use Rattle.std.specs.Option.{unwrap_or};
 ghost use Rattle.r9_geom.specs.Geometry.{distance, height, width, IsNear, IsNearBy, IsOrdered, IsRectNear};
 ghost use Rattle.model_pixel.specs.Channels as channels;
 ghost use Rattle.model_pixel.specs.Rows as spec;
-ghost use Rattle.model_cursor.specs.Cursor as model;
-ghost use Rattle.model_cursor.specs.Cursor.{shape_at, cursor_at};
-ghost use Rattle.model_cursor.specs.Rows.{put_in};
+ghost use Rattle.model_client.specs.cursor.Cursor as model;
+ghost use Rattle.model_client.specs.cursor.Cursor.{shape_at, cursor_at};
+ghost use Rattle.model_client.specs.cursor.Rows.{put_in};
 ghost use Rattle.r9_cursor.specs.Bytes.{old_bits, byte_under};
 
 use r9_chan::{Chan, Colour};

@@ -7,8 +7,8 @@ ghost use Rattle.r9_geom.specs.declared.Point.{Point};
 ghost use Rattle.r9_geom.specs.Geometry.{height, holds, IsNear, IsOrdered, IsRectNear};
 ghost use Rattle.model_pixel.specs.Channels.{depth};
 ghost use Rattle.model_pixel.specs.Rows.{row_bytes, row_pixel};
-ghost use Rattle.model_cursor.specs.Cursor.{cursor_at};
-ghost use Rattle.model_cursor.specs.Rows.{over_rows};
+ghost use Rattle.model_client.specs.cursor.Cursor.{cursor_at};
+ghost use Rattle.model_client.specs.cursor.Rows.{over_rows};
 
 mod cursor;
 

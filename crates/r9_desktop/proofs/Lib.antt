@@ -7,3 +7,4 @@ mod Display
 mod Panes
 mod Sides
 mod Marks
+pub mod Sending

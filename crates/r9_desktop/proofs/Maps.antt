@@ -1,9 +1,9 @@
 -- Maps that are changed at a key, where it has a value or not.
 use Rattle.std.proofs.Common.{◌≡◌, ◌∙◌, ℕ, Bool, true, false, cond, eqb, List, [], ◌∷◌, Option, Some, None, Result, Ok, Err, OnOk, OnErr, refl, sym, ap}
 use Rattle.std.specs.Option.{unwrap_or}
-use Rattle.model_text.specs.Map.{lookup, with}
-use Rattle.model_window.specs.Heard.{Heard}
-use Rattle.model_window.specs.Pane.{Pane, new_pane, pane_heard}
+use Rattle.model_text.specs.text.Map.{lookup, with}
+use Rattle.model_rio.specs.window.Heard.{Heard}
+use Rattle.model_rio.specs.window.Pane.{Pane, new_pane, pane_heard}
 use Rattle.model_world.specs.Desktop.{pane_told}
 
 absent_by : {A : Type 0} (e : ℕ × A) (es : List (ℕ × A)) (key : ℕ) (value : A) (b : Bool) → cond b (Some e.1) (lookup es key) ≡ None → (lookup es key ≡ None → with es key value ≡ es)

@@ -4,13 +4,13 @@ use Rattle.std.specs.Prelude.{is_some, min, IsSome}
 use Rattle.std.proofs.lemmas.Bool.{false≢true}
 use Rattle.r9_geom.specs.Geometry.{height, width}
 use Rattle.model_pixel.specs.Channels.{depth}
-use Rattle.r9_marks.specs.Cells.{cells_over, count_cells}
+use Rattle.r9_marks.specs.marks.Cells.{cells_over, count_cells}
 use Rattle.model_forest.specs.World.{parent_of}
-use Rattle.model_draw.specs.World.{at_number, World}
-use Rattle.r9_watched.specs.Moments.{IsFew, IsSince, Moment}
+use Rattle.model_draw.specs.draw.World.{at_number, World}
+use Rattle.r9_locate.specs.watched.Moments.{IsFew, IsSince, Moment}
 use Rattle.r9_forest.specs.Marks.{shown_in, IsMoment}
-use Rattle.r9_draw.specs.declared.draw.Draw.{Draw}
-use Rattle.r9_draw.specs.World.{marked_in, marks_of, moment_of, world_of, writes_of}
+use Rattle.r9_draw.specs.declared.draw.draw.Draw.{Draw}
+use Rattle.r9_draw.specs.draw.World.{marked_in, marks_of, moment_of, world_of, writes_of}
 use Rattle.r9_desktop.specs.Marks.{display_in, AreCounted, IsBegun, IsMarked, IsSound}
 
 -- none is written yet

@@ -1,10 +1,10 @@
 -- What belongs to a rio, by its kind.
 use Rattle.std.proofs.Common.{◌≡◌, Bool, true, false, refl}
 use Rattle.std.specs.Option.{option_map_or}
-use Rattle.model_rio.specs.Table.{Table, window_of}
-use Rattle.model_tree.specs.declared.Kind.{Kind}
-use Rattle.model_tree.specs.declared.Kind.TheVariants.{Device, Draw, New, Connection, Ctl, Data, Refresh, Mousein, Kbdin, Screen, Snarf, DeviceWctl, Wsys, Window, Cons, Consctl, Label, Mouse, Text, Wctl, Winid, Winname, Picture, Listed, Hwsize}
-use Rattle.model_tree.specs.Node.{Node, row}
+use Rattle.model_rio.specs.rio.Table.{Table, window_of}
+use Rattle.model_files.specs.declared.tree.Kind.{Kind}
+use Rattle.model_files.specs.declared.tree.Kind.TheVariants.{Device, Draw, New, Connection, Ctl, Data, Refresh, Mousein, Kbdin, Screen, Snarf, DeviceWctl, Wsys, Window, Cons, Consctl, Label, Mouse, Text, Wctl, Winid, Winname, Picture, Listed, Hwsize}
+use Rattle.model_files.specs.tree.Node.{Node, row}
 use Rattle.model_world.specs.Whole.{host_by}
 use Rattle.r9_desktop.specs.Words.{is_of_rio}
 

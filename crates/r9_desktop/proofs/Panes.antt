@@ -2,11 +2,11 @@
 use Rattle.std.proofs.Common.{◌≡◌, ℕ, Bool, cond, eqb, List, [], Option, Some, None, Result, Ok, Err, sym, ap, ◌∙◌}
 use Rattle.std.specs.Prelude.{IfOk, IfSome, IfNone, OnErr}
 use Rattle.std.specs.Option.{unwrap_or}
-use Rattle.model_text.specs.Map.{lookup, with}
-use Rattle.model_map.proofs.Maps.{with-same}
-use Rattle.model_mouse.specs.Queue.{answer, answer_text}
-use Rattle.model_console.specs.Console as console
-use Rattle.model_window.specs.Pane.{Pane, new_pane}
+use Rattle.model_text.specs.text.Map.{lookup, with}
+use Rattle.model_text.proofs.map.Maps.{with-same}
+use Rattle.model_files.specs.mouse.Queue.{answer, answer_text}
+use Rattle.model_files.specs.console.Console as console
+use Rattle.model_rio.specs.window.Pane.{Pane, new_pane}
 use Rattle.model_world.specs.Desktop.{pane_of}
 
 -- ---- what follows from what a read promises

@@ -1,7 +1,7 @@
 -- The windows of a rio as a view lists them.
 use Rattle.std.proofs.Common.{◌≡◌, ◌∙◌, ℕ, List, [], ◌∷◌, map, refl, ap}
 use Rattle.std.specs.List.{zip}
-use Rattle.r9_window.specs.declared.Window.{Window}
+use Rattle.r9_event.specs.declared.window.Window.{Window}
 
 zip-maps : (ws : List Window) → zip (map (λ w. w.number) ws) (map (λ w. w.serial) ws) ≡ map (λ w. (w.number, w.serial)) ws
 zip-maps [] = refl

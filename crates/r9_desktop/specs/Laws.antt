@@ -1,9 +1,9 @@
 -- What sessions answer leaves a desktop with their connections, and refuses nothing for want of memory but by the reply to a write.
 use Rattle.std.proofs.Common.{◌≡◌, ℕ, List, [], Option, Some, Ok, Err, refl, subst, arith}
-use Rattle.model_text.specs.Outcome.{Outcome}
-use Rattle.model_wire.specs.Message.{T, Twrite}
-use Rattle.model_tree.specs.Node.{Node}
-use Rattle.model_draw.specs.Act.{no_memory}
+use Rattle.model_text.specs.text.Outcome.{Outcome}
+use Rattle.model_files.specs.wire.Message.{T, Twrite}
+use Rattle.model_files.specs.tree.Node.{Node}
+use Rattle.model_draw.specs.draw.Act.{no_memory}
 use Rattle.model_world.specs.Session.{Session}
 use Rattle.model_world.specs.Answer.{answer_to, read_or_not}
 use Rattle.model_world.specs.Fids.{Left, cleared}

@@ -3,13 +3,13 @@ use Rattle.std.specs.Prelude.{◌≡◌, ◌+◌, ◌-◌, ◌/◌, ◌^◌, ◌
 use Rattle.r9_geom.specs.declared.Rect.{Rect}
 use Rattle.r9_geom.specs.Geometry.{height, width}
 use Rattle.model_pixel.specs.Channels.{depth}
-use Rattle.r9_marks.specs.Cells.{cells_over, count_cells}
+use Rattle.r9_marks.specs.marks.Cells.{cells_over, count_cells}
 use Rattle.model_forest.specs.World.{parent_of}
-use Rattle.model_draw.specs.World.{World, at_number}
-use Rattle.r9_watched.specs.Moments.{Moment}
+use Rattle.model_draw.specs.draw.World.{World, at_number}
+use Rattle.r9_locate.specs.watched.Moments.{Moment}
 use Rattle.r9_forest.specs.Marks.{shown_in, IsMoment}
-use Rattle.r9_draw.specs.declared.draw.Draw.{Draw}
-use Rattle.r9_draw.specs.World.{marked_in, marks_of, moment_of, world_of, writes_of}
+use Rattle.r9_draw.specs.declared.draw.draw.Draw.{Draw}
+use Rattle.r9_draw.specs.draw.World.{marked_in, marks_of, moment_of, world_of, writes_of}
 
 -- the display's rectangle and its channels, its pixels by column and row, which of its cells of 32 by 32 pixels are marked and how many,
 -- and whether it stands nowhere

@@ -1,19 +1,19 @@
 -- What calls of a desktop promise.
 use Rattle.std.specs.Prelude.{◌≡◌, ◌==◌, ◌||◌, ℕ, Bool, Option, List, [], ◌∷◌, if◌then◌else◌}
-use Rattle.model_tree.specs.declared.Kind.{Kind}
-use Rattle.model_tree.specs.declared.Kind.TheVariants.{Wsys, Screen, Snarf}
+use Rattle.model_files.specs.declared.tree.Kind.{Kind}
+use Rattle.model_files.specs.declared.tree.Kind.TheVariants.{Wsys, Screen, Snarf}
 use Rattle.model_world.specs.Fids.{is_kind}
 use Rattle.model_world.specs.Desktop.{Desktop}
 use Rattle.model_world.specs.Whole.{client}
-use Rattle.model_draw.specs.World.{World}
-use Rattle.model_draw.specs.Act.{written}
-use Rattle.model_looked.specs.Rows.{rows_within}
-use Rattle.r9_around.specs.Words.{Tells}
-use Rattle.r9_around.specs.declared.wrote.Told.{Told}
-use Rattle.r9_draw.specs.declared.fault.DrawFault.{DrawFault}
-use Rattle.r9_draw.specs.declared.fault.DrawFault.TheVariants as draw
-use Rattle.r9_files.specs.declared.fault.Fault.{Fault}
-use Rattle.r9_files.specs.declared.fault.Fault.TheVariants as fault
+use Rattle.model_draw.specs.draw.World.{World}
+use Rattle.model_draw.specs.draw.Act.{written}
+use Rattle.model_draw.specs.looked.Rows.{rows_within}
+use Rattle.r9_files.specs.around.Words.{Tells}
+use Rattle.r9_files.specs.declared.around.wrote.Told.{Told}
+use Rattle.r9_draw.specs.declared.draw.fault.DrawFault.{DrawFault}
+use Rattle.r9_draw.specs.declared.draw.fault.DrawFault.TheVariants as draw
+use Rattle.r9_files.specs.declared.files.fault.Fault.{Fault}
+use Rattle.r9_files.specs.declared.files.fault.Fault.TheVariants as fault
 
 -- a fault of the draw device as one of a file
 abbrev pub fault_of_draw : DrawFault → Fault

@@ -1,6 +1,6 @@
 -- A desktop as the definitions have it.
 use Rattle.std.specs.Option.{option_map}
-use Rattle.r9_draw.specs.World.{world_of}
+use Rattle.r9_draw.specs.draw.World.{world_of}
 use Rattle.model_world.specs.Desktop as model
 use Rattle.r9_desktop.specs.Marks.{Display, display_in}
 use Rattle.r9_desktop.specs.declared.desktop.Desktop.{Desktop}

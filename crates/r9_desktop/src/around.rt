@@ -10,12 +10,12 @@ ghost use Rattle.r9_desktop.specs.Words.{tells_for};
 ghost use Rattle.r9_desktop.specs.Laws.{answer_links, answers_otherwise, cleared_links, late_links, leave_leaves, refuses_otherwise, view_has};
 
 use crate::desktop::Desktop;
-use model_words::Size;
-use r9_around::{Outside, Wrote};
-use r9_files::Fault;
+use model_history::words::Size;
+use r9_files::around::{Outside, Wrote};
+use r9_files::files::Fault;
+use r9_files::pane::Pane;
 use r9_memory::Memory;
 use r9_mouse::Mouse;
-use r9_pane::Pane;
 use r9_text::{Bytes, Numbers};
 use r9_tree::{Attach, Node, TreeView};
 

@@ -3,21 +3,21 @@
 ghost use Rattle.std.specs.Prelude.{◌≡◌, Ok, Err, IfOk, IfErr, OnOk};
 ghost use Rattle.std.specs.List.{fold};
 ghost use Rattle.model_world.specs.Whole.{desktop_for, left_one, made_by, window_made};
-ghost use Rattle.r9_wctl.specs.Values.{wctl_of};
+ghost use Rattle.r9_wctl.specs.wctl.Values.{wctl_of};
 ghost use Rattle.r9_tree.specs.Attached.{attach_of_code};
-ghost use Rattle.r9_around.specs.Words.{IfRefused};
+ghost use Rattle.r9_files.specs.around.Words.{IfRefused};
 ghost use Rattle.r9_desktop.specs.Words.{SameClients};
 ghost use Rattle.r9_desktop.specs.World.{began_in, began_of, desktop_of, parts_of};
 
 use crate::desktop::Desktop;
 use crate::finding::{BAD_COMMAND, read_command};
 use crate::using::{add_user, is_user, remove_user, users_of};
-use r9_files::Fault;
+use r9_files::files::Fault;
 use r9_memory::Memory;
 use r9_text::Numbers;
 use r9_tree::Attach;
-use r9_wctl::Wctl;
-use r9_wmgr::Act;
+use r9_wctl::wctl::Wctl;
+use r9_wmgr::wmgr::Act;
 
 /// The number of the refusal "unknown id in attach".
 const UNKNOWN_ATTACH: u8 = 41;

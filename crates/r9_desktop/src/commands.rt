@@ -2,15 +2,15 @@
 
 ghost use Rattle.std.specs.Prelude.{◌≡◌, Ok, Err, IfErr, OnOk};
 ghost use Rattle.model_world.specs.Whole.{commanded, device_commanded};
-ghost use Rattle.r9_around.specs.Words.{IfRefused};
+ghost use Rattle.r9_files.specs.around.Words.{IfRefused};
 ghost use Rattle.r9_desktop.specs.Words.{SameClients};
 ghost use Rattle.r9_desktop.specs.World.{began_of, desktop_of};
 
 use crate::desktop::Desktop;
 use crate::finding::{BAD_COMMAND, read_command};
-use r9_files::Fault;
-use r9_wctl::{Command, Wctl};
-use r9_wmgr::Act;
+use r9_files::files::Fault;
+use r9_wctl::wctl::{Command, Wctl};
+use r9_wmgr::wmgr::Act;
 
 impl Desktop {
     /// Does a command to a window. Refused by 47 exactly where the text spells none, and else by what the window manager refuses

@@ -1,22 +1,22 @@
 //! Connections of sessions to the draw device (draw(3)).
 
 ghost use Rattle.std.specs.Prelude.{◌≡◌, ◌==◌, ◌≤◌, ◌<◌, ◌^◌, ◌⊎◌, ◌↔◌, length, None, Some, Ok, Err, IfOk, IfErr, IfSome, IsSome, OnOk, OnErr};
-ghost use Rattle.model_text.specs.Map.{lookup};
-ghost use Rattle.model_draw.specs.Act.{no_memory};
-ghost use Rattle.model_draw.specs.Memory.{MayRunOut};
-ghost use Rattle.model_draw.specs.World.{client_of};
+ghost use Rattle.model_text.specs.text.Map.{lookup};
+ghost use Rattle.model_draw.specs.draw.Act.{no_memory};
+ghost use Rattle.model_draw.specs.draw.Memory.{MayRunOut};
+ghost use Rattle.model_draw.specs.draw.World.{client_of};
 ghost use Rattle.model_world.specs.Whole.{client, connection_left, desktop_for, written_data};
-ghost use Rattle.r9_around.specs.Words.{AreTold, IfRefused, mark_after};
+ghost use Rattle.r9_files.specs.around.Words.{AreTold, IfRefused, mark_after};
 ghost use Rattle.r9_desktop.specs.Words.{AreDone, fault_of_draw, tells_for};
 ghost use Rattle.r9_desktop.specs.World.{began_in, began_of, desktop_of, parts_of};
 
 use crate::desktop::Desktop;
 use crate::spending::{Leave, Messages};
-use r9_around::{Told, Wrote};
-use r9_draw::DrawFault;
-use r9_files::Fault;
+use r9_draw::draw::DrawFault;
+use r9_files::around::{Told, Wrote};
+use r9_files::files::Fault;
+use r9_marks::steps::Steps;
 use r9_memory::Memory;
-use r9_steps::Steps;
 use r9_text::Bytes;
 use std::marker::Brand;
 use std::snapshot::Snapshot;

@@ -2,18 +2,18 @@
 
 ghost use Rattle.std.specs.Prelude.{◌≡◌, ◌≤◌, [], length, IfOk, OnOk, OnErr};
 ghost use Rattle.std.specs.Option.{option_copied, unwrap_or};
-ghost use Rattle.model_text.specs.Map.{lookup};
-ghost use Rattle.model_imgfile.specs.ImageFile.{file_part};
-ghost use Rattle.model_draw.specs.Orders.{picture_of};
-ghost use Rattle.model_window.specs.Heard.{Labelled};
+ghost use Rattle.model_text.specs.text.Map.{lookup};
+ghost use Rattle.model_draw.specs.imgfile.ImageFile.{file_part};
+ghost use Rattle.model_draw.specs.draw.Orders.{picture_of};
+ghost use Rattle.model_rio.specs.window.Heard.{Labelled};
 ghost use Rattle.model_world.specs.Whole.{desktop_for};
 ghost use Rattle.r9_desktop.specs.World.{began_of, desktop_of};
 
 use crate::desktop::Desktop;
 use crate::telling::set_label;
-use r9_draw::Shown;
+use r9_draw::draw::Shown;
+use r9_files::pane::Pane;
 use r9_memory::Memory;
-use r9_pane::Pane;
 use r9_text::Bytes;
 
 impl Desktop {

@@ -1,16 +1,16 @@
 //! The windows and rios that paths and commands name (rio(4)).
 
 ghost use Rattle.std.specs.Prelude.{◌≡◌, Some, None, Ok, Err, IfOk, IfErr};
-ghost use Rattle.model_wctl.specs.Reading.{command_of};
+ghost use Rattle.model_files.specs.wctl.Reading.{command_of};
 ghost use Rattle.model_world.specs.Whole.{host_of, serial_of};
-ghost use Rattle.r9_wctl.specs.Values.{command_of_code};
-ghost use Rattle.r9_around.specs.Words.{IfRefused};
+ghost use Rattle.r9_wctl.specs.wctl.Values.{command_of_code};
+ghost use Rattle.r9_files.specs.around.Words.{IfRefused};
 ghost use Rattle.r9_desktop.specs.World.{parts_of};
 
 use crate::desktop::Desktop;
-use r9_files::Fault;
+use r9_files::files::Fault;
 use r9_text::Numbers;
-use r9_wctl::{Command, WctlFault, read_wctl};
+use r9_wctl::wctl::{Command, WctlFault, read_wctl};
 use std::alloc::Global;
 
 /// The number of the refusal "bad wctl command".

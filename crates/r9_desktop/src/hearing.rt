@@ -1,9 +1,9 @@
 //! What happens at one window by its files (rio(4)): they are written, read, opened and closed.
 
 ghost use Rattle.std.specs.Prelude.{◌≡◌, ◌≤◌, length, IfOk, IfSome, IfNone, OnOk, OnErr};
-ghost use Rattle.model_mouse.specs.Queue.{answer_text};
-ghost use Rattle.model_console.specs.Console as console;
-ghost use Rattle.model_window.specs.Heard.{ConsctlHeld, ConsoleRead, MouseHeld, MouseRead, Raw, Written};
+ghost use Rattle.model_files.specs.mouse.Queue.{answer_text};
+ghost use Rattle.model_files.specs.console.Console as console;
+ghost use Rattle.model_rio.specs.window.Heard.{ConsctlHeld, ConsoleRead, MouseHeld, MouseRead, Raw, Written};
 ghost use Rattle.model_world.specs.Desktop.{pane_of, pane_told};
 
 use crate::telling::Panes;

@@ -2,9 +2,9 @@
 
 ghost use Rattle.std.specs.Prelude.{◌≡◌, ◌≤◌, length, IfOk, IfSome, IfNone, OnOk, OnErr};
 ghost use Rattle.std.specs.Str.{IsUtf8};
-ghost use Rattle.model_mouse.specs.Queue.{answer_text};
-ghost use Rattle.model_console.specs.Console as console;
-ghost use Rattle.model_window.specs.Heard.{ConsctlHeld, ConsoleRead, MouseHeld, MouseRead, Raw, Written};
+ghost use Rattle.model_files.specs.mouse.Queue.{answer_text};
+ghost use Rattle.model_files.specs.console.Console as console;
+ghost use Rattle.model_rio.specs.window.Heard.{ConsctlHeld, ConsoleRead, MouseHeld, MouseRead, Raw, Written};
 ghost use Rattle.model_world.specs.Desktop.{pane_of};
 ghost use Rattle.model_world.specs.Whole.{desktop_for, moused, typed};
 ghost use Rattle.r9_desktop.specs.World.{began_of, desktop_of};
@@ -16,7 +16,7 @@ use crate::hearing::{
 use r9_memory::Memory;
 use r9_mouse::Mouse;
 use r9_text::Bytes;
-use r9_wmgr::Act;
+use r9_wmgr::wmgr::Act;
 
 impl Desktop {
     /// The mouse does something, at a point in pixels of the display, where it was last then. Nothing is said of the desktop where memory

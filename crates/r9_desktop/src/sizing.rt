@@ -2,21 +2,21 @@
 
 ghost use Rattle.std.specs.Prelude.{◌≡◌, ◌^◌, ◌++◌, ◌≤ℤ◌, neg_ℤ, pos, Ok, Err, IfErr, IfOk, OnOk};
 ghost use Rattle.r9_geom.specs.Geometry.{distance, height, width, IsRectNearBy};
-ghost use Rattle.model_text.specs.Field.{number_field};
+ghost use Rattle.model_text.specs.text.Field.{number_field};
 ghost use Rattle.model_world.specs.Desktop.{is_as_large};
 ghost use Rattle.model_world.specs.Reading.{size_text};
 ghost use Rattle.model_world.specs.Whole.{resized, size_of};
-ghost use Rattle.r9_around.specs.Words.{IfRefused};
+ghost use Rattle.r9_files.specs.around.Words.{IfRefused};
 ghost use Rattle.r9_desktop.specs.Words.{SameClients};
 ghost use Rattle.r9_desktop.specs.World.{began_of, desktop_of};
 
 use crate::desktop::Desktop;
-use model_words::Size;
-use r9_files::Fault;
+use model_history::words::Size;
+use r9_files::files::Fault;
 use r9_geom::{Rect, distance};
 use r9_memory::Memory;
 use r9_text::{Bytes, push_number};
-use r9_wmgr::Act;
+use r9_wmgr::wmgr::Act;
 use std::alloc::Global;
 
 /// How far the second coordinate is above the first; 0 where it is below.

@@ -1,12 +1,12 @@
 //! What a turn asks of the draw device, and how many pixels that writes.
 
 ghost use Rattle.std.specs.Prelude.{◌≡◌, ◌+◌, ◌-◌, ◌^◌, ◌≤◌, min};
-ghost use Rattle.model_cost.specs.Cost.{leave_cost, messages_cost, orders_cost};
-ghost use Rattle.r9_draw.specs.World.{world_of};
+ghost use Rattle.model_draw.specs.cost.Cost.{leave_cost, messages_cost, orders_cost};
+ghost use Rattle.r9_draw.specs.draw.World.{world_of};
 
-use r9_draw::Draw;
-use r9_event::Orders;
-use r9_tally::{Asked, Tally};
+use r9_draw::draw::Draw;
+use r9_event::event::Orders;
+use r9_locate::tally::{Asked, Tally};
 use std::snapshot::Snapshot;
 
 /// The messages that were done of a write, and the device as it was before.

@@ -2,15 +2,15 @@
 
 ghost use Rattle.std.specs.Prelude.{◌≡◌, Bool, OnOk, OnErr};
 ghost use Rattle.std.specs.List.{fold};
-ghost use Rattle.r9_event.specs.declared.rio.Order.TheVariants as order;
-ghost use Rattle.model_text.specs.Map.{and};
-ghost use Rattle.model_window.specs.Heard.{Noted, Labelled};
-ghost use Rattle.model_window.specs.Pane.{new_pane, pane_heard};
+ghost use Rattle.r9_event.specs.declared.event.rio.Order.TheVariants as order;
+ghost use Rattle.model_text.specs.text.Map.{and};
+ghost use Rattle.model_rio.specs.window.Heard.{Noted, Labelled};
+ghost use Rattle.model_rio.specs.window.Pane.{new_pane, pane_heard};
 ghost use Rattle.model_world.specs.Desktop.{pane_told, panes_told, users_told, snarfs_ordered};
 
-use r9_event::{Note, Order};
+use r9_event::event::{Note, Order};
+use r9_files::pane::Pane;
 use r9_memory::Memory;
-use r9_pane::Pane;
 use r9_text::{Bytes, Numbers};
 use std::alloc::Global;
 use std::collections::BTreeMap;

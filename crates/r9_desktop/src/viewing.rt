@@ -1,19 +1,19 @@
 //! What walks and listings of the tree depend on (intro(5)).
 
 ghost use Rattle.std.specs.Prelude.{◌≡◌, ◌≤◌, ◌==◌, ◌&&◌, not, is_some, map, All, Ok, Err, IfErr, IfOk, OnOk};
-ghost use Rattle.model_rio.specs.Table.{window_of};
-ghost use Rattle.model_tree.specs.Tree.{check_live};
+ghost use Rattle.model_rio.specs.rio.Table.{window_of};
+ghost use Rattle.model_files.specs.tree.Tree.{check_live};
 ghost use Rattle.model_world.specs.Whole as whole;
 ghost use Rattle.r9_desktop.specs.Words.{is_of_rio};
 ghost use Rattle.r9_tree.specs.View.{node_of, view_of, most_connections, IsNode, IsView};
 ghost use Rattle.r9_desktop.specs.World.{desktop_of, parts_of};
 
 use crate::desktop::Desktop;
-use r9_files::is_kind;
+use r9_event::window::Window;
+use r9_files::files::is_kind;
 use r9_memory::Memory;
 use r9_text::Numbers;
 use r9_tree::{Kind, Node, TreeView, is_ended};
-use r9_window::Window;
 use std::alloc::Global;
 
 /// The number of the refusal "window deleted".
@@ -94,7 +94,7 @@ impl Desktop {
 
     /// Whether a file's window and its connection live, where it has one: refused by 42 exactly where its window is gone, and else
     /// by 34 exactly where its connection is.
-    #[tactic(auto, unfolding(crate::specs::World::desktop_of, model_world::specs::Whole::view_of, model_tree::specs::Tree::check_live))]
+    #[tactic(auto, unfolding(crate::specs::World::desktop_of, model_world::specs::Whole::view_of, model_files::specs::tree::Tree::check_live))]
     pub fn check_live(&self, connections: &Numbers, node: &Node) -> Result<(), u8>
         requires { IsNode node.now }
         ensures lives { OnOk result (check_live (whole.view_of (desktop_of self.now).table connections.now (node_of node.now)) (node_of node.now) ≡ Ok tt) }

@@ -1,5 +1,2 @@
-pub mod Kept
-pub mod Spare
-pub mod World
-pub mod Live
-pub mod Gone
+pub mod client
+pub mod device

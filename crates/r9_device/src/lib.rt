@@ -1,8 +1,5 @@
-//! The draw device (draw(3)): images and windows, what ids refer to, connections, and what these keep together.
+//! These parts, each with a text of its own at its head: `client`, `device`.
 #![tactic(auto)]
 
-mod device;
-mod lookup;
-
-pub use device::{Device, Opening, release};
-pub use lookup::{DISPLAY, is_near_point, is_near_rect};
+pub mod client;
+pub mod device;

@@ -3,10 +3,10 @@ use Rattle.std.proofs.Common.{◌≡◌, ℕ, ◌/◌, ◌≤◌, Bool, true, fa
 use Rattle.std.specs.Prelude.{if◌then◌else◌, IfSome, IfNone}
 use Rattle.std.specs.Int.{w16, w32}
 use Rattle.std.specs.Option.{option_map}
-use Rattle.model_dmsg.proofs.Rest.{first_message-rest}
-use Rattle.model_dmsg.specs.Message.{Message, spelled_len}
-use Rattle.model_dmsg.specs.Reading.{First, IsMessage, IsShort, IsUnknown, IsUnsupported, first_message}
-use Rattle.model_dmsg.proofs.Rest.{length-numbers_of}
+use Rattle.model_draw_parts.proofs.dmsg.Rest.{first_message-rest}
+use Rattle.model_draw_parts.specs.dmsg.Message.{Message, spelled_len}
+use Rattle.model_draw_parts.specs.dmsg.Reading.{First, IsMessage, IsShort, IsUnknown, IsUnsupported, first_message}
+use Rattle.model_draw_parts.proofs.dmsg.Rest.{length-numbers_of}
 use Rattle.r9_dmsg.specs.Listed.{has_list, listed_in, listed_len, listed_message, IsWhole}
 use Rattle.r9_dmsg.specs.declared.listed.Listed.{Listed}
 use Rattle.r9_dmsg.specs.declared.listed.Listed.TheVariants.{Name, Restack, UseName, Write}

@@ -1,7 +1,7 @@
 -- One number more of a list.
 use Rattle.std.proofs.Common.{◌≡◌, ℕ, zero, suc, ◌-◌, ◌<◌, List, [], ◌∷◌, ◌++◌, take, drop, refl, sym, ap, ◌∙◌, append_assoc, append-nil, arith}
 use Rattle.std.specs.Int.{Width, byte_len, from_le_bytes}
-use Rattle.model_dmsg.specs.Reading.{numbers_of}
+use Rattle.model_draw_parts.specs.dmsg.Reading.{numbers_of}
 
 next : (w : Width) (n : ℕ) (rest : List ℕ) → 0 < n
     → numbers_of w n rest ≡ from_le_bytes w (take (byte_len w) rest) ∷ numbers_of w (n - 1) (drop (byte_len w) rest)

@@ -4,7 +4,7 @@ use Rattle.std.specs.Prelude.{nat_lt}
 use Rattle.std.specs.Option.{option_map}
 use Rattle.std.specs.Int.{Width, byte_len, from_le_bytes}
 use Rattle.std.proofs.lemmas.List.{take-take, drop-take, drop-drop}
-use Rattle.model_dmsg.specs.Reading.{numbers, numbers_of, some_bytes}
+use Rattle.model_draw_parts.specs.dmsg.Reading.{numbers, numbers_of, some_bytes}
 
 pub number_at_place : (w : Width) (n k : ℕ) (bytes : List ℕ) → k < n
     → get_or (numbers_of w n bytes) k 0 ≡ from_le_bytes w (take (byte_len w) (drop (byte_len w * k) bytes))

@@ -4,9 +4,9 @@ use Rattle.std.specs.Prelude.{◌==◌, if◌then◌else◌, IfSome}
 use Rattle.std.specs.List.{list_any}
 use Rattle.std.specs.Option.{option_map, option_map_or}
 use Rattle.std.proofs.lemmas.Bool.{eqb-true}
-use Rattle.model_text.specs.Reading.{◌>>=◌}
-use Rattle.model_dmsg.specs.Message.{Message}
-use Rattle.model_dmsg.specs.Reading.{read_as, Fields, IsMessage, IsShort, IsUnknown, IsUnsupported, table, fields_in, is_left_out, rowless, spelled_by, behind, low_b, up_a, low_c, low_d, up_d, low_f, up_f, low_i, low_l, up_n, low_n, low_o, up_o, low_r, low_s, up_s, low_t, low_v, low_x, low_y}
+use Rattle.model_text.specs.text.Reading.{◌>>=◌}
+use Rattle.model_draw_parts.specs.dmsg.Message.{Message}
+use Rattle.model_draw_parts.specs.dmsg.Reading.{read_as, Fields, IsMessage, IsShort, IsUnknown, IsUnsupported, table, fields_in, is_left_out, rowless, spelled_by, behind, low_b, up_a, low_c, low_d, up_d, low_f, up_f, low_i, low_l, up_n, low_n, low_o, up_o, low_r, low_s, up_s, low_t, low_v, low_x, low_y}
 use Rattle.r9_dmsg.specs.Listed.{has_list, listed_in}
 
 -- the letters N n s t x

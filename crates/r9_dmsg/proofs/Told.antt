@@ -3,9 +3,9 @@ use Rattle.std.proofs.Common.{◌≡◌, ℕ, Bool, true, false, List, Option, S
 use Rattle.std.specs.Option.{option_map, option_map_or, ok_or, IsSome, IfSome}
 use Rattle.std.proofs.lemmas.List.{take_all}
 use Rattle.std.specs.Result.{IsErrAnd, IsErrOf, IfOk}
-use Rattle.model_dmsg.proofs.Rest.{first_message-rest}
-use Rattle.model_dmsg.specs.Message.{Message, spelled_len}
-use Rattle.model_dmsg.specs.Reading.{First, Fields, IsMessage, IsShort, IsUnknown, IsUnsupported, table, fields_in, rowless, is_left_out, behind, first_message}
+use Rattle.model_draw_parts.proofs.dmsg.Rest.{first_message-rest}
+use Rattle.model_draw_parts.specs.dmsg.Message.{Message, spelled_len}
+use Rattle.model_draw_parts.specs.dmsg.Reading.{First, Fields, IsMessage, IsShort, IsUnknown, IsUnsupported, table, fields_in, rowless, is_left_out, behind, first_message}
 use Rattle.r9_dmsg.specs.declared.message.Dmsg.{Dmsg}
 use Rattle.r9_dmsg.specs.declared.message.DmsgFault.{DmsgFault}
 use Rattle.r9_dmsg.specs.declared.message.DmsgFault.TheVariants as fault

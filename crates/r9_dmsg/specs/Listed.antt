@@ -3,9 +3,9 @@ use Rattle.std.specs.Prelude.{◌≡◌, ◌≤◌, ◌^◌, ◌+◌, ◌/◌, �
 use Rattle.std.specs.Int.{w16, w32}
 use Rattle.std.specs.Option.{option_map_or}
 use Rattle.r9_geom.specs.Geometry.{IsNearBy, IsRectNearBy}
-use Rattle.model_dmsg.specs.Message as model
-use Rattle.model_dmsg.specs.Message.{Message, LowN, LowS, LowT, LowX, UpN}
-use Rattle.model_dmsg.specs.Reading.{First, IsMessage, numbers_of}
+use Rattle.model_draw_parts.specs.dmsg.Message as model
+use Rattle.model_draw_parts.specs.dmsg.Message.{Message, LowN, LowS, LowT, LowX, UpN}
+use Rattle.model_draw_parts.specs.dmsg.Reading.{First, IsMessage, numbers_of}
 use Rattle.r9_dmsg.specs.declared.writing.Writing.{Writing}
 use Rattle.r9_dmsg.specs.declared.listed.Listed.{Listed}
 use Rattle.r9_dmsg.specs.declared.listed.Listed.TheVariants.{Name, Restack, UseName, Write}

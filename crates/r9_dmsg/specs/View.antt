@@ -2,8 +2,8 @@
 use Rattle.std.specs.Prelude.{◌≡◌, ◌^◌, true, Option, Some, None, Result, Ok, Err}
 use Rattle.std.specs.Option.{option_map}
 use Rattle.r9_geom.specs.Geometry.{IsNearBy, IsRectNearBy}
-use Rattle.model_dmsg.specs.Message as model
-use Rattle.model_dmsg.specs.Reading.{First, IsMessage, IsShort, IsUnknown, IsUnsupported}
+use Rattle.model_draw_parts.specs.dmsg.Message as model
+use Rattle.model_draw_parts.specs.dmsg.Reading.{First, IsMessage, IsShort, IsUnknown, IsUnsupported}
 use Rattle.r9_dmsg.specs.declared.message.Dmsg.{Dmsg}
 use Rattle.r9_dmsg.specs.declared.message.Dmsg.TheVariants as d
 use Rattle.r9_dmsg.specs.declared.message.DmsgFault.{DmsgFault}

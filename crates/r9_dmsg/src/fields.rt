@@ -4,12 +4,12 @@ ghost use Rattle.std.specs.Prelude.{◌≡◌, ◌≤◌, ◌^◌, ◌≤ℤ◌,
 ghost use Rattle.std.specs.Int.{w16, w32, from_le_bytes};
 ghost use Rattle.std.specs.Option.{option_map};
 ghost use Rattle.r9_geom.specs.Geometry.{IsNearBy, IsRectNearBy};
-ghost use Rattle.model_dmsg.specs.Reading.{byte, short, long, signed_byte, coordinate, point, rect, some_bytes};
+ghost use Rattle.model_draw_parts.specs.dmsg.Reading.{byte, short, long, signed_byte, coordinate, point, rect, some_bytes};
 
 use r9_geom::{Point, Rect};
 
 #[inline]
-#[tactic(auto, unfolding(model_dmsg::specs::Reading::byte))]
+#[tactic(auto, unfolding(model_draw_parts::specs::dmsg::Reading::byte))]
 pub(crate) fn u8_at(bytes: &[u8]) -> Option<(u8, &[u8])>
     ensures { option_map (λ x. (x.0, x.1.now)) result ≡ byte bytes.now }
 {
@@ -39,7 +39,7 @@ pub(crate) fn split_u32(bytes: &[u8]) -> (u32, &[u8])
 }
 
 #[inline]
-#[tactic(auto, unfolding(model_dmsg::specs::Reading::some_bytes))]
+#[tactic(auto, unfolding(model_draw_parts::specs::dmsg::Reading::some_bytes))]
 pub(crate) fn bytes_at(len: usize, bytes: &[u8]) -> Option<(&[u8], &[u8])>
     ensures len { IfSome result (λ x. length x.0.now ≡ len) }
     ensures value { option_map (λ x. (x.0.now, x.1.now)) result ≡ some_bytes len bytes.now }
@@ -51,7 +51,7 @@ pub(crate) fn bytes_at(len: usize, bytes: &[u8]) -> Option<(&[u8], &[u8])>
 }
 
 #[inline]
-#[tactic(auto, unfolding(model_dmsg::specs::Reading::short))]
+#[tactic(auto, unfolding(model_draw_parts::specs::dmsg::Reading::short))]
 pub(crate) fn u16_at(bytes: &[u8]) -> Option<(u16, &[u8])>
     ensures { option_map (λ x. (x.0, x.1.now)) result ≡ short bytes.now }
 {
@@ -62,7 +62,7 @@ pub(crate) fn u16_at(bytes: &[u8]) -> Option<(u16, &[u8])>
 }
 
 #[inline]
-#[tactic(auto, unfolding(model_dmsg::specs::Reading::long))]
+#[tactic(auto, unfolding(model_draw_parts::specs::dmsg::Reading::long))]
 pub(crate) fn u32_at(bytes: &[u8]) -> Option<(u32, &[u8])>
     ensures { option_map (λ x. (x.0, x.1.now)) result ≡ long bytes.now }
 {
@@ -73,7 +73,7 @@ pub(crate) fn u32_at(bytes: &[u8]) -> Option<(u32, &[u8])>
 }
 
 #[inline]
-#[tactic(auto, unfolding(model_dmsg::specs::Reading::signed_byte))]
+#[tactic(auto, unfolding(model_draw_parts::specs::dmsg::Reading::signed_byte))]
 pub(crate) fn i8_at(bytes: &[u8]) -> Option<(i8, &[u8])>
     ensures { option_map (λ x. (x.0, x.1.now)) result ≡ signed_byte bytes.now }
 {
@@ -82,7 +82,7 @@ pub(crate) fn i8_at(bytes: &[u8]) -> Option<(i8, &[u8])>
 }
 
 #[inline]
-#[tactic(auto, unfolding(model_dmsg::specs::Reading::coordinate))]
+#[tactic(auto, unfolding(model_draw_parts::specs::dmsg::Reading::coordinate))]
 pub(crate) fn coordinate_at(bytes: &[u8]) -> Option<(i64, &[u8])>
     ensures low { IfSome result (λ x. neg_ℤ (pos (2 ^ 31)) ≤ℤ x.0) }
     ensures high { IfSome result (λ x. x.0 ≤ℤ pos (2 ^ 31)) }
@@ -93,7 +93,7 @@ pub(crate) fn coordinate_at(bytes: &[u8]) -> Option<(i64, &[u8])>
 }
 
 #[inline]
-#[tactic(auto, unfolding(model_dmsg::specs::Reading::point))]
+#[tactic(auto, unfolding(model_draw_parts::specs::dmsg::Reading::point))]
 pub(crate) fn point_at(bytes: &[u8]) -> Option<(Point, &[u8])>
     ensures near { IfSome result (λ x. IsNearBy (2 ^ 31) x.0) }
     ensures value { option_map (λ x. (x.0, x.1.now)) result ≡ point bytes.now }
@@ -104,7 +104,7 @@ pub(crate) fn point_at(bytes: &[u8]) -> Option<(Point, &[u8])>
 }
 
 #[inline]
-#[tactic(auto, unfolding(model_dmsg::specs::Reading::rect))]
+#[tactic(auto, unfolding(model_draw_parts::specs::dmsg::Reading::rect))]
 pub(crate) fn rect_at(bytes: &[u8]) -> Option<(Rect, &[u8])>
     ensures near { IfSome result (λ x. IsRectNearBy (2 ^ 31) x.0) }
     ensures value { option_map (λ x. (x.0, x.1.now)) result ≡ rect bytes.now }

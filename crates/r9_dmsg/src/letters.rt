@@ -2,14 +2,14 @@
 
 ghost use Rattle.std.specs.Prelude.{◌≡◌, IfSome};
 ghost use Rattle.std.specs.Option.{option_map};
-ghost use Rattle.model_dmsg.specs.Reading.{low_b, up_a, low_c, low_d, up_d, low_f, up_f, low_i, low_l, low_o, up_o, low_r, up_s, low_y};
+ghost use Rattle.model_draw_parts.specs.dmsg.Reading.{low_b, up_a, low_c, low_d, up_d, low_f, up_f, low_i, low_l, low_o, up_o, low_r, up_s, low_y};
 ghost use Rattle.r9_dmsg.specs.View.{message_of, IsNearMessage};
 
 use crate::fields::{i8_at, point_at, rect_at, u8_at, u16_at, u32_at};
 use crate::message::Dmsg;
 
 #[inline]
-#[tactic(auto, unfolding(model_dmsg::specs::Reading::low_b))]
+#[tactic(auto, unfolding(model_draw_parts::specs::dmsg::Reading::low_b))]
 pub(crate) fn low_b(bytes: &[u8]) -> Option<Dmsg>
     ensures near { IfSome result IsNearMessage }
     ensures message { option_map message_of result ≡ option_map (λ x. x.0) (low_b bytes.now) }
@@ -35,7 +35,7 @@ pub(crate) fn low_b(bytes: &[u8]) -> Option<Dmsg>
 }
 
 #[inline]
-#[tactic(auto, unfolding(model_dmsg::specs::Reading::up_a))]
+#[tactic(auto, unfolding(model_draw_parts::specs::dmsg::Reading::up_a))]
 pub(crate) fn up_a(bytes: &[u8]) -> Option<Dmsg>
     ensures near { IfSome result IsNearMessage }
     ensures message { option_map message_of result ≡ option_map (λ x. x.0) (up_a bytes.now) }
@@ -53,7 +53,7 @@ pub(crate) fn up_a(bytes: &[u8]) -> Option<Dmsg>
 }
 
 #[inline]
-#[tactic(auto, unfolding(model_dmsg::specs::Reading::low_c))]
+#[tactic(auto, unfolding(model_draw_parts::specs::dmsg::Reading::low_c))]
 pub(crate) fn low_c(bytes: &[u8]) -> Option<Dmsg>
     ensures near { IfSome result IsNearMessage }
     ensures message { option_map message_of result ≡ option_map (λ x. x.0) (low_c bytes.now) }
@@ -65,7 +65,7 @@ pub(crate) fn low_c(bytes: &[u8]) -> Option<Dmsg>
 }
 
 #[inline]
-#[tactic(auto, unfolding(model_dmsg::specs::Reading::low_d))]
+#[tactic(auto, unfolding(model_draw_parts::specs::dmsg::Reading::low_d))]
 pub(crate) fn low_d(bytes: &[u8]) -> Option<Dmsg>
     ensures near { IfSome result IsNearMessage }
     ensures message { option_map message_of result ≡ option_map (λ x. x.0) (low_d bytes.now) }
@@ -87,7 +87,7 @@ pub(crate) fn low_d(bytes: &[u8]) -> Option<Dmsg>
 }
 
 #[inline]
-#[tactic(auto, unfolding(model_dmsg::specs::Reading::up_d))]
+#[tactic(auto, unfolding(model_draw_parts::specs::dmsg::Reading::up_d))]
 pub(crate) fn up_d(bytes: &[u8]) -> Option<Dmsg>
     ensures near { IfSome result IsNearMessage }
     ensures message { option_map message_of result ≡ option_map (λ x. x.0) (up_d bytes.now) }
@@ -97,7 +97,7 @@ pub(crate) fn up_d(bytes: &[u8]) -> Option<Dmsg>
 }
 
 #[inline]
-#[tactic(auto, unfolding(model_dmsg::specs::Reading::low_f))]
+#[tactic(auto, unfolding(model_draw_parts::specs::dmsg::Reading::low_f))]
 pub(crate) fn low_f(bytes: &[u8]) -> Option<Dmsg>
     ensures near { IfSome result IsNearMessage }
     ensures message { option_map message_of result ≡ option_map (λ x. x.0) (low_f bytes.now) }
@@ -107,7 +107,7 @@ pub(crate) fn low_f(bytes: &[u8]) -> Option<Dmsg>
 }
 
 #[inline]
-#[tactic(auto, unfolding(model_dmsg::specs::Reading::up_f))]
+#[tactic(auto, unfolding(model_draw_parts::specs::dmsg::Reading::up_f))]
 pub(crate) fn up_f(bytes: &[u8]) -> Option<Dmsg>
     ensures near { IfSome result IsNearMessage }
     ensures message { option_map message_of result ≡ option_map (λ x. x.0) (up_f bytes.now) }
@@ -117,7 +117,7 @@ pub(crate) fn up_f(bytes: &[u8]) -> Option<Dmsg>
 }
 
 #[inline]
-#[tactic(auto, unfolding(model_dmsg::specs::Reading::low_i))]
+#[tactic(auto, unfolding(model_draw_parts::specs::dmsg::Reading::low_i))]
 pub(crate) fn low_i(bytes: &[u8]) -> Option<Dmsg>
     ensures near { IfSome result IsNearMessage }
     ensures message { option_map message_of result ≡ option_map (λ x. x.0) (low_i bytes.now) }
@@ -129,7 +129,7 @@ pub(crate) fn low_i(bytes: &[u8]) -> Option<Dmsg>
 }
 
 #[inline]
-#[tactic(auto, unfolding(model_dmsg::specs::Reading::low_l))]
+#[tactic(auto, unfolding(model_draw_parts::specs::dmsg::Reading::low_l))]
 pub(crate) fn low_l(bytes: &[u8]) -> Option<Dmsg>
     ensures near { IfSome result IsNearMessage }
     ensures message { option_map message_of result ≡ option_map (λ x. x.0) (low_l bytes.now) }
@@ -153,7 +153,7 @@ pub(crate) fn low_l(bytes: &[u8]) -> Option<Dmsg>
 }
 
 #[inline]
-#[tactic(auto, unfolding(model_dmsg::specs::Reading::low_o))]
+#[tactic(auto, unfolding(model_draw_parts::specs::dmsg::Reading::low_o))]
 pub(crate) fn low_o(bytes: &[u8]) -> Option<Dmsg>
     ensures near { IfSome result IsNearMessage }
     ensures message { option_map message_of result ≡ option_map (λ x. x.0) (low_o bytes.now) }
@@ -165,7 +165,7 @@ pub(crate) fn low_o(bytes: &[u8]) -> Option<Dmsg>
 }
 
 #[inline]
-#[tactic(auto, unfolding(model_dmsg::specs::Reading::up_o))]
+#[tactic(auto, unfolding(model_draw_parts::specs::dmsg::Reading::up_o))]
 pub(crate) fn up_o(bytes: &[u8]) -> Option<Dmsg>
     ensures near { IfSome result IsNearMessage }
     ensures message { option_map message_of result ≡ option_map (λ x. x.0) (up_o bytes.now) }
@@ -175,7 +175,7 @@ pub(crate) fn up_o(bytes: &[u8]) -> Option<Dmsg>
 }
 
 #[inline]
-#[tactic(auto, unfolding(model_dmsg::specs::Reading::low_r))]
+#[tactic(auto, unfolding(model_draw_parts::specs::dmsg::Reading::low_r))]
 pub(crate) fn low_r(bytes: &[u8]) -> Option<Dmsg>
     ensures near { IfSome result IsNearMessage }
     ensures message { option_map message_of result ≡ option_map (λ x. x.0) (low_r bytes.now) }
@@ -186,7 +186,7 @@ pub(crate) fn low_r(bytes: &[u8]) -> Option<Dmsg>
 }
 
 #[inline]
-#[tactic(auto, unfolding(model_dmsg::specs::Reading::up_s))]
+#[tactic(auto, unfolding(model_draw_parts::specs::dmsg::Reading::up_s))]
 pub(crate) fn up_s(bytes: &[u8]) -> Option<Dmsg>
     ensures near { IfSome result IsNearMessage }
     ensures message { option_map message_of result ≡ option_map (λ x. x.0) (up_s bytes.now) }
@@ -197,7 +197,7 @@ pub(crate) fn up_s(bytes: &[u8]) -> Option<Dmsg>
 }
 
 #[inline]
-#[tactic(auto, unfolding(model_dmsg::specs::Reading::low_y))]
+#[tactic(auto, unfolding(model_draw_parts::specs::dmsg::Reading::low_y))]
 pub(crate) fn low_y(bytes: &[u8]) -> Option<Dmsg>
     ensures near { IfSome result IsNearMessage }
     ensures message { option_map message_of result ≡ option_map (λ x. x.0) (low_y bytes.now) }

@@ -2,8 +2,8 @@
 
 ghost use Rattle.std.specs.Prelude.{◌≡◌, ◌≤◌, ℕ, List, false, length, drop, IfNone, IfSome};
 ghost use Rattle.std.specs.Option.{option_map};
-ghost use Rattle.model_dmsg.specs.Message.{Message};
-ghost use Rattle.model_dmsg.specs.Reading.{IsMessage, behind, first_message};
+ghost use Rattle.model_draw_parts.specs.dmsg.Message.{Message};
+ghost use Rattle.model_draw_parts.specs.dmsg.Reading.{IsMessage, behind, first_message};
 ghost use Rattle.r9_dmsg.specs.Listed.{has_list, listed_in, listed_len, listed_message, HasShortList, IsNearListed, IsWhole};
 
 use crate::naming::{NameUse, Naming, name_use_at, naming_at};

@@ -4,7 +4,7 @@
 ghost use Rattle.std.specs.Prelude.{◌≡◌, ◌≤◌, ◌*◌, length, IfOk, IfSome, OnErr, IsSome};
 ghost use Rattle.std.specs.Int.{w16, w32};
 ghost use Rattle.std.specs.Option.{option_map};
-ghost use Rattle.model_dmsg.specs.Reading.{numbers_of, up_n, low_n, low_s, low_t, low_x};
+ghost use Rattle.model_draw_parts.specs.dmsg.Reading.{numbers_of, up_n, low_n, low_s, low_t, low_x};
 ghost use Rattle.r9_dmsg.specs.View.{message_of, IsNearMessage};
 ghost use Rattle.r9_dmsg.specs.Listed.{writing_message};
 

@@ -1,7 +1,7 @@
 //! The messages as values.
 
 ghost use Rattle.std.specs.Prelude.{◌≡◌, ◌+◌, ◌*◌, ◌<◌, ◌^◌};
-ghost use Rattle.model_dmsg.specs.Message.{spelled_len};
+ghost use Rattle.model_draw_parts.specs.dmsg.Message.{spelled_len};
 ghost use Rattle.r9_dmsg.specs.View.{message_of};
 
 use r9_geom::{Point, Rect};

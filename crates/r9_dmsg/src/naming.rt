@@ -2,7 +2,7 @@
 
 ghost use Rattle.std.specs.Prelude.{◌≡◌, ◌≤◌, length, IfSome};
 ghost use Rattle.std.specs.Option.{option_map};
-ghost use Rattle.model_dmsg.specs.Reading.{low_n, name, up_n};
+ghost use Rattle.model_draw_parts.specs.dmsg.Reading.{low_n, name, up_n};
 ghost use Rattle.r9_dmsg.specs.Listed.{name_use_message, naming_message};
 
 use crate::fields::{bytes_at, u8_at, u32_at};
@@ -22,7 +22,7 @@ pub struct NameUse<'a> {
     pub name: &'a [u8],
 }
 
-#[tactic(auto, unfolding(model_dmsg::specs::Reading::name))]
+#[tactic(auto, unfolding(model_draw_parts::specs::dmsg::Reading::name))]
 fn name_at(bytes: &[u8]) -> Option<&[u8]>
     ensures few { IfSome result (λ name. length name.now ≤ 255) }
     ensures read { option_map (λ name. name.now) result ≡ option_map (λ x. x.0) (name bytes.now) }
@@ -33,7 +33,7 @@ fn name_at(bytes: &[u8]) -> Option<&[u8]>
 }
 
 // The fields behind the letter of an `N`.
-#[tactic(auto, unfolding(model_dmsg::specs::Reading::up_n))]
+#[tactic(auto, unfolding(model_draw_parts::specs::dmsg::Reading::up_n))]
 pub(crate) fn naming_at(bytes: &[u8]) -> Option<Naming<'_>>
     ensures few { IfSome result (λ n. length n.name.now ≤ 255) }
     ensures read { option_map naming_message result ≡ option_map (λ x. x.0) (up_n bytes.now) }
@@ -45,7 +45,7 @@ pub(crate) fn naming_at(bytes: &[u8]) -> Option<Naming<'_>>
 }
 
 // The fields behind the letter of an `n`.
-#[tactic(auto, unfolding(model_dmsg::specs::Reading::low_n))]
+#[tactic(auto, unfolding(model_draw_parts::specs::dmsg::Reading::low_n))]
 pub(crate) fn name_use_at(bytes: &[u8]) -> Option<NameUse<'_>>
     ensures few { IfSome result (λ n. length n.name.now ≤ 255) }
     ensures read { option_map name_use_message result ≡ option_map (λ x. x.0) (low_n bytes.now) }

@@ -2,8 +2,8 @@
 
 ghost use Rattle.std.specs.Prelude.{◌≡◌, ◌≤◌, ◌↔◌, length, IfOk, IsErrOf, true, drop, Some};
 ghost use Rattle.std.specs.Option.{option_map, ok_or};
-ghost use Rattle.model_dmsg.specs.Message.{spelled_len};
-ghost use Rattle.model_dmsg.specs.Reading.{IsMessage, IsShort, IsUnknown, IsUnsupported, behind, first_message};
+ghost use Rattle.model_draw_parts.specs.dmsg.Message.{spelled_len};
+ghost use Rattle.model_draw_parts.specs.dmsg.Reading.{IsMessage, IsShort, IsUnknown, IsUnsupported, behind, first_message};
 ghost use Rattle.r9_dmsg.specs.View.{message_of, message_in, IsNearMessage, Tells};
 ghost use Rattle.r9_dmsg.specs.Listed.{has_list};
 

@@ -3,7 +3,7 @@
 ghost use Rattle.std.specs.Prelude.{◌≡◌, ◌/◌, ◌%◌, ◌<◌, ◌≤◌, length, slice_index, IfSome};
 ghost use Rattle.std.specs.Int.{w32};
 ghost use Rattle.std.specs.Option.{option_map};
-ghost use Rattle.model_dmsg.specs.Reading.{low_t, numbers, numbers_of};
+ghost use Rattle.model_draw_parts.specs.dmsg.Reading.{low_t, numbers, numbers_of};
 ghost use Rattle.r9_dmsg.specs.Listed.{restacking_message};
 
 use crate::fields::{bytes_at, split_u32, u8_at, u16_at};
@@ -44,7 +44,7 @@ fn ids_at(count: u16, bytes: &[u8]) -> Option<&[u8]>
 }
 
 // The fields behind the letter of a `t`.
-#[tactic(auto, unfolding(model_dmsg::specs::Reading::low_t, model_dmsg::specs::Reading::counted))]
+#[tactic(auto, unfolding(model_draw_parts::specs::dmsg::Reading::low_t, model_draw_parts::specs::dmsg::Reading::counted))]
 pub(crate) fn restacking_at(bytes: &[u8]) -> Option<Restacking<'_>>
     ensures whole { IfSome result (λ t. length t.ids.now % 4 ≡ 0) }
     ensures few { IfSome result (λ t. length t.ids.now / 4 ≤ 65535) }

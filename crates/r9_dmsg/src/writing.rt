@@ -4,7 +4,7 @@ ghost use Rattle.std.specs.Prelude.{◌≡◌, ◌≤◌, ◌<◌, ◌/◌, ◌%
 ghost use Rattle.std.specs.Int.{w16};
 ghost use Rattle.std.specs.Option.{option_map};
 ghost use Rattle.r9_geom.specs.Geometry.{IsNearBy};
-ghost use Rattle.model_dmsg.specs.Reading.{low_s, low_x, numbers, numbers_of, string_head, writing_of};
+ghost use Rattle.model_draw_parts.specs.dmsg.Reading.{low_s, low_x, numbers, numbers_of, string_head, writing_of};
 ghost use Rattle.r9_dmsg.specs.Head.{head_of, IsNearHead};
 ghost use Rattle.r9_dmsg.specs.Listed.{indices_of, writing_len, writing_message, writing_in, IsNearWriting};
 
@@ -91,7 +91,7 @@ impl Head {
     }
 }
 
-#[tactic(auto, unfolding(model_dmsg::specs::Reading::string_head))]
+#[tactic(auto, unfolding(model_draw_parts::specs::dmsg::Reading::string_head))]
 fn head_at(bytes: &[u8]) -> Option<(Head, &[u8])>
     ensures near { IfSome result (λ x. IsNearHead x.0) }
     ensures value { option_map (λ x. (head_of x.0, x.1.now)) result ≡ string_head bytes.now }
@@ -123,7 +123,7 @@ fn indices_at(count: u16, bytes: &[u8]) -> Option<&[u8]>
 }
 
 // The fields behind the letter of an `s`.
-#[tactic(auto, unfolding(model_dmsg::specs::Reading::low_s, model_dmsg::specs::Reading::counted))]
+#[tactic(auto, unfolding(model_draw_parts::specs::dmsg::Reading::low_s, model_draw_parts::specs::dmsg::Reading::counted))]
 pub(crate) fn string_at(bytes: &[u8]) -> Option<Writing<'_>>
     ensures whole { IfSome result (λ l. length l.indices.now % 2 ≡ 0) }
     ensures few { IfSome result (λ l. length l.indices.now / 2 ≤ 65535) }
@@ -137,7 +137,7 @@ pub(crate) fn string_at(bytes: &[u8]) -> Option<Writing<'_>>
 }
 
 // The fields behind the letter of an `x`.
-#[tactic(auto, unfolding(model_dmsg::specs::Reading::low_x, model_dmsg::specs::Reading::counted_around))]
+#[tactic(auto, unfolding(model_draw_parts::specs::dmsg::Reading::low_x, model_draw_parts::specs::dmsg::Reading::counted_around))]
 pub(crate) fn string_on_background_at(bytes: &[u8]) -> Option<Writing<'_>>
     ensures whole { IfSome result (λ l. length l.indices.now % 2 ≡ 0) }
     ensures few { IfSome result (λ l. length l.indices.now / 2 ≤ 65535) }

@@ -1,5 +1,4 @@
-pub mod World
-pub mod Refused
-pub mod Steps
-pub mod Described
-pub mod Shown
+pub mod draw
+pub mod messages
+pub mod orders
+pub mod strings

@@ -1,16 +1,7 @@
-//! The draw device (draw(3)): messages that are written, orders of the window manager, connections, and what is shown.
+//! These parts, each with a text of its own at its head: `draw`, `messages`, `orders`, `strings`.
 #![tactic(auto)]
 
-mod draw;
-mod fault;
-mod files;
-mod listed;
-mod marks;
-mod message;
-mod shown;
-mod write;
-
-pub use draw::Draw;
-pub use fault::DrawFault;
-pub use shown::Shown;
-pub use write::Wrote;
+pub mod draw;
+pub mod messages;
+pub mod orders;
+pub mod strings;

@@ -1,2 +1,3 @@
-pub mod FileView
-pub mod Reads
+pub mod access
+pub mod around
+pub mod files

@@ -7,10 +7,10 @@ use borrow.Author.Tests.{ltb-true}
 use Rattle.std.proofs.lemmas.Bool.{cases_eq}
 use Rattle.std.proofs.lemmas.List.{get_or-replicate, get_or-set_other, get_or-set_same, length-replicate, length-set}
 use Rattle.std.proofs.lemmas.List.FromFn.{length-map-range_with_len, get_or-map-range_with_len, fill_by_all}
-use Rattle.model_map.proofs.Keys.{at_key, eqb-same, not_key}
+use Rattle.model_text.proofs.map.Keys.{at_key, eqb-same, not_key}
 use Rattle.r9_geom.specs.Geometry.{IsRectNearBy}
-use Rattle.model_fonts.specs.declared.Cell.{Cell}
-use Rattle.model_fonts.specs.Font.{AreWithin, Font, cell, empty_cell, has_index, new_font, with_cell}
+use Rattle.model_draw_parts.specs.declared.fonts.Cell.{Cell}
+use Rattle.model_draw_parts.specs.fonts.Font.{AreWithin, Font, cell, empty_cell, has_index, new_font, with_cell}
 use Rattle.r9_fonts.specs.Kept.{cells_of}
 
 pub length-cells_of : (n : ℕ) (set : ℕ → Option Cell) → length (cells_of n set) ≡ n

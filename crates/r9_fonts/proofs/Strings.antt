@@ -8,10 +8,10 @@ use Rattle.std.proofs.lemmas.Int.{ints}
 use Rattle.std.proofs.lemmas.List.{drop_all}
 use Rattle.std.proofs.lemmas.List.Sums.{sum_by-cons, AllPass-from_list_all}
 use Rattle.r9_geom.specs.declared.Point.{Point}
-use Rattle.model_fonts.specs.declared.Cell.{Cell}
-use Rattle.model_fonts.specs.declared.Piece.{Piece}
+use Rattle.model_draw_parts.specs.declared.fonts.Cell.{Cell}
+use Rattle.model_draw_parts.specs.declared.fonts.Piece.{Piece}
 use Rattle.r9_geom.specs.Geometry.{IsNearBy, IsRectNearBy}
-use Rattle.model_fonts.specs.Font.{AreWithin, Font, Layout, advanced, cell, empty_cell, has_index, layout, piece, pieces}
+use Rattle.model_draw_parts.specs.fonts.Font.{AreWithin, Font, Layout, advanced, cell, empty_cell, has_index, layout, piece, pieces}
 use Rattle.r9_fonts.specs.Near.{IsPieceNearBy}
 
 -- the characters of the indices from one on

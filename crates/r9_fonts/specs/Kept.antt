@@ -2,8 +2,8 @@
 use Rattle.std.specs.Prelude.{ℕ, List, Option, map}
 use Rattle.std.specs.Option.{unwrap_or}
 use Rattle.std.specs.List.{range_with_len}
-use Rattle.model_fonts.specs.declared.Cell.{Cell}
-use Rattle.model_fonts.specs.Font.{empty_cell}
+use Rattle.model_draw_parts.specs.declared.fonts.Cell.{Cell}
+use Rattle.model_draw_parts.specs.fonts.Font.{empty_cell}
 
 -- n characters: at each index the one that was set, or one without points
 unfoldable pub cells_of : (n : ℕ) → (set : ℕ → Option Cell) → List Cell

@@ -1,6 +1,6 @@
 -- A layout of the code as one of the definitions, and what a refusal says.
 use Rattle.std.specs.Prelude.{ℕ}
-use Rattle.model_fonts.specs.Font as model
+use Rattle.model_draw_parts.specs.fonts.Font as model
 use Rattle.r9_fonts.specs.declared.font.FontFault.{FontFault}
 use Rattle.r9_fonts.specs.declared.font.FontFault.TheVariants as fault
 use Rattle.r9_fonts.specs.declared.layout.Layout.{Layout}

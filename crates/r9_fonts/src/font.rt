@@ -3,13 +3,13 @@
 ghost use Rattle.std.specs.Prelude.{◌≡◌, ◌+◌, ◌*◌, ◌≤◌, ◌^◌, true, ℕ, length, map, Ok, Err, All, IfOk, IfErr, OnOk, OnErr};
 ghost use Rattle.std.specs.List.{list_all, sum_by};
 ghost use Rattle.r9_geom.specs.Geometry.{IsNearBy, IsRectNearBy};
-ghost use Rattle.model_fonts.specs.Font.{Font, AreWithin, advanced, cell, has_index, layout, new_font, piece, pieces, with_cell};
-ghost use Rattle.model_fonts.specs.declared.Cell.{Cell};
+ghost use Rattle.model_draw_parts.specs.fonts.Font.{Font, AreWithin, advanced, cell, has_index, layout, new_font, piece, pieces, with_cell};
+ghost use Rattle.model_draw_parts.specs.declared.fonts.Cell.{Cell};
 ghost use Rattle.r9_fonts.specs.Near.{IsPieceNearBy};
 ghost use Rattle.r9_fonts.specs.View.{layout_of};
 
 use crate::layout::Layout;
-use model_fonts::{Cell, Piece};
+use model_draw_parts::fonts::{Cell, Piece};
 use r9_geom::{Point, Rect};
 use r9_memory::Memory;
 use std::alloc::Global;
@@ -41,7 +41,7 @@ impl Model for Font {
     ghost use Rattle.std.specs.Prelude.{◌^◌};
     ghost use Rattle.std.specs.Ordering.{nat_cmp};
     ghost use Rattle.std.specs.BTreeMap.{get};
-    ghost use Rattle.model_fonts.specs.Font.{Font, AreWithin};
+    ghost use Rattle.model_draw_parts.specs.fonts.Font.{Font, AreWithin};
     ghost use Rattle.r9_fonts.specs.Kept.{cells_of};
 
     ghost Value = { Font };

@@ -1,9 +1,9 @@
 //! What a string is laid out to.
 
 ghost use Rattle.std.specs.Prelude.{◌≡◌, List};
-ghost use Rattle.model_fonts.specs.declared.Piece.{Piece};
+ghost use Rattle.model_draw_parts.specs.declared.fonts.Piece.{Piece};
 
-use model_fonts::Piece;
+use model_draw_parts::fonts::Piece;
 use r9_geom::Point;
 use std::marker::Model;
 

@@ -6,4 +6,4 @@ mod layout;
 
 pub use font::{Font, FontFault};
 pub use layout::{Layout, Pieces};
-pub use model_fonts::{Cell, Piece};
+pub use model_draw_parts::fonts::{Cell, Piece};

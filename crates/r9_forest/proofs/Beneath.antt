@@ -15,11 +15,11 @@ use Rattle.model_forest.specs.World.{Image, World, image_at, no_image, no_rect}
 use Rattle.model_forest.proofs.Changes.{with_image-at, World-changed}
 use Rattle.model_forest.proofs.Uncovers.{seen-same, uncovered-bare, CoversMore}
 use Rattle.model_forest.proofs.Windows.{with_windows-other}
-use Rattle.model_exchanged.specs.Exchanged.{put_below}
-use Rattle.model_exchanged.proofs.Below.{CoversMore-put_below}
+use Rattle.model_exchanged.specs.exchanged.Exchanged.{put_below}
+use Rattle.model_exchanged.proofs.exchanged.Below.{CoversMore-put_below}
 use Rattle.model_kept.specs.Cells.{above}
 use Rattle.model_kept.specs.Keeping.{place_among}
-use Rattle.r9_arrive.specs.Arriving.{IsComing}
+use Rattle.r9_relist.specs.arrive.Arriving.{IsComing}
 
 -- ---- where the other is found
 

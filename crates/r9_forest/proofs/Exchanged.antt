@@ -17,8 +17,8 @@ use Rattle.model_forest.specs.declared.Standing.{Standing}
 use Rattle.model_forest.specs.declared.Window.{Window}
 use Rattle.model_forest.specs.Stack.{moved, seen, with_windows}
 use Rattle.model_forest.specs.Steps.{after_list, after_replace, after_replace_on, carried_rect, outside, put_above}
-use Rattle.model_exchanged.specs.Exchanged.{after_put_on, after_put_under, put_below}
-use Rattle.model_exchanged.proofs.Below.{listed-put_below, listed-put_below_new, times-put_below, All-put_below, length-put_below}
+use Rattle.model_exchanged.specs.exchanged.Exchanged.{after_put_on, after_put_under, put_below}
+use Rattle.model_exchanged.proofs.exchanged.Below.{listed-put_below, listed-put_below_new, times-put_below, All-put_below, length-put_below}
 use Rattle.model_forest.specs.View.{view}
 use Rattle.model_forest.specs.World.{Image, World, image_at, no_image, no_rect, parent_of, with_image, IsForest, IsLive, IsWindowOf, SameSize}
 use Rattle.model_forest.proofs.Changes.{live-standing, with_image-free}
@@ -30,10 +30,10 @@ use Rattle.model_forest.proofs.Windows.{lives-with_windows, rect-with_windows, w
 use Rattle.model_kept.specs.Keeping.{is_top, place_among, with_kept, Place}
 use Rattle.r9_plane.specs.Pixels.{number_of}
 use Rattle.r9_cells.specs.Fitting.{AreOne}
-use Rattle.r9_relist.proofs.Front.{are_one}
-use Rattle.r9_arrive.specs.Arriving.{after_coming, bare_window, coming_window, IsComing, IsLeft, IsLeftOf}
-use Rattle.r9_arrive.proofs.Canvases.{bare_canvas}
-use Rattle.r9_arrive.proofs.Coming.{on_top_comes, put_above_comes}
+use Rattle.r9_relist.proofs.relist.Front.{are_one}
+use Rattle.r9_relist.specs.arrive.Arriving.{after_coming, bare_window, coming_window, IsComing, IsLeft, IsLeftOf}
+use Rattle.r9_relist.proofs.arrive.Canvases.{bare_canvas}
+use Rattle.r9_relist.proofs.arrive.Coming.{on_top_comes, put_above_comes}
 use Rattle.r9_forest.specs.Groups.{IsMoved}
 use Rattle.r9_forest.specs.declared.coming.Given.TheVariants.{Plain, Read}
 use Rattle.r9_forest.specs.declared.ranking.Rank.{Rank}

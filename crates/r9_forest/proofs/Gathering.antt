@@ -7,7 +7,7 @@ use Rattle.r9_geom.specs.declared.Rect.{Rect}
 use Rattle.r9_geom.specs.Geometry.{distance, holds, point_at, strip, width, IsOrdered}
 use Rattle.r9_geom.proofs.GeometryLemmas.{band, band_more, bounds_of, cell_of, distance_is, row_distance, same_point}
 use Rattle.r9_plane.specs.Pixels.{along, number_of}
-use Rattle.r9_put.proofs.Grids.{place_before, strip_column}
+use Rattle.r9_put.proofs.put.Grids.{place_before, strip_column}
 
 -- one more row was gathered
 pub row_gathered : (r : Rect) (at p : Point) (row w : ℕ) (old new : List ℕ) (value : Point → ℕ) → IsOrdered r → at ≡ point_at r 0 row → w ≡ width r → ((k : ℕ) → k < w → get_or new (row * w + k) 0 ≡ value (along at k)) → ((j : ℕ) → j < row * w → get_or new j 0 ≡ get_or old j 0) → (holds (band r row) p ≡ true → get_or old (number_of r p) 0 ≡ value p) → holds (band r (row + 1)) p ≡ true → get_or new (number_of r p) 0 ≡ value p

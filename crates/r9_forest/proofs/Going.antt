@@ -26,19 +26,19 @@ use Rattle.model_forest.proofs.Views.{All-top_window, holds-top_window}
 use Rattle.model_kept.specs.Keeping.{place_among, with_kept, HasOnePlaces, Place}
 use Rattle.model_kept.specs.Restack.{fill_of_top, with_list}
 use Rattle.model_kept.proofs.Once.{places-forest}
-use Rattle.r9_locate.specs.declared.lists.Lists.{Lists}
-use Rattle.r9_locate.specs.Forms.{forms_of}
-use Rattle.r9_locate.specs.Table.{made, shape}
+use Rattle.r9_locate.specs.declared.locate.lists.Lists.{Lists}
+use Rattle.r9_locate.specs.locate.Forms.{forms_of}
+use Rattle.r9_locate.specs.locate.Table.{made, shape}
 use Rattle.r9_pixels.specs.declared.keeping.KeptPixels.{KeptPixels}
 use Rattle.r9_pixels.specs.Kept.{form_at, has_place, kept_at}
 use Rattle.r9_pixels.specs.Places.{HasCells}
-use Rattle.r9_fills.specs.Fills.{fill_at}
-use Rattle.r9_relist.specs.Leaving.{others, HasFill, HasPlaceOf, IsGoing}
-use Rattle.r9_relist.proofs.Near.{nearby}
+use Rattle.r9_put.specs.fills.Fills.{fill_at}
+use Rattle.r9_relist.specs.relist.Leaving.{others, HasFill, HasPlaceOf, IsGoing}
+use Rattle.r9_relist.proofs.relist.Near.{nearby}
 use Rattle.r9_forest.specs.Numbered.{IsNumbered}
 use Rattle.r9_forest.specs.Sound.{IsSound}
 use Rattle.r9_forest.proofs.Backs.{back_numbered, IsBack}
-use Rattle.r9_arrive.proofs.Canvases.{bare_canvas}
+use Rattle.r9_relist.proofs.arrive.Canvases.{bare_canvas}
 
 module _ (bare : World) (kept : Place → ℕ) where
   abbrev shown : World

@@ -15,17 +15,17 @@ use Rattle.r9_region.specs.Region.{covers}
 use Rattle.r9_restack.proofs.Areas.{covers_more}
 use Rattle.model_kept.specs.Keeping.{place_among}
 use Rattle.model_kept.specs.Keeping.{with_kept}
-use Rattle.r9_locate.specs.declared.lists.Lists.{Lists}
-use Rattle.r9_locate.specs.Table.{shape}
+use Rattle.r9_locate.specs.declared.locate.lists.Lists.{Lists}
+use Rattle.r9_locate.specs.locate.Table.{shape}
 use Rattle.r9_pixels.specs.declared.keeping.KeptPixels.{KeptPixels}
 use Rattle.r9_pixels.specs.Kept.{kept_at}
-use Rattle.r9_arrive.proofs.Canvases.{bare_canvas}
+use Rattle.r9_relist.proofs.arrive.Canvases.{bare_canvas}
 use Rattle.r9_forest.proofs.Going.{window_placed}
 use Rattle.model_forest.specs.declared.Standing.{Standing}
 use Rattle.model_forest.specs.declared.Window.{Window}
 use Rattle.model_forest.specs.Stack.{after_restack, with_windows}
 use Rattle.model_forest.specs.World.{Image, World, image_at, no_image, no_rect, parent_of, IsForest, IsLive}
-use Rattle.r9_info.specs.declared.ImageNo.{ImageNo}
+use Rattle.r9_locate.specs.declared.info.ImageNo.{ImageNo}
 use Rattle.r9_forest.specs.Groups.{group_area, places_of, IsGroupOn}
 
 -- what has a parent is live

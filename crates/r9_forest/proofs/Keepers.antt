@@ -10,9 +10,9 @@ use Rattle.model_forest.specs.declared.Standing.{Standing}
 use Rattle.model_forest.specs.World.{Image, World, image_at, parent_of, IsLive}
 use Rattle.model_kept.specs.Cells.{cell_count, cell_of, cell_part, cells_below, hidden_cells, hides_on, hides_under, in_cell}
 use Rattle.model_kept.specs.Keeping.{is_hidden, is_shown, keeping, outward, own, IsStanding}
-use Rattle.r9_locate.specs.Forms.{form_of, forms_of, Form}
-use Rattle.r9_locate.specs.Table.{shape}
-use Rattle.r9_locate.proofs.Locating.{keeping-up}
+use Rattle.r9_locate.specs.locate.Forms.{form_of, forms_of, Form}
+use Rattle.r9_locate.specs.locate.Table.{shape}
+use Rattle.r9_locate.proofs.locate.Locating.{keeping-up}
 use Rattle.r9_pixels.specs.declared.keeping.KeptPixels.{KeptPixels}
 use Rattle.r9_pixels.specs.declared.own.Own.{Own}
 use Rattle.r9_pixels.specs.Kept.{form_at, has_place, kept_at, tile_at}
@@ -23,9 +23,9 @@ use Rattle.r9_forest.specs.declared.images.Images.{Images}
 use Rattle.r9_forest.specs.declared.keeping.Kept.TheVariants.{Plane, Tile}
 use Rattle.r9_forest.specs.Images.{world}
 use Rattle.r9_forest.specs.Keeping.{kept_itself, kept_of}
-use Rattle.r9_arrive.proofs.Canvases.{bare_canvas, parent_same, SameButCanvas}
+use Rattle.r9_relist.proofs.arrive.Canvases.{bare_canvas, parent_same, SameButCanvas}
 use Rattle.r9_forest.proofs.Showing.{keeping_seen, point_has}
-use Rattle.r9_put.proofs.Forms.{form_live}
+use Rattle.r9_put.proofs.put.Forms.{form_live}
 
 -- what has a place is an image
 pub place_live : (pixels : KeptPixels) (world : World) (i : ℕ) (p : Point) → form_at pixels ≡ forms_of world → has_place pixels (own i p) ≡ true → IsLive world i

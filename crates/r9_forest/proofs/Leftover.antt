@@ -24,9 +24,9 @@ use Rattle.r9_cells.proofs.Skipped.{place_is}
 use Rattle.r9_cells.proofs.Spans.{lies_meets}
 use Rattle.r9_cells.proofs.Walks.{cell_in}
 use Rattle.r9_cells.proofs.Windowed.{cell_met}
-use Rattle.r9_relist.proofs.Without.{place-without}
-use Rattle.r9_arrive.specs.Arriving.{IsLeft, IsLeftOf}
-use Rattle.model_exchanged.proofs.InPlace.{without-moved}
+use Rattle.r9_relist.proofs.relist.Without.{place-without}
+use Rattle.r9_relist.specs.arrive.Arriving.{IsLeft, IsLeftOf}
+use Rattle.model_exchanged.proofs.exchanged.InPlace.{without-moved}
 
 -- ---- two rectangles
 

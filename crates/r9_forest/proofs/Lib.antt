@@ -22,3 +22,4 @@ pub mod Showing
 pub mod Sized
 pub mod Sounding
 pub mod Still
+pub use Rattle.r9_put.proofs.put.Grids

@@ -15,19 +15,19 @@ use Rattle.r9_plane.specs.declared.plane.Plane.{Plane}
 use Rattle.r9_plane.specs.Marks as marks
 use Rattle.r9_plane.specs.Marks.{marked_at}
 use Rattle.r9_plane.specs.Pixels.{pixel_at, rect_of}
-use Rattle.r9_watched.specs.Moments.{moment_at, pixel_in, with_moment, IsSince, Moment}
-use Rattle.r9_locate.specs.declared.lists.Lists.{Lists}
-use Rattle.r9_locate.specs.Forms.{bits_in, form_of, Form}
-use Rattle.r9_locate.specs.Table.{shape}
-use Rattle.r9_locate.proofs.Locating.{keeping-root}
+use Rattle.r9_locate.specs.watched.Moments.{moment_at, pixel_in, with_moment, IsSince, Moment}
+use Rattle.r9_locate.specs.declared.locate.lists.Lists.{Lists}
+use Rattle.r9_locate.specs.locate.Forms.{bits_in, form_of, Form}
+use Rattle.r9_locate.specs.locate.Table.{shape}
+use Rattle.r9_locate.proofs.locate.Locating.{keeping-root}
 use Rattle.r9_pixels.specs.declared.keeping.KeptPixels.{KeptPixels}
 use Rattle.r9_pixels.specs.declared.own.Own.{Own}
 use Rattle.r9_pixels.specs.declared.own.Own.TheVariants.{Whole, Hidden}
 use Rattle.r9_pixels.specs.Kept.{form_at, has_place, kept_at, mark_count, marked, moment, moment_now, plane_at, rect_at, writes}
 use Rattle.r9_pixels.specs.Owns.{form_in, kept_in, moment_in, own_at, plane_form, plane_in}
 use Rattle.r9_pixels.specs.Places.{HasCells}
-use Rattle.r9_put.proofs.Forms.{form_live, nowhere_none, standing_nowhere}
-use Rattle.r9_arrive.proofs.Canvases.{bare_canvas, parent_same}
+use Rattle.r9_put.proofs.put.Forms.{form_live, nowhere_none, standing_nowhere}
+use Rattle.r9_relist.proofs.arrive.Canvases.{bare_canvas, parent_same}
 use Rattle.r9_forest.specs.Marks.{shown_in, IsMoment}
 use Rattle.r9_forest.specs.Sound.{IsSound}
 use Rattle.r9_forest.proofs.Showing.{bits_of, shown_kept}

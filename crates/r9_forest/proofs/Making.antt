@@ -18,12 +18,12 @@ use Rattle.model_kept.proofs.Coming.{come-world}
 use Rattle.model_kept.proofs.Worlds.{pictured}
 use Rattle.r9_plane.specs.declared.plane.Plane.{Plane}
 use Rattle.r9_plane.specs.Pixels.{chan_of, pixel_at, rect_of}
-use Rattle.r9_locate.specs.Forms.{forms_of, Form}
+use Rattle.r9_locate.specs.locate.Forms.{forms_of, Form}
 use Rattle.r9_pixels.specs.Owns.{plane_form}
 use Rattle.r9_pixels.specs.Places.{with_form, with_places, HasCells}
 use Rattle.r9_forest.specs.Numbered.{bare_image}
-use Rattle.r9_arrive.proofs.Canvases.{alone}
-use Rattle.r9_arrive.proofs.Entering.{put_forms}
+use Rattle.r9_relist.proofs.arrive.Canvases.{alone}
+use Rattle.r9_relist.proofs.arrive.Entering.{put_forms}
 
 -- the plane of the new image
 pub record IsPlane (plane : Plane) (r : Rect) (chan raw : ℕ) : Type 0 where

@@ -15,22 +15,22 @@ use Rattle.model_forest.proofs.Listed.{parent-apart}
 use Rattle.model_forest.proofs.Placed.{height-carried, width-carried, IsForest-shifted}
 use Rattle.model_forest.proofs.Uncovers.{Uncovers, Uncovers-moved}
 use Rattle.model_forest.proofs.Windows.{with_windows-other}
-use Rattle.model_exchanged.proofs.InPlace.{without-moved}
+use Rattle.model_exchanged.proofs.exchanged.InPlace.{without-moved}
 use Rattle.model_kept.specs.Cells.{cell_of, cell_part, hides_on}
 use Rattle.model_kept.specs.Keeping.{keeping, with_kept, Place}
 use Rattle.model_kept.specs.Restack.{shifted_shape, with_list}
 use Rattle.model_kept.proofs.Once.{places-forest}
 use Rattle.r9_plane.specs.Pixels.{number_of}
-use Rattle.r9_locate.specs.declared.lists.Lists.{Lists}
-use Rattle.r9_locate.specs.Forms.{forms_of}
-use Rattle.r9_locate.specs.Table.{made, shape}
+use Rattle.r9_locate.specs.declared.locate.lists.Lists.{Lists}
+use Rattle.r9_locate.specs.locate.Forms.{forms_of}
+use Rattle.r9_locate.specs.locate.Table.{made, shape}
 use Rattle.r9_pixels.specs.declared.keeping.KeptPixels.{KeptPixels}
 use Rattle.r9_pixels.specs.Kept.{form_at, has_place, kept_at}
 use Rattle.r9_pixels.specs.Places.{HasCells}
-use Rattle.r9_fills.specs.Fills.{fill_at}
-use Rattle.r9_relist.specs.Leaving.{HasPlaceOf}
-use Rattle.r9_relist.specs.Relisting.{HasPlacesBefore, IsAsBefore, IsRelisting}
-use Rattle.r9_relist.proofs.Surfaces.{surface_has, unshown_has}
+use Rattle.r9_put.specs.fills.Fills.{fill_at}
+use Rattle.r9_relist.specs.relist.Leaving.{HasPlaceOf}
+use Rattle.r9_relist.specs.relist.Relisting.{HasPlacesBefore, IsAsBefore, IsRelisting}
+use Rattle.r9_relist.proofs.relist.Surfaces.{surface_has, unshown_has}
 use Rattle.r9_forest.specs.Groups.{IsMoved}
 use Rattle.r9_forest.specs.Numbered.{IsNumbered}
 use Rattle.r9_forest.specs.Room.{HasFillRoom}

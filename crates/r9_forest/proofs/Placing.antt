@@ -18,16 +18,16 @@ use Rattle.model_kept.specs.Keeping.{keeping, place_among, with_kept}
 use Rattle.model_kept.specs.Restack.{with_list}
 use Rattle.model_kept.proofs.Once.{places-forest}
 use Rattle.r9_plane.specs.Pixels.{number_of}
-use Rattle.r9_locate.specs.declared.lists.Lists.{Lists}
-use Rattle.r9_locate.specs.Forms.{bits_in, forms_of}
-use Rattle.r9_locate.specs.Table.{made, shape}
+use Rattle.r9_locate.specs.declared.locate.lists.Lists.{Lists}
+use Rattle.r9_locate.specs.locate.Forms.{bits_in, forms_of}
+use Rattle.r9_locate.specs.locate.Table.{made, shape}
 use Rattle.r9_pixels.specs.declared.keeping.KeptPixels.{KeptPixels}
 use Rattle.r9_pixels.specs.Kept.{form_at, has_place, kept_at}
 use Rattle.r9_pixels.specs.Places.{HasCells}
-use Rattle.r9_fills.specs.Fills.{fill_at}
-use Rattle.r9_relist.specs.Leaving.{HasFill, HasPlaceOf}
-use Rattle.r9_relist.specs.Relisting.{meet_from, HasPlacesBefore, IsAsBefore, IsRelisting}
-use Rattle.r9_relist.proofs.Meeting.{corner_area, corner_none, corner_of, meet_fewer}
+use Rattle.r9_put.specs.fills.Fills.{fill_at}
+use Rattle.r9_relist.specs.relist.Leaving.{HasFill, HasPlaceOf}
+use Rattle.r9_relist.specs.relist.Relisting.{meet_from, HasPlacesBefore, IsAsBefore, IsRelisting}
+use Rattle.r9_relist.proofs.relist.Meeting.{corner_area, corner_none, corner_of, meet_fewer}
 use Rattle.r9_forest.specs.declared.images.Images.{Images}
 use Rattle.r9_forest.specs.Given.{left_of}
 use Rattle.r9_forest.specs.Groups.{IsMoved}
@@ -36,7 +36,7 @@ use Rattle.r9_forest.specs.Numbered.{numbers_of}
 use Rattle.r9_forest.specs.Replaced.{IsShown}
 use Rattle.r9_forest.specs.Room.{HasFillRoom}
 use Rattle.r9_forest.specs.Sound.{IsSound}
-use Rattle.r9_arrive.proofs.Canvases.{bare_canvas}
+use Rattle.r9_relist.proofs.arrive.Canvases.{bare_canvas}
 use Rattle.r9_forest.proofs.Going.{fill_right, fill_stands, parent_is, window_placed, IsPlaced}
 use Rattle.r9_forest.proofs.Moves.{moved_before, moved_places, moved_relisting, pictured_fits}
 use Rattle.r9_forest.proofs.Roomy.{fills_put, fills_same}

@@ -10,14 +10,14 @@ use Rattle.model_kept.specs.Keeping.{with_kept}
 use Rattle.model_kept.proofs.Once.{places-forest}
 use Rattle.model_kept.proofs.Putting.{put-world}
 use Rattle.model_kept.proofs.Worlds.{standing-forest}
-use Rattle.r9_locate.specs.declared.lists.Lists.{Lists}
-use Rattle.r9_locate.specs.Table.{shape}
+use Rattle.r9_locate.specs.declared.locate.lists.Lists.{Lists}
+use Rattle.r9_locate.specs.locate.Table.{shape}
 use Rattle.r9_pixels.specs.declared.keeping.KeptPixels.{KeptPixels}
 use Rattle.r9_pixels.specs.Kept.{kept_at}
 use Rattle.r9_pixels.specs.Places.{HasCells}
 use Rattle.r9_forest.specs.Sound.{IsSound}
-use Rattle.r9_put.specs.Written.{IsStored, IsWritten}
-use Rattle.r9_arrive.proofs.Canvases.{bare_canvas}
+use Rattle.r9_put.specs.put.Written.{IsStored, IsWritten}
+use Rattle.r9_relist.proofs.arrive.Canvases.{bare_canvas}
 use Rattle.r9_forest.proofs.Showing.{bits_sound, point_has, shape_forest}
 
 -- what lists and pixels that are sound have for it

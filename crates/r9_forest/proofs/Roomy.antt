@@ -9,8 +9,8 @@ use Rattle.model_forest.specs.Steps.{after_set}
 use Rattle.model_forest.specs.World.{Image, World, image_at, no_image, with_image}
 use Rattle.model_forest.proofs.Changes.{with_image-each}
 use Rattle.model_kept.specs.Restack.{with_list}
-use Rattle.r9_relist.specs.Leaving.{gone, others}
-use Rattle.r9_arrive.specs.Arriving.{bare_window, listed, with_coming}
+use Rattle.r9_relist.specs.relist.Leaving.{gone, others}
+use Rattle.r9_relist.specs.arrive.Arriving.{bare_window, listed, with_coming}
 use Rattle.r9_forest.specs.Room.{HasFillRoom}
 
 -- what is asked for an image

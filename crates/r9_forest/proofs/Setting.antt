@@ -15,17 +15,17 @@ use Rattle.model_forest.proofs.Steps.{IsForest-after_set}
 use Rattle.model_kept.specs.Cells.{cell_of, cell_part, hides_under}
 use Rattle.model_kept.specs.Keeping.{keeping, keeping_within, with_kept, Place}
 use Rattle.model_kept.proofs.Worlds.{pictured}
-use Rattle.r9_locate.specs.declared.lists.Lists.{Lists}
-use Rattle.r9_locate.specs.Forms.{form_of, forms_of}
-use Rattle.r9_locate.specs.Table.{made, shape}
-use Rattle.r9_locate.proofs.Clips.{clip-same, with_clip, SameButClip}
+use Rattle.r9_locate.specs.declared.locate.lists.Lists.{Lists}
+use Rattle.r9_locate.specs.locate.Forms.{form_of, forms_of}
+use Rattle.r9_locate.specs.locate.Table.{made, shape}
+use Rattle.r9_locate.proofs.locate.Clips.{clip-same, with_clip, SameButClip}
 use Rattle.r9_pixels.specs.declared.keeping.KeptPixels.{KeptPixels}
 use Rattle.r9_pixels.specs.Kept.{has_place, kept_at}
 use Rattle.r9_pixels.specs.Places.{HasCells}
 use Rattle.r9_forest.specs.Numbered.{IsNumbered}
 use Rattle.r9_forest.specs.Sound.{IsSound}
 use Rattle.r9_forest.specs.Told.{info_of}
-use Rattle.r9_arrive.proofs.Canvases.{bare_canvas, SameButCanvas}
+use Rattle.r9_relist.proofs.arrive.Canvases.{bare_canvas, SameButCanvas}
 use Rattle.r9_forest.proofs.Showing.{keeping_alike}
 
 -- an image with the pixels that it keeps

@@ -22,15 +22,15 @@ use Rattle.model_kept.proofs.Storing.{step_of, view_within-kept}
 use Rattle.model_kept.proofs.Worlds.{image_at-slot, pictured, standing-forest}
 use Rattle.r9_plane.specs.Pixels.{along}
 use Rattle.r9_plane.proofs.PlaneLemmas.{along_holds}
-use Rattle.r9_locate.specs.declared.lists.Lists.{Lists}
-use Rattle.r9_locate.specs.Forms.{bits_in, form_of, forms_of, Form, HasBits}
-use Rattle.r9_locate.specs.Table.{shape}
+use Rattle.r9_locate.specs.declared.locate.lists.Lists.{Lists}
+use Rattle.r9_locate.specs.locate.Forms.{bits_in, form_of, forms_of, Form, HasBits}
+use Rattle.r9_locate.specs.locate.Table.{shape}
 use Rattle.r9_pixels.specs.declared.keeping.KeptPixels.{KeptPixels}
 use Rattle.r9_pixels.specs.Kept.{form_at, has_place, kept_at}
 use Rattle.r9_forest.specs.Sound.{IsSound}
-use Rattle.r9_arrive.proofs.Canvases.{bare_canvas, IsForest-canvas}
+use Rattle.r9_relist.proofs.arrive.Canvases.{bare_canvas, IsForest-canvas}
 use Rattle.r9_forest.proofs.Sounding.{shape_bare}
-use Rattle.r9_relist.proofs.Surfaces.{surface_has}
+use Rattle.r9_relist.proofs.relist.Surfaces.{surface_has}
 
 -- images that stand alike keep their pixels at the same places
 pub keeping_alike : (old new : World) → ((n : ℕ) → (image_at new n).r ≡ (image_at old n).r) → ((n : ℕ) → (image_at new n).standing ≡ (image_at old n).standing) → ((n : ℕ) → (image_at new n).windows ≡ (image_at old n).windows) → (depth n : ℕ) (y : Point) → keeping_within depth new n y ≡ keeping_within depth old n y

@@ -6,19 +6,19 @@ use Rattle.model_pixel.specs.Channels.{depth}
 use Rattle.model_forest.specs.declared.Standing.{Standing}
 use Rattle.model_forest.specs.World.{World, image_at, IsForest}
 use Rattle.model_kept.specs.Keeping.{with_kept, Place}
-use Rattle.r9_locate.specs.declared.lists.Lists.{Lists}
-use Rattle.r9_locate.specs.Forms.{forms_of}
-use Rattle.r9_locate.specs.Table.{made, shape}
+use Rattle.r9_locate.specs.declared.locate.lists.Lists.{Lists}
+use Rattle.r9_locate.specs.locate.Forms.{forms_of}
+use Rattle.r9_locate.specs.locate.Table.{made, shape}
 use Rattle.r9_pixels.specs.declared.keeping.KeptPixels.{KeptPixels}
 use Rattle.r9_pixels.specs.Kept.{form_at, has_place, kept_at}
 use Rattle.r9_pixels.specs.Places.{HasCells}
-use Rattle.model_resize.specs.Resize.{after_resize, sized, CanResize}
-use Rattle.model_resize.proofs.Sizes.{resize-forest}
-use Rattle.r9_resize.specs.Sizes.{with_rects}
+use Rattle.model_exchanged.specs.resize.Resize.{after_resize, sized, CanResize}
+use Rattle.model_exchanged.proofs.resize.Sizes.{resize-forest}
+use Rattle.r9_relist.specs.resize.Sizes.{with_rects}
 use Rattle.r9_forest.specs.Numbered.{IsNumbered}
 use Rattle.r9_forest.specs.Room.{HasFillRoom}
 use Rattle.r9_forest.specs.Sound.{IsSound}
-use Rattle.r9_arrive.proofs.Canvases.{bare_canvas}
+use Rattle.r9_relist.proofs.arrive.Canvases.{bare_canvas}
 use Rattle.r9_forest.proofs.Numbers.{stay_numbered}
 use Rattle.r9_forest.proofs.Roomy.{fills_put}
 

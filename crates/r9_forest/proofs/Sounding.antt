@@ -14,21 +14,21 @@ use Rattle.model_kept.specs.Keeping.{with_kept, Place}
 use Rattle.model_kept.specs.Restack.{with_list, with_own}
 use Rattle.r9_plane.specs.declared.plane.Plane.{Plane}
 use Rattle.r9_plane.specs.Pixels.{pixel_at, rect_of}
-use Rattle.r9_numbered.specs.Numbered.{value_at}
-use Rattle.r9_locate.specs.declared.lists.Frame.{Frame}
-use Rattle.r9_locate.specs.declared.lists.Lists.{Lists}
-use Rattle.r9_locate.specs.Forms.{forms_of}
-use Rattle.r9_locate.specs.Lists.{frame_image}
-use Rattle.r9_locate.specs.Table.{made, shape}
+use Rattle.r9_locate.specs.numbered.Numbered.{value_at}
+use Rattle.r9_locate.specs.declared.locate.lists.Frame.{Frame}
+use Rattle.r9_locate.specs.declared.locate.lists.Lists.{Lists}
+use Rattle.r9_locate.specs.locate.Forms.{forms_of}
+use Rattle.r9_locate.specs.locate.Lists.{frame_image}
+use Rattle.r9_locate.specs.locate.Table.{made, shape}
 use Rattle.r9_pixels.specs.declared.keeping.KeptPixels.{KeptPixels}
 use Rattle.r9_pixels.specs.Kept.{form_at, has_place, kept_at, IsUnchanged}
 use Rattle.r9_pixels.specs.Owns.{plane_form}
 use Rattle.r9_pixels.specs.Places.{with_form, with_places, HasCells}
-use Rattle.r9_arrive.specs.Arriving.{bare_window, listed, with_coming}
+use Rattle.r9_relist.specs.arrive.Arriving.{bare_window, listed, with_coming}
 use Rattle.r9_forest.specs.Numbered.{bare_image, IsNumbered}
 use Rattle.r9_forest.specs.Sound.{IsSound}
-use Rattle.r9_arrive.proofs.Bare.{bared_forest, bared_whole, bared_windows}
-use Rattle.r9_arrive.proofs.Canvases.{bare_canvas, IsForest-canvas}
+use Rattle.r9_relist.proofs.arrive.Bare.{bared_forest, bared_whole, bared_windows}
+use Rattle.r9_relist.proofs.arrive.Canvases.{bare_canvas, IsForest-canvas}
 use Rattle.r9_forest.proofs.Making.{made_cells, made_forest, made_forms, with_made, IsPlane}
 use Rattle.r9_forest.proofs.Numbers.{list_numbered, put_numbered, IsNext}
 

@@ -6,7 +6,7 @@ use Rattle.r9_geom.specs.Geometry.{area_of, holds}
 use Rattle.r9_plane.specs.Pixels.{number_of}
 use Rattle.model_forest.specs.World.{World, image_at}
 use Rattle.model_kept.specs.Keeping.{place_among}
-use Rattle.r9_relist.specs.Relisting.{meet_from}
+use Rattle.r9_relist.specs.relist.Relisting.{meet_from}
 use Rattle.r9_forest.specs.declared.moving.Filling.{Filling}
 use Rattle.r9_forest.specs.declared.moving.Filling.TheVariants.{Plain as Filled, Rows}
 use Rattle.r9_forest.specs.declared.coming.Given.{Given}

@@ -3,10 +3,10 @@ use Rattle.std.specs.Prelude.{◌≡◌, ℕ, Option}
 use Rattle.model_forest.specs.Numbers.{Numbers}
 use Rattle.model_forest.specs.World.{World}
 use Rattle.model_kept.specs.Keeping.{with_kept}
-use Rattle.r9_locate.specs.Table.{made, shape}
+use Rattle.r9_locate.specs.locate.Table.{made, shape}
 use Rattle.r9_pixels.specs.Kept.{kept_at}
 use Rattle.r9_pixels.specs.Kept as kept
-use Rattle.r9_watched.specs.Moments.{Moment}
+use Rattle.r9_locate.specs.watched.Moments.{Moment}
 use Rattle.r9_forest.specs.Numbered.{numbers_of}
 use Rattle.r9_forest.specs.declared.images.Images.{Images}
 

@@ -5,7 +5,7 @@ use Rattle.r9_geom.specs.Geometry.{height, point_at, width}
 use Rattle.model_forest.specs.View.{view}
 use Rattle.model_forest.specs.World.{World, image_at}
 use Rattle.r9_pixels.specs.Kept as kept
-use Rattle.r9_watched.specs.Moments.{Moment}
+use Rattle.r9_locate.specs.watched.Moments.{Moment}
 use Rattle.r9_forest.specs.declared.images.Images.{Images}
 
 -- whether a cell of 32 by 32 points, counted from an image's min, is marked, and how many are

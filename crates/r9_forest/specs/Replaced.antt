@@ -11,8 +11,8 @@ use Rattle.model_forest.specs.Stack.{moved, with_windows}
 use Rattle.model_forest.specs.Steps.{carried_rect, outside, put_above}
 use Rattle.model_forest.specs.View.{view}
 use Rattle.model_forest.specs.World.{World, image_at, IsLive}
-use Rattle.model_exchanged.specs.Exchanged.{put_below}
-use Rattle.r9_arrive.specs.Arriving.{after_coming}
+use Rattle.model_exchanged.specs.exchanged.Exchanged.{put_below}
+use Rattle.r9_relist.specs.arrive.Arriving.{after_coming}
 use Rattle.r9_forest.specs.declared.ranking.Rank.{Rank}
 use Rattle.r9_forest.specs.declared.ranking.Rank.TheVariants.{Top, Above, Below}
 

@@ -2,9 +2,9 @@
 use Rattle.std.specs.Prelude.{◌≡◌, ℕ, List}
 use Rattle.model_forest.specs.World.{IsForest}
 use Rattle.model_kept.specs.Keeping.{with_kept}
-use Rattle.r9_locate.specs.declared.lists.Lists.{Lists}
-use Rattle.r9_locate.specs.Forms.{forms_of}
-use Rattle.r9_locate.specs.Table.{made, shape}
+use Rattle.r9_locate.specs.declared.locate.lists.Lists.{Lists}
+use Rattle.r9_locate.specs.locate.Forms.{forms_of}
+use Rattle.r9_locate.specs.locate.Table.{made, shape}
 use Rattle.r9_pixels.specs.declared.keeping.KeptPixels.{KeptPixels}
 use Rattle.r9_pixels.specs.Kept.{form_at, has_place, kept_at}
 use Rattle.r9_pixels.specs.Places.{HasCells}

@@ -1,6 +1,6 @@
 -- What is told of an image.
 use Rattle.std.specs.Prelude.{length, option_map}
-use Rattle.r9_info.specs.declared.Info.{Info}
+use Rattle.r9_locate.specs.declared.info.Info.{Info}
 use Rattle.model_forest.specs.World.{Image}
 
 abbrev pub info_of : Image → Info

@@ -8,24 +8,24 @@ ghost use Rattle.model_forest.specs.Numbers.{next_number, taken};
 ghost use Rattle.model_forest.specs.World.{image_at, IsForest, IsLive};
 ghost use Rattle.model_forest.specs.Stack.{after_window};
 ghost use Rattle.model_kept.specs.Keeping.{place_among};
-ghost use Rattle.r9_locate.specs.Table.{made, shape, HasRoom};
+ghost use Rattle.r9_locate.specs.locate.Table.{made, shape, HasRoom};
 ghost use Rattle.r9_pixels.specs.Kept.{room_of, spare_in, wanted_in};
 ghost use Rattle.r9_cells.specs.Fitting.{AreOne};
 ghost use Rattle.r9_pixels.specs.Places.{StandsOn};
-ghost use Rattle.r9_fills.specs.Content as contents;
-ghost use Rattle.r9_arrive.specs.Arriving.{after_coming, with_coming, IsComing, IsLeft, IsLeftOf};
+ghost use Rattle.r9_put.specs.fills.Content as contents;
+ghost use Rattle.r9_relist.specs.arrive.Arriving.{after_coming, with_coming, IsComing, IsLeft, IsLeftOf};
 ghost use Rattle.r9_forest.specs.Numbered.{numbers_of};
 ghost use Rattle.r9_forest.specs.Given.{given_at};
 
 use super::images::{Images, take_number};
 use model_forest::{Standing, Window};
-use r9_arrive::arrive;
-use r9_fills::{Content, Gathered, Picture};
 use r9_geom::Rect;
-use r9_lists::on_top;
-use r9_locate::Frame;
+use r9_locate::lists::on_top;
+use r9_locate::locate::Frame;
+use r9_marks::steps::Steps;
 use r9_memory::Memory;
-use r9_steps::Steps;
+use r9_put::fills::{Content, Gathered, Picture};
+use r9_relist::arrive::arrive;
 use std::sync::ledger::Ledger;
 
 /// The pixels with which a window comes: one raw pixel, or those that were read into the room.

@@ -6,13 +6,13 @@ ghost use Rattle.r9_geom.specs.Geometry.{area_of, holds, width, IsNear, IsOrdere
 ghost use Rattle.r9_plane.specs.Pixels.{along, number_of};
 ghost use Rattle.model_pixel.specs.Channels as channels;
 ghost use Rattle.model_forest.specs.World.{IsLive};
-ghost use Rattle.r9_fills.specs.Fills.{fill_at};
+ghost use Rattle.r9_put.specs.fills.Fills.{fill_at};
 
 use super::images::Images;
 use r9_chan::Chan;
-use r9_fills::{Columns, columns_in, convert, reached, strip};
 use r9_geom::{Point, Rect};
-use r9_locate::along;
+use r9_locate::locate::along;
+use r9_put::fills::{Columns, columns_in, convert, reached, strip};
 
 // How many pixels of a row are gathered at a time.
 const BLOCK: usize = 256;

@@ -12,7 +12,7 @@ ghost use Rattle.r9_pixels.specs.Kept.{has_place, kept_at, tile_at};
 
 use super::images::Images;
 use r9_geom::Point;
-use r9_info::ImageNo;
+use r9_locate::info::ImageNo;
 use r9_store::{Store, TileNo};
 
 /// Where a pixel is kept.

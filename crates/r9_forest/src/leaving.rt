@@ -9,9 +9,9 @@ ghost use Rattle.model_forest.specs.Steps.{after_release};
 use super::coming::content;
 use super::images::Images;
 use model_forest::Standing;
-use r9_fills::{Content, Gathered};
-use r9_relist::{take_away, take_whole};
-use r9_steps::Steps;
+use r9_marks::steps::Steps;
+use r9_put::fills::{Content, Gathered};
+use r9_relist::relist::{take_away, take_whole};
 use std::sync::ledger::Ledger;
 
 impl Images {

@@ -3,9 +3,9 @@
 ghost use Rattle.std.specs.Prelude.{◌≡◌, ◌≢◌, ◌^◌, ◌<◌, ℕ, Some, None, false, IsSome};
 ghost use Rattle.r9_geom.specs.Geometry.{height, width};
 ghost use Rattle.model_pixel.specs.Channels.{depth};
-ghost use Rattle.r9_marks.specs.Cells.{cells_over, count_cells};
+ghost use Rattle.r9_marks.specs.marks.Cells.{cells_over, count_cells};
 ghost use Rattle.model_forest.specs.World.{image_at, parent_of, IsLive};
-ghost use Rattle.r9_watched.specs.Moments.{IsFew, IsSince, Moment};
+ghost use Rattle.r9_locate.specs.watched.Moments.{IsFew, IsSince, Moment};
 
 use super::images::Images;
 

@@ -10,11 +10,11 @@ ghost use Rattle.model_forest.specs.Stack.{moved_window, with_windows};
 ghost use Rattle.model_forest.specs.Steps.{after_origin, carried_rect as carried_place, shifted_image};
 ghost use Rattle.model_forest.specs.View as model;
 ghost use Rattle.model_forest.specs.World.{image_at, with_image, IsForest, IsLive};
-ghost use Rattle.r9_locate.specs.Table.{shape};
+ghost use Rattle.r9_locate.specs.locate.Table.{shape};
 ghost use Rattle.r9_pixels.specs.Kept.{spare_in, wanted_in};
-ghost use Rattle.r9_relist.specs.Relisting.{IsAway};
+ghost use Rattle.r9_relist.specs.relist.Relisting.{IsAway};
 ghost use Rattle.r9_forest.specs.Groups.{IsMoved};
-ghost use Rattle.r9_fills.specs.Fills.{fill_at};
+ghost use Rattle.r9_put.specs.fills.Fills.{fill_at};
 ghost use Rattle.r9_forest.specs.Given.{filled_at, given_at, left_of, IsEnough};
 ghost use Rattle.r9_forest.specs.Replaced.{IsShown};
 ghost use Rattle.model_kept.specs.Keeping.{is_top, place_among as place_in};
@@ -24,15 +24,15 @@ use super::filling::put_block;
 use super::images::{Images, zeros};
 use model_forest::{Standing, Window};
 use r9_chan::Chan;
-use r9_fills::{Content, Gathered, Picture};
 use r9_geom::{Point, Rect};
-use r9_lists::carried_rect;
-use r9_locate::place_among;
+use r9_locate::lists::carried_rect;
+use r9_locate::locate::place_among;
+use r9_marks::steps::Steps;
 use r9_memory::Memory;
-use r9_relist::{common, hide, relist, reserve_move, unhide};
-use r9_shift::shift;
+use r9_put::fills::{Content, Gathered, Picture};
+use r9_relist::relist::{common, hide, relist, reserve_move, unhide};
+use r9_relist::shift::shift;
 use r9_shown::read_area;
-use r9_steps::Steps;
 use std::alloc::Global;
 use std::sync::ledger::Ledger;
 
@@ -91,7 +91,7 @@ enum Filling {
 }
 
 impl Filling {
-    ghost use Rattle.r9_fills.specs.Content.{content};
+    ghost use Rattle.r9_put.specs.fills.Content.{content};
     ghost use Rattle.r9_forest.specs.Given.{filled_at, IsEnough};
 
     // The pixels at the points of a rectangle.

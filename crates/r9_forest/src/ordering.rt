@@ -8,19 +8,19 @@ ghost use Rattle.model_forest.specs.Stack.{after_lower, after_raise, with_window
 ghost use Rattle.r9_forest.specs.Groups.{group_area, places_of, IsGroupOn};
 ghost use Rattle.r9_region.specs.Region.{covers};
 ghost use Rattle.r9_restack.specs.Areas.{AreApartIn};
-ghost use Rattle.r9_locate.specs.Table.{shape};
+ghost use Rattle.r9_locate.specs.locate.Table.{shape};
 ghost use Rattle.r9_restack.specs.Moving.{IsReordering, IsSameTop};
 
 use super::images::Images;
 use model_forest::Window;
 use r9_geom::Rect;
-use r9_info::ImageNo;
-use r9_lists::{lowered, raised};
-use r9_locate::place_among;
+use r9_locate::info::ImageNo;
+use r9_locate::lists::{lowered, raised};
+use r9_locate::locate::place_among;
+use r9_marks::steps::Steps;
 use r9_memory::Memory;
 use r9_region::Region;
-use r9_relist::reorder_windows;
-use r9_steps::Steps;
+use r9_relist::relist::reorder_windows;
 use std::sync::ledger::Ledger;
 
 impl Images {

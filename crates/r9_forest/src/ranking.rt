@@ -1,11 +1,11 @@
 //! A list of windows with one more: topmost, or directly above or below another.
 
 ghost use Rattle.std.specs.Prelude.{◌≡◌, ◌+◌, ◌<◌, ◌≤◌, [], length, vec_capacity, vec_len, IfOk};
-ghost use Rattle.model_exchanged.specs.Exchanged as exchanged;
+ghost use Rattle.model_exchanged.specs.exchanged.Exchanged as exchanged;
 ghost use Rattle.r9_forest.specs.Replaced.{put_in};
 
 use model_forest::Window;
-use r9_lists::{above, on_top};
+use r9_locate::lists::{above, on_top};
 use r9_memory::Memory;
 use std::alloc::Global;
 

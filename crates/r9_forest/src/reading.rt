@@ -15,11 +15,11 @@ ghost use Rattle.model_forest.specs.Draw.{reaches};
 
 use super::images::Images;
 use r9_geom::{Point, Rect, distance};
-use r9_locate::{along, read_view};
+use r9_locate::locate::{along, read_view};
+use r9_marks::steps::Steps;
 use r9_memory::Memory;
 use r9_plane::Plane;
 use r9_shown::read_area;
-use r9_steps::Steps;
 use r9_text::Bytes;
 use std::marker::Brand;
 use std::sync::ledger::{Blank, Ledger};

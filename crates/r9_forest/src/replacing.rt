@@ -8,11 +8,11 @@ ghost use Rattle.model_pixel.specs.Channels as channels;
 ghost use Rattle.model_forest.specs.Numbers.{next_number, taken};
 ghost use Rattle.model_forest.specs.Steps as steps;
 ghost use Rattle.model_forest.specs.Steps.{after_replace, after_replace_on};
-ghost use Rattle.model_exchanged.specs.Exchanged.{after_put_on, after_put_under, LeavesUnseen};
+ghost use Rattle.model_exchanged.specs.exchanged.Exchanged.{after_put_on, after_put_under, LeavesUnseen};
 ghost use Rattle.model_forest.specs.View as model;
 ghost use Rattle.model_forest.specs.World.{image_at, parent_of, IsLive, SameSize};
-ghost use Rattle.r9_locate.specs.Table.{shape};
-ghost use Rattle.r9_fills.specs.Content as fills;
+ghost use Rattle.r9_locate.specs.locate.Table.{shape};
+ghost use Rattle.r9_put.specs.fills.Content as fills;
 ghost use Rattle.r9_forest.specs.declared.coming.Given.TheVariants.{Plain, Read};
 ghost use Rattle.r9_forest.specs.Replaced.{moved_out, neighbour, put_in, replaced, IsFarOff, IsLater, IsReplacing, IsShown};
 
@@ -22,10 +22,10 @@ use super::moving::moved_list;
 use super::ranking::{Rank, with_window};
 use model_forest::{Standing, Window};
 use r9_geom::{Point, Rect};
-use r9_lists::carried_rect;
-use r9_locate::place_among;
+use r9_locate::lists::carried_rect;
+use r9_locate::locate::place_among;
+use r9_marks::steps::Steps;
 use r9_memory::Memory;
-use r9_steps::Steps;
 use std::sync::ledger::Ledger;
 
 // Far outside of every image.

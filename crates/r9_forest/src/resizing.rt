@@ -4,12 +4,12 @@ ghost use Rattle.std.specs.Prelude.{◌≡◌, ◌+◌, ◌*◌, ◌^◌, ◌<�
 ghost use Rattle.r9_geom.specs.Geometry.{area_of};
 ghost use Rattle.model_pixel.specs.Channels as channels;
 ghost use Rattle.model_forest.specs.World.{image_at};
-ghost use Rattle.model_resize.specs.Resize.{after_resize, CanResize};
+ghost use Rattle.model_exchanged.specs.resize.Resize.{after_resize, CanResize};
 
 use super::images::Images;
+use r9_marks::steps::Steps;
 use r9_memory::Memory;
-use r9_resize::resize;
-use r9_steps::Steps;
+use r9_relist::resize::resize;
 use std::sync::ledger::Ledger;
 
 impl Images {

@@ -8,7 +8,7 @@ ghost use Rattle.r9_forest.specs.Told.{info_of};
 
 use super::images::Images;
 use r9_geom::Rect;
-use r9_info::{ImageNo, Info};
+use r9_locate::info::{ImageNo, Info};
 
 impl Images {
     ghost use Rattle.r9_forest.specs.Images.{moment, numbers, world, writes};

@@ -15,8 +15,8 @@ ghost use Rattle.model_forest.specs.World.{image_at, IsLive};
 use super::images::Images;
 use r9_geom::{Point, Rect};
 use r9_kern::Over;
-use r9_put::{compose_area, fill_area, load_area, move_area, put_rows};
-use r9_steps::Steps;
+use r9_marks::steps::Steps;
+use r9_put::put::{compose_area, fill_area, load_area, move_area, put_rows};
 use std::sync::ledger::Ledger;
 
 impl Images {

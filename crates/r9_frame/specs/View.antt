@@ -2,7 +2,7 @@
 use Rattle.std.specs.Prelude.{ℕ, ◌≤◌, length}
 use Rattle.r9_frame.specs.declared.next.Next.{Next}
 use Rattle.r9_frame.specs.declared.next.Next.TheVariants as code
-use Rattle.model_frame.specs.Frame as model
+use Rattle.model_files.specs.frame.Frame as model
 
 abbrev pub cut_of : Next → model.Cut
 cut_of (code.Frame frame) = model.Frame frame

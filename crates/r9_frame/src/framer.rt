@@ -1,7 +1,7 @@
 //! A stream of bytes, given message by message.
 
 ghost use Rattle.std.specs.Prelude.{◌≡◌, ◌<◌, ◌≤◌, ◌+◌, ◌++◌, [], None, length, drop, IfOk, OnOk, OnErr};
-ghost use Rattle.model_frame.specs.Frame.{first, given, left};
+ghost use Rattle.model_files.specs.frame.Frame.{first, given, left};
 ghost use Rattle.r9_frame.specs.View.{cut_of, IsWithin};
 
 use crate::next::Next;
@@ -23,7 +23,7 @@ pub struct Framer {
 
 impl Model for Framer {
     ghost use Rattle.std.specs.Prelude.{◌≤◌, drop, length};
-    ghost use Rattle.model_frame.specs.Frame.{Framing};
+    ghost use Rattle.model_files.specs.frame.Frame.{Framing};
 
     ghost Value = { Framing };
 
@@ -100,7 +100,7 @@ impl Framer {
 }
 
 /// The first message of bytes under a limit.
-#[tactic(auto, unfolding(model_frame::specs::Frame::first))]
+#[tactic(auto, unfolding(model_files::specs::frame::Frame::first))]
 fn first(alloc: Global, limit: u32, bytes: &[u8]) -> Result<Next, Memory>
     ensures cut { IfOk result (λ next. cut_of next ≡ first limit bytes.now) }
     ensures within { IfOk result (λ next. IsWithin next (length bytes.now)) }

@@ -1,7 +1,3 @@
-pub mod StateView
-pub mod Outboxes
-pub mod HallView
-pub mod Acts
-pub mod WorldView
-pub mod Settling
-pub mod Watching
+pub mod hall
+pub mod seen
+pub mod shared

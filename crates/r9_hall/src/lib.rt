@@ -1,13 +1,6 @@
-//! The core of the server: the world to which a history leads, and the hall, which keeps of the history and answers sessions.
+//! These parts, each with a text of its own at its head: `hall`, `seen`, `shared`.
 #![tactic(auto)]
 
-mod acts;
-mod hall;
-mod outboxes;
-mod sessions;
-mod settling;
-mod watching;
-mod world;
-
-pub use hall::Hall;
-pub use world::World;
+pub mod hall;
+pub mod seen;
+pub mod shared;

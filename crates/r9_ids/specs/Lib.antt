@@ -1,4 +1,4 @@
-pub mod ImageIds
-pub mod Own
-pub mod Rows
-pub mod ScreenIds
+pub mod ids
+pub mod screens
+pub mod sorted
+pub mod ties

@@ -1,9 +1,7 @@
-//! The image ids and the screen ids of all connections, in order.
+//! These parts, each with a text of its own at its head: `ids`, `screens`, `sorted`, `ties`.
 #![tactic(auto)]
 
-mod image_ids;
-mod rows;
-mod screen_ids;
-
-pub use image_ids::ImageIds;
-pub use screen_ids::ScreenIds;
+pub mod ids;
+pub mod screens;
+pub mod sorted;
+pub mod ties;

@@ -1,2 +1,2 @@
-pub mod View
-pub mod Names
+pub mod images
+pub mod uses

@@ -1,15 +1,5 @@
-//! What the image ids, the screen ids and the names of the draw device refer to, and what goes when a reference goes
-//! (draw(3)).
+//! These parts, each with a text of its own at its head: `images`, `uses`.
 #![tactic(auto)]
 
-mod adding;
-mod book;
-mod fault;
-mod freed;
-mod freeing;
-mod naming;
-
-pub use book::Book;
-pub use fault::BookFault;
-pub use freed::Freed;
-pub use model_images::Thing;
+pub mod images;
+pub mod uses;

@@ -14,7 +14,7 @@ use Rattle.r9_geom.specs.Geometry.{height, holds, point_at, width, IsOrdered, Is
 use Rattle.r9_geom.proofs.GeometryLemmas.{bounds_of, distance_is, holds_from, same_point, same_rect}
 use Rattle.model_pixel.specs.Channels as channels
 use Rattle.model_pixel.specs.Rows.{byte_at, row_bytes, row_place, rows_of, skip}
-use Rattle.model_imgfile.specs.ImageFile.{file_header, file_part, image_file}
+use Rattle.model_draw.specs.imgfile.ImageFile.{file_header, file_part, image_file}
 use Rattle.r9_imgfile.proofs.FileLemmas.{length-file_header}
 use Rattle.r9_imgfile.proofs.PartLemmas.{part-append}
 use Rattle.r9_imgfile.specs.Touched.{before_part, part_len, rows_between, rows_with, touched}

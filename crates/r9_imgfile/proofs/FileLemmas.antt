@@ -9,10 +9,10 @@ use Rattle.std.proofs.Common.{to_z, of_z, w64}
 use Rattle.std.proofs.lemmas.List.{length-map, length-replicate}
 use Rattle.r9_geom.specs.declared.Rect.{Rect}
 use Rattle.r9_geom.specs.Geometry.{IsRectNearBy}
-use Rattle.model_text.specs.Field.{field, number_field}
+use Rattle.model_text.specs.text.Field.{field, number_field}
 use Rattle.model_pixel.specs.Channels.{bytes_up_to, channel, channels, is_depth, name}
 use Rattle.r9_chan.proofs.NameLemmas.{length-named}
-use Rattle.model_imgfile.specs.ImageFile.{file_header}
+use Rattle.model_draw.specs.imgfile.ImageFile.{file_header}
 
 pub length-field : (text : List ℕ) → length text ≤ 11 → length (field text) ≡ 12
 unfolding field

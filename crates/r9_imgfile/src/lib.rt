@@ -7,12 +7,12 @@ ghost use Rattle.r9_geom.specs.Geometry.{height, holds, IsOrdered, IsRectNearBy}
 ghost use Rattle.model_pixel.specs.Channels.{depth};
 ghost use Rattle.model_pixel.specs.Rows.{rows_of};
 ghost use Rattle.model_pixel.specs.Rows as rows;
-ghost use Rattle.model_imgfile.specs.ImageFile.{file_header, file_part, image_file, rect_fields, rows_len};
+ghost use Rattle.model_draw.specs.imgfile.ImageFile.{file_header, file_part, image_file, rect_fields, rows_len};
 ghost use Rattle.r9_imgfile.specs.Touched as touches;
 ghost use Rattle.r9_imgfile.specs.Touched.{touched};
 
 use r9_geom::Rect;
-use r9_info::Info;
+use r9_locate::info::Info;
 use r9_memory::Memory;
 use r9_plane::row_bytes;
 use r9_text::{Bytes, push_number, push_word};

@@ -1,3 +1,3 @@
-pub mod Words
-pub mod World
-pub mod Laws
+pub mod isol
+pub mod lone
+pub mod watch

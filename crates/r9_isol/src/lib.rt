@@ -1,11 +1,6 @@
-//! A session that is alone with its window: what it is answered in a world of its own.
+//! These parts, each with a text of its own at its head: `isol`, `lone`, `watch`.
 #![tactic(auto)]
 
-mod calls;
-mod desktop;
-mod device;
-mod notes;
-mod outside;
-mod uncounted;
-
-pub use desktop::Desktop;
+pub mod isol;
+pub mod lone;
+pub mod watch;

@@ -4,7 +4,7 @@ use Rattle.std.specs.List.{AllByRecursion}
 use Rattle.std.proofs.lemmas.Bool.{eqb-true}
 use Rattle.std.proofs.lemmas.Bool.Decides.{nat_tests}
 use Rattle.std.proofs.lemmas.List.{take_all, length-drop}
-use Rattle.model_text.proofs.Fields.{chosen}
+use Rattle.model_text.proofs.text.Fields.{chosen}
 use Rattle.r9_journal.specs.Reading.{cut, with_front}
 
 -- no byte of the list is the mark

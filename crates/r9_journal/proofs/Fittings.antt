@@ -7,14 +7,14 @@ use Rattle.std.specs.Str.{bytes_eq}
 use Rattle.std.proofs.lemmas.Bool.{leb-true, le-leb}
 use Rattle.std.proofs.lemmas.List.{take-append-drop}
 use Rattle.std.proofs.lemmas.Slice.Eq.{bytes_eq-Decides}
-use Rattle.model_record.specs.Line.{event_text}
-use Rattle.model_text.specs.Hex.{hex, unhex}
-use Rattle.model_text.specs.Reading.{◌>>=◌}
-use Rattle.model_text.proofs.Fields.{bind_some}
-use Rattle.model_text.proofs.HexLaws.{hex-unhex}
-use Rattle.model_event.specs.Legal.{Roll, Allowed, roll_after}
-use Rattle.r9_event.specs.declared.event.Event.{Event}
-use Rattle.r9_event.specs.declared.event.Event.TheVariants.{Begin, Msg, Take, End, Stop}
+use Rattle.model_history.specs.records.Line.{event_text}
+use Rattle.model_text.specs.text.Hex.{hex, unhex}
+use Rattle.model_text.specs.text.Reading.{◌>>=◌}
+use Rattle.model_text.proofs.text.Fields.{bind_some}
+use Rattle.model_text.proofs.text.HexLaws.{hex-unhex}
+use Rattle.model_history.specs.event.Legal.{Roll, Allowed, roll_after}
+use Rattle.r9_event.specs.declared.event.event.Event.{Event}
+use Rattle.r9_event.specs.declared.event.event.Event.TheVariants.{Begin, Msg, Take, End, Stop}
 use Rattle.r9_journal.specs.Digits.{AreMessageDigits, SpellsMarked, is_mark}
 use Rattle.r9_journal.specs.Fitting.{FitsMessage, IsEntered, IsUnfit}
 use Rattle.r9_journal.specs.Reading.{cut, numeral, exclaimed, message_by, message_of_line, event_by, event_by_parts, event_of}

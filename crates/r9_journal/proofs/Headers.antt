@@ -4,9 +4,9 @@ use Rattle.std.specs.Fmt.{decimal}
 use Rattle.std.specs.List.{flat_map}
 use Rattle.std.proofs.lemmas.Fmt.{decimal_injective}
 use Rattle.std.proofs.lemmas.List.{length-append, take-append-drop}
-use Rattle.model_record.specs.Line.{line, event_line}
-use Rattle.model_record.specs.Record.{header, header_from, IsLate, IsRecord, IsSpelled, text_limit}
-use Rattle.r9_event.specs.declared.event.Event.{Event}
+use Rattle.model_history.specs.records.Line.{line, event_line}
+use Rattle.model_history.specs.records.Record.{header, header_from, IsLate, IsRecord, IsSpelled, text_limit}
+use Rattle.r9_event.specs.declared.event.event.Event.{Event}
 use Rattle.r9_journal.specs.Reading.{cut}
 use Rattle.r9_journal.specs.Header.{IsHeader, IsHeaded}
 use Rattle.r9_journal.proofs.Cuts.{cut_again, cut_takes, pair_of}

@@ -1,10 +1,10 @@
 -- Which texts are the digits of a message.
 use Rattle.std.proofs.Common.{◌≡◌, ℕ, zero, suc, ◌/◌, ◌%◌, ◌&&◌, Bool, true, false, List, [], ◌∷◌, length, take, Option, Some, None, is_some, refl, sym, ap, ◌∙◌, arith}
 use Rattle.std.specs.List.{list_all}
-use Rattle.model_text.specs.Number.{AreBytes, four_bytes}
-use Rattle.model_text.specs.Hex.{hex, unhex, hex_value, with_byte}
-use Rattle.model_text.proofs.Fields.{AreBytes-take}
-use Rattle.model_text.proofs.HexLaws.{unhex-hex, hex-unhex}
+use Rattle.model_text.specs.text.Number.{AreBytes, four_bytes}
+use Rattle.model_text.specs.text.Hex.{hex, unhex, hex_value, with_byte}
+use Rattle.model_text.proofs.text.Fields.{AreBytes-take}
+use Rattle.model_text.proofs.text.HexLaws.{unhex-hex, hex-unhex}
 use Rattle.r9_journal.specs.Digits.{AreMessageDigits, SpellsMessage}
 use Rattle.r9_journal.proofs.Lengths.{hex_len}
 

@@ -2,10 +2,10 @@
 use Rattle.std.proofs.Common.{◌≡◌, ℕ, ◌+◌, ◌*◌, codes, List, [], ◌∷◌, ◌++◌, length, Option, refl, ap, ◌∙◌, arith}
 use Rattle.std.specs.Fmt.{decimal}
 use Rattle.std.proofs.lemmas.List.{length-append}
-use Rattle.model_text.specs.Hex.{hex}
-use Rattle.model_record.specs.Line.{event_line, mark_text}
-use Rattle.r9_event.specs.declared.event.Event.{Event}
-use Rattle.r9_event.specs.declared.event.Event.TheVariants.{Msg}
+use Rattle.model_text.specs.text.Hex.{hex}
+use Rattle.model_history.specs.records.Line.{event_line, mark_text}
+use Rattle.r9_event.specs.declared.event.event.Event.{Event}
+use Rattle.r9_event.specs.declared.event.event.Event.TheVariants.{Msg}
 
 pub hex_len : (bytes : List ℕ) → length (hex bytes) ≡ length bytes * 2
 hex_len [] = refl

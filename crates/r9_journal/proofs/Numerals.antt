@@ -9,8 +9,8 @@ use Rattle.std.proofs.lemmas.Bool.{cases_lt, leb-true, le-leb}
 use Rattle.std.proofs.lemmas.Fmt.{decimal_digit, decimal-digits_value, digits_decimal, digits_value-decimal, first_decimal, length-decimal-le, decimal_nonempty}
 use Rattle.std.proofs.lemmas.Int.Digits.{digits_value-lt}
 use Rattle.std.proofs.lemmas.Str.Parse.{IsNumeralModel, numerals_by_fold, tells_all_ascii_digits}
-use Rattle.model_text.specs.Field.{value, is_digits, number}
-use Rattle.model_text.proofs.Fields.{want_some}
+use Rattle.model_text.specs.text.Field.{value, is_digits, number}
+use Rattle.model_text.proofs.text.Fields.{want_some}
 use Rattle.r9_journal.specs.Reading.{numeral}
 use Rattle.r9_journal.proofs.Texts.{both_true, no_numeral, numeral_is, numeral_wide}
 

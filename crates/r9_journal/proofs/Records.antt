@@ -4,12 +4,12 @@ use Rattle.std.specs.List.{AllByRecursion, Contains, filter, flat_map}
 use Rattle.std.specs.Result.{IsErrAnd}
 use Rattle.std.proofs.lemmas.List.{append-nil, length-append, length-take, take-append-drop, take_at}
 use Rattle.std.proofs.lemmas.Grind.{flat_map-append}
-use Rattle.model_event.specs.Legal.{Roll, Allowed, AllowedFrom, IsLegal, no_sessions, roll_after, roll_from, roll_of}
-use Rattle.model_event.proofs.Rolls.{roll_from-push, AllowedFrom-push}
-use Rattle.model_record.specs.Line.{line, event_text, event_line}
-use Rattle.model_record.specs.Record.{text_limit, IsRecord, IsFront, IsLate, IsBadAt}
-use Rattle.r9_event.specs.declared.event.Event.{Event}
-use Rattle.r9_event.specs.declared.event.Event.TheVariants.{Begin, Msg, Take, End, Stop}
+use Rattle.model_history.specs.event.Legal.{Roll, Allowed, AllowedFrom, IsLegal, no_sessions, roll_after, roll_from, roll_of}
+use Rattle.model_history.proofs.event.Rolls.{roll_from-push, AllowedFrom-push}
+use Rattle.model_history.specs.records.Line.{line, event_text, event_line}
+use Rattle.model_history.specs.records.Record.{text_limit, IsRecord, IsFront, IsLate, IsBadAt}
+use Rattle.r9_event.specs.declared.event.event.Event.{Event}
+use Rattle.r9_event.specs.declared.event.event.Event.TheVariants.{Begin, Msg, Take, End, Stop}
 use Rattle.r9_journal.specs.Header.{IsHeaded}
 use Rattle.r9_journal.specs.Reading.{IsSmall, cut, event_of}
 use Rattle.r9_journal.proofs.Cuts.{cut_takes, cut_again, pair_of}

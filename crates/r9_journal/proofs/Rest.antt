@@ -2,10 +2,10 @@
 use Rattle.std.proofs.Common.{◌≡◌, ℕ, zero, suc, ◌≤◌, List, [], ◌∷◌, length, Option, Some, None, IfSome, IfNone, refl, sym, ap, subst, ◌∙◌, arith}
 use Rattle.std.specs.List.{AllByRecursion, flat_map}
 use Rattle.std.proofs.lemmas.List.{length-append}
-use Rattle.model_event.specs.Legal.{Roll, AllowedFrom, no_sessions, roll_after}
-use Rattle.model_record.specs.Line.{event_line}
-use Rattle.model_record.specs.Record.{IsRecord}
-use Rattle.r9_event.specs.declared.event.Event.{Event}
+use Rattle.model_history.specs.event.Legal.{Roll, AllowedFrom, no_sessions, roll_after}
+use Rattle.model_history.specs.records.Line.{event_line}
+use Rattle.model_history.specs.records.Record.{IsRecord}
+use Rattle.r9_event.specs.declared.event.event.Event.{Event}
 use Rattle.r9_journal.specs.Header.{IsHeaded}
 use Rattle.r9_journal.specs.Reading.{IsSmall, cut, event_of}
 use Rattle.r9_journal.specs.Rest.{events_by, events_in, AreLinesOf}

@@ -8,14 +8,14 @@ use Rattle.std.proofs.lemmas.Fmt.{decimal_is_IsNumeral, decimal_injective}
 use Rattle.std.proofs.lemmas.List.{append-nil}
 use Rattle.std.proofs.lemmas.Slice.Eq.{bytes_eq-Decides}
 use Rattle.std.proofs.lemmas.Str.Parse.{digit_from_value}
-use Rattle.model_text.specs.Number.{AreBytes}
-use Rattle.model_text.specs.Hex.{hex, unhex, hex_digit}
-use Rattle.model_text.specs.Reading.{◌>>=◌}
-use Rattle.model_text.proofs.Fields.{bind_some, want_some, chosen}
-use Rattle.model_text.proofs.HexLaws.{unhex-hex, hex-unhex}
-use Rattle.model_record.specs.Line.{event_text, mark_text}
-use Rattle.r9_event.specs.declared.event.Event.{Event}
-use Rattle.r9_event.specs.declared.event.Event.TheVariants.{Begin, Msg, Take, End, Stop}
+use Rattle.model_text.specs.text.Number.{AreBytes}
+use Rattle.model_text.specs.text.Hex.{hex, unhex, hex_digit}
+use Rattle.model_text.specs.text.Reading.{◌>>=◌}
+use Rattle.model_text.proofs.text.Fields.{bind_some, want_some, chosen}
+use Rattle.model_text.proofs.text.HexLaws.{unhex-hex, hex-unhex}
+use Rattle.model_history.specs.records.Line.{event_text, mark_text}
+use Rattle.r9_event.specs.declared.event.event.Event.{Event}
+use Rattle.r9_event.specs.declared.event.event.Event.TheVariants.{Begin, Msg, Take, End, Stop}
 use Rattle.r9_journal.specs.Reading.{IsSmall, cut, numeral, exclaimed, message_by, message_of_line, of_session, event_by, event_by_parts, event_of}
 use Rattle.r9_journal.proofs.Cuts.{Lacks, Lacks-append, cut_takes, cut_again, cut_lacking}
 

@@ -1,9 +1,9 @@
 -- The digits of a message, as a text that is not read into bytes.
 use Rattle.std.specs.Prelude.{◌≡◌, ◌≤◌, ◌/◌, ℕ, Bool, true, false, IsTrue, List, Option, Some, None, length, take, nat_le, is_some}
 use Rattle.std.specs.Option.{option_map_or}
-use Rattle.model_text.specs.Hex.{hex, unhex}
-use Rattle.model_text.specs.Number.{four_bytes}
-use Rattle.model_event.specs.Legal.{IsMessage}
+use Rattle.model_text.specs.text.Hex.{hex, unhex}
+use Rattle.model_text.specs.text.Number.{four_bytes}
+use Rattle.model_history.specs.event.Legal.{IsMessage}
 use Rattle.r9_journal.specs.Reading.{exclaimed}
 
 -- digits of 7 to 65,560 bytes, of which the first four are their number

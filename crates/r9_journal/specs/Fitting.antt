@@ -1,7 +1,7 @@
 -- The lines that may come next.
 use Rattle.std.specs.Prelude.{◌≡◌, ℕ, List, Some}
-use Rattle.model_event.specs.Legal.{Roll, Allowed, roll_after}
-use Rattle.r9_event.specs.declared.event.Event.{Event}
+use Rattle.model_history.specs.event.Legal.{Roll, Allowed, roll_after}
+use Rattle.r9_event.specs.declared.event.event.Event.{Event}
 use Rattle.r9_journal.specs.Reading.{message_of_line, event_of}
 
 -- what stands behind the letter of a message and a blank tells one that may come next

@@ -1,7 +1,7 @@
 -- The header that a text begins with.
 use Rattle.std.specs.Prelude.{◌≡◌, ◌<◌, ◌≤◌, ◌⊎◌, ℕ, List, ◌++◌}
-use Rattle.model_record.specs.Line.{line}
-use Rattle.model_record.specs.Record.{header, header_from, number_limit}
+use Rattle.model_history.specs.records.Line.{line}
+use Rattle.model_history.specs.records.Record.{header, header_from, number_limit}
 
 -- the text is a header, behind which the first entry has the number n
 abbrev pub IsHeader : (text : List ℕ) (n : ℕ) → Type 0

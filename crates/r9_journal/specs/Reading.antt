@@ -3,11 +3,11 @@ use Rattle.std.specs.Prelude.{ℕ, ◌<◌, ◌==◌, ◌^◌, ◌&&◌, List, [
 use Rattle.std.specs.Fmt.{decimal}
 use Rattle.std.specs.Str.{bytes_eq}
 use Rattle.std.specs.Str.Parse.{digits_value}
-use Rattle.model_text.specs.Number.{AreBytes}
-use Rattle.model_text.specs.Hex.{unhex}
-use Rattle.model_text.specs.Reading.{◌>>=◌}
-use Rattle.r9_event.specs.declared.event.Event.{Event}
-use Rattle.r9_event.specs.declared.event.Event.TheVariants.{Begin, Msg, Take, End, Stop}
+use Rattle.model_text.specs.text.Number.{AreBytes}
+use Rattle.model_text.specs.text.Hex.{unhex}
+use Rattle.model_text.specs.text.Reading.{◌>>=◌}
+use Rattle.r9_event.specs.declared.event.event.Event.{Event}
+use Rattle.r9_event.specs.declared.event.event.Event.TheVariants.{Begin, Msg, Take, End, Stop}
 
 -- its numbers are such as the program has, and its bytes are bytes
 abbrev pub IsSmall : Event → Type 0

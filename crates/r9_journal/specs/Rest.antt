@@ -2,8 +2,8 @@
 use Rattle.std.specs.Prelude.{◌≡◌, ℕ, zero, suc, List, [], ◌∷◌, length, Option, Some, None}
 use Rattle.std.specs.List.{flat_map, AllByRecursion}
 use Rattle.std.specs.Option.{option_map_or}
-use Rattle.r9_event.specs.declared.event.Event.{Event}
-use Rattle.model_record.specs.Line.{event_line}
+use Rattle.r9_event.specs.declared.event.event.Event.{Event}
+use Rattle.model_history.specs.records.Line.{event_line}
 use Rattle.r9_journal.specs.Reading.{IsSmall, cut, event_of}
 
 -- an event in front of others; none where there is no event

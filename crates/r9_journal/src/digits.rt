@@ -2,8 +2,8 @@
 
 ghost use Rattle.std.specs.Prelude.{◌≡◌, ◌<◌, ◌↔◌, IsTrue, is_some};
 ghost use Rattle.std.specs.List.{list_all};
-ghost use Rattle.model_text.specs.Hex.{hex, unhex, hex_digit, hex_value};
-ghost use Rattle.model_text.specs.Number.{four_bytes};
+ghost use Rattle.model_text.specs.text.Hex.{hex, unhex, hex_digit, hex_value};
+ghost use Rattle.model_text.specs.text.Number.{four_bytes};
 ghost use Rattle.r9_journal.specs.Digits.{AreMessageDigits};
 
 /// The digit of a number.

@@ -1,8 +1,8 @@
 //! The header of a record.
 
 ghost use Rattle.std.specs.Prelude.{◌≡◌, ◌++◌, ℕ, IfSome, IfNone, OnOk, OnErr};
-ghost use Rattle.model_record.specs.Line.{line};
-ghost use Rattle.model_record.specs.Record.{header_from};
+ghost use Rattle.model_history.specs.records.Line.{line};
+ghost use Rattle.model_history.specs.records.Record.{header_from};
 ghost use Rattle.r9_journal.specs.Header.{IsHeader};
 
 use r9_memory::Memory;

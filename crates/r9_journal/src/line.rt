@@ -3,11 +3,11 @@
 ghost use Rattle.std.specs.Prelude.{◌≡◌, ◌<◌, ◌↔◌, None, Some, codes, false, length, slice_index, take, IsTrue, IfOk};
 ghost use Rattle.std.specs.Str.{bytes_eq};
 ghost use Rattle.std.specs.Option.{option_map};
-ghost use Rattle.model_text.specs.Hex.{unhex};
+ghost use Rattle.model_text.specs.text.Hex.{unhex};
 ghost use Rattle.r9_journal.specs.Reading.{cut, numeral, exclaimed, message_by, message_of_line, event_by, event_of};
 
 use memchr::memchr;
-use r9_event::Event;
+use r9_event::event::Event;
 use r9_memory::Memory;
 use r9_text::{read_digits, read_hex};
 use std::alloc::Global;

@@ -1,16 +1,16 @@
 //! Reading a session record.
 
 ghost use Rattle.std.specs.Prelude.{◌≡◌, ◌↔◌, ◌≤◌, ◌<◌, ◌-◌, ◌++◌, ◌∷◌, [], ℕ, List, IfOk, OnErr, IfSome, IfNone, MatchResult, length};
-ghost use Rattle.model_event.specs.Legal.{IsLegal, roll_of};
-ghost use Rattle.model_record.specs.Record.{IsRecord, IsBadAt, IsLate};
-ghost use Rattle.r9_event.specs.declared.event.Event.{Event};
+ghost use Rattle.model_history.specs.event.Legal.{IsLegal, roll_of};
+ghost use Rattle.model_history.specs.records.Record.{IsRecord, IsBadAt, IsLate};
+ghost use Rattle.r9_event.specs.declared.event.event.Event.{Event};
 ghost use Rattle.r9_journal.specs.Header.{IsHeaded};
 
 use crate::fitting::enter_line;
 use crate::header::first_number;
 use crate::line::{cut, event_of};
 use crate::roll::Roll;
-use r9_event::{Entries, Event};
+use r9_event::event::{Entries, Event};
 use r9_memory::Memory;
 use std::alloc::Global;
 use std::marker::Model;
@@ -64,7 +64,7 @@ pub struct Record<'a> {
 
 impl<'a> Model for Record<'a> {
     ghost use Rattle.std.specs.Prelude.{List};
-    ghost use Rattle.r9_event.specs.declared.event.Event.{Event};
+    ghost use Rattle.r9_event.specs.declared.event.event.Event.{Event};
     ghost use Rattle.r9_journal.specs.Rest.{AreLinesOf, events_in};
 
     ghost Value = { List Event };

@@ -1,9 +1,9 @@
 //! Which events may come next.
 
 ghost use Rattle.std.specs.Prelude.{◌≡◌, ◌==◌, ◌↔◌, not, filter, Contains, IsTrue, IsFalse, OnOk, OnErr, IsOk};
-ghost use Rattle.model_event.specs.Legal.{Allowed, AllowedTo, IsMessage, no_sessions, roll_after};
+ghost use Rattle.model_history.specs.event.Legal.{Allowed, AllowedTo, IsMessage, no_sessions, roll_after};
 
-use r9_event::Event;
+use r9_event::event::Event;
 use r9_memory::Memory;
 use std::alloc::Global;
 use std::marker::Model;
@@ -23,7 +23,7 @@ pub struct Roll {
 }
 
 impl Model for Roll {
-    ghost use Rattle.model_event.specs.Legal as model;
+    ghost use Rattle.model_history.specs.event.Legal as model;
 
     ghost Value = { model.Roll };
 

@@ -2,10 +2,10 @@
 
 ghost use Rattle.std.specs.Prelude.{◌≡◌, ◌++◌, ◌≤◌, ◌-◌, ◌^◌, codes, length, min, take, OnOk, OnErr};
 ghost use Rattle.std.specs.Fmt.{decimal};
-ghost use Rattle.model_text.specs.Hex.{hex};
-ghost use Rattle.model_record.specs.Line.{event_text, event_line, reply_line, mark_text};
+ghost use Rattle.model_text.specs.text.Hex.{hex};
+ghost use Rattle.model_history.specs.records.Line.{event_text, event_line, reply_line, mark_text};
 
-use r9_event::{Entry, Event, Reply};
+use r9_event::event::{Entry, Event, Reply};
 use r9_memory::Memory;
 use r9_text::{Bytes, push_decimal, push_hex};
 

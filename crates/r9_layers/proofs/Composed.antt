@@ -5,7 +5,7 @@ use Rattle.r9_geom.specs.declared.Point.{Point}
 use Rattle.r9_geom.specs.Geometry.{carried, reduced}
 use Rattle.model_pixel.specs.Composition.{composed_raw}
 use Rattle.r9_chan.specs.Op.{number}
-use Rattle.r9_info.specs.declared.Info.{Info}
+use Rattle.r9_locate.specs.declared.info.Info.{Info}
 use Rattle.r9_kern.specs.declared.layout.Over.{Over}
 use Rattle.r9_kern.specs.Over.{over_of}
 use Rattle.r9_mem.specs.declared.single.Through.{Through}

@@ -9,7 +9,7 @@ use Rattle.r9_geom.specs.Geometry.{carried, holds, reduced}
 use Rattle.r9_geom.proofs.GeometryLemmas.{same_point}
 use Rattle.model_pixel.specs.Composition.{composed_raw}
 use Rattle.r9_chan.specs.Op.{number}
-use Rattle.r9_info.specs.declared.Info.{Info}
+use Rattle.r9_locate.specs.declared.info.Info.{Info}
 use Rattle.r9_mem.specs.declared.single.Through.{Through}
 use Rattle.r9_mem.specs.Through.{IsThrough}
 use Rattle.model_forest.specs.Draw.{reaches}

@@ -13,8 +13,8 @@ use Rattle.model_pixel.specs.Channels.{expand, mask, pack}
 use Rattle.model_pixel.specs.Composition.{comp}
 use Rattle.r9_chan.specs.Op.{number}
 use Rattle.r9_mem.specs.Through.{IsThrough}
-use Rattle.r9_info.specs.declared.ImageNo.{ImageNo}
-use Rattle.r9_info.specs.declared.Info.{Info}
+use Rattle.r9_locate.specs.declared.info.ImageNo.{ImageNo}
+use Rattle.r9_locate.specs.declared.info.Info.{Info}
 use Rattle.model_forest.specs.declared.Standing.{Standing}
 use Rattle.model_forest.specs.declared.Window.{Window}
 use Rattle.model_forest.specs.World.{Image, World, deepest, image_at, no_image, with_image, IsLive}

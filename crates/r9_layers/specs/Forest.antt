@@ -5,7 +5,7 @@ use Rattle.model_forest.specs.World.{World}
 use Rattle.r9_layers.specs.declared.forest.Forest.{Forest}
 use Rattle.r9_forest.specs.Images as table
 use Rattle.r9_forest.specs.Marks as marks
-use Rattle.r9_watched.specs.Moments.{Moment}
+use Rattle.r9_locate.specs.watched.Moments.{Moment}
 
 -- the image at each number
 unfoldable pub world : Forest → World

@@ -7,3 +7,4 @@ pub mod Moved
 pub mod Over
 pub mod Told
 pub mod Way
+pub use Rattle.r9_forest.specs.Marks

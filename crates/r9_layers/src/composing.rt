@@ -18,8 +18,8 @@ use super::task::Task;
 use r9_chan::Chan;
 use r9_forest::Images;
 use r9_geom::{Point, Rect};
-use r9_lists::carried_rect;
-use r9_locate::along;
+use r9_locate::lists::carried_rect;
+use r9_locate::locate::along;
 use r9_mem::{Through, compose};
 
 // How many pixels of a row are composed at a time.

@@ -22,9 +22,9 @@ use super::task::Task;
 use r9_forest::Images;
 use r9_geom::{Point, Rect};
 use r9_kern::Over;
-use r9_lists::carried_rect;
+use r9_locate::lists::carried_rect;
+use r9_marks::steps::Steps;
 use r9_mem::{Through, solid};
-use r9_steps::Steps;
 use std::sync::ledger::Ledger;
 
 // How many pixels of a drawing stand beside the images at a time, where rows can be drawn one after the other.

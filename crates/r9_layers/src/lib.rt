@@ -8,4 +8,4 @@ mod task;
 
 pub use forest::Forest;
 pub use r9_forest::Kept;
-pub use r9_info::{ImageNo, Info};
+pub use r9_locate::info::{ImageNo, Info};

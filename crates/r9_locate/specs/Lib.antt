@@ -1,3 +1,3 @@
-pub mod Forms
-pub mod Lists
-pub mod Table
+pub mod locate
+pub mod numbered
+pub mod watched

@@ -1,180 +1,146 @@
-//! Images by number, without their pixels.
+//! Lists of windows, topmost first, and how they change.
+#![tactic(auto)]
 
-ghost use Rattle.std.specs.Prelude.{◌≡◌, ◌+◌, ◌≤◌, ℕ, None, Some, max, min, OnOk};
-ghost use Rattle.std.specs.Option.{option_map_or};
-ghost use Rattle.model_forest.specs.Steps.{after_set};
-ghost use Rattle.model_forest.specs.World.{image_at, no_rect, with_image, IsLive};
-ghost use Rattle.model_kept.specs.Keeping as kept;
-ghost use Rattle.model_kept.specs.Keeping.{HasOnePlaces, IsStanding};
-ghost use Rattle.model_kept.specs.Restack.{with_list};
-ghost use Rattle.r9_locate.specs.Lists.{shape_of, IsNearby};
+ghost use Rattle.std.specs.Prelude.{◌≡◌, ◌+◌, ◌<◌, ◌≤◌, ◌^◌, ◌∷◌, [], length, map, vec_len, vec_capacity, All, IfOk};
+ghost use Rattle.std.specs.List.Sorted.{IsNonDecreasing};
+ghost use Rattle.r9_geom.specs.Geometry.{IsNearBy, IsRectNear};
+ghost use Rattle.model_forest.specs.Stack as stack;
+ghost use Rattle.model_forest.specs.Steps as steps;
 
-use model_forest::{Standing, Window};
-use r9_chan::Chan;
+use crate::info::ImageNo;
+use model_forest::Window;
 use r9_geom::{Point, Rect};
 use r9_memory::Memory;
-use r9_numbered::Numbered;
 use std::alloc::Global;
-use std::mem;
 
-/// What an image has beside its pixels.
+// The numbers of a group of images, among which a window is found by halves.
 #[derive(Drop)]
-pub struct Frame {
-    pub r: Rect,
-    pub clipr: Rect,
-    pub repl: bool,
-    pub chan: Chan,
-    pub standing: Option<Standing>,
-    pub depth: u32,
-    /// Topmost first.
-    pub windows: Vec<Window>,
+struct Group {
+    // In ascending order.
+    numbers: Vec<u32>,
+    ghost ascending: { IsNonDecreasing numbers.items },
 }
 
-/// Images by number, and where they stand. An image that stands on another may be missing in the list of that.
-#[derive(Drop)]
-pub struct Lists {
-    frames: Numbered<Frame>,
-    ghost standing: { IsStanding (shape_of frames) },
-    ghost places: { HasOnePlaces (shape_of frames) },
-    ghost near: { IsNearby (shape_of frames) },
-}
+impl Group {
+    fn new(alloc: Global, images: &[ImageNo]) -> Result<Group, Memory>
+        ensures { IfOk result (λ group. stack.is_in group.numbers.items ≡ stack.is_in (map (λ i. i.0) images.now)) }
+    {
+        let mut numbers: Vec<u32> = images.iter().map(|i| i.0).collect(alloc)?;
+        numbers.sort_unstable();
+        Ok(Group { numbers })
+    }
 
-/// The place of an image in a list of windows.
-pub fn place_among(windows: &[Window], i: u32) -> Rect
-    ensures { result ≡ kept.place_among windows.now i }
-{
-    let found = windows.iter().find(|w| w.image == i).copied();
-    place_of(found)
-}
+    // Whether a window is one of these images.
+    fn has(&self, w: &Window) -> bool
+        ensures { result ≡ stack.is_in self.now.numbers.items w.now }
+    {
+        self.numbers.binary_search(&w.image).is_ok()
+    }
 
-fn place_of(found: Option<Window>) -> Rect
-    ensures { result ≡ option_map_or (λ w. w.place) found no_rect }
-{
-    match found {
-        Some(w) => w.place,
-        None => Rect {
-            min: Point { x: 0, y: 0 },
-            max: Point { x: 0, y: 0 },
-        },
+    fn raised(&self, alloc: Global, windows: &[Window]) -> Result<Vec<Window>, Memory>
+        ensures { IfOk result (λ list. list.items ≡ stack.raised self.now.numbers.items windows.now) }
+    {
+        let first = windows.iter().filter(|w| self.has(w)).copied();
+        let others = windows.iter().filter(|w| !self.has(w)).copied();
+        Ok(first.chain(others).collect(alloc)?)
+    }
+
+    fn lowered(&self, alloc: Global, windows: &[Window]) -> Result<Vec<Window>, Memory>
+        ensures { IfOk result (λ list. list.items ≡ stack.lowered self.now.numbers.items windows.now) }
+    {
+        let others = windows.iter().filter(|w| !self.has(w)).copied();
+        let last = windows.iter().filter(|w| self.has(w)).copied();
+        Ok(others.chain(last).collect(alloc)?)
     }
 }
 
-impl Lists {
-    ghost use Rattle.r9_locate.specs.Lists.{frame_image};
-    ghost use Rattle.r9_locate.specs.Table.{made, shape, HasRoom};
+/// The list with a group of images on top, in their order in it.
+pub fn raised(alloc: Global, windows: &[Window], images: &[ImageNo]) -> Result<Vec<Window>, Memory>
+    ensures { IfOk result (λ list. list.items ≡ stack.raised (map (λ i. i.0) images.now) windows.now) }
+{
+    let group = Group::new(alloc, images)?;
+    group.raised(alloc, windows)
+}
 
-    /// No image, and no number given out.
-    pub fn new(alloc: Global) -> Self
-        ensures world { shape result ≡ (λ _. None) }
-        ensures made { made result ≡ 0 }
-    {
-        Lists {
-            frames: Numbered::new(alloc),
+/// The list with a group of images at the bottom, in their order in it.
+pub fn lowered(alloc: Global, windows: &[Window], images: &[ImageNo]) -> Result<Vec<Window>, Memory>
+    ensures { IfOk result (λ list. list.items ≡ stack.lowered (map (λ i. i.0) images.now) windows.now) }
+{
+    let group = Group::new(alloc, images)?;
+    group.lowered(alloc, windows)
+}
+
+/// The rectangle that stands to `to` as r stands to `from`.
+pub fn carried_rect(r: &Rect, from: Point, to: Point) -> Rect
+    requires rect { IsRectNear r.now }
+    requires from { IsNearBy (2 ^ 40) from }
+    requires to { IsNearBy (2 ^ 40) to }
+    ensures { result ≡ steps.carried_rect r.now from to }
+{
+    Rect {
+        min: r.min.carried(from, to),
+        max: r.max.carried(from, to),
+    }
+}
+
+/// Moves all windows along with a point of the image on which they stand.
+pub fn carried(windows: &mut Vec<Window>, from: Point, to: Point)
+    requires places { All (λ w. IsRectNear w.place) windows.old.items }
+    requires from { IsNearBy (2 ^ 40) from }
+    requires to { IsNearBy (2 ^ 40) to }
+    ensures items { windows.new.items ≡ map (λ w. record { image = w.image; place = steps.carried_rect w.place from to }) windows.old.items }
+    ensures len { vec_len windows.new ≡ vec_len windows.old }
+{
+    carry_each(windows, from, to);
+}
+
+fn carry_each(windows: &mut [Window], from: Point, to: Point)
+    requires places { All (λ w. IsRectNear w.place) windows.old }
+    requires from { IsNearBy (2 ^ 40) from }
+    requires to { IsNearBy (2 ^ 40) to }
+    ensures { windows.new ≡ map (λ w. record { image = w.image; place = steps.carried_rect w.place from to }) windows.old }
+{
+    for k in 0..windows.len() {
+        let Window { image, place } = windows[k];
+        windows[k] = Window {
+            image,
+            place: carried_rect(&place, from, to),
+        };
+    }
+}
+
+// Puts a window directly above another, for which there is room.
+fn put_above(windows: &mut Vec<Window>, w: Window, old: u32)
+    requires { vec_len windows.old < vec_capacity windows.old }
+    ensures items { windows.new.items ≡ steps.put_above w old windows.old.items }
+    ensures more { vec_len windows.new ≤ vec_len windows.old + 1 }
+{
+    for k in 0..windows.len() {
+        if windows[k].image == old {
+            let _ = windows.insert(k, w);
+            return;
         }
     }
+}
 
-    /// How many numbers were given out.
-    pub fn len(&self) -> usize
-        ensures value { result ≡ made self.now }
-        ensures most { result ≤ 4294967295 }
-    {
-        self.frames.len()
-    }
+/// A window above others, in an empty list with room for all.
+pub fn on_top(list: &mut Vec<Window>, w: Window, windows: &[Window])
+    requires empty { list.old.items ≡ [] }
+    requires room { length windows.now < vec_capacity list.old }
+    ensures items { list.new.items ≡ w ∷ windows.now }
+    ensures len { vec_len list.new ≡ length windows.now + 1 }
+{
+    let _ = list.push(w);
+    let _ = list.extend_from_slice(windows);
+}
 
-    /// The image of a number.
-    pub fn get(&self, i: u32) -> &Frame
-        requires { IsLive (shape self.now) i }
-        ensures { image_at (shape self.now) i ≡ frame_image result.now }
-    {
-        match self.frames.get(i) {
-            Some(frame) => frame,
-            None => unreachable!(),
-        }
-    }
-
-    /// Makes room for one more image, also under the next number.
-    pub fn reserve(&mut self) -> Result<(), Memory>
-        ensures room { OnOk result ((i : ℕ) → i ≤ made self.old → HasRoom self.new i) }
-        ensures world { shape self.new ≡ shape self.old }
-        ensures made { made self.new ≡ made self.old }
-    {
-        self.frames.reserve()
-    }
-
-    /// Puts an image under a number that has none, or is the next one. Nothing is said of the list of its parent.
-    pub fn insert(&mut self, i: u32, frame: Frame)
-        requires room { HasRoom self.old i }
-        requires free { shape self.old i ≡ None }
-        requires standing { IsStanding (with_image (shape self.old) i (Some (frame_image frame))) }
-        requires places { HasOnePlaces (with_image (shape self.old) i (Some (frame_image frame))) }
-        requires near { IsNearby (with_image (shape self.old) i (Some (frame_image frame))) }
-        ensures world { shape self.new ≡ with_image (shape self.old) i (Some (frame_image frame)) }
-        ensures made { made self.new ≡ max (made self.old) (i + 1) }
-    {
-        self.frames.insert(i, frame);
-    }
-
-    /// Takes an image away, which stands in no list. It takes no memory.
-    pub fn remove(&mut self, i: u32)
-        requires live { IsLive (shape self.old) i }
-        requires standing { IsStanding (with_image (shape self.old) i None) }
-        requires places { HasOnePlaces (with_image (shape self.old) i None) }
-        requires near { IsNearby (with_image (shape self.old) i None) }
-        ensures world { shape self.new ≡ with_image (shape self.old) i None }
-        ensures made { made self.new ≡ made self.old }
-    {
-        let _ = self.frames.remove(i);
-    }
-
-    /// Takes the numbers from `count` on back, none of which has an image: they were not given out then. It takes no memory.
-    pub fn shorten(&mut self, count: usize)
-        requires { (n : ℕ) → count ≤ n → shape self.old n ≡ None }
-        ensures world { shape self.new ≡ shape self.old }
-        ensures made { made self.new ≡ min (made self.old) count }
-    {
-        self.frames.shorten(count);
-    }
-
-    /// Gives an image another list of windows, for the one that it had. It takes no memory.
-    pub fn set_windows(&mut self, p: u32, windows: Vec<Window>) -> Vec<Window>
-        requires live { IsLive (shape self.old) p }
-        requires standing { IsStanding (with_list (shape self.old) p windows.items) }
-        requires places { HasOnePlaces (with_list (shape self.old) p windows.items) }
-        requires near { IsNearby (with_list (shape self.old) p windows.items) }
-        ensures had { result.items ≡ (image_at (shape self.old) p).windows }
-        ensures world { shape self.new ≡ with_list (shape self.old) p windows.items }
-        ensures made { made self.new ≡ made self.old }
-    {
-        let mut frame = self.frames.remove(p);
-        let had = mem::replace(&mut frame.windows, windows);
-        self.frames.insert(p, frame);
-        had
-    }
-
-    /// Gives an image another frame, for the one that it had. It takes no memory.
-    pub fn replace(&mut self, i: u32, frame: Frame) -> Frame
-        requires live { IsLive (shape self.old) i }
-        requires standing { IsStanding (with_image (shape self.old) i (Some (frame_image frame))) }
-        requires places { HasOnePlaces (with_image (shape self.old) i (Some (frame_image frame))) }
-        requires near { IsNearby (with_image (shape self.old) i (Some (frame_image frame))) }
-        ensures had { image_at (shape self.old) i ≡ frame_image result }
-        ensures world { shape self.new ≡ with_image (shape self.old) i (Some (frame_image frame)) }
-        ensures made { made self.new ≡ made self.old }
-    {
-        let had = self.frames.remove(i);
-        self.frames.insert(i, frame);
-        had
-    }
-
-    /// Makes an image repeat or not, and gives it another clip rectangle. It takes no memory.
-    pub fn set(&mut self, i: u32, repl: bool, clipr: Rect)
-        requires { IsLive (shape self.old) i }
-        ensures world { shape self.new ≡ after_set (shape self.old) i repl clipr }
-        ensures made { made self.new ≡ made self.old }
-    {
-        let mut frame = self.frames.remove(i);
-        frame.repl = repl;
-        frame.clipr = clipr;
-        self.frames.insert(i, frame);
-    }
+/// A window directly above another of a list, in an empty list with room for all.
+pub fn above(list: &mut Vec<Window>, w: Window, old: u32, windows: &[Window])
+    requires empty { list.old.items ≡ [] }
+    requires room { length windows.now < vec_capacity list.old }
+    ensures items { list.new.items ≡ steps.put_above w old windows.now }
+    ensures len { vec_len list.new ≤ length windows.now + 1 }
+{
+    let _ = list.extend_from_slice(windows);
+    put_above(list, w, old);
 }

@@ -3,15 +3,15 @@
 ghost use Rattle.std.specs.Prelude.{◌≡◌, ◌-ℤ◌, ◌/◌, ◌==◌, ◌&&◌, pos, IsTrue, int_le, nat_lt, not, if◌then◌else◌, slice_get, None};
 ghost use Rattle.std.specs.Option.{option_map_or, unwrap_or};
 ghost use Rattle.r9_geom.specs.Geometry.{distance};
-ghost use Rattle.model_desk.specs.Asked.{ask, spot, menu_rect, items, is_within, chosen_at, chosen, if_wide, swept, swept_to, picked, after_drain};
-ghost use Rattle.model_desk.specs.Asked as model;
-ghost use Rattle.model_desk.specs.Table.{pane_at};
-ghost use Rattle.model_desk.specs.declared.Act.TheVariants.{Nothing, Pass, New};
-ghost use Rattle.model_desk.specs.declared.Mode.TheVariants.{Idle, Menu, Pick, Drain};
+ghost use Rattle.model_client.specs.desk.Asked.{ask, spot, menu_rect, items, is_within, chosen_at, chosen, if_wide, swept, swept_to, picked, after_drain};
+ghost use Rattle.model_client.specs.desk.Asked as model;
+ghost use Rattle.model_client.specs.desk.Table.{pane_at};
+ghost use Rattle.model_client.specs.declared.desk.Act.TheVariants.{Nothing, Pass, New};
+ghost use Rattle.model_client.specs.declared.desk.Mode.TheVariants.{Idle, Menu, Pick, Drain};
 
 use crate::panes::pane_at;
-use model_desk::{Act, Ask, Item, Mode, Pane, Spot};
-use model_mouse::Mouse;
+use model_client::desk::{Act, Ask, Item, Mode, Pane, Spot};
+use model_files::mouse::Mouse;
 use r9_geom::{Point, Rect, distance};
 
 /// How many windows there are at most.

@@ -1,16 +1,16 @@
 //! The table of a desk.
 
 ghost use Rattle.std.specs.Prelude.{◌≡◌, ◌∷◌, ◌+◌, Some, IfOk, OnOk, OnErr};
-ghost use Rattle.model_desk.specs.Table.{start, done, without, with_raised};
-ghost use Rattle.model_desk.specs.Asked.{asked, in_idle};
-ghost use Rattle.model_desk.specs.Pilot.{after, written};
+ghost use Rattle.model_client.specs.desk.Table.{start, done, without, with_raised};
+ghost use Rattle.model_client.specs.desk.Asked.{asked, in_idle};
+ghost use Rattle.model_client.specs.desk.Pilot.{after, written};
 
 use crate::asked::{in_drag, in_drain, in_idle, in_menu, in_pick, in_sweep, in_sweeping};
 use crate::panes::{put_on_top, set_rect, shifted, with_raised, without};
 use crate::spelled::spell;
 use crate::texts::Texts;
-use model_desk::{Act, Ask, Mode, Pane};
-use model_mouse::Mouse;
+use model_client::desk::{Act, Ask, Mode, Pane};
+use model_files::mouse::Mouse;
 use r9_geom::Rect;
 use r9_memory::Memory;
 use std::alloc::Global;
@@ -28,7 +28,7 @@ pub struct Desk {
 }
 
 impl Model for Desk {
-    ghost use Rattle.model_desk.specs.Table.{Desk};
+    ghost use Rattle.model_client.specs.desk.Table.{Desk};
 
     ghost Value = { Desk };
 
@@ -52,7 +52,7 @@ impl Desk {
 
     /// An event comes. The texts are those that it writes (rio(4), mouse(3)), and the table is the one after it. Where there
     /// is no memory, or a window's number or place would leave 64 bits, the answer is Memory and the table the one before.
-    #[tactic(auto, unfolding(model_desk::specs::Pilot::after, model_desk::specs::Pilot::written))]
+    #[tactic(auto, unfolding(model_client::specs::desk::Pilot::after, model_client::specs::desk::Pilot::written))]
     pub fn feed(&mut self, e: Mouse) -> Result<Texts, Memory>
         ensures texts { IfOk result (λ texts. texts ≡ written self.old e) }
         ensures table { OnOk result (self.new ≡ after self.old e) }
@@ -73,7 +73,7 @@ impl Desk {
         self.mode
     }
 
-    #[tactic(auto, unfolding(model_desk::specs::Asked::asked))]
+    #[tactic(auto, unfolding(model_client::specs::desk::Asked::asked))]
     fn asked(&self, e: Mouse) -> Ask
         ensures { result ≡ asked self.now e }
     {
@@ -95,7 +95,7 @@ impl Desk {
         in_idle(&self.visible, count, self.next, self.last, e)
     }
 
-    #[tactic(auto, unfolding(model_desk::specs::Table::done))]
+    #[tactic(auto, unfolding(model_client::specs::desk::Table::done))]
     fn do_act(&mut self, act: Act) -> Result<(), Memory>
         ensures ok { OnOk result (self.new ≡ done act self.old) }
         ensures err { OnErr result (self.new ≡ self.old) }

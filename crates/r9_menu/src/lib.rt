@@ -8,5 +8,5 @@ mod spelled;
 mod texts;
 
 pub use desk::Desk;
-pub use model_desk::Text;
+pub use model_client::desk::Text;
 pub use texts::Texts;

@@ -2,9 +2,9 @@
 
 ghost use Rattle.std.specs.Prelude.{◌≡◌, ◌==◌, ◌∷◌, Some, if◌then◌else◌, IfOk, IfSome, OnOk, OnErr};
 ghost use Rattle.r9_geom.specs.Geometry.{moved, shifted};
-ghost use Rattle.model_desk.specs.Table.{pane_at, without, with_rect, with_raised};
+ghost use Rattle.model_client.specs.desk.Table.{pane_at, without, with_rect, with_raised};
 
-use model_desk::{Pane, Spot};
+use model_client::desk::{Pane, Spot};
 use r9_geom::{Point, Rect};
 use r9_memory::Memory;
 use std::alloc::Global;

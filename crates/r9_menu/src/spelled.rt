@@ -2,11 +2,11 @@
 
 ghost use Rattle.std.specs.Prelude.{◌≡◌, ◌++◌, ◌∷◌, IfOk, OnOk, codes};
 ghost use Rattle.std.specs.Fmt.{signed_decimal};
-ghost use Rattle.model_desk.specs.Spelled.{corner, rect_words, id_words, change, spelled};
+ghost use Rattle.model_client.specs.desk.Spelled.{corner, rect_words, id_words, change, spelled};
 
 use crate::texts::Texts;
-use model_desk::{Act, Text};
-use model_mouse::Mouse;
+use model_client::desk::{Act, Text};
+use model_files::mouse::Mouse;
 use r9_geom::{Point, Rect};
 use r9_memory::Memory;
 use r9_text::{Bytes, push_decimal};
@@ -95,7 +95,7 @@ fn plain_text(alloc: Global, verb: &[u8], window: u64) -> Result<Bytes, Memory>
 }
 
 /// The texts of what an event asks for.
-#[tactic(auto, unfolding(model_desk::specs::Spelled::spelled))]
+#[tactic(auto, unfolding(model_client::specs::desk::Spelled::spelled))]
 pub fn spell(alloc: Global, act: Act, e: Mouse) -> Result<Texts, Memory>
     ensures { IfOk result (λ texts. texts ≡ spelled act e) }
 {

@@ -2,7 +2,7 @@
 
 ghost use Rattle.std.specs.Prelude.{◌≡◌, [], ◌∷◌, IfOk};
 
-use model_desk::Text;
+use model_client::desk::Text;
 use r9_memory::Memory;
 use std::alloc::Global;
 use std::marker::Model;
@@ -15,7 +15,7 @@ pub struct Texts {
 
 impl Model for Texts {
     ghost use Rattle.std.specs.Prelude.{List};
-    ghost use Rattle.model_desk.specs.declared.Text.{Text};
+    ghost use Rattle.model_client.specs.declared.desk.Text.{Text};
 
     ghost Value = { List Text };
 

@@ -2,9 +2,9 @@
 use Rattle.std.proofs.Common.{◌≡◌, ℕ, ◌==◌, Bool, true, false, List, [], ◌∷◌, length, refl, sym, ◌∙◌, Option, Some, None, arith}
 use Rattle.std.proofs.lemmas.Bool.{cond-false, ne_eqb}
 use Rattle.std.specs.Prelude.{if◌then◌else◌}
-use Rattle.model_text.specs.Reading.{◌>>=◌}
-use Rattle.model_mirror.specs.Picture.{Picture}
-use Rattle.model_mirror.specs.Lines.{plain, numbers, numbers_behind, frame_in, size_in, cell_in}
+use Rattle.model_text.specs.text.Reading.{◌>>=◌}
+use Rattle.model_client.specs.mirror.Picture.{Picture}
+use Rattle.model_client.specs.mirror.Lines.{plain, numbers, numbers_behind, frame_in, size_in, cell_in}
 use Rattle.r9_mirror.specs.Words.{behind, number_in, pair_in, two_in}
 use Rattle.r9_mirror.specs.Sizes.{blank_of, cut, size_of, sized}
 

@@ -13,8 +13,8 @@ use Rattle.r9_geom.specs.Geometry.{height, holds, width, IsOrdered}
 use Rattle.r9_geom.proofs.GeometryLemmas.{distance_is, same_rect}
 use Rattle.model_pixel.specs.Channels.{depth}
 use Rattle.model_pixel.specs.Rows.{row_pixel}
-use Rattle.model_mirror.specs.Picture.{Picture, area, with_rows}
-use Rattle.model_mirror.specs.Frames.{viewed}
+use Rattle.model_client.specs.mirror.Picture.{Picture, area, with_rows}
+use Rattle.model_client.specs.mirror.Frames.{viewed}
 use Rattle.r9_plane.specs.declared.plane.Plane.{Plane}
 use Rattle.r9_plane.specs.Pixels.{pixel_at, rect_of}
 use Rattle.r9_plane.proofs.PlaneLemmas.{pixel_outside}

@@ -4,13 +4,13 @@ use Rattle.std.specs.Prelude.{Ok, Err, if◌then◌else◌, nat_lt, take, drop, 
 use Rattle.std.specs.Option.{option_map, option_or}
 use Rattle.std.proofs.lemmas.Bool.{eq-eqb, ne_eqb, cond-true, cond-false, le-ltb, le-leb}
 use Rattle.std.proofs.lemmas.Option.{none-some, same_Some}
-use Rattle.model_text.specs.Outcome.{Outcome, ◌>>=◌, refuse_if, value_or_refuse}
-use Rattle.model_mirror.specs.Picture.{Picture, with_rows}
-use Rattle.model_mirror.specs.Lines.{Cell, cell_in}
+use Rattle.model_text.specs.text.Outcome.{Outcome, ◌>>=◌, refuse_if, value_or_refuse}
+use Rattle.model_client.specs.mirror.Picture.{Picture, with_rows}
+use Rattle.model_client.specs.mirror.Lines.{Cell, cell_in}
 use Rattle.r9_geom.specs.Geometry.{height}
 use Rattle.model_pixel.specs.Channels.{depth}
 use Rattle.model_pixel.specs.Rows.{row_bytes}
-use Rattle.model_mirror.specs.Frames.{cells, cells_on, frame_at, frames, line_at, with_cell}
+use Rattle.model_client.specs.mirror.Frames.{cells, cells_on, frame_at, frames, line_at, with_cell}
 use Rattle.r9_mirror.specs.declared.lines.Size.{Size}
 use Rattle.r9_mirror.specs.declared.place.Place.{Place}
 use Rattle.r9_mirror.specs.Sizes.{size_of}

@@ -4,7 +4,7 @@ use Rattle.std.specs.Prelude.{nat_lt, ◌&&◌}
 use Rattle.std.proofs.lemmas.Int.{ints}
 use Rattle.std.proofs.lemmas.Bool.{and_parts, ltb-true, eqb-true}
 use Rattle.r9_geom.proofs.GeometryLemmas.{bounds_of, holds_from, distance_is}
-use Rattle.model_mirror.specs.Picture.{area, is_cell}
+use Rattle.model_client.specs.mirror.Picture.{area, is_cell}
 use Rattle.r9_mirror.specs.declared.lines.Size.{Size}
 use Rattle.r9_mirror.specs.Sizes.{blank_of, IsLawful, IsWithin}
 

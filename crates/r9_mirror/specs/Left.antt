@@ -3,11 +3,11 @@ use Rattle.std.specs.Prelude.{ℕ, ◌≡◌, ◌+◌, ◌*◌, ◌==◌, ◌≤
 use Rattle.std.specs.Option.{option_map}
 use Rattle.r9_geom.specs.declared.Point.{Point}
 use Rattle.r9_geom.specs.Geometry.{height, holds, IsOrdered, IsRectNear}
-use Rattle.model_text.specs.Outcome.{Outcome, ◌>>=◌}
+use Rattle.model_text.specs.text.Outcome.{Outcome, ◌>>=◌}
 use Rattle.model_pixel.specs.Channels.{depth}
 use Rattle.model_pixel.specs.Rows.{row_bytes}
-use Rattle.model_mirror.specs.Picture.{Picture, area, with_rows}
-use Rattle.model_mirror.specs.Frames.{cells, frames}
+use Rattle.model_client.specs.mirror.Picture.{Picture, area, with_rows}
+use Rattle.model_client.specs.mirror.Frames.{cells, frames}
 use Rattle.r9_mirror.specs.declared.lines.Size.{Size}
 use Rattle.r9_mirror.specs.declared.place.Place.{Place}
 use Rattle.r9_mirror.specs.declared.place.Step.{Step}

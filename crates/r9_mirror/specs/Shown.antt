@@ -4,7 +4,7 @@ use Rattle.r9_geom.specs.Geometry.{height, width}
 use Rattle.r9_plane.specs.declared.plane.Plane.{Plane}
 use Rattle.r9_plane.specs.Pixels as planes
 use Rattle.r9_plane.specs.Pixels.{pixel_at, rect_of}
-use Rattle.model_mirror.specs.Picture.{Picture}
+use Rattle.model_client.specs.mirror.Picture.{Picture}
 use Rattle.r9_mirror.specs.Sizes.{size_of, IsLawful}
 
 -- what a plane shows

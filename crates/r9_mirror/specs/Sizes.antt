@@ -2,8 +2,8 @@
 use Rattle.std.specs.Prelude.{ℕ, ◌+◌, ◌*◌, ◌<◌, ◌≤◌, ◌&&◌, nat_le, IsTrue, Option, Some, None, if◌then◌else◌}
 use Rattle.r9_geom.specs.declared.Point.{Point}
 use Rattle.r9_geom.specs.Geometry.{height, holds, IsOrdered, IsRectNear}
-use Rattle.model_mirror.specs.Picture.{Picture, area, blank, is_cell}
-use Rattle.model_mirror.specs.Lines as model
+use Rattle.model_client.specs.mirror.Picture.{Picture, area, blank, is_cell}
+use Rattle.model_client.specs.mirror.Lines as model
 use Rattle.r9_mirror.specs.declared.lines.Size.{Size}
 use Rattle.r9_mirror.specs.declared.lines.Cell.{Cell}
 

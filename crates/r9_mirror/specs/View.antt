@@ -1,7 +1,7 @@
 -- What others see of a viewer.
 use Rattle.std.specs.Prelude.{ℕ, Option}
 use Rattle.std.specs.Option.{option_map}
-use Rattle.model_mirror.specs.Picture.{Picture}
+use Rattle.model_client.specs.mirror.Picture.{Picture}
 use Rattle.r9_mirror.specs.Shown.{shown}
 use Rattle.r9_mirror.specs.declared.viewer.Viewer.{Viewer}
 

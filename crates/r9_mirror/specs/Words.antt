@@ -3,8 +3,8 @@ use Rattle.std.specs.Prelude.{ℕ, ◌==◌, List, [], ◌∷◌, length, Option
 use Rattle.std.specs.Borrow.{Bor}
 use Rattle.std.specs.List.{slice_split}
 use Rattle.std.specs.Option.{option_map_or}
-use Rattle.model_text.specs.Reading.{◌>>=◌}
-use Rattle.model_mirror.specs.Lines.{plain}
+use Rattle.model_text.specs.text.Reading.{◌>>=◌}
+use Rattle.model_client.specs.mirror.Lines.{plain}
 
 -- the words of a text
 abbrev pub words_of : List ℕ → List (List ℕ)

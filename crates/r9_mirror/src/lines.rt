@@ -3,9 +3,9 @@
 ghost use Rattle.std.specs.Prelude.{◌≡◌, ◌↔◌, ◌&&◌, ◌<◌, ◌≤◌, IsTrue, nat_le, length, Ok, Err, IfSome, take, drop, codes};
 ghost use Rattle.std.specs.Option.{option_map, MatchOption};
 ghost use Rattle.std.specs.Str.{bytes_eq};
-ghost use Rattle.model_mirror.specs.Picture.{area, is_cell};
-ghost use Rattle.model_mirror.specs.Lines.{frame_in, size_in, cell_in};
-ghost use Rattle.model_mirror.specs.Frames.{line_at};
+ghost use Rattle.model_client.specs.mirror.Picture.{area, is_cell};
+ghost use Rattle.model_client.specs.mirror.Lines.{frame_in, size_in, cell_in};
+ghost use Rattle.model_client.specs.mirror.Frames.{line_at};
 ghost use Rattle.r9_mirror.specs.Words.{words_of};
 ghost use Rattle.r9_mirror.specs.Sizes.{blank_of, cell_of, cut, sized, IsLawful, IsWithin};
 

@@ -2,11 +2,11 @@
 
 ghost use Rattle.std.specs.Prelude.{◌≡◌, ◌+◌, ◌*◌, ◌≤◌, ◌<◌, ◌==◌, ℕ, suc, length, Ok, Err, Option, Result, IfSome, IfOk, MatchResult};
 ghost use Rattle.r9_geom.specs.Geometry.{height};
-ghost use Rattle.model_text.specs.Outcome.{Outcome};
+ghost use Rattle.model_text.specs.text.Outcome.{Outcome};
 ghost use Rattle.model_pixel.specs.Channels.{depth};
 ghost use Rattle.model_pixel.specs.Rows as rows;
-ghost use Rattle.model_mirror.specs.Picture.{Picture, with_rows};
-ghost use Rattle.model_mirror.specs.Frames.{cells, cells_on, frame_at, sized_at};
+ghost use Rattle.model_client.specs.mirror.Picture.{Picture, with_rows};
+ghost use Rattle.model_client.specs.mirror.Frames.{cells, cells_on, frame_at, sized_at};
 ghost use Rattle.r9_mirror.specs.Sizes.{size_of, IsLawful, IsWithin};
 ghost use Rattle.r9_mirror.specs.Left.{or_blank, IsFurther, IsPlace, Leads, Leaves, Tells};
 

@@ -3,7 +3,7 @@
 ghost use Rattle.std.specs.Prelude.{◌≡◌, ◌==◌, ◌∷◌, ◌≤◌, not, length};
 ghost use Rattle.std.specs.List.{prefix_len};
 ghost use Rattle.std.specs.Option.{option_map};
-ghost use Rattle.model_mirror.specs.Lines.{plain};
+ghost use Rattle.model_client.specs.mirror.Lines.{plain};
 ghost use Rattle.r9_mirror.specs.Words.{words_of, words_left, behind, number_in, two_in, pair_in};
 
 use r9_text::read_digits;

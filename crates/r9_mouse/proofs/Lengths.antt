@@ -4,7 +4,7 @@ use Rattle.std.proofs.lemmas.Int.{ints}
 use Rattle.std.specs.Fmt.{decimal, signed_decimal}
 use Rattle.std.proofs.lemmas.Fmt.{length-decimal-le}
 use Rattle.std.proofs.lemmas.List.{length-append, length-replicate}
-use Rattle.model_text.specs.Field.{field, number_field}
+use Rattle.model_text.specs.text.Field.{field, number_field}
 
 field-len : (w : List ℕ) → length w ≤ 11 → length (field w) ≡ 12
 unfolding field

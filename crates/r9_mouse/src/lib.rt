@@ -4,6 +4,6 @@
 mod queue;
 mod spelling;
 
-pub use model_mouse::Mouse;
+pub use model_files::mouse::Mouse;
 pub use queue::MouseQueue;
 pub use spelling::{read_mouse, text};

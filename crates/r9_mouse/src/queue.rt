@@ -1,10 +1,10 @@
 //! The events that wait for reads of a mouse file.
 
 ghost use Rattle.std.specs.Prelude.{◌≡◌, if◌then◌else◌, IfSome, IfNone, IfOk};
-ghost use Rattle.model_mouse.specs.Queue.{no_events, fed, resized, next, answer, answered};
+ghost use Rattle.model_files.specs.mouse.Queue.{no_events, fed, resized, next, answer, answered};
 
 use circular_buffer::HeapCircularBuffer;
-use model_mouse::Mouse;
+use model_files::mouse::Mouse;
 use r9_memory::Memory;
 use std::alloc::Global;
 use std::marker::Model;
@@ -24,7 +24,7 @@ pub struct MouseQueue {
 
 impl Model for MouseQueue {
     ghost use Rattle.std.specs.Prelude.{◌≡◌};
-    ghost use Rattle.model_mouse.specs.Queue.{Queue};
+    ghost use Rattle.model_files.specs.mouse.Queue.{Queue};
 
     ghost Value = { Queue };
 
@@ -53,7 +53,7 @@ impl MouseQueue {
 
     /// An event comes. With other buttons than the last one it is a click: it takes the place of the oldest where 16
     /// wait, and of the move that waits. Otherwise it is the move that waits.
-    #[tactic(auto, unfolding(model_mouse::specs::Queue::fed))]
+    #[tactic(auto, unfolding(model_files::specs::mouse::Queue::fed))]
     pub fn feed(&mut self, e: Mouse)
         ensures { self.new ≡ fed e self.old }
     {
@@ -75,7 +75,7 @@ impl MouseQueue {
 
     /// What a read gives, which waits on: `r` where the window has a new image since the last answer, else `m`, and the
     /// oldest click, else the move, else with a new image the last event again. None where it waits.
-    #[tactic(auto, unfolding(model_mouse::specs::Queue::answer))]
+    #[tactic(auto, unfolding(model_files::specs::mouse::Queue::answer))]
     pub fn peek(&self) -> Option<(u8, Mouse)>
         ensures { result ≡ answer self.now }
     {
@@ -112,7 +112,7 @@ impl MouseQueue {
         if self.resized { b'r' } else { b'm' }
     }
 
-    #[tactic(auto, unfolding(model_mouse::specs::Queue::answered))]
+    #[tactic(auto, unfolding(model_files::specs::mouse::Queue::answered))]
     fn take_next(&mut self)
         ensures { self.new ≡ answered self.old }
     {

@@ -1,9 +1,9 @@
 //! An event of the mouse as text: a letter and four numbers, each 11 wide and a blank (mouse(3)).
 
 ghost use Rattle.std.specs.Prelude.{◌≡◌, ◌≤◌, length, drop, IfOk, IfSome};
-ghost use Rattle.model_mouse.specs.Pointer.{text, coordinate_in, natural_in, pointer_of};
+ghost use Rattle.model_files.specs.mouse.Pointer.{text, coordinate_in, natural_in, pointer_of};
 
-use model_mouse::Mouse;
+use model_files::mouse::Mouse;
 use r9_memory::Memory;
 use r9_text::{Bytes, push_number, read_field};
 use std::alloc::Global;
@@ -15,7 +15,7 @@ const LEN: usize = 49;
 const FARTHEST: i64 = 1 << 20;
 
 /// The text of an event: the letter, and x, y, buttons and msec, 49 bytes.
-#[tactic(auto, unfolding(model_mouse::specs::Pointer::text))]
+#[tactic(auto, unfolding(model_files::specs::mouse::Pointer::text))]
 pub fn text(alloc: Global, letter: u8, e: Mouse) -> Result<Bytes, Memory>
     ensures text { IfOk result (λ bytes. bytes ≡ text letter e) }
     ensures len { IfOk result (λ bytes. length bytes ≡ 49) }
@@ -57,7 +57,7 @@ fn natural(text: &[u8], at: usize, most: u32) -> Option<u32>
 /// The event that a text tells: 49 bytes, `m` and four numbers, each with blanks before it and one behind it, 12 bytes
 /// in all. None exactly where it is no such, or the point is further than 2^20 from the origin, the buttons are not 0
 /// to 31, or the time is not 0 to 4,294,967,295.
-#[tactic(auto, unfolding(model_mouse::specs::Pointer::pointer_of))]
+#[tactic(auto, unfolding(model_files::specs::mouse::Pointer::pointer_of))]
 pub fn read_mouse(text: &[u8]) -> Option<Mouse>
     ensures { result ≡ pointer_of text.now }
 {

@@ -6,11 +6,11 @@ use Rattle.std.proofs.lemmas.Bool.Decides.{Decides-eqb}
 use Rattle.clap.specs.Simple.{subcommand_of}
 use Rattle.clap.specs.Faults.{fault_of}
 use Rattle.clap.specs.Walk.{Row, Text, first_of}
-use Rattle.model_text.specs.Field.{value}
-use Rattle.model_text.specs.Reading.{◌>>=◌}
-use Rattle.model_words.specs.Options.{is_value}
-use Rattle.model_words.specs.Values.{counted}
-use Rattle.model_words.specs.Commands.{AsksToGenerate, alone_syntax, desk_syntax, mirror_syntax, replay_syntax, serve_syntax, text_syntax}
+use Rattle.model_text.specs.text.Field.{value}
+use Rattle.model_text.specs.text.Reading.{◌>>=◌}
+use Rattle.model_history.specs.words.Options.{is_value}
+use Rattle.model_history.specs.words.Values.{counted}
+use Rattle.model_history.specs.words.Commands.{AsksToGenerate, alone_syntax, desk_syntax, mirror_syntax, replay_syntax, serve_syntax, text_syntax}
 use Rattle.r9_opts.specs.declared.job.Job.{Job}
 use Rattle.r9_opts.specs.declared.job.Job.TheVariants.{Replay, Mirror, Serve, Alone, Text as Texts, Desk, Gen}
 use Rattle.r9_opts.specs.App.{rio9_app}

@@ -16,8 +16,8 @@ use Rattle.clap.proofs.WalkLemmas.{walk_stopped}
 use Rattle.clap.proofs.FaultLemmas.{stopped_fault}
 use Rattle.clap.specs.declared.error.kind.ErrorKind.TheVariants as kind
 use Rattle.clap.specs.declared.error.kind.ErrorKind.{ErrorKind}
-use Rattle.model_words.specs.Options.{Syntax, ending, dashed}
-use Rattle.model_words.specs.Commands.{alone_syntax, desk_syntax, mirror_syntax, replay_syntax, serve_syntax, text_syntax}
+use Rattle.model_history.specs.words.Options.{Syntax, ending, dashed}
+use Rattle.model_history.specs.words.Commands.{alone_syntax, desk_syntax, mirror_syntax, replay_syntax, serve_syntax, text_syntax}
 use Rattle.r9_opts.specs.App.{rio9_app}
 use Rattle.r9_opts.specs.Fit.{is_fit}
 use Rattle.r9_opts.proofs.Walks.{View, ends, long, plain, view, at, built_flag, built_valued, goes_on, leaf, no_short, run}

@@ -4,10 +4,10 @@ use Rattle.std.specs.Prelude.{if◌then◌else◌}
 use Rattle.std.specs.List.{list_all}
 use Rattle.std.specs.Str.{bytes_eq}
 use Rattle.clap.specs.Walk.{Row, Rule, Text, first_of, one_of}
-use Rattle.r9_event.specs.declared.event.Opening.{Opening}
-use Rattle.model_words.specs.Options.{Given, Syntax, GivesOptions, has_flag, is_allowed, is_among, or, value_of}
-use Rattle.model_words.specs.Values.{IsOpening, counted}
-use Rattle.model_words.specs.Commands.{AsksForAlone, AsksForDesk, AsksForMirror, AsksForOpening, AsksForReplay, AsksForText, AsksToServe, GivesNumber, alone_syntax, desk_syntax, mirror_syntax, replay_syntax, serve_syntax, text_syntax}
+use Rattle.r9_event.specs.declared.event.event.Opening.{Opening}
+use Rattle.model_history.specs.words.Options.{Given, Syntax, GivesOptions, has_flag, is_allowed, is_among, or, value_of}
+use Rattle.model_history.specs.words.Values.{IsOpening, counted}
+use Rattle.model_history.specs.words.Commands.{AsksForAlone, AsksForDesk, AsksForMirror, AsksForOpening, AsksForReplay, AsksForText, AsksToServe, GivesNumber, alone_syntax, desk_syntax, mirror_syntax, replay_syntax, serve_syntax, text_syntax}
 use Rattle.r9_opts.specs.Fit.{is_fit}
 use Rattle.r9_opts.specs.Rows.{IsAloneOf, IsDisplay, IsNumberOf, IsReplayOf, IsServeOf, IsTextOf, Tells}
 use Rattle.r9_opts.proofs.Walks.{built_flag, reads}

@@ -10,8 +10,8 @@ use Rattle.clap.specs.Kinds.{or_else}
 use Rattle.clap.specs.Takes.{is_given}
 use Rattle.clap.specs.declared.builder.value_parser.Reading.TheVariants as reading
 use Rattle.clap.specs.declared.parser.matches.ValueSource.TheVariants as source
-use Rattle.model_words.specs.Options.{Syntax, is_among}
-use Rattle.model_words.specs.Commands.{alone_syntax, desk_syntax, mirror_syntax, replay_syntax, serve_syntax, text_syntax}
+use Rattle.model_history.specs.words.Options.{Syntax, is_among}
+use Rattle.model_history.specs.words.Commands.{alone_syntax, desk_syntax, mirror_syntax, replay_syntax, serve_syntax, text_syntax}
 use Rattle.r9_opts.proofs.Walks.{IsTable, built_flag, built_valued}
 use Rattle.r9_opts.proofs.Options.{IsNamed, IsSyntax, has_sign, or_false}
 use Rattle.r9_opts.proofs.Levels.{IsOptional, built_word, gen_rules, rules_with, with_defaults}

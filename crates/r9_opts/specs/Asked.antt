@@ -6,7 +6,7 @@ use Rattle.r9_opts.specs.declared.job.Job.{Job}
 use Rattle.r9_opts.specs.declared.job.Job.TheVariants as job
 use Rattle.r9_opts.specs.declared.job.OptsFault.{OptsFault}
 use Rattle.r9_opts.specs.declared.job.OptsFault.TheVariants as fault
-use Rattle.model_words.specs.Commands.{AsksForAlone, AsksForDesk, AsksForMirror, AsksForReplay, AsksForText, AsksToServe, AsksToGenerate}
+use Rattle.model_history.specs.words.Commands.{AsksForAlone, AsksForDesk, AsksForMirror, AsksForReplay, AsksForText, AsksToServe, AsksToGenerate}
 use Rattle.r9_opts.specs.Rows.{IsAloneOf, IsDisplay, IsReplayOf, IsServeOf, IsTextOf, IsCountOf}
 
 -- the bytes of words

@@ -1,9 +1,9 @@
 -- What clap's matches give.
 use Rattle.std.specs.Prelude.{◌≡◌, ◌≤◌, ℕ, Bool, true, false, List, codes, length, Option, Some}
 use Rattle.clap.specs.Walk.{Row, first_of, one_of}
-use Rattle.r9_event.specs.declared.event.Opening.{Opening}
-use Rattle.model_words.specs.Options.{or}
-use Rattle.model_words.specs.Values.{IsOpening, counted}
+use Rattle.r9_event.specs.declared.event.event.Opening.{Opening}
+use Rattle.model_history.specs.words.Options.{or}
+use Rattle.model_history.specs.words.Values.{IsOpening, counted}
 
 abbrev pub IsDisplay : List Row → Opening → Type 0
 IsDisplay rows opening = IsOpening (or (first_of (codes "size") rows) (codes "640x480")) (or (first_of (codes "chan") rows) (codes "x8r8g8b8")) opening

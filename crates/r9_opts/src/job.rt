@@ -1,6 +1,6 @@
 //! What the program is to do.
 
-use r9_event::Opening;
+use r9_event::event::Opening;
 use r9_memory::Memory;
 use std::alloc::AllocError;
 

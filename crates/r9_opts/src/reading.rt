@@ -5,7 +5,7 @@ ghost use Rattle.clap.specs.Walk.{first_of, one_of, rows_of};
 ghost use Rattle.clap.specs.Matches.{found_of};
 ghost use Rattle.clap.specs.Values.{kind_of};
 ghost use Rattle.clap.specs.declared.error.kind.ErrorKind.TheVariants as kind;
-ghost use Rattle.model_words.specs.Options.{or};
+ghost use Rattle.model_history.specs.words.Options.{or};
 ghost use Rattle.r9_opts.specs.declared.job.Job.{Job};
 ghost use Rattle.r9_opts.specs.declared.job.OptsFault.TheVariants as fault;
 ghost use Rattle.r9_opts.specs.Asked.{AskFor, JobOf, IfUsage, texts_of};
@@ -18,9 +18,9 @@ use crate::job::{Job, OptsFault};
 use crate::values::opening;
 use clap::error::ErrorKind;
 use clap::{ArgMatches, Error};
-use r9_event::Opening;
+use r9_event::event::Opening;
 use r9_memory::Memory;
-use r9_sides::counted;
+use r9_wctl::sides::counted;
 use std::alloc::Global;
 
 /// The sides of the display where no others are asked for.

@@ -9,8 +9,8 @@ use Rattle.r9_geom.specs.Geometry.{holds, IsNear, IsNearBy, IsRectNear}
 use Rattle.r9_geom.proofs.GeometryLemmas.{near_point, near_wider}
 use Rattle.r9_plane.specs.Pixels.{along, rect_of}
 use Rattle.model_kept.specs.Keeping.{own, Place}
-use Rattle.r9_locate.specs.Forms.{bits_in, Form}
-use Rattle.r9_locate.proofs.Locating.{along-along, along-apart}
+use Rattle.r9_locate.specs.locate.Forms.{bits_in, Form}
+use Rattle.r9_locate.proofs.locate.Locating.{along-along, along-apart}
 use Rattle.r9_cells.specs.Cells.{all_rows}
 use Rattle.r9_cells.specs.declared.table.Cells.{Cells}
 use Rattle.r9_cells.proofs.Places.{row_near, tile_parts}

@@ -1,9 +1,9 @@
 -- Since its moment no more cells of a plane were marked than pixels were written, when more are written.
 use Rattle.std.proofs.Common.{◌≡◌, ◌≢◌, ◌∙◌, ℕ, ◌+◌, ◌<◌, ◌≤◌, List, length, set, Option, Some, None, ⊎_elim, sym, subst, ap, arith}
 use Rattle.std.proofs.lemmas.Bool.{cases_eq}
-use Rattle.r9_watched.specs.declared.Watched.{Watched}
-use Rattle.r9_watched.specs.Moments.{IsFew, Moment}
-use Rattle.r9_watched.specs.Watched.{count_of, moment_of}
+use Rattle.r9_locate.specs.declared.watched.Watched.{Watched}
+use Rattle.r9_locate.specs.watched.Moments.{IsFew, Moment}
+use Rattle.r9_locate.specs.watched.Watched.{count_of, moment_of}
 use Rattle.r9_pixels.specs.declared.own.Extent.{Extent}
 use Rattle.r9_pixels.specs.declared.own.Own.{Own}
 use Rattle.r9_pixels.specs.declared.own.Own.TheVariants.{Whole, Hidden}

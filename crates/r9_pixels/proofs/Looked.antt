@@ -10,10 +10,10 @@ use Rattle.r9_plane.specs.declared.plane.Plane.{Plane}
 use Rattle.r9_plane.specs.Marks.{mark_count, marked_at}
 use Rattle.r9_plane.specs.Pixels.{chan_of, pixel_at, rect_of}
 use Rattle.model_kept.specs.Keeping.{Place}
-use Rattle.r9_watched.specs.declared.Watched.{Watched}
-use Rattle.r9_watched.specs.Moments.{moment_at, with_moment, IsFew, Moment}
-use Rattle.r9_watched.specs.Watched.{count_of, moment_of}
-use Rattle.r9_locate.specs.Forms.{Form}
+use Rattle.r9_locate.specs.declared.watched.Watched.{Watched}
+use Rattle.r9_locate.specs.watched.Moments.{moment_at, with_moment, IsFew, Moment}
+use Rattle.r9_locate.specs.watched.Watched.{count_of, moment_of}
+use Rattle.r9_locate.specs.locate.Forms.{Form}
 use Rattle.r9_cells.specs.declared.table.Cells.{Cells}
 use Rattle.r9_pixels.specs.declared.own.Own.{Own}
 use Rattle.r9_pixels.specs.declared.own.Own.TheVariants.{Whole, Hidden}

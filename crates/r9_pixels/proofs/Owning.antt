@@ -11,9 +11,9 @@ use Rattle.r9_geom.specs.declared.Rect.{Rect}
 use Rattle.r9_geom.specs.Geometry.{is_point}
 use Rattle.r9_geom.proofs.GeometryLemmas.{is_point_true, true_is_point}
 use Rattle.r9_plane.specs.declared.plane.Plane.{Plane}
-use Rattle.r9_watched.specs.declared.Watched.{Watched}
+use Rattle.r9_locate.specs.declared.watched.Watched.{Watched}
 use Rattle.model_pixel.specs.Channels.{depth}
-use Rattle.r9_locate.specs.Forms.{Form}
+use Rattle.r9_locate.specs.locate.Forms.{Form}
 use Rattle.r9_cells.specs.Fitting.{IsCelled}
 use Rattle.r9_cells.specs.Rows.{cell_at, row_at, CellPlace}
 use Rattle.r9_cells.specs.declared.table.Cells.{Cells}

@@ -9,7 +9,7 @@ use Rattle.r9_geom.specs.Geometry.{carried, distance, height, holds, point_at, s
 use Rattle.r9_geom.proofs.GeometryLemmas.{band, band_more, band_none, bounds_of, distance_is, row_inside, same_point, strip_here}
 use Rattle.r9_plane.specs.Pixels.{along}
 use Rattle.model_kept.specs.Keeping.{own, Place}
-use Rattle.r9_locate.specs.Forms.{bits_in}
+use Rattle.r9_locate.specs.locate.Forms.{bits_in}
 use Rattle.r9_pixels.specs.Carried.{CanCarry, CanCarryBlock, IsCarried, IsCarriedBlock}
 use Rattle.r9_pixels.specs.Kept.{has_place, kept_at}
 use Rattle.r9_pixels.specs.declared.keeping.KeptPixels.{KeptPixels}

@@ -14,7 +14,7 @@ use Rattle.r9_cells.specs.declared.table.Cells.{Cells}
 use Rattle.r9_cells.specs.Cells.{cell_pixel, place_pixel}
 use Rattle.r9_cells.specs.Fitting.{IsCelled}
 use Rattle.r9_cells.specs.Rows.{cell_at, cell_place, has_tile}
-use Rattle.r9_locate.specs.Forms.{Form}
+use Rattle.r9_locate.specs.locate.Forms.{Form}
 use Rattle.r9_pixels.specs.declared.own.Extent.{Extent}
 use Rattle.r9_pixels.specs.declared.own.Own.{Own}
 use Rattle.r9_pixels.specs.declared.own.Own.TheVariants.{Whole, Hidden}

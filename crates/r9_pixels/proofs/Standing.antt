@@ -9,7 +9,7 @@ use Rattle.model_forest.specs.declared.Standing.{Standing}
 use Rattle.model_forest.specs.declared.Window.{Window}
 use Rattle.model_forest.specs.World.{Image, World, image_at, no_image, parent_of}
 use Rattle.model_forest.proofs.Changes.{live-standing}
-use Rattle.r9_locate.specs.Forms.{form_of, forms_of, Form}
+use Rattle.r9_locate.specs.locate.Forms.{form_of, forms_of, Form}
 use Rattle.r9_cells.specs.Fitting.{hides_of, shows_of, IsCelled, IsWindowed}
 use Rattle.r9_pixels.specs.declared.own.Extent.{Extent}
 use Rattle.r9_pixels.specs.declared.own.Own.{Own}

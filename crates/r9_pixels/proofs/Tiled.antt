@@ -9,7 +9,7 @@ use Rattle.r9_geom.specs.Geometry.{holds}
 use Rattle.model_forest.specs.World.{Image, World, image_at, parent_of}
 use Rattle.model_kept.specs.Cells.{cell_count, cell_of, cell_part, hides, hides_on}
 use Rattle.model_kept.specs.Keeping.{own}
-use Rattle.r9_locate.specs.Forms.{form_of, forms_of, Form}
+use Rattle.r9_locate.specs.locate.Forms.{form_of, forms_of, Form}
 use Rattle.r9_cells.specs.Cells.{all_rows}
 use Rattle.r9_cells.specs.Rows.{cell_at, row_at, IsFitting}
 use Rattle.r9_cells.proofs.Covering.{cell_corner, corner_cell, corner_holds}

@@ -5,8 +5,8 @@ use Rattle.std.proofs.lemmas.Int.{ints}
 use Rattle.r9_geom.specs.declared.Rect.{Rect}
 use Rattle.r9_geom.specs.Geometry.{distance, height, width}
 use Rattle.r9_geom.proofs.GeometryLemmas.{distance_is}
-use Rattle.r9_marks.specs.Cells.{cells_over, touches}
-use Rattle.r9_marks.proofs.MarkLemmas.{cell_touched}
+use Rattle.r9_marks.specs.marks.Cells.{cells_over, touches}
+use Rattle.r9_marks.proofs.marks.MarkLemmas.{cell_touched}
 use Rattle.r9_plane.specs.Marks.{touched}
 
 no_distance : (a : ℤ) → distance a a ≡ 0

@@ -7,10 +7,10 @@ use Rattle.r9_geom.specs.declared.Point.{Point}
 use Rattle.r9_geom.specs.Geometry.{holds}
 use Rattle.r9_plane.specs.Pixels.{chan_of, pixel_at, rect_of}
 use Rattle.model_kept.specs.Keeping.{own, Place}
-use Rattle.r9_locate.specs.Forms.{Form}
-use Rattle.r9_watched.specs.declared.Watched.{Watched}
-use Rattle.r9_watched.specs.Moments.{Moment}
-use Rattle.r9_watched.specs.Watched.{moment_of}
+use Rattle.r9_locate.specs.locate.Forms.{Form}
+use Rattle.r9_locate.specs.declared.watched.Watched.{Watched}
+use Rattle.r9_locate.specs.watched.Moments.{Moment}
+use Rattle.r9_locate.specs.watched.Watched.{moment_of}
 use Rattle.r9_cells.specs.declared.table.Cells.{Cells}
 use Rattle.r9_pixels.specs.declared.own.Own.{Own}
 use Rattle.r9_pixels.specs.declared.own.Own.TheVariants.{Whole}

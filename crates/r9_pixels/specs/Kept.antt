@@ -9,8 +9,8 @@ use Rattle.r9_plane.specs.declared.plane.Plane.{Plane}
 use Rattle.r9_plane.specs.Marks.{marked_at}
 use Rattle.r9_plane.specs.Marks as plane
 use Rattle.r9_store.specs.Tiles.{Tiles, spare}
-use Rattle.r9_watched.specs.Moments.{Moment, moment_at}
-use Rattle.r9_locate.specs.Forms.{Form}
+use Rattle.r9_locate.specs.watched.Moments.{Moment, moment_at}
+use Rattle.r9_locate.specs.locate.Forms.{Form}
 use Rattle.r9_cells.specs.Cells.{all_rows, tiles_in}
 use Rattle.r9_cells.specs.Fitting.{wanted_all, wanted_later}
 use Rattle.r9_pixels.specs.declared.keeping.KeptPixels.{KeptPixels}

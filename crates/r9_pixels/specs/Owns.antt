@@ -6,14 +6,14 @@ use Rattle.model_pixel.specs.Channels.{depth}
 use Rattle.model_kept.specs.Cells.{cell_of}
 use Rattle.r9_plane.specs.declared.plane.Plane.{Plane}
 use Rattle.r9_plane.specs.Pixels.{chan_of, pixel_at, rect_of}
-use Rattle.r9_locate.specs.Forms.{Form}
-use Rattle.r9_watched.specs.Moments.{Moment, IsFew}
-use Rattle.r9_watched.specs.Watched.{count_of, moment_of}
+use Rattle.r9_locate.specs.locate.Forms.{Form}
+use Rattle.r9_locate.specs.watched.Moments.{Moment, IsFew}
+use Rattle.r9_locate.specs.watched.Watched.{count_of, moment_of}
 use Rattle.r9_cells.specs.declared.table.Cells.{Cells}
 use Rattle.r9_cells.specs.Cells.{all_rows, cell_pixel, place_pixel}
 use Rattle.r9_cells.specs.Fitting.{IsCelled}
 use Rattle.r9_cells.specs.Rows.{cell_at, cell_place, has_tile}
-use Rattle.r9_watched.specs.declared.Watched.{Watched}
+use Rattle.r9_locate.specs.declared.watched.Watched.{Watched}
 use Rattle.r9_pixels.specs.declared.own.Extent.{Extent}
 use Rattle.r9_pixels.specs.declared.own.Own.{Own}
 use Rattle.r9_pixels.specs.declared.own.Own.TheVariants.{Whole, Hidden}

@@ -8,7 +8,7 @@ use Rattle.model_forest.specs.declared.Window.{Window}
 use Rattle.model_forest.specs.World.{World, image_at, parent_of, SameSize}
 use Rattle.model_kept.specs.Cells.{cell_of, cell_part, hides}
 use Rattle.model_kept.specs.Keeping.{own, Place}
-use Rattle.r9_locate.specs.Forms.{Form}
+use Rattle.r9_locate.specs.locate.Forms.{Form}
 use Rattle.r9_cells.specs.Fitting.{hides_cell, hides_listed, hides_of, meets, shows_of, standing_cell, IsWindowAt}
 
 -- places of one image, over those of others

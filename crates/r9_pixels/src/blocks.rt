@@ -5,7 +5,7 @@ ghost use Rattle.r9_geom.specs.declared.Point.{Point as Spot};
 ghost use Rattle.r9_geom.specs.Geometry.{area_of, holds, HasPoints, IsNear, IsOrdered, IsRectNear};
 ghost use Rattle.r9_plane.specs.Blocks.{number_in, HasRows};
 ghost use Rattle.model_kept.specs.Keeping.{own, Place};
-ghost use Rattle.r9_locate.specs.Forms.{bits_in};
+ghost use Rattle.r9_locate.specs.locate.Forms.{bits_in};
 ghost use Rattle.r9_pixels.specs.declared.own.Extent.{Extent as Size};
 ghost use Rattle.r9_pixels.specs.declared.own.Own.TheVariants.{Hidden};
 ghost use Rattle.r9_pixels.specs.Owns.{own_at};
@@ -14,7 +14,7 @@ use super::counted::Area;
 use super::keeping::KeptPixels;
 use super::own::{Extent, Own};
 use r9_geom::{Point, Rect};
-use r9_steps::Steps;
+use r9_marks::steps::Steps;
 use std::sync::ledger::Ledger;
 
 // The point so many rows down.

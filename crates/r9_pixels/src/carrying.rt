@@ -11,8 +11,8 @@ use super::counted::Row;
 use super::keeping::KeptPixels;
 use super::own::{Extent, Own};
 use r9_geom::Point;
-use r9_locate::along;
-use r9_steps::Steps;
+use r9_locate::locate::along;
+use r9_marks::steps::Steps;
 use std::sync::ledger::Ledger;
 
 // How many pixels are copied at once between two planes, or between tiles.

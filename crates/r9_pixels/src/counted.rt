@@ -3,7 +3,7 @@
 ghost use Rattle.r9_geom.specs.Geometry.{area_of};
 
 use r9_geom::Rect;
-use r9_tally::Asked;
+use r9_locate::tally::Asked;
 
 /// So many pixels side by side.
 #[derive(Drop)]

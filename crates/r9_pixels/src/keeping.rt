@@ -5,7 +5,7 @@ ghost use Rattle.r9_plane.specs.Pixels.{along};
 ghost use Rattle.model_kept.specs.Keeping.{own, Place};
 ghost use Rattle.r9_pixels.specs.declared.own.Extent.{Extent as Size};
 ghost use Rattle.r9_pixels.specs.declared.own.Own.TheVariants.{Hidden};
-ghost use Rattle.r9_locate.specs.Forms.{bits_in};
+ghost use Rattle.r9_locate.specs.locate.Forms.{bits_in};
 ghost use Rattle.r9_cells.specs.Cells.{all_rows};
 ghost use Rattle.r9_pixels.specs.Owns.{own_at, AreFew, IsTabled, IsWithinBits};
 
@@ -13,9 +13,9 @@ use super::counted::Row;
 use super::own::{Extent, Own};
 use r9_cells::Cells;
 use r9_geom::{Point, Rect};
-use r9_locate::Pixels;
-use r9_steps::Steps;
-use r9_tally::Tally;
+use r9_locate::locate::Pixels;
+use r9_locate::tally::Tally;
+use r9_marks::steps::Steps;
 use std::alloc::Global;
 use std::sync::ledger::Ledger;
 

@@ -6,7 +6,7 @@ ghost use Rattle.r9_plane.specs.Pixels.{pixel_at, rect_of};
 ghost use Rattle.model_kept.specs.Restack.{with_own};
 ghost use Rattle.r9_pixels.specs.Owns.{plane_form, window_form};
 ghost use Rattle.r9_pixels.specs.Places.{with_form, with_places};
-ghost use Rattle.r9_watched.specs.Moments.{moment_at, with_moment};
+ghost use Rattle.r9_locate.specs.watched.Moments.{moment_at, with_moment};
 
 use super::keeping::KeptPixels;
 use super::own::{Extent, Own};

@@ -3,18 +3,18 @@
 ghost use Rattle.std.specs.Prelude.{◌≡◌, ◌≢◌, ◌+◌, ◌^◌, ◌<◌, ℕ, Some, None, true, false, option_map, IsTrue};
 ghost use Rattle.r9_geom.specs.declared.Point.{Point as Spot};
 ghost use Rattle.r9_geom.specs.Geometry.{area_of, height, holds, point_at, width};
-ghost use Rattle.r9_marks.specs.Cells.{cells_over, count_cells};
+ghost use Rattle.r9_marks.specs.marks.Cells.{cells_over, count_cells};
 ghost use Rattle.model_kept.specs.Keeping.{own, Place};
-ghost use Rattle.r9_locate.specs.Forms.{bits_in};
-ghost use Rattle.r9_watched.specs.Moments.{moment_at, with_moment, IsFew, IsSince, Moment};
-ghost use Rattle.r9_watched.specs.Watched.{count_of, moment_of};
+ghost use Rattle.r9_locate.specs.locate.Forms.{bits_in};
+ghost use Rattle.r9_locate.specs.watched.Moments.{moment_at, with_moment, IsFew, IsSince, Moment};
+ghost use Rattle.r9_locate.specs.watched.Watched.{count_of, moment_of};
 
 use super::counted::Area;
 use super::keeping::KeptPixels;
 use super::own::Own;
+use r9_locate::watched::Watched;
+use r9_marks::steps::Steps;
 use r9_plane::Plane;
-use r9_steps::Steps;
-use r9_watched::Watched;
 use std::mem;
 use std::sync::ledger::Ledger;
 

@@ -7,7 +7,7 @@ ghost use Rattle.r9_cells.specs.declared.table.Cells.{Cells};
 
 use r9_chan::Chan;
 use r9_geom::{Point, Rect};
-use r9_watched::Watched;
+use r9_locate::watched::Watched;
 
 /// The rectangle of a window, and the channels of its pixels.
 #[derive(Clone, Copy)]

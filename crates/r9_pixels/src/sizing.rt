@@ -3,15 +3,15 @@
 ghost use Rattle.std.specs.Prelude.{◌≡◌, ◌+◌, ◌≤◌, ◌&&◌, ◌||◌, not, All, OnErr, OnOk, if◌then◌else◌};
 ghost use Rattle.model_forest.specs.World.{IsLive};
 ghost use Rattle.model_kept.specs.Keeping.{Place};
-ghost use Rattle.r9_locate.specs.Forms.{forms_of};
-ghost use Rattle.r9_locate.specs.Table.{shape};
+ghost use Rattle.r9_locate.specs.locate.Forms.{forms_of};
+ghost use Rattle.r9_locate.specs.locate.Table.{shape};
 ghost use Rattle.r9_cells.specs.Fitting.{AreOne};
 ghost use Rattle.r9_pixels.specs.Places.{in_hidden, in_shown, HasGivenOff, HasLaterTaken, HasTakenOff, StandsOn};
 
 use super::keeping::KeptPixels;
 use model_forest::Window;
 use r9_geom::Rect;
-use r9_locate::Lists;
+use r9_locate::locate::Lists;
 use r9_memory::Memory;
 
 impl KeptPixels {

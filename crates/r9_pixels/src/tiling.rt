@@ -6,7 +6,7 @@ ghost use Rattle.r9_store.specs.Tiles.{held, is_held, pixel};
 ghost use Rattle.model_forest.specs.World.{World};
 ghost use Rattle.model_kept.specs.Cells.{cell_of, cells_below, in_cell};
 ghost use Rattle.model_kept.specs.Keeping.{own};
-ghost use Rattle.r9_locate.specs.Forms.{forms_of};
+ghost use Rattle.r9_locate.specs.locate.Forms.{forms_of};
 ghost use Rattle.r9_pixels.specs.Places.{HasCells};
 
 use super::keeping::KeptPixels;

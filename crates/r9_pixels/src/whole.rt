@@ -9,20 +9,20 @@ ghost use Rattle.r9_kern.specs.Over.{over_of};
 ghost use Rattle.r9_plane.specs.Pixels.{chan_of, pixel_at, rect_of};
 ghost use Rattle.model_kept.specs.Keeping.{own, Place};
 ghost use Rattle.model_kept.specs.Restack.{with_own};
-ghost use Rattle.r9_locate.specs.Forms.{bits_in};
+ghost use Rattle.r9_locate.specs.locate.Forms.{bits_in};
 ghost use Rattle.r9_pixels.specs.Owns.{form_in, plane_form, plane_in};
 ghost use Rattle.r9_pixels.specs.Places.{with_form, with_places};
-ghost use Rattle.r9_watched.specs.Moments.{with_moment, IsFew};
-ghost use Rattle.r9_watched.specs.Watched.{count_of, moment_of};
+ghost use Rattle.r9_locate.specs.watched.Moments.{with_moment, IsFew};
+ghost use Rattle.r9_locate.specs.watched.Watched.{count_of, moment_of};
 
 use super::counted::Area;
 use super::keeping::KeptPixels;
 use super::own::Own;
 use r9_geom::{Point, Rect};
 use r9_kern::Over;
+use r9_locate::watched::Watched;
+use r9_marks::steps::Steps;
 use r9_plane::Plane;
-use r9_steps::Steps;
-use r9_watched::Watched;
 use std::mem;
 use std::sync::ledger::Ledger;
 

@@ -10,7 +10,7 @@ use Rattle.r9_geom.specs.declared.Point.{Point}
 use Rattle.r9_geom.specs.declared.Rect.{Rect}
 use Rattle.r9_geom.specs.Geometry.{area_of, distance, height, holds, is_empty, strip, width, IsOrdered}
 use Rattle.r9_geom.proofs.GeometryLemmas.{bounds_of, corner, distance_is, holds_from, int_le_false, same_point}
-use Rattle.r9_marks.specs.Cells.{touches}
+use Rattle.r9_marks.specs.marks.Cells.{touches}
 use Rattle.r9_plane.specs.Marks.{touched}
 
 -- a part with a point, within a rectangle

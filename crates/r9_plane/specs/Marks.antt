@@ -2,9 +2,9 @@
 use Rattle.std.specs.Prelude.{ℕ, Bool, ◌&&◌}
 use Rattle.r9_geom.specs.declared.Rect.{Rect}
 use Rattle.r9_geom.specs.Geometry.{distance, height, width}
-use Rattle.r9_marks.specs.declared.Marks.{Marks}
-use Rattle.r9_marks.specs.Cells.{touches}
-use Rattle.r9_marks.specs.Marks as table
+use Rattle.r9_marks.specs.declared.marks.Marks.{Marks}
+use Rattle.r9_marks.specs.marks.Cells.{touches}
+use Rattle.r9_marks.specs.marks.Marks as table
 use Rattle.r9_plane.specs.declared.plane.Plane.{Plane}
 
 abbrev pub marks_of : Plane → Marks

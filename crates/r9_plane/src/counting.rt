@@ -4,7 +4,7 @@ ghost use Rattle.std.specs.Prelude.{◌≡◌, ◌+◌, ◌<◌, ◌^◌};
 ghost use Rattle.r9_geom.specs.Geometry.{area_of, IsOrdered};
 
 use r9_geom::Rect;
-use r9_steps::Steps;
+use r9_marks::steps::Steps;
 use std::sync::ledger::Ledger;
 
 /// Takes a step for each point of a rectangle, such as one whose pixels are written.

@@ -1,8 +1,8 @@
 ghost use Rattle.std.specs.Prelude.{◌≡◌, ◌+◌, ◌*◌, ◌/◌, ◌^◌, ◌<◌, ◌≤◌, ◌||◌, ℕ, false, IsTrue, IfOk, length, slice_index, vec_len, if◌then◌else◌};
 ghost use Rattle.r9_geom.specs.Geometry.{IsOrdered, IsRectNear, width, height};
 ghost use Rattle.model_pixel.specs.Channels as channels;
-ghost use Rattle.r9_marks.specs.Cells.{cells_over, count_cells};
-ghost use Rattle.r9_marks.specs.Marks as table;
+ghost use Rattle.r9_marks.specs.marks.Cells.{cells_over, count_cells};
+ghost use Rattle.r9_marks.specs.marks.Marks as table;
 ghost use Rattle.model_pixel.specs.Rows.{byte_at, raw_at, row_bytes, row_pixel, row_place, rows_of};
 
 mod blocks;
@@ -14,11 +14,11 @@ use super::counting::count_points;
 use super::packed;
 use super::rows::{columns_before, row_bytes, rows_above, skip, strip};
 use super::runs::{self, MOST_PIXELS};
-use r9_chan::Chan;
 use r9_geom::{Point, Rect, distance};
-use r9_marks::{Marks, cells_over};
+use r9_kern::Chan;
+use r9_marks::marks::{Marks, cells_over};
+use r9_marks::steps::Steps;
 use r9_memory::Memory;
-use r9_steps::Steps;
 use std::alloc::Global;
 use std::sync::ledger::Ledger;
 

@@ -1,2 +1,2 @@
-pub mod Moved
-pub mod Written
+pub mod fills
+pub mod put

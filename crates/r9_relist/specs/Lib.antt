@@ -1,2 +1,3 @@
-pub mod Leaving
-pub mod Relisting
+pub mod arrive
+pub mod relist
+pub mod resize

@@ -1,8 +1,7 @@
-//! Another list of the windows of an image, with the tiles that it takes and gives back.
+//! These parts, each with a text of its own at its head: `arrive`, `relist`, `resize`, `shift`.
 #![tactic(auto)]
 
-mod leaving;
-mod relisting;
-
-pub use leaving::{take_away, take_whole};
-pub use relisting::{add, common, hide, relist, reorder_windows, reserve_move, settle, unhide};
+pub mod arrive;
+pub mod relist;
+pub mod resize;
+pub mod shift;

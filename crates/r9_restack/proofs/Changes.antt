@@ -20,12 +20,12 @@ use Rattle.model_kept.proofs.Worlds.{with_list-same}
 use Rattle.model_kept.proofs.Storing.{carried-back, keeping-inward, outward-inward}
 use Rattle.r9_geom.specs.Geometry.{IsNear, IsRectNearBy}
 use Rattle.model_kept.proofs.Storing.{inward-inside}
-use Rattle.r9_locate.specs.declared.lists.Lists.{Lists}
-use Rattle.r9_locate.specs.Table.{shape}
+use Rattle.r9_locate.specs.declared.locate.lists.Lists.{Lists}
+use Rattle.r9_locate.specs.locate.Table.{shape}
 use Rattle.r9_restack.specs.Moving.{more, more_in, IsFresh, IsFreshIn}
 use Rattle.r9_restack.specs.Changing.{IsChange, IsChanged, IsGiven, IsShownAnew, IsUnseen, StaysTop, HasPlacesBut, IsOther, StaysAs}
-use Rattle.r9_locate.proofs.Locating.{keeping-up, strip_at}
-use Rattle.r9_locate.proofs.Apart.{keeping-depth, keeping-injective, own-apart}
+use Rattle.r9_locate.proofs.locate.Locating.{keeping-up, strip_at}
+use Rattle.r9_locate.proofs.locate.Apart.{keeping-depth, keeping-injective, own-apart}
 use Rattle.r9_restack.proofs.Orders.{or_cases, top_is, unshown-own}
 
 -- what is known of the lists in a change

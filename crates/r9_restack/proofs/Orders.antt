@@ -20,8 +20,8 @@ use Rattle.model_kept.proofs.Worlds.{with_list-same}
 use Rattle.model_kept.proofs.Storing.{keeping-inward}
 use Rattle.r9_restack.specs.Changing.{IsChanged}
 use Rattle.r9_restack.specs.Moving.{IsSameTop, IsReordering}
-use Rattle.r9_locate.proofs.Apart.{keeping-injective, own-apart}
-use Rattle.r9_locate.proofs.Locating.{keeping-up}
+use Rattle.r9_locate.proofs.locate.Apart.{keeping-injective, own-apart}
+use Rattle.r9_locate.proofs.locate.Locating.{keeping-up}
 
 -- what is known of the lists in another order
 pub record IsSetting (world : World) (p : ℕ) (ws : List Window) : Type 0 where

@@ -11,13 +11,13 @@ use Rattle.r9_plane.specs.Pixels.{along}
 use Rattle.model_forest.specs.declared.Window.{Window}
 use Rattle.model_forest.specs.World.{Image, World, image_at}
 use Rattle.model_forest.specs.View.{top_window}
-use Rattle.r9_locate.specs.declared.lists.Frame.{Frame}
-use Rattle.r9_locate.specs.declared.lists.Lists.{Lists}
-use Rattle.r9_locate.specs.Table.{shape}
-use Rattle.r9_locate.specs.Lists.{frame_image, IsNearby}
+use Rattle.r9_locate.specs.declared.locate.lists.Frame.{Frame}
+use Rattle.r9_locate.specs.declared.locate.lists.Lists.{Lists}
+use Rattle.r9_locate.specs.locate.Table.{shape}
+use Rattle.r9_locate.specs.locate.Lists.{frame_image, IsNearby}
 use Rattle.r9_restack.specs.Moving.{more, IsFresh, IsReordering}
 use Rattle.r9_plane.proofs.PlaneLemmas.{along_holds}
-use Rattle.r9_locate.proofs.Locating.{along-along, no_rect_near, place_near, strip_at}
+use Rattle.r9_locate.proofs.locate.Locating.{along-along, no_rect_near, place_near, strip_at}
 use Rattle.r9_restack.proofs.Orders.{or_cases, IsSetting}
 
 -- places are near

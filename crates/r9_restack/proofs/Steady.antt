@@ -6,7 +6,7 @@ use Rattle.r9_geom.specs.Geometry.{holds, strip}
 use Rattle.r9_geom.proofs.GeometryLemmas.{bounds_of, holds_from}
 use Rattle.r9_plane.specs.Pixels.{along}
 use Rattle.r9_plane.proofs.PlaneLemmas.{along_holds}
-use Rattle.r9_locate.proofs.Locating.{along-along}
+use Rattle.r9_locate.proofs.locate.Locating.{along-along}
 use Rattle.r9_shown.specs.Shown.{block, down}
 use Rattle.r9_shown.proofs.Pieces.{first_row, stands_in}
 use Rattle.r9_restack.proofs.Orders.{or_cases}

@@ -9,8 +9,8 @@ ghost use Rattle.model_forest.specs.World.{image_at, parent_of, IsLive};
 ghost use Rattle.model_forest.specs.View as view;
 ghost use Rattle.model_forest.specs.View.{top_window};
 ghost use Rattle.model_kept.specs.Keeping.{is_top, keeping, outward, own, Place};
-ghost use Rattle.r9_locate.specs.Forms.{bits_in, HasBits};
-ghost use Rattle.r9_locate.specs.Table.{shape};
+ghost use Rattle.r9_locate.specs.locate.Forms.{bits_in, HasBits};
+ghost use Rattle.r9_locate.specs.locate.Table.{shape};
 ghost use Rattle.r9_region.specs.Region.{covers};
 ghost use Rattle.r9_restack.specs.Areas.{AreApartIn};
 ghost use Rattle.model_kept.specs.Restack.{with_list, IsRestacked};
@@ -23,9 +23,9 @@ use super::giving::{Kind, Source, show_in};
 use super::stacks::{Run, Stacks, Tops, last_run, run_of, stacks_around, stacks_within};
 use model_forest::Window;
 use r9_geom::{Point, Rect};
-use r9_locate::{Lists, Pixels, along, inward};
+use r9_locate::locate::{Lists, Pixels, along, inward};
+use r9_marks::steps::Steps;
 use r9_shown::{Extent, block, save_area, show_area};
-use r9_steps::Steps;
 use std::sync::ledger::Ledger;
 
 // How many pixels of a row are moved at a time at most: no image has as many.

@@ -6,14 +6,14 @@ ghost use Rattle.r9_geom.specs.Geometry.{area_of, carried, holds, strip, IsNear,
 ghost use Rattle.r9_plane.specs.Pixels.{along};
 ghost use Rattle.model_forest.specs.World.{image_at, IsLive};
 ghost use Rattle.model_kept.specs.Keeping.{keeping, Place};
-ghost use Rattle.r9_locate.specs.Forms.{bits_in, HasBits};
-ghost use Rattle.r9_locate.specs.Table.{shape};
+ghost use Rattle.r9_locate.specs.locate.Forms.{bits_in, HasBits};
+ghost use Rattle.r9_locate.specs.locate.Table.{shape};
 ghost use Rattle.r9_restack.specs.Giving.{pixels_of, IsSupply};
 
 use r9_geom::{Point, Rect};
-use r9_locate::{Lists, Pixels, along, write_view};
+use r9_locate::locate::{Lists, Pixels, along, write_view};
+use r9_marks::steps::Steps;
 use r9_shown::{down, paint_area, write_area};
-use r9_steps::Steps;
 use std::sync::ledger::Ledger;
 
 // How many pixels of a row are copied at a time.

@@ -6,8 +6,8 @@ ghost use Rattle.r9_geom.specs.Geometry.{area_of, holds, IsOrdered, IsRectNear};
 ghost use Rattle.model_forest.specs.World.{image_at, IsForest, IsLive, World};
 ghost use Rattle.model_forest.specs.Stack.{lowered, raised};
 ghost use Rattle.model_kept.specs.Restack.{with_list, IsRestacked};
-ghost use Rattle.r9_locate.specs.Forms.{HasBits};
-ghost use Rattle.r9_locate.specs.Table.{shape};
+ghost use Rattle.r9_locate.specs.locate.Forms.{HasBits};
+ghost use Rattle.r9_locate.specs.locate.Table.{shape};
 ghost use Rattle.r9_region.specs.Region.{covers};
 ghost use Rattle.r9_restack.specs.Areas.{AreApartIn};
 ghost use Rattle.r9_restack.specs.Moving.{HasPlaces, IsReordering, IsSameTop};
@@ -17,8 +17,8 @@ use super::giving::{Source, Supply};
 use super::stacks::{count_same, stacks_of};
 use model_forest::Window;
 use r9_geom::{Point, Rect};
-use r9_locate::{Lists, Pixels};
-use r9_steps::Steps;
+use r9_locate::locate::{Lists, Pixels};
+use r9_marks::steps::Steps;
 use std::sync::ledger::Ledger;
 
 // The pixels of no window, which nothing asks for.

@@ -7,8 +7,8 @@ ghost use Rattle.r9_plane.specs.Pixels.{along};
 ghost use Rattle.model_forest.specs.declared.Window.{Window as Stood};
 ghost use Rattle.model_forest.specs.World.{image_at, parent_of};
 ghost use Rattle.model_kept.specs.Keeping.{own, Place};
-ghost use Rattle.r9_locate.specs.Forms.{bits_in, HasBits};
-ghost use Rattle.r9_locate.specs.Table.{shape};
+ghost use Rattle.r9_locate.specs.locate.Forms.{bits_in, HasBits};
+ghost use Rattle.r9_locate.specs.locate.Table.{shape};
 ghost use Rattle.r9_shown.specs.Shown as spec;
 ghost use Rattle.r9_restack.specs.Changing.{HasPlacesBut, IsChange};
 ghost use Rattle.r9_restack.specs.Placing.{comes, shows, with_coming, IsComing, IsPlaced};
@@ -19,9 +19,9 @@ use super::changing::{LONGEST, change_block};
 use super::giving::{Source, Supply};
 use super::stacks::{Stacks, Tops, run_of, stacks_within};
 use r9_geom::{Point, Rect};
-use r9_locate::{Lists, Pixels, along};
+use r9_locate::locate::{Lists, Pixels, along};
+use r9_marks::steps::Steps;
 use r9_shown::{Extent, block, cut, down};
-use r9_steps::Steps;
 use std::sync::ledger::Ledger;
 
 // How many pixels of a row are put at a time.

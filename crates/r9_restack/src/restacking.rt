@@ -9,8 +9,8 @@ ghost use Rattle.model_forest.specs.World.{image_at, parent_of, IsLive};
 ghost use Rattle.model_kept.specs.Keeping as kept;
 ghost use Rattle.model_kept.specs.Keeping.{is_top, keeping, own, Place};
 ghost use Rattle.model_kept.specs.Restack.{with_list, with_own, IsRestacked};
-ghost use Rattle.r9_locate.specs.Forms.{bits_in, HasBits};
-ghost use Rattle.r9_locate.specs.Table.{shape};
+ghost use Rattle.r9_locate.specs.locate.Forms.{bits_in, HasBits};
+ghost use Rattle.r9_locate.specs.locate.Table.{shape};
 ghost use Rattle.r9_restack.specs.Changing.{HasPlacesBut, IsChange, IsConcealing, IsDisclosing, StaysTop};
 ghost use Rattle.r9_restack.specs.Moving.{HasPlaces};
 ghost use Rattle.r9_restack.specs.Placing.{shows};
@@ -22,8 +22,8 @@ use super::placing::place;
 use super::stacks::stacks_of;
 use model_forest::Window;
 use r9_geom::Rect;
-use r9_locate::{Lists, Pixels, place_among};
-use r9_steps::Steps;
+use r9_locate::locate::{Lists, Pixels, place_among};
+use r9_marks::steps::Steps;
 use std::sync::ledger::Ledger;
 
 /// Moves all pixels to where they are kept when window w comes or moves: its own are given. Both lists begin with the same windows

@@ -12,7 +12,7 @@ ghost use Rattle.r9_restack.specs.Stacks.{after_of, before_of, is_window, tops_a
 
 use model_forest::Window;
 use r9_geom::{Point, Rect};
-use r9_locate::along;
+use r9_locate::locate::along;
 use r9_shown::{Extent, Top, cover_over, top_over};
 
 /// The windows of an image, before and after: those with which both lists begin, and the others. The others of the list of

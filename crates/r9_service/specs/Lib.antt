@@ -1,2 +1,2 @@
-pub mod Serving
-pub mod Runs
+pub mod recorder
+pub mod service

@@ -1,10 +1,5 @@
-//! The command `serve`: a hall, served to the sessions that come to doors.
+//! These parts, each with a text of its own at its head: `recorder`, `service`.
 #![tactic(auto)]
 
-mod outcome;
-mod run;
-mod serving;
-mod telling;
-
-pub use outcome::{Outcome, Served, Service};
-pub use serving::serve;
+pub mod recorder;
+pub mod service;

@@ -2,9 +2,9 @@
 use Rattle.std.proofs.Common.{◌≡◌, ◌∙◌, ◌<◌, ◌≤◌, ◌+◌, ℕ, zero, suc, List, [], ◌∷◌, ◌++◌, length, get_or, take, drop, Option, None, Some, Result, Ok, Err, IfOk, IfSome, OnOk, refl, sym, ap, subst, arith, add-one}
 use Rattle.std.specs.Prelude.{IfNone}
 use Rattle.std.specs.List.{remove}
-use Rattle.model_text.specs.Outcome.{Outcome}
-use Rattle.model_wire.specs.Message.{R, Rread}
-use Rattle.model_wire.specs.Spelling.{FitsR}
+use Rattle.model_text.specs.text.Outcome.{Outcome}
+use Rattle.model_files.specs.wire.Message.{R, Rread}
+use Rattle.model_files.specs.wire.Spelling.{FitsR}
 use Rattle.model_world.specs.Session.{Session, Wait}
 use Rattle.model_world.specs.Fids.{Left}
 use Rattle.model_world.specs.Reading.{Given, given_by}
@@ -14,7 +14,7 @@ use Rattle.model_world.specs.Outside.{Outside}
 use Rattle.r9_memory.specs.declared.Memory.{Memory}
 use Rattle.r9_wire.specs.declared.message.Rmsg.{Rmsg}
 use Rattle.r9_wire.specs.View.{r_of}
-use Rattle.r9_files.specs.declared.fault.Fault.TheVariants.{Refused}
+use Rattle.r9_files.specs.declared.files.fault.Fault.TheVariants.{Refused}
 use Rattle.r9_session.specs.Reads.{IsAwaited, IsFirst}
 
 -- a list at a place

@@ -3,10 +3,10 @@ use Rattle.std.proofs.Common.{◌≡◌, ◌∙◌, ◌++◌, ◌&&◌, ◌||◌
 use Rattle.std.specs.Prelude.{◌⊎◌, is_some, option_map}
 use Rattle.std.specs.List.{list_any}
 use Rattle.std.proofs.lemmas.Bool.{eqb-true}
-use Rattle.model_text.specs.Map.{lookup}
-use Rattle.model_map.proofs.Keys.{eqb-same}
-use Rattle.model_tree.specs.declared.Kind.TheVariants.{Ctl, Data, Refresh}
-use Rattle.model_tree.specs.Node.{Node}
+use Rattle.model_text.specs.text.Map.{lookup}
+use Rattle.model_text.proofs.map.Keys.{eqb-same}
+use Rattle.model_files.specs.declared.tree.Kind.TheVariants.{Ctl, Data, Refresh}
+use Rattle.model_files.specs.tree.Node.{Node}
 use Rattle.model_world.specs.Session.{Fid, Session}
 use Rattle.model_world.specs.Fids.{is_bound, is_kept, is_kind, keeps, with_fid}
 use Rattle.model_world.specs.Links.{is_among}

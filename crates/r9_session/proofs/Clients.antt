@@ -2,11 +2,11 @@
 use Rattle.std.proofs.Common.{◌≡◌, ◌<◌, ◌≤◌, ◌+◌, ◌^◌, ◌&&◌, ◌||◌, ℕ, zero, suc, Bool, true, false, not, cond, eqb, List, [], ◌∷◌, length, get_or, Ok, refl, sym, ap, ◌∙◌, arith, All}
 use Rattle.std.specs.Prelude.{filter, ◌++◌}
 use Rattle.std.proofs.lemmas.Bool.{eqb-true}
-use Rattle.model_text.specs.Outcome.{◌>>=◌, refuse_if}
-use Rattle.model_map.specs.Ascending.{AreAbove, Ascend}
-use Rattle.model_map.proofs.Keys.{eqb-same}
-use Rattle.model_tree.specs.Node.{Node}
-use Rattle.model_tree.specs.Tree.{View, is_of_connection, is_gone, is_ended, check_live}
+use Rattle.model_text.specs.text.Outcome.{◌>>=◌, refuse_if}
+use Rattle.model_text.specs.map.Ascending.{AreAbove, Ascend}
+use Rattle.model_text.proofs.map.Keys.{eqb-same}
+use Rattle.model_files.specs.tree.Node.{Node}
+use Rattle.model_files.specs.tree.Tree.{View, is_of_connection, is_gone, is_ended, check_live}
 use Rattle.model_world.specs.Outside.{Outside}
 use Rattle.model_world.specs.Links.{AreCounted, AreWithin, is_among}
 use Rattle.model_world.proofs.Links.{among_none, ascend_filter}

@@ -3,10 +3,10 @@ use Rattle.std.proofs.Common.{◌≡◌, ◌∙◌, ◌<◌, ◌≤◌, ◌+◌,
 use Rattle.std.specs.Prelude.{◌==◌, ◌&&◌, ◌||◌, filter, map, nat_le, nat_lt}
 use Rattle.std.specs.List.{fold, insert, position_or_len}
 use Rattle.std.proofs.lemmas.Bool.{eqb-true, false≢true, lt-ltb}
-use Rattle.model_map.proofs.Keys.{eqb-same, not_key}
+use Rattle.model_text.proofs.map.Keys.{eqb-same, not_key}
 use Rattle.std.proofs.lemmas.Bool.Decides.{nat_tests}
 use Rattle.model_world.specs.Session.{Fid, Session}
-use Rattle.model_text.specs.Outcome.{Outcome, ◌>>=◌, refuse_if}
+use Rattle.model_text.specs.text.Outcome.{Outcome, ◌>>=◌, refuse_if}
 use Rattle.model_world.specs.Outside.{Outside}
 use Rattle.model_world.specs.Answer.{agreed_on, version_answer}
 use Rattle.model_world.specs.Fids.{cleared, has_root, left_by, put}

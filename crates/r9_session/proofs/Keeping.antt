@@ -5,12 +5,12 @@ use Rattle.std.specs.List.{list_any}
 use Rattle.std.specs.Map.{keys_of}
 use Rattle.std.specs.Ordering.{match_ordering}
 use Rattle.std.proofs.lemmas.Bool.{and_parts, eqb-true, false≢true}
-use Rattle.model_text.specs.Map.{and, lookup, with, without}
-use Rattle.model_map.specs.Ascending.{AreAbove, Ascend}
-use Rattle.model_map.proofs.Keys.{eqb-same, not_key, nat_cmp-Equal, nat_cmp-Greater}
+use Rattle.model_text.specs.text.Map.{and, lookup, with, without}
+use Rattle.model_text.specs.map.Ascending.{AreAbove, Ascend}
+use Rattle.model_text.proofs.map.Keys.{eqb-same, not_key, nat_cmp-Equal, nat_cmp-Greater}
 use Rattle.model_world.specs.Session.{Fid, Session}
 use Rattle.model_world.specs.Fids.{is_kept, is_kind, keeps}
-use Rattle.model_tree.specs.declared.Kind.TheVariants.{Ctl, Data, Refresh}
+use Rattle.model_files.specs.declared.tree.Kind.TheVariants.{Ctl, Data, Refresh}
 use Rattle.model_world.specs.Links.{is_among}
 use Rattle.r9_session.specs.SessionView.{AreKept}
 use Rattle.r9_session.specs.Clients.{without_fid}

@@ -1,13 +1,13 @@
 -- Fids that are opened, and writes of open ones.
 use Rattle.std.proofs.Common.{◌≡◌, ◌⊎◌, ◌∙◌, ℕ, Bool, true, false, cond, List, Option, None, Some, Ok, Err, IfSome, refl, ap, subst}
 use Rattle.std.specs.Prelude.{◌&&◌, is_some, nat_le, not}
-use Rattle.model_text.specs.Map.{lookup}
-use Rattle.model_text.specs.Outcome.{Outcome, ◌>>=◌, refuse_if, value_or_refuse}
-use Rattle.model_wire.specs.Message.{Ropen}
-use Rattle.model_tree.specs.declared.Kind.{Kind}
-use Rattle.model_tree.specs.declared.Kind.TheVariants.{Data, New}
-use Rattle.model_tree.specs.Node.{Node, may, qid, row, writes}
-use Rattle.model_tree.specs.Tree.{check_live}
+use Rattle.model_text.specs.text.Map.{lookup}
+use Rattle.model_text.specs.text.Outcome.{Outcome, ◌>>=◌, refuse_if, value_or_refuse}
+use Rattle.model_files.specs.wire.Message.{Ropen}
+use Rattle.model_files.specs.declared.tree.Kind.{Kind}
+use Rattle.model_files.specs.declared.tree.Kind.TheVariants.{Data, New}
+use Rattle.model_files.specs.tree.Node.{Node, may, qid, row, writes}
+use Rattle.model_files.specs.tree.Tree.{check_live}
 use Rattle.model_world.specs.Session.{Fid, Session}
 use Rattle.model_world.specs.Outside.{Outside}
 use Rattle.model_world.specs.Fids.{Left, is_kind, left, with_fid, with_held}

@@ -5,14 +5,14 @@ use Rattle.std.specs.List.{list_any, remove}
 use Rattle.std.specs.Map.{keys_of}
 use Rattle.std.specs.Option.{option_map_or}
 use Rattle.std.proofs.lemmas.Bool.{eqb-true, false≢true}
-use Rattle.model_text.specs.Map.{and, lookup, with, without}
-use Rattle.model_map.specs.Ascending.{Ascend}
-use Rattle.model_map.proofs.Ascending.{without-here}
-use Rattle.model_map.proofs.Keys.{eqb-same, not_key}
-use Rattle.model_map.proofs.Maps.{and-here, and-others, with-here, with-others, without-others}
-use Rattle.model_tree.specs.declared.Kind.{Kind}
-use Rattle.model_tree.specs.declared.Kind.TheVariants as kinds
-use Rattle.model_tree.specs.Node.{Node, row}
+use Rattle.model_text.specs.text.Map.{and, lookup, with, without}
+use Rattle.model_text.specs.map.Ascending.{Ascend}
+use Rattle.model_text.proofs.map.Ascending.{without-here}
+use Rattle.model_text.proofs.map.Keys.{eqb-same, not_key}
+use Rattle.model_text.proofs.map.Maps.{and-here, and-others, with-here, with-others, without-others}
+use Rattle.model_files.specs.declared.tree.Kind.{Kind}
+use Rattle.model_files.specs.declared.tree.Kind.TheVariants as kinds
+use Rattle.model_files.specs.tree.Node.{Node, row}
 use Rattle.model_world.specs.Session.{Fid, Session, Wait}
 use Rattle.model_world.specs.Fids.{is_kind}
 use Rattle.model_world.specs.Links.{is_among}

@@ -1,15 +1,15 @@
 -- Reads of a session's fids.
 use Rattle.std.proofs.Common.{◌≡◌, ℕ, List, Option, None, Some, Result, Ok, Err, OnErr, ap, ◌∙◌}
-use Rattle.model_text.specs.Outcome.{Outcome}
-use Rattle.model_text.specs.Map.{lookup, with}
-use Rattle.model_map.proofs.Maps.{with-same}
+use Rattle.model_text.specs.text.Outcome.{Outcome}
+use Rattle.model_text.specs.text.Map.{lookup, with}
+use Rattle.model_text.proofs.map.Maps.{with-same}
 use Rattle.model_world.specs.Session.{Fid, Session}
 use Rattle.model_world.specs.Reading.{Given}
 use Rattle.r9_memory.specs.declared.Memory.{Memory}
-use Rattle.r9_files.specs.declared.fault.Fault.{Fault}
-use Rattle.r9_files.specs.declared.fault.Fault.TheVariants as fault
-use Rattle.r9_files.specs.Reads.{IsRead}
-use Rattle.r9_access.specs.Reads.{IsFileRead, IsGivenNow}
+use Rattle.r9_files.specs.declared.files.fault.Fault.{Fault}
+use Rattle.r9_files.specs.declared.files.fault.Fault.TheVariants as fault
+use Rattle.r9_files.specs.files.Reads.{IsRead}
+use Rattle.r9_files.specs.access.Reads.{IsFileRead, IsGivenNow}
 use Rattle.r9_session.specs.Reads.{IsGivenOf, IsListed, IsReadOf}
 
 abbrev with_fids : Session → List (ℕ × Fid) → Session

@@ -3,10 +3,10 @@ use Rattle.std.proofs.Common.{◌≡◌, ◌∙◌, ◌++◌, ◌<◌, ◌^◌, 
 use Rattle.std.specs.Prelude.{◌==◌, is_some, length, nat_lt}
 use Rattle.std.specs.Int.{w16, from_le_bytes, to_le_bytes}
 use Rattle.std.proofs.lemmas.Nat.{from_le_bytes-to_le_bytes_2}
-use Rattle.model_text.specs.Number.{eight_bytes, four_bytes}
-use Rattle.model_wire.specs.Message.{T, Tread}
-use Rattle.model_wire.specs.Reading.{kind_of, tag_of}
-use Rattle.model_wire.specs.Spelling.{SpellsT, message}
+use Rattle.model_text.specs.text.Number.{eight_bytes, four_bytes}
+use Rattle.model_files.specs.wire.Message.{T, Tread}
+use Rattle.model_files.specs.wire.Reading.{kind_of, tag_of}
+use Rattle.model_files.specs.wire.Spelling.{SpellsT, message}
 use Rattle.model_world.specs.Session.{Session}
 use Rattle.model_world.specs.Waiting.{waits_for}
 use Rattle.model_world.specs.Answer.{Taking, Ignored, TooLong, Closes, Reads, taking}

@@ -1,12 +1,12 @@
 -- What is told of the messages of data writes.
 use Rattle.std.proofs.Common.{◌≡◌, ℕ, Bool, true, false, List, Option, Some, None, Result, Ok, Err, IfOk, sym, ap, subst, ◌∙◌}
-use Rattle.model_text.specs.Map.{lookup}
-use Rattle.model_wire.specs.Message.{T, Twrite}
-use Rattle.model_tree.specs.declared.Kind.TheVariants.{Data}
-use Rattle.model_tree.specs.Node.{Node}
+use Rattle.model_text.specs.text.Map.{lookup}
+use Rattle.model_files.specs.wire.Message.{T, Twrite}
+use Rattle.model_files.specs.declared.tree.Kind.TheVariants.{Data}
+use Rattle.model_files.specs.tree.Node.{Node}
 use Rattle.model_world.specs.Session.{Fid, Session}
-use Rattle.r9_around.specs.declared.wrote.Told.{Told}
-use Rattle.r9_around.specs.Words.{AreTold, Tells, mark_after}
+use Rattle.r9_files.specs.declared.around.wrote.Told.{Told}
+use Rattle.r9_files.specs.around.Words.{AreTold, Tells, mark_after}
 use Rattle.r9_session.specs.declared.writing.Answered.{Answered}
 use Rattle.r9_session.specs.Answers.{uses_file}
 use Rattle.r9_session.specs.Telling.{IsToldOf, IsToldWrite}

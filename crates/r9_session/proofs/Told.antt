@@ -2,9 +2,9 @@
 use Rattle.std.proofs.Common.{◌≡◌, ℕ, true, false, List, Option, Some, Result, Ok, Err, IfOk, IfSome, IsSome, sym, ap, subst, ◌∙◌}
 use Rattle.std.specs.Prelude.{◌↔◌}
 use Rattle.std.specs.Option.{option_map}
-use Rattle.model_wire.specs.Message.{T, Tread, Twrite, R}
-use Rattle.model_wire.specs.Spelling.{FitsR}
-use Rattle.model_draw.specs.Act.{no_memory}
+use Rattle.model_files.specs.wire.Message.{T, Tread, Twrite, R}
+use Rattle.model_files.specs.wire.Spelling.{FitsR}
+use Rattle.model_draw.specs.draw.Act.{no_memory}
 use Rattle.model_world.specs.Refusal.{IsRefused, Refuses, refusal}
 use Rattle.model_world.proofs.Wanting.{not_wanting, only_wanting}
 use Rattle.r9_wire.specs.View.{r_of}

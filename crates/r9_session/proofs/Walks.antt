@@ -2,11 +2,11 @@
 use Rattle.std.specs.Prelude.{◌==◌, ◌&&◌, is_some, not}
 use Rattle.std.proofs.Common.{◌≡◌, ◌∙◌, ℕ, ◌+◌, ◌≤◌, Bool, true, false, Some, refl, List, [], ◌∷◌, ◌++◌, length, map, Option, Ok, Err, ap, arith}
 use Rattle.std.proofs.lemmas.List.{length-append, length-map}
-use Rattle.model_wire.specs.Message.{Qid}
-use Rattle.model_text.specs.Outcome.{Outcome, ◌>>=◌, refuse_if, value_or_refuse}
-use Rattle.model_text.specs.Map.{lookup}
-use Rattle.model_tree.specs.Node.{Node, qid}
-use Rattle.model_tree.specs.Tree.{View, walk}
+use Rattle.model_files.specs.wire.Message.{Qid}
+use Rattle.model_text.specs.text.Outcome.{Outcome, ◌>>=◌, refuse_if, value_or_refuse}
+use Rattle.model_text.specs.text.Map.{lookup}
+use Rattle.model_files.specs.tree.Node.{Node, qid}
+use Rattle.model_files.specs.tree.Tree.{View, walk}
 use Rattle.model_world.specs.Walking.{walk_answer, walk_ended, walk_on, walked}
 use Rattle.model_world.specs.Session.{Fid, Session}
 use Rattle.model_world.specs.Fids.{is_bound, is_full}

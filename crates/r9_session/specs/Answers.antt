@@ -1,18 +1,18 @@
 -- What a session's answer to a message promises.
 use Rattle.std.specs.Prelude.{◌≡◌, ◌⊎◌, ◌==◌, ◌&&◌, not, ℕ, Bool, true, false, Option, Some, Result, Ok, Err, None, IfSome, option_map}
-use Rattle.model_text.specs.Map.{lookup}
-use Rattle.model_text.specs.Outcome.{Outcome}
-use Rattle.model_wire.specs.Message.{R, T, Tread, Twrite, no_tag, tag_of_t}
-use Rattle.model_wire.specs.Spelling.{FitsR}
+use Rattle.model_text.specs.text.Map.{lookup}
+use Rattle.model_text.specs.text.Outcome.{Outcome}
+use Rattle.model_files.specs.wire.Message.{R, T, Tread, Twrite, no_tag, tag_of_t}
+use Rattle.model_files.specs.wire.Spelling.{FitsR}
 use Rattle.model_world.specs.Session.{Session}
 use Rattle.model_world.specs.Answer.{Taking, Ignored, TooLong, Closes, Reads, is_version}
 use Rattle.model_world.specs.Waiting.{waits_for}
 use Rattle.model_world.specs.Fids.{Done, Left, is_bound, is_full}
 use Rattle.r9_wire.specs.declared.message.Rmsg.{Rmsg}
 use Rattle.r9_wire.specs.View.{r_of}
-use Rattle.r9_files.specs.declared.fault.Fault.{Fault}
-use Rattle.r9_files.specs.declared.fault.Fault.TheVariants as fault
-use Rattle.r9_around.specs.Words.{mark_after}
+use Rattle.r9_files.specs.declared.files.fault.Fault.{Fault}
+use Rattle.r9_files.specs.declared.files.fault.Fault.TheVariants as fault
+use Rattle.r9_files.specs.around.Words.{mark_after}
 use Rattle.r9_session.specs.declared.taking.Taking.{Taking as CodeTaking}
 use Rattle.r9_session.specs.declared.taking.Taking.TheVariants as taking
 use Rattle.r9_session.specs.declared.writing.Answered.{Answered}

@@ -1,6 +1,6 @@
 -- A session's connections, and what is outside it.
 use Rattle.std.specs.Prelude.{◌≡◌, ℕ, Bool, true, List, [], ◌∷◌}
-use Rattle.model_text.specs.Map.{without}
+use Rattle.model_text.specs.text.Map.{without}
 use Rattle.model_world.specs.Outside.{Outside}
 use Rattle.model_world.specs.Session.{Session}
 

@@ -1,7 +1,7 @@
 -- Where reads wait.
 use Rattle.std.specs.Prelude.{◌≡◌, ◌==◌, ℕ, Bool, true, List, Some}
 use Rattle.std.specs.List.{list_any}
-use Rattle.model_text.specs.Map.{lookup}
+use Rattle.model_text.specs.text.Map.{lookup}
 use Rattle.model_world.specs.Session.{Fid, Wait}
 use Rattle.model_world.specs.Links.{is_among}
 use Rattle.model_world.specs.Sleeping.{has_place}

@@ -1,8 +1,8 @@
 -- The file that a read or a write reaches.
 use Rattle.std.specs.Prelude.{ℕ, Bool, true, false, not, is_none, Ok}
-use Rattle.model_text.specs.Outcome.{Outcome, ◌>>=◌, refuse_if}
-use Rattle.model_tree.specs.Node.{Node, reads, writes}
-use Rattle.model_tree.specs.Tree.{check_live}
+use Rattle.model_text.specs.text.Outcome.{Outcome, ◌>>=◌, refuse_if}
+use Rattle.model_files.specs.tree.Node.{Node, reads, writes}
+use Rattle.model_files.specs.tree.Tree.{check_live}
 use Rattle.model_world.specs.Session.{Session}
 use Rattle.model_world.specs.Outside.{Outside}
 use Rattle.model_world.specs.Fids.{fid_of}

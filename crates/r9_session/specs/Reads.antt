@@ -1,15 +1,15 @@
 -- What a read of a fid promises.
 use Rattle.std.specs.Prelude.{◌≡◌, ℕ, true, false, nat_le, length, List, Option, Some, None, Result, Ok, Err}
-use Rattle.model_text.specs.Outcome.{Outcome}
+use Rattle.model_text.specs.text.Outcome.{Outcome}
 use Rattle.model_world.specs.Session.{Fid, Session, Wait}
-use Rattle.model_wire.specs.Spelling.{FitsR}
+use Rattle.model_files.specs.wire.Spelling.{FitsR}
 use Rattle.model_world.specs.Fids.{Left, with_fid}
 use Rattle.model_world.specs.Reading.{Given, given_by, most_waiting, parked}
 use Rattle.r9_memory.specs.declared.Memory.{Memory}
 use Rattle.r9_wire.specs.declared.message.Rmsg.{Rmsg}
 use Rattle.r9_wire.specs.View.{r_of}
-use Rattle.r9_files.specs.declared.fault.Fault.{Fault}
-use Rattle.r9_files.specs.declared.fault.Fault.TheVariants as fault
+use Rattle.r9_files.specs.declared.files.fault.Fault.{Fault}
+use Rattle.r9_files.specs.declared.files.fault.Fault.TheVariants as fault
 
 -- what is read of a listing is what is defined, with what the session's fid keeps from then on
 abbrev pub IsListed : (old : Session) (fid : ℕ) (found : Result (List ℕ) Fault) (new : Session) → Outcome (Fid × List ℕ) → Type 0

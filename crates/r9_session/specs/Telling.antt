@@ -1,11 +1,11 @@
 -- What is told of the messages of a data write that a session answered.
 use Rattle.std.specs.Prelude.{◌≡◌, ℕ, List, Option, Some, None}
-use Rattle.model_text.specs.Map.{lookup}
-use Rattle.model_wire.specs.Message.{T, Twrite}
-use Rattle.model_tree.specs.declared.Kind.TheVariants.{Data}
+use Rattle.model_text.specs.text.Map.{lookup}
+use Rattle.model_files.specs.wire.Message.{T, Twrite}
+use Rattle.model_files.specs.declared.tree.Kind.TheVariants.{Data}
 use Rattle.model_world.specs.Session.{Fid, Session}
-use Rattle.r9_around.specs.declared.wrote.Told.{Told}
-use Rattle.r9_around.specs.Words.{AreTold, Tells}
+use Rattle.r9_files.specs.declared.around.wrote.Told.{Told}
+use Rattle.r9_files.specs.around.Words.{AreTold, Tells}
 
 -- a write of the fid, with the mark with which it stands in the history: where the fid stands for a `data` file
 abbrev pub IsToldWrite : {S : Type 0} → Tells S → Session → S → (number : ℕ) → List ℕ → (mark : Option ℕ) → (told : Option Told) → Type 0

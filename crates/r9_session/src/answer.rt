@@ -3,11 +3,11 @@
 ghost use Rattle.std.specs.Prelude.{◌≡◌, ◌<◌, ◌≤◌, ◌^◌, ◌==◌, ℕ, Option, None, Some, length, true, false, is_ok, IsSome, IfOk, IfSome, OnOk};
 ghost use Rattle.std.specs.List.{before_first};
 ghost use Rattle.std.specs.Option.{option_map};
-ghost use Rattle.model_wire.specs.Message.{tag_of_t, Rflush, Rversion};
-ghost use Rattle.model_wire.specs.Spelling.{FitsR, FitsT};
-ghost use Rattle.model_wire.specs.Reading.{message_of, tag_of};
+ghost use Rattle.model_files.specs.wire.Message.{tag_of_t, Rflush, Rversion};
+ghost use Rattle.model_files.specs.wire.Spelling.{FitsR, FitsT};
+ghost use Rattle.model_files.specs.wire.Reading.{message_of, tag_of};
 ghost use Rattle.model_world.specs.Answer.{Reads, answer, answer_to, answer_read, asks_for_9p, closed_by, is_version, read_or_not, replied, taking, version_answer};
-ghost use Rattle.model_draw.specs.Act.{no_memory};
+ghost use Rattle.model_draw.specs.draw.Act.{no_memory};
 ghost use Rattle.model_world.specs.Fids.{cleared};
 ghost use Rattle.model_world.specs.Refusal.{refusal, IsRefused};
 ghost use Rattle.model_world.specs.Cut.{IsCut, IsCutMessage, IsCutSpelled};
@@ -17,13 +17,13 @@ ghost use Rattle.r9_wire.specs.View.{r_of, t_of};
 ghost use Rattle.r9_session.specs.Answers.{IsBegun, IsNewTag, IsReach, IsReply, uses_file};
 ghost use Rattle.r9_session.specs.Clients.{left_of};
 ghost use Rattle.r9_session.specs.Telling.{IsToldOf, IsToldRead};
-ghost use Rattle.r9_around.specs.Words.{mark_after};
+ghost use Rattle.r9_files.specs.around.Words.{mark_after};
 
 use crate::session::{MAX_MSIZE, Session};
 use crate::taking::{Taking, tag_of as tag_in};
 use crate::writing::Answered;
-use r9_around::Outside;
-use r9_files::{
+use r9_files::around::Outside;
+use r9_files::files::{
     BAD_MESSAGE, Fault, MSIZE_TOO_SMALL, NO_AUTHENTICATION, PERMISSION_DENIED, VERSION_FIRST,
     refusal,
 };

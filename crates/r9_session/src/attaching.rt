@@ -9,9 +9,9 @@ ghost use Rattle.r9_session.specs.Answers.{IsFree, IsReach};
 
 use crate::session::Session;
 use crate::waking::place_fid;
-use r9_around::Outside;
 use r9_fids::{FidFault, LIMIT};
-use r9_files::{FID_IN_USE, Fault, Fid, NO_AUTHENTICATION, TOO_MANY_FIDS};
+use r9_files::around::Outside;
+use r9_files::files::{FID_IN_USE, Fault, Fid, NO_AUTHENTICATION, TOO_MANY_FIDS};
 use r9_tree::{Node, qid, read_attach, root_of};
 use r9_wire::{NO_FID, Rmsg};
 use std::alloc::Global;

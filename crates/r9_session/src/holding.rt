@@ -6,8 +6,8 @@ ghost use Rattle.model_world.specs.Fids.{is_kind, let_go, with_held};
 ghost use Rattle.r9_tree.specs.View.{node_of, IsNode};
 
 use crate::session::Session;
-use r9_around::Outside;
-use r9_files::{Fid, is_kind};
+use r9_files::around::Outside;
+use r9_files::files::{Fid, is_kind};
 use r9_tree::{Kind, Node};
 
 /// Whether a file is the `mouse` or the `consctl` of a window, and some fid has it open.

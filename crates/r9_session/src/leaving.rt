@@ -4,20 +4,20 @@
 ghost use Rattle.std.specs.Prelude.{◌≡◌, ◌≤◌, ◌==◌, ◌&&◌, [], ◌∷◌, filter, length, map, nat_le, not, IfOk, IsSome, OnOk};
 ghost use Rattle.std.specs.List.{fold, list_any, position_or_len};
 ghost use Rattle.std.specs.Map.{keys_of};
-ghost use Rattle.model_map.specs.Ascending.{Ascend};
+ghost use Rattle.model_text.specs.map.Ascending.{Ascend};
 ghost use Rattle.model_world.specs.Answer.{clunk_answer};
-ghost use Rattle.model_text.specs.Map.{lookup};
+ghost use Rattle.model_text.specs.text.Map.{lookup};
 ghost use Rattle.model_world.specs.Session as model;
 ghost use Rattle.model_world.specs.Fids.{cleared, has_root, is_kept, keeps, left_by, put};
-ghost use Rattle.model_wire.specs.Message.{R};
+ghost use Rattle.model_files.specs.wire.Message.{R};
 ghost use Rattle.r9_session.specs.Answers.{IsDone};
 ghost use Rattle.r9_session.specs.Clients.{MayLeave, left_of, without_fid};
 ghost use Rattle.r9_session.specs.Roots.{roots_of, without_fids};
 
 use crate::holding::let_go;
 use crate::session::Session;
-use r9_around::Outside;
-use r9_files::{Fault, Fid, UNKNOWN_FID};
+use r9_files::around::Outside;
+use r9_files::files::{Fault, Fid, UNKNOWN_FID};
 use r9_memory::Memory;
 use r9_text::Numbers;
 use std::alloc::Global;

@@ -2,8 +2,8 @@
 
 ghost use Rattle.std.specs.Prelude.{◌≡◌, ◌≤◌, ◌==◌, ◌&&◌, ◌↔◌, ℕ, Ok, true, false, not, is_ok, All, IsTrue, IfNone, IfSome, length};
 ghost use Rattle.std.specs.Option.{option_map};
-ghost use Rattle.model_text.specs.Map.{lookup};
-ghost use Rattle.model_wire.specs.Message.{no_fid};
+ghost use Rattle.model_text.specs.text.Map.{lookup};
+ghost use Rattle.model_files.specs.wire.Message.{no_fid};
 ghost use Rattle.model_world.specs.Answer.{Reads, taking};
 ghost use Rattle.model_world.specs.Fids.{is_bound, is_full};
 ghost use Rattle.r9_tree.specs.View.{node_of, most_connections, IsNode};
@@ -13,7 +13,7 @@ use crate::reading::reads;
 use crate::session::Session;
 use crate::taking::Taking;
 use crate::writing::writes;
-use r9_around::Outside;
+use r9_files::around::Outside;
 use r9_text::Numbers;
 use r9_tree::Node;
 use r9_wire::NO_FID;

@@ -2,9 +2,9 @@
 
 ghost use Rattle.std.specs.Prelude.{◌≡◌, ◌≤◌, ◌<◌, ◌==◌, ◌&&◌, ℕ, Some, IfOk, false};
 ghost use Rattle.std.specs.List.{list_any};
-ghost use Rattle.model_text.specs.Map.{lookup};
-ghost use Rattle.model_wire.specs.Spelling.{FitsR};
-ghost use Rattle.model_tree.specs.Node as model;
+ghost use Rattle.model_text.specs.text.Map.{lookup};
+ghost use Rattle.model_files.specs.wire.Spelling.{FitsR};
+ghost use Rattle.model_files.specs.tree.Node as model;
 ghost use Rattle.model_world.specs.Session.{Fid, fid_at};
 ghost use Rattle.model_world.specs.Fids.{with_fid, is_open_on};
 ghost use Rattle.model_world.specs.Sleeping.{has_place};
@@ -15,8 +15,8 @@ ghost use Rattle.r9_session.specs.Answers.{IsClosed, IsReach};
 
 use crate::holding::{hold, is_held};
 use crate::session::Session;
-use r9_around::Outside;
-use r9_files::{
+use r9_files::around::Outside;
+use r9_files::files::{
     FID_IS_OPEN, FILE_IN_USE, Fault, PERMISSION_DENIED, TOO_MANY_FIDS, UNKNOWN_FID, is_kind,
 };
 use r9_memory::Memory;
@@ -30,7 +30,7 @@ const MOST_AT_ONCE: usize = 4;
 const MOST_MADE: u32 = 67_108_863;
 
 /// The ctl of a connection, which an open of `new` becomes.
-#[tactic(auto, unfolding(model_tree::specs::Node::kind_numbered))]
+#[tactic(auto, unfolding(model_files::specs::tree::Node::kind_numbered))]
 fn ctl_of(node: &Node, connection: u32) -> Node
     requires { connection ≤ most_made }
     ensures ctl { node_of result ≡ ctl_of (node_of node.now) connection }

@@ -1,14 +1,14 @@
 //! Reading what is open (read(5)).
 
 ghost use Rattle.std.specs.Prelude.{◌≡◌, ◌≤◌, ◌+◌, ◌<◌, ◌^◌, length, max, false, Ok, IsTrue, IfOk, IfSome};
-ghost use Rattle.model_tree.specs.Node.{is_directory, reads};
-ghost use Rattle.model_tree.specs.Tree.{check_live};
-ghost use Rattle.model_tree.specs.Listing.{stats};
-ghost use Rattle.model_text.specs.Map.{lookup};
+ghost use Rattle.model_files.specs.tree.Node.{is_directory, reads};
+ghost use Rattle.model_files.specs.tree.Tree.{check_live};
+ghost use Rattle.model_files.specs.tree.Listing.{stats};
+ghost use Rattle.model_text.specs.text.Map.{lookup};
 ghost use Rattle.model_world.specs.Session.{Fid};
 ghost use Rattle.model_world.specs.Reading.{count_within, directory_read, file_read, node_read, read_answer};
 ghost use Rattle.model_world.specs.Waiting.{waits_for};
-ghost use Rattle.r9_access.specs.Reads.{HasClient};
+ghost use Rattle.r9_files.specs.access.Reads.{HasClient};
 ghost use Rattle.r9_tree.specs.View.{node_of, IsNode, IsView};
 ghost use Rattle.r9_tree.specs.View as tree;
 ghost use Rattle.r9_session.specs.Answers.{IsReadEnd};
@@ -17,9 +17,9 @@ ghost use Rattle.r9_session.specs.Reads.{IsListed, IsParked, IsReadOf};
 use crate::session::Session;
 use crate::wait::Wait;
 use crate::waking::place_read;
-use r9_access::read_file;
-use r9_around::Outside;
-use r9_files::{
+use r9_files::access::read_file;
+use r9_files::around::Outside;
+use r9_files::files::{
     FID_NOT_OPEN, Fault, PERMISSION_DENIED, TOO_MANY_BLOCKED_READS, UNKNOWN_FID, is_directory,
 };
 use r9_tags::ParkFault;

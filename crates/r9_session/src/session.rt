@@ -1,17 +1,17 @@
 //! What is kept of a session.
 
 ghost use Rattle.std.specs.Prelude.{◌≡◌, ◌==◌, ℕ, [], length, not, Ok, Err, IfErr, IfOk, OnOk};
-ghost use Rattle.model_draw.specs.World.{Opening, World};
-ghost use Rattle.model_tree.specs.Tree.{check_live};
+ghost use Rattle.model_draw.specs.draw.World.{Opening, World};
+ghost use Rattle.model_files.specs.tree.Tree.{check_live};
 ghost use Rattle.model_world.specs.Session.{fresh};
 ghost use Rattle.model_world.specs.Desktop.{first_desktop};
 ghost use Rattle.model_world.specs.Links.{IsLinked};
 ghost use Rattle.r9_tree.specs.View.{node_of, view_of, IsNode, IsView};
 
 use crate::wait::Wait;
-use r9_around::Outside;
 use r9_fids::FidTable;
-use r9_files::Fid;
+use r9_files::around::Outside;
+use r9_files::files::Fid;
 use r9_memory::Memory;
 use r9_tags::Waiting;
 use r9_text::Numbers;

@@ -1,7 +1,7 @@
 //! How the bytes of a message are taken, and which close their session (intro(5)).
 
 ghost use Rattle.std.specs.Prelude.{◌≡◌, ◌≤◌, length};
-ghost use Rattle.model_wire.specs.Reading.{tag_of};
+ghost use Rattle.model_files.specs.wire.Reading.{tag_of};
 ghost use Rattle.model_world.specs.Answer.{taking};
 ghost use Rattle.model_world.specs.Replay.{closing_tag};
 ghost use Rattle.r9_session.specs.Answers.{taking_of};

@@ -1,17 +1,17 @@
 //! Reads that wait, and what they get at last (read(5), flush(5), rio(4)).
 
 ghost use Rattle.std.specs.Prelude.{◌≡◌, ◌≤◌, ◌<◌, ◌+◌, length, max, take, drop, None, Some, IfOk, IfSome, IfNone, OnOk};
-ghost use Rattle.model_text.specs.Map.{lookup};
-ghost use Rattle.model_wire.specs.Spelling.{FitsR};
+ghost use Rattle.model_text.specs.text.Map.{lookup};
+ghost use Rattle.model_files.specs.wire.Spelling.{FitsR};
 ghost use Rattle.model_world.specs.Reading.{given_now};
 ghost use Rattle.model_world.specs.Waiting.{first_of, one_answered, wait_answer};
 ghost use Rattle.r9_wire.specs.View.{r_of};
 ghost use Rattle.r9_session.specs.Reads.{IsAwaited, IsFirst, IsGivenOf};
 
 use crate::session::Session;
-use r9_access::read_now;
-use r9_around::Outside;
-use r9_files::{Fault, UNKNOWN_FID, refusal};
+use r9_files::access::read_now;
+use r9_files::around::Outside;
+use r9_files::files::{Fault, UNKNOWN_FID, refusal};
 use r9_memory::Memory;
 use r9_text::Bytes;
 use r9_wire::Rmsg;

@@ -10,7 +10,7 @@ ghost use Rattle.r9_session.specs.Places.{is_awaited};
 
 use crate::session::Session;
 use crate::wait::Wait;
-use r9_files::is_kind;
+use r9_files::files::is_kind;
 use r9_memory::Memory;
 use r9_tags::Waiting;
 use r9_text::Numbers;

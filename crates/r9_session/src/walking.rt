@@ -1,23 +1,23 @@
 //! Walking and telling of files (walk(5), stat(5)).
 
 ghost use Rattle.std.specs.Prelude.{◌≡◌, ◌≢◌, ◌≤◌, ◌++◌, ℕ, List, false, length, map, IfOk, IfErr, OnOk, Ok, Err};
-ghost use Rattle.model_tree.specs.Node.{qid};
-ghost use Rattle.model_tree.specs.Node as model;
-ghost use Rattle.model_tree.specs.Tree.{walk};
+ghost use Rattle.model_files.specs.tree.Node.{qid};
+ghost use Rattle.model_files.specs.tree.Node as model;
+ghost use Rattle.model_files.specs.tree.Tree.{walk};
 ghost use Rattle.model_world.specs.Session.{fid_at};
 ghost use Rattle.model_world.specs.Fids.{with_fid, is_bound, is_full};
 ghost use Rattle.model_world.specs.Walking.{walk_answer, walk_ended, walked, last};
 ghost use Rattle.model_world.specs.Answer.{stat_answer, denied};
-ghost use Rattle.r9_around.specs.Words.{IfRefused};
-ghost use Rattle.model_wire.specs.Message.{Rstat};
+ghost use Rattle.r9_files.specs.around.Words.{IfRefused};
+ghost use Rattle.model_files.specs.wire.Message.{Rstat};
 ghost use Rattle.r9_tree.specs.View.{node_of, IsNode};
 ghost use Rattle.r9_wire.specs.View.{r_of, stat_of};
 ghost use Rattle.r9_session.specs.Answers.{IsAnswer, IsClosed};
 
 use crate::session::Session;
 use crate::waking::place_fid;
-use r9_around::Outside;
-use r9_files::{FID_IS_OPEN, Fault, Fid, PERMISSION_DENIED, UNKNOWN_FID};
+use r9_files::around::Outside;
+use r9_files::files::{FID_IS_OPEN, Fault, Fid, PERMISSION_DENIED, UNKNOWN_FID};
 use r9_memory::Memory;
 use r9_text::Bytes;
 use r9_tree::{Node, qid, stat, stat_without_view, walk, walk_without_view};
@@ -41,7 +41,7 @@ fn stat_reply(alloc: Global, tag: u16, stat: Stat) -> Result<Rmsg, Memory>
 
 impl Session {
     /// One step of a walk from a file. A view is asked for only where it tells of the next file.
-    #[tactic(auto, unfolding(model_tree::specs::Tree::walk))]
+    #[tactic(auto, unfolding(model_files::specs::tree::Tree::walk))]
     fn step<O: Outside>(&self, outside: &O, from: &Node, name: &[u8]) -> Result<Node, Fault>
         requires { IsNode from.now }
         ensures found { IfOk result (λ next. (number : ℕ) → walk ((O.outside number).view (O.state outside.now) self.now.connections (node_of from.now)) (node_of from.now) name.now ≡ Ok (node_of next)) }

@@ -2,19 +2,19 @@
 
 ghost use Rattle.std.specs.Prelude.{◌≡◌, ◌<◌, ◌^◌, length, IsSome, IfOk, IfSome};
 ghost use Rattle.std.specs.Option.{option_map};
-ghost use Rattle.model_draw.specs.Act.{no_memory};
-ghost use Rattle.model_tree.specs.Node.{writes};
+ghost use Rattle.model_draw.specs.draw.Act.{no_memory};
+ghost use Rattle.model_files.specs.tree.Node.{writes};
 ghost use Rattle.model_world.specs.Cut.{IsCutWrite};
 ghost use Rattle.model_world.specs.Refusal.{IsRefused};
 ghost use Rattle.model_world.specs.Writing.{write_answer};
 ghost use Rattle.r9_wire.specs.View.{r_of};
-ghost use Rattle.r9_around.specs.Words.{mark_after};
+ghost use Rattle.r9_files.specs.around.Words.{mark_after};
 ghost use Rattle.r9_session.specs.Telling.{IsToldWrite};
 
 use crate::session::Session;
-use r9_access::write_file;
-use r9_around::{Outside, Told};
-use r9_files::{FID_NOT_OPEN, Fault, PERMISSION_DENIED, UNKNOWN_FID, refusal};
+use r9_files::access::write_file;
+use r9_files::around::{Outside, Told};
+use r9_files::files::{FID_NOT_OPEN, Fault, PERMISSION_DENIED, UNKNOWN_FID, refusal};
 use r9_wire::Rmsg;
 use std::alloc::Global;
 

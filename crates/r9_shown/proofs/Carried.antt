@@ -10,7 +10,7 @@ use Rattle.r9_geom.proofs.GeometryLemmas.{bounds_of, holds_from, same_point}
 use Rattle.model_forest.specs.Steps.{carried_rect}
 use Rattle.model_forest.specs.World.{World, image_at, parent_of, IsLive}
 use Rattle.model_kept.specs.Keeping.{is_top, keeping, outward, own, IsStanding}
-use Rattle.r9_locate.proofs.Locating.{keeping-up}
+use Rattle.r9_locate.proofs.locate.Locating.{keeping-up}
 
 -- a rectangle with a point, all of which lies in one that is near
 pub near_part : (r s : Rect) (w : Point) → IsRectNear s → holds r w ≡ true → ((p : Point) → holds r p ≡ true → holds s p ≡ true) → IsRectNear r

@@ -13,9 +13,9 @@ use Rattle.model_forest.specs.declared.Window.{Window}
 use Rattle.model_forest.specs.View.{is_bare}
 use Rattle.model_forest.specs.World.{Image, World, image_at, parent_of, IsLive, IsWindowOf, SameSize}
 use Rattle.model_kept.specs.Keeping.{is_shown, is_top, keeping, outward, own, place_among, IsStanding, Place}
-use Rattle.r9_locate.specs.declared.lists.Frame.{Frame}
-use Rattle.r9_locate.specs.Lists.{frame_image}
-use Rattle.r9_locate.proofs.Locating.{keeping-up}
+use Rattle.r9_locate.specs.declared.locate.lists.Frame.{Frame}
+use Rattle.r9_locate.specs.locate.Lists.{frame_image}
+use Rattle.r9_locate.proofs.locate.Locating.{keeping-up}
 use Rattle.r9_shown.specs.Shown.{block, down, IsKeptBelow}
 use Rattle.r9_plane.specs.Pixels.{along}
 use Rattle.r9_shown.proofs.Pieces.{first_row, stands_in}

@@ -7,7 +7,7 @@ use Rattle.r9_geom.specs.Geometry.{carried, holds, IsRectNear}
 use Rattle.model_forest.specs.World.{World, image_at, parent_of, IsLive}
 use Rattle.model_kept.specs.Keeping.{is_shown, keeping, keeping_within, outward, own, IsStanding, Place}
 use Rattle.model_kept.proofs.Storing.{keeping-inside, step_of}
-use Rattle.r9_locate.specs.Lists.{IsNearby}
+use Rattle.r9_locate.specs.locate.Lists.{IsNearby}
 use Rattle.r9_shown.specs.Shown.{block}
 use Rattle.r9_shown.proofs.Carried.{carried-self, near_part}
 use Rattle.r9_shown.proofs.Keepers.{block_carried, carried_through}

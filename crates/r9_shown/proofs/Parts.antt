@@ -8,9 +8,9 @@ use Rattle.r9_geom.proofs.GeometryLemmas.{same_point}
 use Rattle.model_forest.specs.World.{World, image_at, IsLive}
 use Rattle.model_kept.specs.Keeping.{keeping, own, IsStanding, Place}
 use Rattle.r9_plane.specs.Pixels.{along}
-use Rattle.r9_locate.specs.Forms.{bits_in, Form, HasBits}
-use Rattle.r9_locate.specs.Lists.{IsNearby}
-use Rattle.r9_locate.proofs.Apart.{keeping-bits, keeping-injective}
+use Rattle.r9_locate.specs.locate.Forms.{bits_in, Form, HasBits}
+use Rattle.r9_locate.specs.locate.Lists.{IsNearby}
+use Rattle.r9_locate.proofs.locate.Apart.{keeping-bits, keeping-injective}
 use Rattle.r9_shown.specs.declared.blocks.Block.{Block}
 use Rattle.r9_shown.specs.declared.viewing.Band.{Band}
 use Rattle.r9_shown.specs.Blocks.{IsBand, IsKeptFrom}

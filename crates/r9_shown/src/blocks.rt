@@ -9,14 +9,14 @@ ghost use Rattle.model_forest.specs.declared.Window.{Window as Listed};
 ghost use Rattle.model_forest.specs.View.{is_bare, top_window};
 ghost use Rattle.model_forest.specs.World.{image_at, IsLive};
 ghost use Rattle.model_kept.specs.Keeping.{keeping, own};
-ghost use Rattle.r9_locate.specs.Table.{shape};
+ghost use Rattle.r9_locate.specs.locate.Table.{shape};
 ghost use Rattle.r9_shown.specs.Blocks.{IsKeptFrom};
 ghost use Rattle.r9_shown.specs.Shown as spec;
 ghost use Rattle.r9_shown.specs.Shown.{IsEnd, IsKeptBelow};
 
 use model_forest::Window;
 use r9_geom::{Point, Rect, distance};
-use r9_locate::{Frame, Lists, along};
+use r9_locate::locate::{Frame, Lists, along};
 
 /// So many columns and rows, from a point on.
 #[derive(Clone, Copy)]

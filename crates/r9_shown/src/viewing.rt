@@ -7,8 +7,8 @@ ghost use Rattle.r9_plane.specs.Blocks.{number_in, HasRows};
 ghost use Rattle.r9_plane.specs.Pixels.{number_of};
 ghost use Rattle.model_forest.specs.World.{image_at, parent_of, IsLive};
 ghost use Rattle.model_kept.specs.Keeping.{keeping, own, Place};
-ghost use Rattle.r9_locate.specs.Forms.{bits_in, HasBits};
-ghost use Rattle.r9_locate.specs.Table.{shape};
+ghost use Rattle.r9_locate.specs.locate.Forms.{bits_in, HasBits};
+ghost use Rattle.r9_locate.specs.locate.Table.{shape};
 ghost use Rattle.r9_shown.specs.Shown as spec;
 ghost use Rattle.r9_shown.specs.Blocks.{IsBand, IsKeptFrom};
 ghost use Rattle.r9_shown.specs.Shown.{IsKeptBelow};
@@ -16,8 +16,8 @@ ghost use Rattle.r9_shown.specs.Shown.{IsKeptBelow};
 use super::bands::{beyond, block};
 use super::blocks::{Block, Extent, block_of, last_block};
 use r9_geom::{Point, Rect};
-use r9_locate::{Lists, Pixels};
-use r9_steps::Steps;
+use r9_locate::locate::{Lists, Pixels};
+use r9_marks::steps::Steps;
 use std::sync::ledger::Ledger;
 
 // The points where a block is kept.

@@ -10,9 +10,9 @@ ghost use Rattle.r9_plane.specs.Pixels.{along, chan_of, pixel_at, rect_of};
 ghost use Rattle.r9_store.specs.Tiles.{cell, held, is_held, pixel, place_of, spare};
 
 use r9_geom::{Point, Rect, distance};
+use r9_marks::steps::Steps;
 use r9_memory::Memory;
 use r9_plane::{Plane, copy_rows, count_points, fill_rows};
-use r9_steps::Steps;
 use std::alloc::Global;
 use std::marker::Model;
 use std::sync::ledger::Ledger;

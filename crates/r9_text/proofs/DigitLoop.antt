@@ -3,7 +3,7 @@ use Rattle.std.proofs.Common.{◌≡◌, ℕ, suc, ◌+◌, ◌-◌, ◌*◌, �
 use Rattle.std.proofs.Math.Nat.{pow-le-pow_right, pow-suc}
 use Rattle.std.specs.List.{fold}
 use Rattle.std.specs.Str.{all_ascii_digits}
-use Rattle.model_text.specs.Field.{value}
+use Rattle.model_text.specs.text.Field.{value}
 
 -- what the digits before a place spell, and what those behind it make of it
 pub record IsSoFar (word : List ℕ) (at number : ℕ) : Type 0 where

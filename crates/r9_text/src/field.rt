@@ -2,13 +2,13 @@
 
 ghost use Rattle.std.specs.Prelude.{◌≡◌, ◌==◌, ◌≤◌, ◌<◌, ◌^◌, ◌++◌, ◌≤ℤ◌, pos, neg_ℤ, length, drop, Some, None, if◌then◌else◌, IfSome, OnOk, OnErr};
 ghost use Rattle.std.specs.List.{prefix_len};
-ghost use Rattle.model_text.specs.Field.{field, number_field, value, is_digits, number, integer, read_field};
+ghost use Rattle.model_text.specs.text.Field.{field, number_field, value, is_digits, number, integer, read_field};
 
 use crate::Bytes;
 use r9_memory::Memory;
 
 /// Adds a word at the end, with blanks before it that make it 11 wide, and a blank behind it.
-#[tactic(auto, unfolding(model_text::specs::Field::field))]
+#[tactic(auto, unfolding(model_text::specs::text::Field::field))]
 pub fn push_word(out: &mut Bytes, w: &[u8]) -> Result<(), Memory>
     requires { length w.now ≤ 11 }
     ensures ok { OnOk result (out.new ≡ out.old ++ field w.now) }
@@ -94,7 +94,7 @@ fn blanks(text: &[u8]) -> usize
 }
 
 /// The number in the 12 bytes at a place: blanks, an optional minus, digits, and one blank. None exactly where they are no such.
-#[tactic(auto, unfolding(model_text::specs::Field::read_field))]
+#[tactic(auto, unfolding(model_text::specs::text::Field::read_field))]
 pub fn read_field(text: &[u8], at: usize) -> Option<i64>
     ensures { result ≡ read_field (drop at text.now) }
 {

@@ -2,7 +2,7 @@
 
 ghost use Rattle.std.specs.Prelude.{◌≡◌, ◌≤◌, ◌<◌, not, length, drop, IfSome};
 ghost use Rattle.std.specs.List.{prefix_len};
-ghost use Rattle.model_text.specs.Word.{is_blank, next_word};
+ghost use Rattle.model_text.specs.text.Word.{is_blank, next_word};
 
 fn is_blank(byte: u8) -> bool
     ensures { result ≡ is_blank byte }
@@ -28,7 +28,7 @@ fn letters(text: &[u8]) -> usize
 
 /// Where the first word begins and ends, none of it before a place: a run of bytes that are no blank or tab.
 /// None exactly where there is none.
-#[tactic(auto, unfolding(model_text::specs::Word::next_word))]
+#[tactic(auto, unfolding(model_text::specs::text::Word::next_word))]
 pub fn next_word(text: &[u8], at: usize) -> Option<(usize, usize)>
     ensures word { result ≡ next_word text.now at }
     ensures within { IfSome result (λ w. (at ≤ w.0) × (w.0 < w.1) × (w.1 ≤ length text.now)) }

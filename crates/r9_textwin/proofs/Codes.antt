@@ -3,7 +3,7 @@ use Rattle.std.proofs.Common.{◌≡◌, ℕ, ◌<◌, ◌==◌, Bool, true, fal
 use Rattle.std.specs.Prelude.{◌-◌, ◌&&◌, nat_le, not, filter, map, All}
 use Rattle.std.proofs.lemmas.Bool.{leb-true}
 use Rattle.std.proofs.lemmas.List.Elements.{All-cons, All-nil}
-use Rattle.model_textwin.specs.Wrap.{characters, code_of}
+use Rattle.model_client.specs.textwin.Wrap.{characters, code_of}
 
 code_below : (byte : ℕ) → code_of byte < 95
 code_below byte = by (nat_le 0x20 byte) (nat_le byte 0x7E) refl

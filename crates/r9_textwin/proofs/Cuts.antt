@@ -4,7 +4,7 @@ use Rattle.std.proofs.lemmas.Bool.{cases_lt, lt-ltb, le-leb, lt-leb}
 use Rattle.std.proofs.lemmas.List.{take_all, drop_all}
 use Rattle.std.specs.Prelude.{◌||◌, Option, Some, None, nat_lt, position, unwrap_or}
 use Rattle.std.specs.List.{position_or_len}
-use Rattle.model_textwin.specs.Pieces.{cut, pieces}
+use Rattle.model_client.specs.textwin.Pieces.{cut, pieces}
 
 -- where the first newline stands
 abbrev line_len : List ℕ → ℕ

@@ -10,10 +10,10 @@ use Rattle.std.specs.Prelude.{slice_get, Option, Some, None, map, not, All}
 use Rattle.std.specs.Option.{option_and_then}
 use Rattle.std.specs.List.{fold, filter, list_all}
 use Rattle.std.proofs.lemmas.List.Concat.{flat_map-append}
-use Rattle.model_textwin.specs.declared.Move.TheVariants.{Scroll, Put}
-use Rattle.model_textwin.specs.Wrap.{Page, rows, new_row, longer, with_byte, wrapped, code_of, characters}
-use Rattle.model_textwin.specs.Moves.{screen, moved, all_moved, put_at, codes_of, put_codes}
-use Rattle.model_textwin.specs.declared.Move.{Move}
+use Rattle.model_client.specs.declared.textwin.Move.TheVariants.{Scroll, Put}
+use Rattle.model_client.specs.textwin.Wrap.{Page, rows, new_row, longer, with_byte, wrapped, code_of, characters}
+use Rattle.model_client.specs.textwin.Moves.{screen, moved, all_moved, put_at, codes_of, put_codes}
+use Rattle.model_client.specs.declared.textwin.Move.{Move}
 use Rattle.r9_textwin.proofs.Lines.{IsLine}
 use Rattle.r9_textwin.specs.Window.{Spot, IsSpot, IsBehind, IsWithin}
 use Rattle.r9_textwin.specs.Steps.{Brings, put_moves, put_place, room_moves, room_place, row_moves, row_place}

@@ -1,10 +1,10 @@
 -- The moves of a piece, from the place where the next character goes.
 use Rattle.std.specs.Prelude.{◌≡◌, ◌≤◌, ℕ, ◌+◌, ◌*◌, ◌==◌, not, nat_lt, List, [], ◌∷◌, length, take, All, Some, if◌then◌else◌}
 use Rattle.std.specs.List.{take_while}
-use Rattle.model_textwin.specs.declared.Move.{Move}
-use Rattle.model_textwin.specs.declared.Move.TheVariants.{Scroll, Put}
-use Rattle.model_textwin.specs.Moves.{all_moved, put_codes, screen}
-use Rattle.model_textwin.specs.Wrap.{Page, characters, wrapped}
+use Rattle.model_client.specs.declared.textwin.Move.{Move}
+use Rattle.model_client.specs.declared.textwin.Move.TheVariants.{Scroll, Put}
+use Rattle.model_client.specs.textwin.Moves.{all_moved, put_codes, screen}
+use Rattle.model_client.specs.textwin.Wrap.{Page, characters, wrapped}
 use Rattle.r9_textwin.specs.Window.{IsBehind, IsSpot, IsWithin, Spot}
 
 -- a new row

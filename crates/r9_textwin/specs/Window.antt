@@ -1,8 +1,8 @@
 -- A window of text: its sides, and where the next character goes.
 use Rattle.std.specs.Prelude.{◌≡◌, ℕ, ◌+◌, ◌-◌, ◌*◌, ◌^◌, ◌<◌, ◌≤◌, min, length}
-use Rattle.model_textwin.specs.Wrap.{Page}
-use Rattle.model_textwin.specs.declared.Move.{Move}
-use Rattle.model_textwin.specs.declared.Move.TheVariants.{Scroll, Put}
+use Rattle.model_client.specs.textwin.Wrap.{Page}
+use Rattle.model_client.specs.declared.textwin.Move.{Move}
+use Rattle.model_client.specs.declared.textwin.Move.TheVariants.{Scroll, Put}
 
 -- a window's columns and rows, and where in it the next character goes
 pub record Spot : Type 0 where

@@ -7,7 +7,7 @@ mod piece;
 mod place;
 mod window;
 
-pub use model_textwin::Move;
+pub use model_client::textwin::Move;
 pub use moves::Moves;
 pub use piece::first_piece;
 pub use window::TextWin;

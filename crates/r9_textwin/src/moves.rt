@@ -2,7 +2,7 @@
 
 ghost use Rattle.std.specs.Prelude.{◌≡◌, [], ◌∷◌, ◌++◌, OnOk};
 
-use model_textwin::Move;
+use model_client::textwin::Move;
 use r9_memory::Memory;
 use std::alloc::Global;
 use std::marker::Model;
@@ -15,7 +15,7 @@ pub struct Moves {
 
 impl Model for Moves {
     ghost use Rattle.std.specs.Prelude.{List};
-    ghost use Rattle.model_textwin.specs.declared.Move.{Move};
+    ghost use Rattle.model_client.specs.declared.textwin.Move.{Move};
 
     ghost Value = { List Move };
 

@@ -1,7 +1,7 @@
 //! The pieces that a text is cut into.
 
 ghost use Rattle.std.specs.Prelude.{◌≡◌, ◌∷◌, ◌++◌, ◌<◌, ◌≤◌, ◌==◌, length, drop, position, IfSome};
-ghost use Rattle.model_textwin.specs.Pieces.{pieces};
+ghost use Rattle.model_client.specs.textwin.Pieces.{pieces};
 
 /// How many bytes a piece has at most.
 const LONGEST: usize = 100;

@@ -2,11 +2,11 @@
 
 ghost use Rattle.std.specs.Prelude.{◌≡◌, ◌<◌, ◌≤◌, ◌+◌, ◌++◌, ◌==◌, ℕ, List, length, map, not, take, IfOk, OnOk};
 ghost use Rattle.std.specs.List.{prefix_len};
-ghost use Rattle.model_textwin.specs.Wrap.{code_of};
+ghost use Rattle.model_client.specs.textwin.Wrap.{code_of};
 ghost use Rattle.r9_textwin.specs.Steps.{Brings, put_moves, put_place, room_moves, room_place, row_moves, row_place, run};
 
 use crate::moves::Moves;
-use model_textwin::Move;
+use model_client::textwin::Move;
 use r9_memory::Memory;
 use r9_text::Bytes;
 use std::alloc::Global;

@@ -1,9 +1,9 @@
 //! A window of text.
 
 ghost use Rattle.std.specs.Prelude.{◌≡◌, ◌*◌, ◌^◌, ◌<◌, ◌≤◌, length, pos, All, Some, IfOk, OnOk, OnErr};
-ghost use Rattle.model_textwin.specs.Wrap.{Page, blank, characters, wrapped};
-ghost use Rattle.model_textwin.specs.Moves.{screen, all_moved, put_codes};
-ghost use Rattle.model_textwin.specs.Layout as layout;
+ghost use Rattle.model_client.specs.textwin.Wrap.{Page, blank, characters, wrapped};
+ghost use Rattle.model_client.specs.textwin.Moves.{screen, all_moved, put_codes};
+ghost use Rattle.model_client.specs.textwin.Layout as layout;
 ghost use Rattle.r9_textwin.specs.Window.{IsSpot, IsWithin, SameSides, Stands};
 ghost use Rattle.r9_textwin.specs.Steps.{Brings};
 

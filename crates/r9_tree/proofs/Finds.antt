@@ -7,11 +7,11 @@ use Rattle.std.specs.Str.{bytes_eq}
 use Rattle.std.specs.List.{find, All}
 use Rattle.std.specs.Map.{lookup}
 use Rattle.std.specs.Option.{option_map, option_or}
-use Rattle.model_text.specs.Outcome.{Outcome, ◌>>=◌, refuse_if, value_or_refuse}
-use Rattle.model_tree.specs.declared.Kind.{Kind}
-use Rattle.model_tree.specs.declared.Kind.TheVariants.{Draw, Wsys}
-use Rattle.model_tree.specs.Node.{Node, row, is_directory}
-use Rattle.model_tree.specs.Tree.{View, kinds_in, numbered_in, placed, connection_at, window_at, files, above, check_live, walk}
+use Rattle.model_text.specs.text.Outcome.{Outcome, ◌>>=◌, refuse_if, value_or_refuse}
+use Rattle.model_files.specs.declared.tree.Kind.{Kind}
+use Rattle.model_files.specs.declared.tree.Kind.TheVariants.{Draw, Wsys}
+use Rattle.model_files.specs.tree.Node.{Node, row, is_directory}
+use Rattle.model_files.specs.tree.Tree.{View, kinds_in, numbered_in, placed, connection_at, window_at, files, above, check_live, walk}
 use Rattle.r9_tree.specs.declared.node.Node as code
 use Rattle.r9_tree.specs.View.{node_of}
 

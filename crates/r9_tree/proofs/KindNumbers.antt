@@ -1,10 +1,10 @@
 -- A kind is found by its number.
 use Rattle.std.proofs.Common.{◌≡◌, ◌<◌, ◌&&◌, ℕ, nat_le, refl}
 use Rattle.std.proofs.lemmas.Bool.{agree_below_at}
-use Rattle.model_tree.specs.declared.Kind.{Kind}
-use Rattle.model_tree.specs.declared.Kind.TheVariants.{Device, Draw, New, Connection, Ctl, Data, Refresh, Mousein, Kbdin, Screen, Snarf, DeviceWctl, Wsys, Window, Cons, Consctl, Label, Mouse, Text, Wctl, Winid, Winname, Picture, Listed, Hwsize}
-use Rattle.model_tree.specs.Node.{row, kind_numbered}
-use Rattle.model_tree.specs.Tree.{is_of_connection}
+use Rattle.model_files.specs.declared.tree.Kind.{Kind}
+use Rattle.model_files.specs.declared.tree.Kind.TheVariants.{Device, Draw, New, Connection, Ctl, Data, Refresh, Mousein, Kbdin, Screen, Snarf, DeviceWctl, Wsys, Window, Cons, Consctl, Label, Mouse, Text, Wctl, Winid, Winname, Picture, Listed, Hwsize}
+use Rattle.model_files.specs.tree.Node.{row, kind_numbered}
+use Rattle.model_files.specs.tree.Tree.{is_of_connection}
 
 pub kind_numbered_number : (kind : Kind) → kind_numbered (row kind).number ≡ kind
 unfolding kind_numbered row

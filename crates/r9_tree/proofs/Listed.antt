@@ -4,12 +4,12 @@ use mathlib.Core.List.{append_assoc}
 use Rattle.std.specs.List.{concat, flat_map, zip, slice_index_or}
 use Rattle.std.specs.Fmt.{decimal}
 use Rattle.std.proofs.lemmas.List.Concat.{flat_map-cons}
-use Rattle.model_wire.specs.Spelling.{stat_bytes}
-use Rattle.model_tree.specs.declared.Kind.{Kind}
-use Rattle.model_tree.specs.declared.Kind.TheVariants.{Draw, Wsys}
-use Rattle.model_tree.specs.Node.{Node, row}
-use Rattle.model_tree.specs.Tree.{View, kinds_in, numbered_in, placed, connection_at, window_at, files, stat_named}
-use Rattle.model_tree.specs.Listing.{stats, listing}
+use Rattle.model_files.specs.wire.Spelling.{stat_bytes}
+use Rattle.model_files.specs.declared.tree.Kind.{Kind}
+use Rattle.model_files.specs.declared.tree.Kind.TheVariants.{Draw, Wsys}
+use Rattle.model_files.specs.tree.Node.{Node, row}
+use Rattle.model_files.specs.tree.Tree.{View, kinds_in, numbered_in, placed, connection_at, window_at, files, stat_named}
+use Rattle.model_files.specs.tree.Listing.{stats, listing}
 use Rattle.r9_tree.specs.Stats.{kind_stat, numbered_stat, connection_stat, window_stat}
 
 pub flat_map_map : {X Y : Type 0} (f : Y → List ℕ) (g : X → Y) (xs : List X) → flat_map f (map g xs) ≡ flat_map (λ x. f (g x)) xs

@@ -7,12 +7,12 @@ use Rattle.std.specs.Fmt.{decimal}
 use Rattle.std.specs.Str.{IsUtf8, all_scalars, encode_utf8_all}
 use Rattle.std.proofs.lemmas.Str.{IsUtf8-from_ascii}
 use Rattle.std.proofs.lemmas.Fmt.{IsAscii-decimal, length-decimal-le}
-use Rattle.model_wire.specs.Message as model
-use Rattle.model_wire.specs.Spelling.{FitsStat, stat_body, stat_bytes, sized, qid_bytes}
-use Rattle.model_tree.specs.declared.Kind.{Kind}
-use Rattle.model_tree.specs.declared.Kind.TheVariants.{Device, Draw, New, Connection, Ctl, Data, Refresh, Mousein, Kbdin, Screen, Snarf, DeviceWctl, Wsys, Window, Cons, Consctl, Label, Mouse, Text, Wctl, Winid, Winname, Picture, Listed, Hwsize}
-use Rattle.model_tree.specs.Node.{Node, row}
-use Rattle.model_tree.specs.Tree.{stat_named}
+use Rattle.model_files.specs.wire.Message as model
+use Rattle.model_files.specs.wire.Spelling.{FitsStat, stat_body, stat_bytes, sized, qid_bytes}
+use Rattle.model_files.specs.declared.tree.Kind.{Kind}
+use Rattle.model_files.specs.declared.tree.Kind.TheVariants.{Device, Draw, New, Connection, Ctl, Data, Refresh, Mousein, Kbdin, Screen, Snarf, DeviceWctl, Wsys, Window, Cons, Consctl, Label, Mouse, Text, Wctl, Winid, Winname, Picture, Listed, Hwsize}
+use Rattle.model_files.specs.tree.Node.{Node, row}
+use Rattle.model_files.specs.tree.Tree.{stat_named}
 use Rattle.r9_tree.specs.View.{IsName}
 
 -- a text of the characters that stand for themselves

@@ -1,8 +1,8 @@
 -- The file of a kind in a directory, by its fields.
 use Rattle.std.proofs.Common.{◌≡◌, refl}
-use Rattle.model_tree.specs.declared.Kind.{Kind}
-use Rattle.model_tree.specs.Node.{Node, Owner, OfSession, OfConnection, OfRio, OfWindow}
-use Rattle.model_tree.specs.Tree.{View, owned}
+use Rattle.model_files.specs.declared.tree.Kind.{Kind}
+use Rattle.model_files.specs.tree.Node.{Node, Owner, OfSession, OfConnection, OfRio, OfWindow}
+use Rattle.model_files.specs.tree.Tree.{View, owned}
 
 pub owned_is : (view : View) (node : Node) (kind : Kind) (owner : Owner)
     → owned view node kind owner ≡ record {

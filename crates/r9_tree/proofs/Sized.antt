@@ -3,11 +3,11 @@ use Rattle.std.proofs.Common.{◌≡◌, refl, ◌+◌, ◌/◌, ◌%◌, ◌≤
 use Rattle.std.specs.List.{All, AllByRecursion}
 use Rattle.std.specs.Fmt.{decimal, digits, digits_onto, digit_glyph}
 use Rattle.std.proofs.lemmas.List.Elements.{All-from_recursion}
-use Rattle.model_wire.specs.Spelling.{stat_bytes, stat_body, sized}
-use Rattle.model_tree.specs.declared.Kind.{Kind}
-use Rattle.model_tree.specs.Node.{Node, row}
-use Rattle.model_tree.specs.Tree.{View, kinds_in, numbered_in, placed, files, stat_named}
-use Rattle.model_tree.specs.Listing.{stats, IsSized, first_length}
+use Rattle.model_files.specs.wire.Spelling.{stat_bytes, stat_body, sized}
+use Rattle.model_files.specs.declared.tree.Kind.{Kind}
+use Rattle.model_files.specs.tree.Node.{Node, row}
+use Rattle.model_files.specs.tree.Tree.{View, kinds_in, numbered_in, placed, files, stat_named}
+use Rattle.model_files.specs.tree.Listing.{stats, IsSized, first_length}
 use Rattle.r9_tree.proofs.Named.{row_is_named, length_of_stat}
 
 digits_short : (k n : ℕ) (acc : List ℕ) → length (digits_onto k 10 false n acc) ≤ k + length acc

@@ -1,5 +1,5 @@
 -- Attach names as read by the code, as those of the definition.
-use Rattle.model_tree.specs.Attach as model
+use Rattle.model_files.specs.tree.Attach as model
 use Rattle.r9_tree.specs.declared.attach.Attach.{Attach}
 use Rattle.r9_tree.specs.declared.attach.Attach.TheVariants as code
 

@@ -1,10 +1,10 @@
 -- The bytes of the stats of a directory's files, one by one.
 use Rattle.std.specs.Prelude.{ℕ, List}
 use Rattle.std.specs.Fmt.{decimal}
-use Rattle.model_wire.specs.Spelling.{stat_bytes}
-use Rattle.model_tree.specs.declared.Kind.{Kind}
-use Rattle.model_tree.specs.Node.{Node, row}
-use Rattle.model_tree.specs.Tree.{View, placed, connection_at, window_at, stat_named}
+use Rattle.model_files.specs.wire.Spelling.{stat_bytes}
+use Rattle.model_files.specs.declared.tree.Kind.{Kind}
+use Rattle.model_files.specs.tree.Node.{Node, row}
+use Rattle.model_files.specs.tree.Tree.{View, placed, connection_at, window_at, stat_named}
 
 unfoldable pub kind_stat : View → Node → Kind → List ℕ
 kind_stat view node kind = stat_bytes (stat_named (row kind).name (placed view node kind))

@@ -4,8 +4,8 @@ use Rattle.std.specs.List.{All, zip}
 use Rattle.std.specs.Str.{IsUtf8}
 use Rattle.r9_tree.specs.declared.node.Node.{Node}
 use Rattle.r9_tree.specs.declared.node.TreeView.{TreeView}
-use Rattle.model_tree.specs.Node as model
-use Rattle.model_tree.specs.Tree.{View}
+use Rattle.model_files.specs.tree.Node as model
+use Rattle.model_files.specs.tree.Tree.{View}
 
 -- the number of a kind of file
 abbrev pub IsKind : ℕ → Type 0

@@ -2,13 +2,13 @@
 
 ghost use Rattle.std.specs.Prelude.{◌≡◌, ◌≤◌, ◌==◌, ◌++◌, not, length, drop, codes, IfOk};
 ghost use Rattle.std.specs.List.{prefix_len};
-ghost use Rattle.model_wctl.specs.Words.{path};
-ghost use Rattle.model_tree.specs.Attach.{attach_of, existing, fresh};
+ghost use Rattle.model_files.specs.wctl.Words.{path};
+ghost use Rattle.model_files.specs.tree.Attach.{attach_of, existing, fresh};
 ghost use Rattle.r9_tree.specs.Attached.{attach_of_code};
 
 use r9_memory::Memory;
 use r9_text::{Bytes, Numbers};
-use r9_wctl::read_path;
+use r9_wctl::wctl::read_path;
 use std::alloc::Global;
 
 /// What the name of an attach asks for.
@@ -79,7 +79,7 @@ fn existing(alloc: Global, name: &[u8]) -> Result<Attach, Memory>
 /// What the name of an attach asks for. The empty name is the device tree's; `new`, or the path of a window and `/new`,
 /// alone or followed by a blank and options, asks for a new window; a path is that of a window. Any other name is
 /// Unknown. Whether there are such windows, and what the options say, is not looked at.
-#[tactic(auto, unfolding(model_tree::specs::Attach::attach_of))]
+#[tactic(auto, unfolding(model_files::specs::tree::Attach::attach_of))]
 pub fn read_attach(alloc: Global, name: &[u8]) -> Result<Attach, Memory>
     ensures { IfOk result (λ attach. attach_of_code attach ≡ attach_of name.now) }
 {

@@ -3,9 +3,9 @@
 
 ghost use Rattle.std.specs.Prelude.{◌≡◌, ◌++◌, List, ℕ, length};
 ghost use Rattle.std.specs.List.{All};
-ghost use Rattle.model_tree.specs.Node.{Node as ModelNode};
-ghost use Rattle.model_tree.specs.Tree.{View as ModelView};
-ghost use Rattle.model_tree.specs.Listing.{stats, IsSized, first_length};
+ghost use Rattle.model_files.specs.tree.Node.{Node as ModelNode};
+ghost use Rattle.model_files.specs.tree.Tree.{View as ModelView};
+ghost use Rattle.model_files.specs.tree.Listing.{stats, IsSized, first_length};
 
 mod attach;
 mod node;
@@ -14,7 +14,7 @@ mod stats;
 mod walking;
 
 pub use attach::{Attach, read_attach};
-pub use model_tree::Kind;
+pub use model_files::tree::Kind;
 pub use node::{Node, TreeView};
 pub use rows::{kind_of, may, qid};
 pub use stats::{listing, stat, stat_without_view};

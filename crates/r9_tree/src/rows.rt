@@ -1,19 +1,19 @@
 //! What is fixed of each kind of file.
 
 ghost use Rattle.std.specs.Prelude.{◌≡◌, ◌≤◌, ◌==◌, ◌<◌, ◌^◌, IsTrue};
-ghost use Rattle.model_tree.specs.Node.{row, kind_numbered, is_directory_kind, qid, may};
+ghost use Rattle.model_files.specs.tree.Node.{row, kind_numbered, is_directory_kind, qid, may};
 ghost use Rattle.r9_tree.specs.View.{node_of, IsNode, IsKind};
 ghost use Rattle.r9_wire.specs.Qid.{qid_of};
 
 use crate::Node;
-use model_tree::Kind;
+use model_files::tree::Kind;
 use r9_wire::Qid;
 
 /// The permissions of a directory: it may be read by all, and not written.
 const DIRECTORY: u32 = 0x8000_016d;
 
 /// The kind of a number from 1 to 25.
-#[tactic(auto, unfolding(model_tree::specs::Node::kind_numbered))]
+#[tactic(auto, unfolding(model_files::specs::tree::Node::kind_numbered))]
 pub fn kind_of(number: u8) -> Kind
     requires { IsKind number }
     ensures { result ≡ kind_numbered number }
@@ -49,7 +49,7 @@ pub fn kind_of(number: u8) -> Kind
 }
 
 /// The number of a kind, from 1 to 25.
-#[tactic(auto, unfolding(model_tree::specs::Node::row))]
+#[tactic(auto, unfolding(model_files::specs::tree::Node::row))]
 pub(crate) fn number_of(kind: Kind) -> u8
     ensures number { result ≡ (row kind).number }
     ensures range { IsKind result }
@@ -57,7 +57,7 @@ pub(crate) fn number_of(kind: Kind) -> u8
     kind as u8 + 1
 }
 
-#[tactic(auto, unfolding(model_tree::specs::Node::row))]
+#[tactic(auto, unfolding(model_files::specs::tree::Node::row))]
 pub(crate) fn name_of(kind: Kind) -> &'static [u8]
     ensures { result.now ≡ (row kind).name }
 {
@@ -87,7 +87,7 @@ pub(crate) fn name_of(kind: Kind) -> &'static [u8]
     }
 }
 
-#[tactic(auto, unfolding(model_tree::specs::Node::row))]
+#[tactic(auto, unfolding(model_files::specs::tree::Node::row))]
 pub(crate) fn mode_of(kind: Kind) -> u32
     ensures { result ≡ (row kind).mode }
 {
@@ -116,7 +116,7 @@ pub(crate) fn is_directory(kind: Kind) -> bool
 }
 
 /// What the server calls a file.
-#[tactic(auto, unfolding(model_tree::specs::Node::row, model_tree::specs::Node::qid))]
+#[tactic(auto, unfolding(model_files::specs::tree::Node::row, model_files::specs::tree::Node::qid))]
 pub fn qid(node: &Node) -> Qid
     requires { IsNode node.now }
     ensures { qid_of result ≡ qid (node_of node.now) }
@@ -133,7 +133,7 @@ pub fn qid(node: &Node) -> Qid
 
 /// Whether the permissions of a file let it be opened so: mode is 0 to read, 1 to write, 2 for both, and 16 beside it has
 /// no meaning; any other mode is refused (open(5)).
-#[tactic(auto, unfolding(model_tree::specs::Node::row, model_tree::specs::Node::may))]
+#[tactic(auto, unfolding(model_files::specs::tree::Node::row, model_files::specs::tree::Node::may))]
 pub fn may(node: &Node, mode: u8) -> bool
     requires { IsKind node.now.kind }
     ensures { result ≡ may (node_of node.now) mode }

@@ -4,11 +4,11 @@ ghost use Rattle.std.specs.Prelude.{◌≡◌, ◌++◌, ◌==◌, ◌≤◌, le
 ghost use Rattle.std.specs.List.{All, find, flat_map, zip};
 ghost use Rattle.std.specs.Fmt.{decimal};
 ghost use Rattle.std.specs.Option.{option_map_or};
-ghost use Rattle.model_wire.specs.Spelling.{FitsStat, stat_bytes};
-ghost use Rattle.model_tree.specs.Node.{row};
-ghost use Rattle.model_tree.specs.declared.Kind.TheVariants.{Listed};
-ghost use Rattle.model_tree.specs.Tree.{View, numbered_in, number_of, name_by, stat, stat_named, placed, connection_at, window_at};
-ghost use Rattle.model_tree.specs.Listing.{listing};
+ghost use Rattle.model_files.specs.wire.Spelling.{FitsStat, stat_bytes};
+ghost use Rattle.model_files.specs.tree.Node.{row};
+ghost use Rattle.model_files.specs.declared.tree.Kind.TheVariants.{Listed};
+ghost use Rattle.model_files.specs.tree.Tree.{View, numbered_in, number_of, name_by, stat, stat_named, placed, connection_at, window_at};
+ghost use Rattle.model_files.specs.tree.Listing.{listing};
 ghost use Rattle.r9_wire.specs.View.{stat_of};
 ghost use Rattle.r9_tree.specs.View.{node_of, view_of, IsNode, IsView, IsName, most_connections};
 ghost use Rattle.r9_tree.specs.Stats.{kind_stat, connection_stat, window_stat, numbered_stat};
@@ -16,7 +16,7 @@ ghost use Rattle.r9_tree.specs.Stats.{kind_stat, connection_stat, window_stat, n
 use crate::rows::{kind_of, mode_of, name_of, qid};
 use crate::walking::{connection_at, kinds_in, placed, window_at};
 use crate::{Node, TreeView};
-use model_tree::Kind;
+use model_files::tree::Kind;
 use r9_memory::Memory;
 use r9_text::{Bytes, push_decimal};
 use r9_wire::{Stat, write_stat};
@@ -90,7 +90,7 @@ fn name_by(alloc: Global, node: &Node, kind: Kind, view: &TreeView) -> Result<By
 }
 
 /// What stat(5) tells of a file. A window in the directory of windows has its number in the view as its name.
-#[tactic(auto, unfolding(model_tree::specs::Tree::stat, model_tree::specs::Tree::name_of))]
+#[tactic(auto, unfolding(model_files::specs::tree::Tree::stat, model_files::specs::tree::Tree::name_of))]
 pub fn stat(alloc: Global, node: &Node, view: &TreeView) -> Result<Stat, Memory>
     requires { IsNode node.now }
     ensures stat { IfOk result (λ s. stat_of s ≡ stat (view_of view.now) (node_of node.now)) }
@@ -115,7 +115,7 @@ fn own_name(alloc: Global, node: &Node, kind: Kind) -> Result<Option<Bytes>, Mem
 }
 
 /// The same of a file whose name no view tells: None exactly for a window in the directory of windows.
-#[tactic(auto, unfolding(model_tree::specs::Tree::stat, model_tree::specs::Tree::name_of))]
+#[tactic(auto, unfolding(model_files::specs::tree::Tree::stat, model_files::specs::tree::Tree::name_of))]
 pub fn stat_without_view(alloc: Global, node: &Node) -> Result<Option<Stat>, Memory>
     requires { IsNode node.now }
     ensures stat { IfOk result (λ found. IfSome found (λ s. (view : View) → stat_of s ≡ stat view (node_of node.now))) }

@@ -6,13 +6,13 @@ ghost use Rattle.std.specs.Option.{option_map};
 ghost use Rattle.std.specs.Map.{lookup};
 ghost use Rattle.std.specs.Fmt.{decimal};
 ghost use Rattle.std.specs.Str.{bytes_eq};
-ghost use Rattle.model_tree.specs.Node.{row, kind_numbered};
-ghost use Rattle.model_tree.specs.Tree.{View, kinds_in, numbered_in, placed, connection_at, window_at, files, above, root_of, is_gone, is_of_connection, check_live, walk};
+ghost use Rattle.model_files.specs.tree.Node.{row, kind_numbered};
+ghost use Rattle.model_files.specs.tree.Tree.{View, kinds_in, numbered_in, placed, connection_at, window_at, files, above, root_of, is_gone, is_of_connection, check_live, walk};
 ghost use Rattle.r9_tree.specs.View.{node_of, view_of, IsNode, IsView, most_connections};
 
 use crate::rows::{is_directory, kind_of, name_of, number_of};
 use crate::{Node, TreeView};
-use model_tree::Kind;
+use model_files::tree::Kind;
 use r9_text::Numbers;
 
 /// The root of the tree that an attach gave: that of a window, by its serial, or of the device tree for 0.
@@ -60,7 +60,7 @@ pub fn is_ended(node: &Node, connections: &Numbers) -> bool
 }
 
 /// Whether a file may be used: refused by 42 where its window is gone, and by 34 where its connection is.
-#[tactic(auto, unfolding(model_tree::specs::Tree::check_live))]
+#[tactic(auto, unfolding(model_files::specs::tree::Tree::check_live))]
 pub fn check_live(node: &Node, view: &TreeView) -> Result<(), u8>
     ensures { result ≡ check_live (view_of view.now) (node_of node.now) }
 {
@@ -73,7 +73,7 @@ pub fn check_live(node: &Node, view: &TreeView) -> Result<(), u8>
     Ok(())
 }
 
-#[tactic(auto, unfolding(model_tree::specs::Node::row))]
+#[tactic(auto, unfolding(model_files::specs::tree::Node::row))]
 fn connection_for(node: &Node, kind: Kind) -> u32
     requires { IsNode node.now }
     ensures file { (view : View) → result ≡ (placed view (node_of node.now) kind).connection }
@@ -106,7 +106,7 @@ fn connection_for(node: &Node, kind: Kind) -> u32
 }
 
 /// The serial of the file of a kind in a directory: None where it is that of the host of the rio.
-#[tactic(auto, unfolding(model_tree::specs::Node::row))]
+#[tactic(auto, unfolding(model_files::specs::tree::Node::row))]
 fn own_serial(node: &Node, kind: Kind) -> Option<u32>
     ensures { (view : View) → (placed view (node_of node.now) kind).serial ≡ unwrap_or result view.host }
 {
@@ -242,7 +242,7 @@ const IN_LISTED: [Kind; 11] = [
 ];
 
 /// The kinds of the files that a directory always has.
-#[tactic(auto, unfolding(model_tree::specs::Tree::kinds_in))]
+#[tactic(auto, unfolding(model_files::specs::tree::Tree::kinds_in))]
 pub(crate) fn kinds_in(kind: Kind) -> &'static [Kind]
     ensures { result.now ≡ kinds_in kind }
 {
@@ -361,7 +361,7 @@ fn above(node: &Node, kind: Kind, view: &TreeView) -> Node
 /// One step of a walk from a file: refused by 42 where its window is gone, by 34 where its connection is, by 35 where it is
 /// no directory, and by 34 where it has no file of that name. Two periods lead to the directory above, and at the root of
 /// the attach to itself.
-#[tactic(auto, unfolding(model_tree::specs::Tree::walk))]
+#[tactic(auto, unfolding(model_files::specs::tree::Tree::walk))]
 pub fn walk(node: &Node, name: &[u8], view: &TreeView) -> Result<Node, u8>
     requires node { IsNode node.now }
     requires view { IsView view.now }
@@ -385,7 +385,7 @@ pub fn walk(node: &Node, name: &[u8], view: &TreeView) -> Result<Node, u8>
 
 /// One step of a walk from a file that may be used, to a file of which no view tells. None where a view is to be asked, or the step is
 /// refused.
-#[tactic(auto, unfolding(model_tree::specs::Tree::walk))]
+#[tactic(auto, unfolding(model_files::specs::tree::Tree::walk))]
 pub fn walk_without_view(node: &Node, name: &[u8]) -> Option<Node>
     requires { IsNode node.now }
     ensures found { IfSome result (λ next. (view : View) → check_live view (node_of node.now) ≡ Ok tt → walk view (node_of node.now) name.now ≡ Ok (node_of next)) }

@@ -1,6 +1,1 @@
-pub mod Small
-pub mod Reach
-pub mod Names
-pub mod Values
-pub mod Gather
-pub mod Faults
+pub mod wctl

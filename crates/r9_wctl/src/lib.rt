@@ -1,20 +1,5 @@
-//! The commands for windows (rio(4)): reading them, and what their options make of a rectangle.
+//! These parts, each with a text of its own at its head: `sides`, `wctl`.
 #![tactic(auto)]
 
-mod command;
-mod gathered;
-mod key;
-mod number;
-mod options;
-mod reading;
-mod rectangle;
-mod setting;
-mod verb;
-mod word;
-
-pub use command::{Command, Wctl, WctlFault};
-pub use model_wctl::{Amount, Choice};
-pub use options::Options;
-pub use reading::read_wctl;
-pub use rectangle::apply;
-pub use setting::read_path;
+pub mod sides;
+pub mod wctl;

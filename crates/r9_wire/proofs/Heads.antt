@@ -2,8 +2,8 @@
 use Rattle.std.proofs.Common.{◌≡◌, ℕ, ◌+◌, List, [], ◌∷◌, ◌++◌, length, Result, Ok, Err, sym, ap, ◌∙◌, append_assoc, arith}
 use Rattle.std.specs.Prelude.{IfOk}
 use Rattle.std.proofs.lemmas.List.{append-nil, length-append}
-use Rattle.model_text.specs.Number.{two_bytes, four_bytes}
-use Rattle.model_wire.specs.Spelling.{sized, message}
+use Rattle.model_text.specs.text.Number.{two_bytes, four_bytes}
+use Rattle.model_files.specs.wire.Spelling.{sized, message}
 
 pub headed : (kind tag len : ℕ) (head body bytes : List ℕ) → head ≡ four_bytes (7 + len) ++ kind ∷ two_bytes tag → length head ≡ 7 → length bytes ≡ 7 + len → bytes ≡ head ++ body
     → bytes ≡ message kind tag body

@@ -1,8 +1,8 @@
 -- Strings read one after the other, as a loop does.
 use Rattle.std.proofs.Common.{◌≡◌, ℕ, suc, ◌+◌, ◌-◌, ◌<◌, ◌≤◌, List, [], ◌∷◌, ◌++◌, Option, Some, None, Err, refl, sym, ap, ◌∙◌, append_assoc, arith}
 use Rattle.std.proofs.lemmas.List.{append-nil}
-use Rattle.model_text.specs.Reading.{◌>>=◌}
-use Rattle.model_wire.specs.Reading.{string_at, so_many}
+use Rattle.model_text.specs.text.Reading.{◌>>=◌}
+use Rattle.model_files.specs.wire.Reading.{string_at, so_many}
 use Rattle.r9_wire.specs.declared.fields.FieldFault.{FieldFault}
 use Rattle.r9_wire.specs.declared.fields.FieldFault.TheVariants as field
 use Rattle.r9_wire.specs.Gives.{Gives}

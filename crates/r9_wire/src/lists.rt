@@ -72,7 +72,7 @@ pub struct Qids {
 
 impl Model for Qids {
     ghost use Rattle.std.specs.Prelude.{List, map};
-    ghost use Rattle.model_wire.specs.Message as model;
+    ghost use Rattle.model_files.specs.wire.Message as model;
     ghost use Rattle.r9_wire.specs.Qid.{qid_of};
 
     ghost Value = { List model.Qid };

@@ -1,8 +1,8 @@
 //! Replies, each written whole into bytes of its own.
 
 ghost use Rattle.std.specs.Prelude.{◌≡◌, ◌<◌, ◌≤◌, ◌+◌, ◌^◌, ◌++◌, ◌∷◌, [], length, IfOk};
-ghost use Rattle.model_text.specs.Number.{two_bytes, four_bytes};
-ghost use Rattle.model_wire.specs.Spelling.{sized, string, qid_bytes, qids_bytes, stat_bytes, message, spelling_of_r, FitsR, FitsStat};
+ghost use Rattle.model_text.specs.text.Number.{two_bytes, four_bytes};
+ghost use Rattle.model_files.specs.wire.Spelling.{sized, string, qid_bytes, qids_bytes, stat_bytes, message, spelling_of_r, FitsR, FitsStat};
 ghost use Rattle.r9_wire.specs.Qid.{qid_of};
 ghost use Rattle.r9_wire.specs.View.{r_of, stat_of};
 

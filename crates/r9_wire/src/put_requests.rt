@@ -2,8 +2,8 @@
 
 ghost use Rattle.std.specs.Prelude.{◌≡◌, ◌<◌, ◌≤◌, ◌+◌, ◌^◌, ◌++◌, [], ◌∷◌, length, IfOk};
 ghost use Rattle.std.specs.List.{All};
-ghost use Rattle.model_text.specs.Number.{two_bytes, four_bytes, eight_bytes};
-ghost use Rattle.model_wire.specs.Spelling.{sized, string, IsString, names_bytes, message, spelling_of_t, FitsT};
+ghost use Rattle.model_text.specs.text.Number.{two_bytes, four_bytes, eight_bytes};
+ghost use Rattle.model_files.specs.wire.Spelling.{sized, string, IsString, names_bytes, message, spelling_of_t, FitsT};
 ghost use Rattle.r9_wire.specs.View.{t_of};
 
 use crate::lists::Names;

@@ -1,8 +1,8 @@
 //! What a stat spells.
 
 ghost use Rattle.std.specs.Prelude.{◌≡◌, ◌<◌, ◌+◌, ◌^◌, ◌++◌, length, OnOk, IfOk};
-ghost use Rattle.model_text.specs.Number.{two_bytes, four_bytes, eight_bytes};
-ghost use Rattle.model_wire.specs.Spelling.{sized, qid_bytes, stat_body, stat_bytes, FitsStat};
+ghost use Rattle.model_text.specs.text.Number.{two_bytes, four_bytes, eight_bytes};
+ghost use Rattle.model_files.specs.wire.Spelling.{sized, qid_bytes, stat_body, stat_bytes, FitsStat};
 ghost use Rattle.r9_wire.specs.Qid.{qid_of};
 ghost use Rattle.r9_wire.specs.View.{stat_of};
 
@@ -16,7 +16,7 @@ use std::alloc::Global;
 const FIXED: usize = 47;
 
 /// How many bytes stand behind the size of a stat.
-#[tactic(auto, unfolding(model_wire::specs::Spelling::stat_body, model_wire::specs::Spelling::sized, model_wire::specs::Spelling::qid_bytes))]
+#[tactic(auto, unfolding(model_files::specs::wire::Spelling::stat_body, model_files::specs::wire::Spelling::sized, model_files::specs::wire::Spelling::qid_bytes))]
 fn body_len(s: &Stat) -> usize
     requires { FitsStat (stat_of s.now) }
     ensures len { result ≡ length (stat_body (stat_of s.now)) }
@@ -39,7 +39,7 @@ fn put_numbers(out: &mut Bytes, s: &Stat) -> Result<(), Memory>
 }
 
 /// Adds what stands behind the size of a stat.
-#[tactic(auto, unfolding(model_wire::specs::Spelling::stat_body))]
+#[tactic(auto, unfolding(model_files::specs::wire::Spelling::stat_body))]
 fn put_body(out: &mut Bytes, s: &Stat) -> Result<(), Memory>
     requires { FitsStat (stat_of s.now) }
     ensures { OnOk result (out.new ≡ out.old ++ stat_body (stat_of s.now)) }
@@ -52,7 +52,7 @@ fn put_body(out: &mut Bytes, s: &Stat) -> Result<(), Memory>
 }
 
 /// How many bytes a stat has with its size before it.
-#[tactic(auto, unfolding(model_wire::specs::Spelling::sized))]
+#[tactic(auto, unfolding(model_files::specs::wire::Spelling::sized))]
 pub fn stat_len(s: &Stat) -> usize
     requires { FitsStat (stat_of s.now) }
     ensures { result ≡ length (stat_bytes (stat_of s.now)) }
@@ -61,7 +61,7 @@ pub fn stat_len(s: &Stat) -> usize
 }
 
 /// Adds a stat with its size before it.
-#[tactic(auto, unfolding(model_wire::specs::Spelling::sized))]
+#[tactic(auto, unfolding(model_files::specs::wire::Spelling::sized))]
 pub fn put_stat(out: &mut Bytes, s: &Stat) -> Result<(), Memory>
     requires { FitsStat (stat_of s.now) }
     ensures { OnOk result (out.new ≡ out.old ++ stat_bytes (stat_of s.now)) }

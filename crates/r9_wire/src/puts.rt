@@ -2,8 +2,8 @@
 
 ghost use Rattle.std.specs.Prelude.{◌≡◌, ◌<◌, ◌≤◌, ◌+◌, ◌*◌, ◌^◌, ◌++◌, [], ◌∷◌, length, map, OnOk, OnErr};
 ghost use Rattle.std.specs.List.{All, flat_map};
-ghost use Rattle.model_text.specs.Number.{two_bytes, four_bytes, eight_bytes};
-ghost use Rattle.model_wire.specs.Spelling.{sized, string, IsString, qid_bytes, names_bytes, qids_bytes};
+ghost use Rattle.model_text.specs.text.Number.{two_bytes, four_bytes, eight_bytes};
+ghost use Rattle.model_files.specs.wire.Spelling.{sized, string, IsString, qid_bytes, names_bytes, qids_bytes};
 ghost use Rattle.r9_wire.specs.Qid.{qid_of};
 
 use crate::lists::{Names, Qids};
@@ -38,7 +38,7 @@ pub fn put_u64(out: &mut Bytes, n: u64) -> Result<(), Memory>
 }
 
 /// Adds bytes, and before them their length in two bytes.
-#[tactic(auto, unfolding(model_wire::specs::Spelling::sized))]
+#[tactic(auto, unfolding(model_files::specs::wire::Spelling::sized))]
 pub fn put_sized(out: &mut Bytes, bytes: &[u8]) -> Result<(), Memory>
     requires { length bytes.now < 2 ^ 16 }
     ensures put { OnOk result (out.new ≡ out.old ++ sized bytes.now) }
@@ -49,7 +49,7 @@ pub fn put_sized(out: &mut Bytes, bytes: &[u8]) -> Result<(), Memory>
 }
 
 /// Adds a qid.
-#[tactic(auto, unfolding(model_wire::specs::Spelling::qid_bytes))]
+#[tactic(auto, unfolding(model_files::specs::wire::Spelling::qid_bytes))]
 pub fn put_qid(out: &mut Bytes, qid: Qid) -> Result<(), Memory>
     ensures put { OnOk result (out.new ≡ out.old ++ qid_bytes (qid_of qid)) }
     ensures len { OnOk result (length out.new ≡ length out.old + 13) }

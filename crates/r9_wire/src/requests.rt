@@ -1,6 +1,6 @@
 //! The bodies of a client's messages, each of one kind.
 
-ghost use Rattle.model_wire.specs.Reading.{t_version, t_auth, t_attach, t_flush, t_walk, t_open, t_create, t_read, t_write, t_clunk, t_remove, t_stat, t_wstat};
+ghost use Rattle.model_files.specs.wire.Reading.{t_version, t_auth, t_attach, t_flush, t_walk, t_open, t_create, t_read, t_write, t_clunk, t_remove, t_stat, t_wstat};
 ghost use Rattle.r9_wire.specs.View.{t_of};
 ghost use Rattle.r9_wire.specs.Gives.{Gives};
 
@@ -11,7 +11,7 @@ use crate::message::Tmsg;
 use r9_text::Bytes;
 use std::alloc::Global;
 
-#[tactic(auto, unfolding(model_wire::specs::Reading::t_version))]
+#[tactic(auto, unfolding(model_files::specs::wire::Reading::t_version))]
 pub fn version(alloc: Global, tag: u16, body: &[u8]) -> Result<Tmsg, FieldFault>
     ensures { Gives t_of result (t_version tag body.now) }
 {
@@ -28,7 +28,7 @@ pub fn version(alloc: Global, tag: u16, body: &[u8]) -> Result<Tmsg, FieldFault>
     })
 }
 
-#[tactic(auto, unfolding(model_wire::specs::Reading::t_auth))]
+#[tactic(auto, unfolding(model_files::specs::wire::Reading::t_auth))]
 pub fn auth(alloc: Global, tag: u16, body: &[u8]) -> Result<Tmsg, FieldFault>
     ensures { Gives t_of result (t_auth tag body.now) }
 {
@@ -48,7 +48,7 @@ pub fn auth(alloc: Global, tag: u16, body: &[u8]) -> Result<Tmsg, FieldFault>
     })
 }
 
-#[tactic(auto, unfolding(model_wire::specs::Reading::t_attach))]
+#[tactic(auto, unfolding(model_files::specs::wire::Reading::t_attach))]
 pub fn attach(alloc: Global, tag: u16, body: &[u8]) -> Result<Tmsg, FieldFault>
     ensures { Gives t_of result (t_attach tag body.now) }
 {
@@ -70,7 +70,7 @@ pub fn attach(alloc: Global, tag: u16, body: &[u8]) -> Result<Tmsg, FieldFault>
     })
 }
 
-#[tactic(auto, unfolding(model_wire::specs::Reading::t_flush))]
+#[tactic(auto, unfolding(model_files::specs::wire::Reading::t_flush))]
 pub fn flush(tag: u16, body: &[u8]) -> Result<Tmsg, FieldFault>
     ensures { Gives t_of result (t_flush tag body.now) }
 {
@@ -81,7 +81,7 @@ pub fn flush(tag: u16, body: &[u8]) -> Result<Tmsg, FieldFault>
     Ok(Tmsg::Flush { tag, oldtag })
 }
 
-#[tactic(auto, unfolding(model_wire::specs::Reading::t_walk))]
+#[tactic(auto, unfolding(model_files::specs::wire::Reading::t_walk))]
 pub fn walk(alloc: Global, tag: u16, body: &[u8]) -> Result<Tmsg, FieldFault>
     ensures { Gives t_of result (t_walk tag body.now) }
 {
@@ -99,7 +99,7 @@ pub fn walk(alloc: Global, tag: u16, body: &[u8]) -> Result<Tmsg, FieldFault>
     })
 }
 
-#[tactic(auto, unfolding(model_wire::specs::Reading::t_open))]
+#[tactic(auto, unfolding(model_files::specs::wire::Reading::t_open))]
 pub fn open(tag: u16, body: &[u8]) -> Result<Tmsg, FieldFault>
     ensures { Gives t_of result (t_open tag body.now) }
 {
@@ -111,7 +111,7 @@ pub fn open(tag: u16, body: &[u8]) -> Result<Tmsg, FieldFault>
     Ok(Tmsg::Open { tag, fid, mode })
 }
 
-#[tactic(auto, unfolding(model_wire::specs::Reading::t_create))]
+#[tactic(auto, unfolding(model_files::specs::wire::Reading::t_create))]
 pub fn create(alloc: Global, tag: u16, body: &[u8]) -> Result<Tmsg, FieldFault>
     ensures { Gives t_of result (t_create tag body.now) }
 {
@@ -132,7 +132,7 @@ pub fn create(alloc: Global, tag: u16, body: &[u8]) -> Result<Tmsg, FieldFault>
     })
 }
 
-#[tactic(auto, unfolding(model_wire::specs::Reading::t_read))]
+#[tactic(auto, unfolding(model_files::specs::wire::Reading::t_read))]
 pub fn read(tag: u16, body: &[u8]) -> Result<Tmsg, FieldFault>
     ensures { Gives t_of result (t_read tag body.now) }
 {
@@ -150,7 +150,7 @@ pub fn read(tag: u16, body: &[u8]) -> Result<Tmsg, FieldFault>
     })
 }
 
-#[tactic(auto, unfolding(model_wire::specs::Reading::t_write))]
+#[tactic(auto, unfolding(model_files::specs::wire::Reading::t_write))]
 pub fn write(alloc: Global, tag: u16, body: &[u8]) -> Result<Tmsg, FieldFault>
     ensures { Gives t_of result (t_write tag body.now) }
 {
@@ -169,7 +169,7 @@ pub fn write(alloc: Global, tag: u16, body: &[u8]) -> Result<Tmsg, FieldFault>
     })
 }
 
-#[tactic(auto, unfolding(model_wire::specs::Reading::t_clunk))]
+#[tactic(auto, unfolding(model_files::specs::wire::Reading::t_clunk))]
 pub fn clunk(tag: u16, body: &[u8]) -> Result<Tmsg, FieldFault>
     ensures { Gives t_of result (t_clunk tag body.now) }
 {
@@ -180,7 +180,7 @@ pub fn clunk(tag: u16, body: &[u8]) -> Result<Tmsg, FieldFault>
     Ok(Tmsg::Clunk { tag, fid })
 }
 
-#[tactic(auto, unfolding(model_wire::specs::Reading::t_remove))]
+#[tactic(auto, unfolding(model_files::specs::wire::Reading::t_remove))]
 pub fn remove(tag: u16, body: &[u8]) -> Result<Tmsg, FieldFault>
     ensures { Gives t_of result (t_remove tag body.now) }
 {
@@ -191,7 +191,7 @@ pub fn remove(tag: u16, body: &[u8]) -> Result<Tmsg, FieldFault>
     Ok(Tmsg::Remove { tag, fid })
 }
 
-#[tactic(auto, unfolding(model_wire::specs::Reading::t_stat))]
+#[tactic(auto, unfolding(model_files::specs::wire::Reading::t_stat))]
 pub fn stat(tag: u16, body: &[u8]) -> Result<Tmsg, FieldFault>
     ensures { Gives t_of result (t_stat tag body.now) }
 {
@@ -202,7 +202,7 @@ pub fn stat(tag: u16, body: &[u8]) -> Result<Tmsg, FieldFault>
     Ok(Tmsg::Stat { tag, fid })
 }
 
-#[tactic(auto, unfolding(model_wire::specs::Reading::t_wstat))]
+#[tactic(auto, unfolding(model_files::specs::wire::Reading::t_wstat))]
 pub fn wstat(alloc: Global, tag: u16, body: &[u8]) -> Result<Tmsg, FieldFault>
     ensures { Gives t_of result (t_wstat tag body.now) }
 {

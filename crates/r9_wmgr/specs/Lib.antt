@@ -1,2 +1,2 @@
-pub mod Acts
-pub mod Names
+pub mod stacking
+pub mod wmgr

@@ -2,7 +2,7 @@
 //! are so many.
 
 use crate::shown::{number, run_words};
-use r9_outside::{Sink, SureSink};
+use r9_outside::outside::{Sink, SureSink};
 use std::alloc::Global;
 use std::fmt::Write;
 use std::io;

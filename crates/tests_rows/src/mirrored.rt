@@ -3,7 +3,7 @@
 //! it has, as bytes in hexadecimal digits.
 
 use crate::shown::{number, run_words};
-use r9_outside::{Sink, SureSink};
+use r9_outside::outside::{Sink, SureSink};
 use std::alloc::Global;
 use std::fmt::Write;
 use std::io;

@@ -3,7 +3,7 @@
 //! errors.
 
 use crate::shown::{number, run_words};
-use r9_outside::{Sink, SureSink};
+use r9_outside::outside::{Sink, SureSink};
 use std::alloc::Global;
 use std::fmt::Write;
 use std::io;

@@ -3,8 +3,8 @@
 //! column for each character, and 255 for every other. The record that comes out is replayed, and the screen is told from (4,4) to
 //! (8,8), a point by a mark: `#` for black, a period for white.
 
-use r9_outside::{MemSink, MemSource, Sink, SureDoor, SureSink, SureSource};
-use r9_serve::{DOORS, run};
+use r9_outside::outside::{MemSink, MemSource, Sink, SureDoor, SureSink, SureSource};
+use r9_serve::serve::{DOORS, run};
 use std::alloc::Global;
 use std::fmt::Write;
 use std::sync::Wait;

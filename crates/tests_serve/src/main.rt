@@ -8,8 +8,8 @@
 //! sink of each session got; of fronts, for each length the status and what err got.
 #![tactic(auto)]
 
-use r9_outside::{MemDoor, MemSink, MemSource, SureDoor};
-use r9_serve::{DOORS, run};
+use r9_outside::outside::{MemDoor, MemSink, MemSource, SureDoor};
+use r9_serve::serve::{DOORS, run};
 use std::alloc::Global;
 use std::fmt::Write;
 use std::sync::Wait;

@@ -3,12 +3,12 @@ ghost use Rattle.std.specs.Prelude.{◌≡◌, ◌<◌};
 
 use crate::step::{Step, push_step};
 use r9_chan::Chan;
-use r9_draw::{Draw, Shown};
-use r9_event::{Order, Orders};
+use r9_draw::draw::{Draw, Shown};
+use r9_event::event::{Order, Orders};
 use r9_geom::{Point, Rect};
-use r9_marks::cells_over;
+use r9_marks::marks::cells_over;
+use r9_marks::steps::Steps;
 use r9_memory::Memory;
-use r9_steps::Steps;
 use r9_text::Bytes;
 use std::alloc::Global;
 use std::marker::Brand;

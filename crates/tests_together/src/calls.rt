@@ -4,8 +4,8 @@ ghost use Rattle.std.specs.Prelude.{◌≤◌, length};
 
 use crate::door::TestDoor;
 use crate::ends::{TestSink, TestSource};
-use r9_outside::Door;
-use r9_serve::{DOORS, Status, run};
+use r9_outside::outside::Door;
+use r9_serve::serve::{DOORS, Status, run};
 use std::alloc::Global;
 use std::array;
 use std::sync::Wait;

@@ -4,7 +4,7 @@ ghost use Rattle.std.specs.Prelude.{◌≡◌, ◌≤◌, None};
 ghost use Rattle.std.specs.Option.{option_map};
 
 use crate::ends::{TestSink, TestSource};
-use r9_outside::{AcceptFault, Door, Failed};
+use r9_outside::outside::{AcceptFault, Door, Failed};
 
 /// A session that has ended.
 #[derive(Drop)]

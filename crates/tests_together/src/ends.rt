@@ -2,7 +2,7 @@
 
 ghost use Rattle.std.specs.Prelude.{◌≡◌, ◌≤◌, length, None};
 
-use r9_outside::{Failed, Sink, SinkFault, Source, SureSource};
+use r9_outside::outside::{Failed, Sink, SinkFault, Source, SureSource};
 use std::alloc::Global;
 use std::hint::spin_loop;
 use std::sync::Arc;

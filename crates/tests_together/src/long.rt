@@ -3,7 +3,7 @@
 use crate::calls::served_alone;
 use crate::ends::{Held, TestSink, TestSource};
 use crate::talks::{REPLIES, SENT, bytes_of, record_of, without_takes};
-use r9_serve::Status;
+use r9_serve::serve::Status;
 use std::alloc::{AllocError, Global};
 use std::sync::Arc;
 use std::sync::atomic::AtomicU64;

@@ -3,8 +3,8 @@
 use crate::calls::{Ending, called};
 use crate::ends::TestSink;
 use crate::talks::{REPLIES, SENT, bytes_of, record_of, without_takes};
-use r9_outside::{Door, TcpDoor};
-use r9_serve::{DOORS, Status};
+use r9_outside::outside::{Door, TcpDoor};
+use r9_serve::serve::{DOORS, Status};
 use std::alloc::Global;
 use std::io::{Read, Write};
 use std::net::{Net, Shutdown, SocketAddr, TcpListener, TcpStream};

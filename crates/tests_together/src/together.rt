@@ -4,7 +4,7 @@ use crate::calls::{called, served_alone};
 use crate::door::TestDoor;
 use crate::ends::{Held, TestSink, TestSource};
 use crate::talks::{REPLIES, SENT, behind, bytes_of, record_of, without_takes};
-use r9_serve::{DOORS, Status};
+use r9_serve::serve::{DOORS, Status};
 use std::alloc::Global;
 use std::sync::Arc;
 use std::sync::atomic::AtomicU64;

@@ -6,8 +6,8 @@ use Rattle.std.proofs.lemmas.List.FromFn.{fill_by_all}
 use Rattle.r9_geom.specs.Geometry.{height}
 use Rattle.model_pixel.specs.Channels.{colour_of, depth, is_depth, pack}
 use Rattle.model_pixel.specs.Rows.{row_bytes}
-use Rattle.model_cursor.specs.Cursor.{black, white}
-use Rattle.model_cursor.specs.Rows.{over_byte}
+use Rattle.model_client.specs.cursor.Cursor.{black, white}
+use Rattle.model_client.specs.cursor.Rows.{over_byte}
 use Rattle.r9_plane.proofs.Rectangles.{get_or-part, length-part}
 use Rattle.r9_plane.proofs.RunLemmas.{stretch_put}
 use Rattle.r9_cursor.proofs.Bytes.{row_over, row_same}

@@ -1,5 +1,5 @@
 use Rattle.std.proofs.Common.{◌≡◌, ℕ, ◌*◌, ◌<◌, ◌≤◌, get_or}
-use Rattle.model_cursor.specs.Rows.{over_byte}
+use Rattle.model_client.specs.cursor.Rows.{over_byte}
 use Rattle.r9_cursor.proofs.over.Given as goal
 
 abbrev pub invariant-loop-row : goal.invariant-loop-row

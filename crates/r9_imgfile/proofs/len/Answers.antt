@@ -1,5 +1,5 @@
 use Rattle.std.proofs.Common.{◌≡◌, ◌∙◌, ◌+◌, ◌*◌, refl, arith, length-append}
-use Rattle.model_imgfile.specs.ImageFile.{file_header, rows_len}
+use Rattle.model_draw.specs.imgfile.ImageFile.{file_header, rows_len}
 use Rattle.r9_imgfile.proofs.FileLemmas.{length-file_header}
 use Rattle.r9_imgfile.proofs.len.Goals as goal
 

@@ -1,5 +1,5 @@
 use Rattle.std.proofs.Common.{◌≡◌, ℕ, List, ◌++◌, append_assoc}
-use Rattle.model_text.specs.Field.{number_field}
+use Rattle.model_text.specs.text.Field.{number_field}
 use Rattle.r9_imgfile.proofs.FileLemmas.{kept}
 use Rattle.r9_imgfile.proofs.push_sides.Goals as goal
 

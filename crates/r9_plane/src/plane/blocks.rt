@@ -7,7 +7,7 @@ ghost use Rattle.model_pixel.specs.Channels as channels;
 use super::Plane;
 use crate::blocks::{fill_packed, read_packed, write_packed};
 use r9_geom::Rect;
-use r9_steps::Steps;
+use r9_marks::steps::Steps;
 use std::sync::ledger::Ledger;
 
 impl Plane {

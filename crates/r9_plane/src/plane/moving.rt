@@ -7,7 +7,7 @@ ghost use Rattle.r9_geom.specs.Geometry.{IsNear, IsOrdered, IsRectNear};
 use super::Plane;
 use crate::moves::{ROOM_BYTES, move_run};
 use r9_geom::{Point, Rect};
-use r9_steps::Steps;
+use r9_marks::steps::Steps;
 use std::sync::ledger::Ledger;
 
 impl Plane {

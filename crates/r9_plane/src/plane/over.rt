@@ -9,7 +9,7 @@ use super::Plane;
 use crate::composing::over_run;
 use r9_geom::{Point, Rect};
 use r9_kern::Over;
-use r9_steps::Steps;
+use r9_marks::steps::Steps;
 use std::sync::ledger::Ledger;
 
 impl Plane {

@@ -1,7 +1,7 @@
 use Rattle.std.proofs.Common.{rules, ◌≡◌, ℕ, List, true, false, Some, None, eq-eqb, refl, ap, ◌∙◌}
-use Rattle.model_text.specs.Map.{lookup}
-use Rattle.model_map.proofs.Keys.{not_key, with-written}
-use Rattle.model_window.specs.Heard.{ConsoleRead}
+use Rattle.model_text.specs.text.Map.{lookup}
+use Rattle.model_text.proofs.map.Keys.{not_key, with-written}
+use Rattle.model_rio.specs.window.Heard.{ConsoleRead}
 use Rattle.r9_desktop.proofs.Maps.{told-some, told-none}
 use Rattle.r9_desktop.proofs.Panes.{if_ok_to, taken_to, left_to, on_err_to, put_back, console_of, no_console}
 use Rattle.r9_desktop.proofs.hearing.read_console.Goals as goal

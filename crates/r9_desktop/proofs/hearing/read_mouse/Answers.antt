@@ -1,7 +1,7 @@
 use Rattle.std.proofs.Common.{rules, ◌≡◌, Some, None, ◌∙◌}
-use Rattle.model_text.specs.Map.{lookup}
-use Rattle.model_map.proofs.Keys.{with-written}
-use Rattle.model_window.specs.Heard.{MouseRead}
+use Rattle.model_text.specs.text.Map.{lookup}
+use Rattle.model_text.proofs.map.Keys.{with-written}
+use Rattle.model_rio.specs.window.Heard.{MouseRead}
 use Rattle.r9_desktop.proofs.Maps.{told-some}
 use Rattle.r9_desktop.proofs.Panes.{if_ok_to, taken_to, left_to, on_err_to, put_back, mouse_of, no_mouse}
 use Rattle.r9_desktop.proofs.hearing.read_mouse.Goals as goal

@@ -1,7 +1,7 @@
 use Rattle.std.proofs.Common.{rules, ◌≡◌, Some, None, ◌∙◌}
-use Rattle.model_text.specs.Map.{lookup}
-use Rattle.model_map.proofs.Keys.{with-written}
-use Rattle.model_window.specs.Heard.{MouseHeld}
+use Rattle.model_text.specs.text.Map.{lookup}
+use Rattle.model_text.proofs.map.Keys.{with-written}
+use Rattle.model_rio.specs.window.Heard.{MouseHeld}
 use Rattle.r9_desktop.proofs.Maps.{told-some, told-none}
 use Rattle.r9_desktop.proofs.hearing.set_mouse_held.Goals as goal
 

@@ -1,9 +1,9 @@
 use Rattle.std.proofs.Common.{rules, ◌≡◌, Some, None, ap, ◌∙◌}
-use Rattle.model_text.specs.Map.{lookup, with}
-use Rattle.model_map.proofs.Keys.{with-written}
-use Rattle.model_map.proofs.Maps.{with-same}
-use Rattle.model_window.specs.Pane.{Pane}
-use Rattle.model_window.specs.Heard.{Labelled}
+use Rattle.model_text.specs.text.Map.{lookup, with}
+use Rattle.model_text.proofs.map.Keys.{with-written}
+use Rattle.model_text.proofs.map.Maps.{with-same}
+use Rattle.model_rio.specs.window.Pane.{Pane}
+use Rattle.model_rio.specs.window.Heard.{Labelled}
 use Rattle.r9_desktop.proofs.Maps.{on_err, told-some, told-none}
 use Rattle.r9_desktop.proofs.telling.set_label.Goals as goal
 

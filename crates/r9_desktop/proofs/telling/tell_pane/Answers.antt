@@ -1,6 +1,6 @@
 use Rattle.std.proofs.Common.{sym, ap, ◌∙◌}
-use Rattle.model_map.proofs.Keys.{without_at}
-use Rattle.r9_event.specs.declared.rio.Note.{Note}
+use Rattle.model_text.proofs.map.Keys.{without_at}
+use Rattle.r9_event.specs.declared.event.rio.Note.{Note}
 use Rattle.model_world.specs.Desktop.{panes_told}
 use Rattle.r9_desktop.proofs.telling.tell_pane.Goals as goal
 

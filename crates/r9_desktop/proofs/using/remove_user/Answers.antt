@@ -1,5 +1,5 @@
 use Rattle.std.proofs.Common.{rules, ◌≡◌, None, sym, ◌∙◌}
-use Rattle.model_text.specs.Map.{lookup}
+use Rattle.model_text.specs.text.Map.{lookup}
 use Rattle.r9_desktop.proofs.Maps.{with-absent}
 use Rattle.r9_desktop.proofs.using.remove_user.Goals as goal
 

@@ -1,5 +1,5 @@
 use Rattle.std.proofs.Common.{ap, rules, tests}
-use Rattle.model_dmsg.specs.Reading.{table, fields_in, up_n, low_n, low_s, low_t, low_x}
+use Rattle.model_draw_parts.specs.dmsg.Reading.{table, fields_in, up_n, low_n, low_s, low_t, low_x}
 use Rattle.r9_dmsg.proofs.Table.{is_listed, listed_there, unlisted}
 use Rattle.r9_dmsg.proofs.listed.behind_letter.Goals as goal
 

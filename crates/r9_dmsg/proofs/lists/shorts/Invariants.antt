@@ -1,6 +1,6 @@
 use Rattle.std.proofs.Common.{◌≡◌, ◌≤◌, ◌*◌, ◌++◌, length}
 use Rattle.std.specs.Int.{w16}
-use Rattle.model_dmsg.specs.Reading.{numbers_of}
+use Rattle.model_draw_parts.specs.dmsg.Reading.{numbers_of}
 use Rattle.r9_dmsg.proofs.lists.shorts.Given as goal
 
 abbrev pub invariant-numbers : goal.invariant-numbers

@@ -1,5 +1,5 @@
 use Rattle.std.proofs.Common.{ap, refl, Some, rules, tests}
-use Rattle.model_dmsg.specs.Reading.{table, fields_in, low_b, up_a, low_c, low_d, up_d, low_f, up_f, low_i, low_l, up_n, low_n, low_o, up_o, low_r, low_s, up_s, low_t, low_v, low_x, low_y}
+use Rattle.model_draw_parts.specs.dmsg.Reading.{table, fields_in, low_b, up_a, low_c, low_d, up_d, low_f, up_f, low_i, low_l, up_n, low_n, low_o, up_o, low_r, low_s, up_s, low_t, low_v, low_x, low_y}
 use Rattle.r9_dmsg.specs.declared.message.Dmsg.TheVariants.{LowV}
 use Rattle.r9_dmsg.proofs.Told.{told, no_room, left_out, unknown}
 use Rattle.r9_dmsg.proofs.Table.{is_listed}

@@ -1,7 +1,7 @@
 use Rattle.std.proofs.Common.{rules, tests}
 use Rattle.std.proofs.lemmas.Iterator.{YieldsList-from_slice}
 use Rattle.std.proofs.lemmas.Iterator.Search.{all_from_yields_List}
-use Rattle.model_fonts.specs.Font.{has_index}
+use Rattle.model_draw_parts.specs.fonts.Font.{has_index}
 use Rattle.r9_fonts.proofs.font.has_all.Goals as goal
 
 pub returns : goal.returns

@@ -2,7 +2,7 @@ use Rattle.std.proofs.Common.{◌∙◌, ◌^◌, refl, subst, sym, ap, arith, r
 use Rattle.std.specs.Prelude.{All}
 use Rattle.std.proofs.lemmas.List.Elements.{All-nil, All-push}
 use Rattle.r9_geom.specs.declared.Point.{Point}
-use Rattle.model_fonts.specs.Font.{piece}
+use Rattle.model_draw_parts.specs.fonts.Font.{piece}
 use Rattle.r9_fonts.specs.Near.{IsPieceNearBy}
 use Rattle.r9_fonts.proofs.Strings.{next_laid, next_end, no_more, arrived, has_one, near_one, same_layout, nearer}
 use Rattle.r9_fonts.proofs.font.laid_out.Goals as goal

@@ -2,8 +2,8 @@ use Rattle.std.proofs.Common.{◌≡◌, ℕ, ◌+◌, ◌*◌, ◌^◌, ◌≤�
 use Rattle.std.specs.Prelude.{All}
 use Rattle.std.specs.List.{sum_by}
 use Rattle.r9_geom.specs.Geometry.{IsNearBy}
-use Rattle.model_fonts.specs.declared.Cell.{Cell}
-use Rattle.model_fonts.specs.Font.{cell, pieces, advanced, AreWithin}
+use Rattle.model_draw_parts.specs.declared.fonts.Cell.{Cell}
+use Rattle.model_draw_parts.specs.fonts.Font.{cell, pieces, advanced, AreWithin}
 use Rattle.r9_fonts.specs.Near.{IsPieceNearBy}
 use Rattle.r9_fonts.proofs.Strings.{from}
 use Rattle.r9_fonts.proofs.font.laid_out.Given as goal

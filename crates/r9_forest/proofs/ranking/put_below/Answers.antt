@@ -1,7 +1,7 @@
 use Rattle.std.proofs.Common.{◌≡◌, ◌∙◌, ◌+◌, ◌<◌, true, length, sym, ap, arith}
 use Rattle.std.specs.Prelude.{insert, if◌then◌else◌}
 use Rattle.std.specs.Result.{is_ok}
-use Rattle.model_exchanged.specs.Exchanged.{put_below}
+use Rattle.model_exchanged.specs.exchanged.Exchanged.{put_below}
 use Rattle.r9_forest.proofs.Beneath.{split_found, split_past, split_none}
 use Rattle.r9_forest.proofs.ranking.put_below.Goals as goal
 

@@ -1,5 +1,5 @@
 use Rattle.std.proofs.Common.{◌≡◌, ◌<◌, vec_len, vec_capacity}
-use Rattle.model_exchanged.specs.Exchanged.{put_below}
+use Rattle.model_exchanged.specs.exchanged.Exchanged.{put_below}
 use Rattle.r9_forest.proofs.Beneath.{split_below}
 use Rattle.r9_forest.proofs.ranking.put_below.Given as goal
 

@@ -1,6 +1,6 @@
 use Rattle.std.proofs.Common.{◌≡◌, take, is_some}
 use Rattle.std.specs.List.{list_all}
-use Rattle.model_text.specs.Hex.{hex_value}
+use Rattle.model_text.specs.text.Hex.{hex_value}
 use Rattle.r9_journal.proofs.digits.are_digits.Given as goal
 
 abbrev pub invariant-loop-character : goal.invariant-loop-character

@@ -1,6 +1,6 @@
 use Rattle.std.proofs.Common.{◌≡◌, Option, subst}
 use Rattle.std.specs.Prelude.{IfOk}
-use Rattle.r9_event.specs.declared.event.Event.{Event}
+use Rattle.r9_event.specs.declared.event.event.Event.{Event}
 use Rattle.r9_journal.proofs.Fittings.{told_behind}
 use Rattle.r9_journal.proofs.line.event_of.Goals as goal
 

@@ -1,6 +1,6 @@
 use Rattle.std.proofs.Common.{◌≡◌, List, Result, Ok, Err, refl, sym, ◌∙◌}
 use Rattle.std.specs.Result.{IsErrAnd}
-use Rattle.r9_event.specs.declared.event.Event.{Event}
+use Rattle.r9_event.specs.declared.event.event.Event.{Event}
 use Rattle.r9_journal.specs.declared.reading.JournalFault.{JournalFault}
 use Rattle.r9_journal.proofs.Headers.{spelled_headed}
 use Rattle.r9_journal.proofs.Records.{found_late, handed_late, memory_late}

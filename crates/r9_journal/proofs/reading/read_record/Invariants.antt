@@ -1,5 +1,5 @@
 use Rattle.std.proofs.Common.{◌++◌, length}
-use Rattle.model_record.specs.Record.{IsRecord}
+use Rattle.model_history.specs.records.Record.{IsRecord}
 use Rattle.r9_journal.proofs.reading.read_record.Given as goal
 
 abbrev pub invariant-events : goal.invariant-events

@@ -7,10 +7,10 @@ use Rattle.r9_plane.specs.Pixels.{along}
 use Rattle.r9_plane.proofs.PlaneLemmas.{along_holds}
 use Rattle.r9_forest.specs.Images.{world}
 use Rattle.r9_layers.proofs.Carrying.{strip-along}
-use Rattle.r9_locate.proofs.Locating.{along-along}
+use Rattle.r9_locate.proofs.locate.Locating.{along-along}
 use Rattle.r9_layers.specs.Area.{drawing_of, drawn_on}
 use Rattle.r9_layers.proofs.Areas.{area_point}
-use Rattle.r9_locate.proofs.Parts.{get_or-part, length-part, length-put_mid, put_mid_before, put_mid_behind, put_mid_inside}
+use Rattle.r9_locate.proofs.locate.Parts.{get_or-part, length-part, length-put_mid, put_mid_before, put_mid_behind, put_mid_inside}
 use borrow.Rule.Slice.PartMut.{put_mid}
 use Rattle.r9_layers.proofs.composing.compose_blocks.Goals as goal
 

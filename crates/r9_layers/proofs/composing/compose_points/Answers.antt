@@ -7,7 +7,7 @@ use Rattle.model_forest.specs.World.{image_at}
 use Rattle.r9_forest.specs.Images.{world}
 use Rattle.r9_layers.specs.Area.{mask_chan}
 use Rattle.r9_layers.specs.Way.{AreMasksOf, IsSingleOf, IsTint}
-use Rattle.r9_locate.proofs.Parts.{row_within}
+use Rattle.r9_locate.proofs.locate.Parts.{row_within}
 use Rattle.r9_layers.proofs.composing.compose_points.Goals as goal
 
 pub returns-in-Some-Single : goal.returns-in-Some-Single

@@ -6,8 +6,8 @@ use Rattle.r9_geom.proofs.GeometryLemmas.{rect_near_wider, width_most}
 use Rattle.r9_plane.specs.Pixels.{along}
 use Rattle.r9_forest.specs.Images.{world}
 use Rattle.r9_layers.specs.Area.{drawn_on}
-use Rattle.r9_put.proofs.Grids.{along-point_at, begins_row, grid_row, length-grid_row, near_row, place_before, row_lies}
-use Rattle.r9_locate.proofs.Parts.{get_or-part, put_mid_before, put_mid_behind, put_mid_inside, row_within}
+use Rattle.r9_forest.proofs.Grids.{along-point_at, begins_row, grid_row, length-grid_row, near_row, place_before, row_lies}
+use Rattle.r9_locate.proofs.locate.Parts.{get_or-part, put_mid_before, put_mid_behind, put_mid_inside, row_within}
 use borrow.Rule.Slice.PartMut.{put_mid}
 use Rattle.r9_layers.proofs.composing.compose_rows.Goals as goal
 

@@ -12,7 +12,7 @@ use Rattle.model_forest.specs.View.{at}
 use Rattle.model_forest.specs.World.{image_at}
 use Rattle.r9_forest.specs.Images.{world}
 use Rattle.r9_layers.specs.Area.{drawing_of, mask_chan}
-use Rattle.r9_locate.proofs.Parts.{row_within}
+use Rattle.r9_locate.proofs.locate.Parts.{row_within}
 use Rattle.r9_layers.proofs.Areas.{area_point}
 use Rattle.r9_layers.proofs.Carrying.{carried_back, number_there, rect_carried, rect_height, rect_holds, rect_near, rect_ordered, rect_width}
 use Rattle.r9_layers.proofs.composing.move_area.Goals as goal

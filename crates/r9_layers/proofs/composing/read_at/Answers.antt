@@ -9,7 +9,7 @@ use Rattle.model_forest.specs.View.{at}
 use Rattle.model_forest.specs.World.{image_at}
 use Rattle.r9_forest.specs.Images.{world}
 use Rattle.r9_layers.proofs.Carrying.{carried_back, near_carried, strip-carried}
-use Rattle.r9_locate.proofs.Locating.{along-carried}
+use Rattle.r9_locate.proofs.locate.Locating.{along-carried}
 use Rattle.r9_layers.proofs.composing.read_at.Goals as goal
 
 pub carried-requires-clause-point : goal.carried-requires-clause-point

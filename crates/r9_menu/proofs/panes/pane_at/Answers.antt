@@ -2,7 +2,7 @@ use Rattle.std.proofs.Common.{◌∙◌, rules, tests}
 use Rattle.std.proofs.lemmas.Iterator.{YieldsList-from_slice}
 use Rattle.std.proofs.lemmas.Iterator.Search.{find_from_yields_List}
 use Rattle.r9_geom.specs.Geometry.{holds}
-use Rattle.model_desk.specs.declared.Pane.{Pane}
+use Rattle.model_client.specs.declared.desk.Pane.{Pane}
 use Rattle.r9_menu.proofs.panes.pane_at.Goals as goal
 
 pub returns : goal.returns

@@ -2,7 +2,7 @@ use Rattle.std.proofs.Common.{◌≡◌, ◌≤◌, ◌++◌, ◌==◌, if◌the
 use Rattle.std.proofs.lemmas.List.{append-nil, drop_all, get_or_default, take_all, with_items_is}
 use Rattle.std.proofs.lemmas.List.Edits.{map_over_more}
 use Rattle.r9_geom.specs.declared.Rect.{Rect}
-use Rattle.model_desk.specs.declared.Pane.{Pane}
+use Rattle.model_client.specs.declared.desk.Pane.{Pane}
 use Rattle.r9_menu.proofs.panes.set_rect.Goals as goal
 
 abbrev placed : ℕ → Rect → Pane → Pane

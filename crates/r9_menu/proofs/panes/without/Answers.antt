@@ -2,7 +2,7 @@ use Rattle.std.proofs.Common.{◌==◌, ◌∙◌, ap, rules, tests}
 use Rattle.std.specs.Prelude.{not}
 use Rattle.std.specs.List.{filter}
 use Rattle.std.proofs.lemmas.Fn.{filter_same}
-use Rattle.model_desk.specs.declared.Pane.{Pane}
+use Rattle.model_client.specs.declared.desk.Pane.{Pane}
 use Rattle.r9_menu.proofs.panes.without.Goals as goal
 
 pub returns : goal.returns

@@ -1,8 +1,8 @@
 use Rattle.std.proofs.Common.{◌≡◌, ◌∙◌, ◌+◌, ap, sym, arith, take, drop, ℕ, Some}
 use Rattle.std.proofs.lemmas.List.{take_rest}
-use Rattle.model_mirror.specs.Picture.{with_rows}
-use Rattle.model_mirror.specs.Lines as model
-use Rattle.model_mirror.specs.Frames.{cells}
+use Rattle.model_client.specs.mirror.Picture.{with_rows}
+use Rattle.model_client.specs.mirror.Lines as model
+use Rattle.model_client.specs.mirror.Frames.{cells}
 use Rattle.r9_mirror.specs.declared.lines.Size.{Size}
 use Rattle.r9_mirror.specs.Words.{words_of}
 use Rattle.r9_mirror.specs.Sizes.{blank_of, cell_of}

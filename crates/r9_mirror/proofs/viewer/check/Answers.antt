@@ -1,6 +1,6 @@
 use Rattle.std.proofs.Common.{Option, Ok, IfSome, arith, subst, sym}
 use Rattle.std.proofs.lemmas.Result.{err_from_is_err_and}
-use Rattle.model_mirror.specs.Frames.{viewed}
+use Rattle.model_client.specs.mirror.Frames.{viewed}
 use Rattle.r9_mirror.specs.declared.place.Place.{Place}
 use Rattle.r9_mirror.specs.declared.place.Step.{Step}
 use Rattle.r9_mirror.specs.Left.{stepped, IsFurther, IsPlace, Leaves, Tells}

@@ -2,11 +2,11 @@ use Rattle.std.proofs.Common.{◌≡◌, ◌∙◌, ℕ, Option, Some, None, Ok,
 use Rattle.std.proofs.lemmas.Bool.{both_ways}
 use Rattle.std.proofs.lemmas.Option.{same_Some}
 use Rattle.std.specs.Result.{result_ok}
-use Rattle.model_text.specs.Outcome.{Outcome}
+use Rattle.model_text.specs.text.Outcome.{Outcome}
 use Rattle.std.specs.Option.{option_map}
 use Rattle.r9_plane.specs.Pixels.{chan_of}
-use Rattle.model_mirror.specs.Picture.{Picture}
-use Rattle.model_mirror.specs.Frames.{viewed}
+use Rattle.model_client.specs.mirror.Picture.{Picture}
+use Rattle.model_client.specs.mirror.Frames.{viewed}
 use Rattle.r9_mirror.specs.declared.lines.Size.{Size}
 use Rattle.r9_mirror.specs.declared.place.Place.{Place}
 use Rattle.r9_mirror.specs.Sizes.{size_of}

@@ -2,8 +2,8 @@ use Rattle.std.proofs.Common.{◌≡◌, ◌-◌, length, Option, Some}
 use Rattle.std.specs.Prelude.{Ok}
 use Rattle.std.specs.Option.{option_map}
 use Rattle.r9_plane.specs.Pixels.{chan_of, rect_of}
-use Rattle.model_mirror.specs.Picture.{Picture}
-use Rattle.model_mirror.specs.Frames.{viewed}
+use Rattle.model_client.specs.mirror.Picture.{Picture}
+use Rattle.model_client.specs.mirror.Frames.{viewed}
 use Rattle.r9_mirror.specs.Sizes.{size_of}
 use Rattle.r9_mirror.specs.Left.{IsPlace, Leaves}
 use Rattle.r9_mirror.specs.Shown.{shown}

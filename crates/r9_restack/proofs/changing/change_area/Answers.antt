@@ -1,6 +1,6 @@
 use Rattle.std.proofs.Common.{◌≡◌, ◌||◌, Bool, true, false, refl}
 use Rattle.r9_geom.specs.Geometry.{holds}
-use Rattle.r9_locate.specs.Table.{shape}
+use Rattle.r9_locate.specs.locate.Table.{shape}
 use Rattle.r9_restack.specs.Stacks.{after_of}
 use Rattle.r9_restack.proofs.Changes.{changed-none, changed-same}
 use Rattle.r9_restack.proofs.changing.change_area.Goals as goal

@@ -4,8 +4,8 @@ use Rattle.std.proofs.lemmas.List.{take_all}
 use Rattle.r9_geom.specs.declared.Rect.{Rect}
 use Rattle.r9_geom.specs.Geometry.{area_of}
 use Rattle.r9_region.specs.Region.{covers}
-use Rattle.r9_locate.specs.Forms.{bits_in, Form, HasBits}
-use Rattle.r9_locate.specs.Table.{shape}
+use Rattle.r9_locate.specs.locate.Forms.{bits_in, Form, HasBits}
+use Rattle.r9_locate.specs.locate.Table.{shape}
 use Rattle.r9_restack.specs.Stacks.{after_of}
 use Rattle.r9_restack.specs.Changing.{IsChanged}
 use Rattle.r9_restack.proofs.Areas.{areas_grown, covers_at, covers_more, fresh_area}

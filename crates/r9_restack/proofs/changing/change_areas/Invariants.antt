@@ -2,7 +2,7 @@ use Rattle.std.proofs.Common.{◌≡◌, ◌+◌, ◌*◌, ◌≤◌, take}
 use Rattle.std.specs.Prelude.{sum_by}
 use Rattle.r9_geom.specs.Geometry.{area_of}
 use Rattle.r9_region.specs.Region.{covers}
-use Rattle.r9_locate.specs.Table.{shape}
+use Rattle.r9_locate.specs.locate.Table.{shape}
 use Rattle.r9_restack.specs.Stacks.{after_of}
 use Rattle.r9_restack.specs.Changing.{IsChanged}
 use Rattle.r9_restack.proofs.changing.change_areas.Given as goal

@@ -5,8 +5,8 @@ use Rattle.r9_geom.proofs.GeometryLemmas.{near_point}
 use Rattle.r9_plane.specs.Pixels.{along}
 use Rattle.r9_plane.proofs.PlaneLemmas.{along_holds}
 use Rattle.model_forest.specs.World.{image_at}
-use Rattle.r9_locate.specs.Forms.{bits_in, Form, HasBits}
-use Rattle.r9_locate.specs.Table.{shape}
+use Rattle.r9_locate.specs.locate.Forms.{bits_in, Form, HasBits}
+use Rattle.r9_locate.specs.locate.Table.{shape}
 use Rattle.r9_restack.specs.Stacks.{after_of, tops_at}
 use Rattle.r9_shown.specs.Shown.{block}
 use Rattle.r9_shown.proofs.Pieces.{block_none, block_part, corner_in, first_row}

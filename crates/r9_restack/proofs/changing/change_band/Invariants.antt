@@ -1,7 +1,7 @@
 use Rattle.std.proofs.Common.{◌≡◌, ◌+◌, ◌*◌, ◌≤◌, ◌-◌, ℕ, Bool}
 use Rattle.r9_geom.specs.declared.Point.{Point}
 use Rattle.model_kept.specs.Keeping.{Place}
-use Rattle.r9_locate.specs.Table.{shape}
+use Rattle.r9_locate.specs.locate.Table.{shape}
 use Rattle.r9_restack.specs.Stacks.{after_of}
 use Rattle.r9_shown.specs.Shown.{block}
 use Rattle.r9_restack.specs.Moving.{more_in, IsFreshIn}

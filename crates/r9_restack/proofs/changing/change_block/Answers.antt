@@ -7,7 +7,7 @@ use Rattle.model_forest.specs.World.{image_at}
 use Rattle.model_forest.specs.View.{inward}
 use Rattle.model_forest.proofs.Changes.{live-standing}
 use Rattle.model_kept.proofs.Storing.{inward-inside}
-use Rattle.r9_locate.specs.Table.{shape}
+use Rattle.r9_locate.specs.locate.Table.{shape}
 use Rattle.r9_shown.specs.Shown.{block}
 use Rattle.r9_shown.proofs.Carried.{near_part}
 use Rattle.r9_shown.proofs.Pieces.{block_area, block_ordered, corner_in}

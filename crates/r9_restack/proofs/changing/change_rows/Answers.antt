@@ -6,9 +6,9 @@ use Rattle.r9_geom.proofs.GeometryLemmas.{bounds_of}
 use Rattle.model_forest.specs.World.{image_at}
 use Rattle.r9_plane.specs.Pixels.{along}
 use Rattle.r9_plane.proofs.PlaneLemmas.{along_holds}
-use Rattle.r9_locate.specs.Forms.{bits_in, Form, HasBits}
-use Rattle.r9_locate.specs.Table.{shape}
-use Rattle.r9_locate.proofs.Locating.{along-along}
+use Rattle.r9_locate.specs.locate.Forms.{bits_in, Form, HasBits}
+use Rattle.r9_locate.specs.locate.Table.{shape}
+use Rattle.r9_locate.proofs.locate.Locating.{along-along}
 use Rattle.r9_shown.specs.Shown.{block, down}
 use Rattle.r9_shown.proofs.Pieces.{block_part, first_row}
 use Rattle.r9_restack.specs.Stacks.{after_of, IsRunAlong}

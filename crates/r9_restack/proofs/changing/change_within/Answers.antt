@@ -4,8 +4,8 @@ use Rattle.r9_geom.specs.Geometry.{height, holds, width, IsNear}
 use Rattle.r9_geom.proofs.GeometryLemmas.{band, band_all, band_none, bounds_of, distance_below, distance_is, height_most, width_most}
 use Rattle.std.proofs.lemmas.Bool.{false_from_ne_true}
 use Rattle.std.proofs.lemmas.Int.{ints}
-use Rattle.r9_locate.specs.Forms.{bits_in, Form, HasBits}
-use Rattle.r9_locate.specs.Table.{shape}
+use Rattle.r9_locate.specs.locate.Forms.{bits_in, Form, HasBits}
+use Rattle.r9_locate.specs.locate.Table.{shape}
 use Rattle.r9_restack.specs.Stacks.{after_of}
 use Rattle.r9_shown.specs.Shown.{block}
 use Rattle.r9_shown.proofs.Pieces.{band_part}

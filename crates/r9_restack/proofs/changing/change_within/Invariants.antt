@@ -3,7 +3,7 @@ use Rattle.r9_geom.specs.declared.Point.{Point}
 use Rattle.r9_geom.specs.Geometry.{height, width}
 use Rattle.r9_geom.proofs.GeometryLemmas.{band}
 use Rattle.model_kept.specs.Keeping.{Place}
-use Rattle.r9_locate.specs.Table.{shape}
+use Rattle.r9_locate.specs.locate.Table.{shape}
 use Rattle.r9_restack.specs.Stacks.{after_of}
 use Rattle.r9_restack.specs.Moving.{more_in, IsFreshIn}
 use Rattle.r9_restack.specs.Changing.{IsChanged}

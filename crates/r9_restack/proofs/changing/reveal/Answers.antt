@@ -5,7 +5,7 @@ use Rattle.model_forest.specs.declared.Window.{Window}
 use Rattle.model_forest.specs.World.{image_at, parent_of}
 use Rattle.model_forest.specs.View.{inward}
 use Rattle.model_kept.specs.Keeping.{own}
-use Rattle.r9_locate.specs.Table.{shape}
+use Rattle.r9_locate.specs.locate.Table.{shape}
 use Rattle.r9_shown.proofs.Carried.{carried-self}
 use Rattle.r9_restack.proofs.Carrying.{inward_from}
 use Rattle.r9_restack.proofs.Changes.{some_same}

@@ -2,7 +2,7 @@ use Rattle.std.proofs.Common.{◌≡◌, ◌∙◌, sym, ap}
 use Rattle.model_forest.specs.declared.Window.{Window}
 use Rattle.model_forest.specs.View.{inward}
 use Rattle.model_kept.specs.Keeping.{own}
-use Rattle.r9_locate.specs.Table.{shape}
+use Rattle.r9_locate.specs.locate.Table.{shape}
 use Rattle.r9_restack.proofs.Carrying.{inward_from}
 use Rattle.r9_restack.proofs.Changes.{some_same}
 use Rattle.r9_restack.proofs.changing.save.Goals as goal

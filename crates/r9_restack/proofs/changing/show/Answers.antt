@@ -1,9 +1,9 @@
 use Rattle.std.proofs.Common.{◌∙◌, ℕ, ◌<◌, ◌^◌, Option, sym, subst, ap}
 use Rattle.model_forest.specs.View.{inward}
 use Rattle.model_kept.specs.Keeping.{own, Place}
-use Rattle.r9_locate.specs.Forms.{bits_in, Form, HasBits}
-use Rattle.r9_locate.specs.Table.{shape}
-use Rattle.r9_locate.proofs.Apart.{own-apart}
+use Rattle.r9_locate.specs.locate.Forms.{bits_in, Form, HasBits}
+use Rattle.r9_locate.specs.locate.Table.{shape}
+use Rattle.r9_locate.proofs.locate.Apart.{own-apart}
 use Rattle.r9_restack.proofs.changing.show.Goals as goal
 
 pub reveal-requires-clause-bits : goal.reveal-requires-clause-bits

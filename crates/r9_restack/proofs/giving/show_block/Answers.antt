@@ -1,6 +1,6 @@
 use Rattle.std.proofs.Common.{◌∙◌, ◌<◌, ◌^◌, length, sym, subst, arith}
 use Rattle.r9_plane.specs.Pixels.{along}
-use Rattle.r9_locate.specs.Forms.{bits_in}
+use Rattle.r9_locate.specs.locate.Forms.{bits_in}
 use Rattle.r9_restack.proofs.giving.show_block.Goals as goal
 
 pub write_view-requires-clause-below : goal.write_view-requires-clause-below

@@ -4,7 +4,7 @@ use Rattle.r9_geom.specs.declared.Rect.{Rect}
 use Rattle.r9_geom.specs.Geometry.{carried, holds}
 use Rattle.r9_geom.proofs.GeometryLemmas.{corner}
 use Rattle.r9_plane.specs.Blocks.{number_in, HasRows}
-use Rattle.r9_locate.specs.Forms.{bits_in}
+use Rattle.r9_locate.specs.locate.Forms.{bits_in}
 use Rattle.r9_shown.proofs.Columns.{empty_area, some_points}
 use Rattle.r9_restack.specs.Giving.{pixels_of}
 use Rattle.r9_restack.proofs.Carrying.{held_there, number_there, rows_there}

@@ -7,10 +7,10 @@ use Rattle.r9_plane.specs.Pixels.{along}
 use Rattle.r9_plane.proofs.PlaneLemmas.{along_holds}
 use Rattle.model_forest.specs.World.{image_at}
 use Rattle.model_kept.specs.Keeping.{keeping}
-use Rattle.r9_locate.specs.Forms.{bits_in, Form, HasBits}
-use Rattle.r9_locate.specs.Table.{shape}
-use Rattle.r9_locate.proofs.Apart.{keeping-injective}
-use Rattle.r9_locate.proofs.Locating.{along-along, along-apart, strip_at}
+use Rattle.r9_locate.specs.locate.Forms.{bits_in, Form, HasBits}
+use Rattle.r9_locate.specs.locate.Table.{shape}
+use Rattle.r9_locate.proofs.locate.Apart.{keeping-injective}
+use Rattle.r9_locate.proofs.locate.Locating.{along-along, along-apart, strip_at}
 use Rattle.r9_restack.specs.Giving.{pixels_of}
 use Rattle.r9_restack.proofs.Parting.{nearby}
 use Rattle.r9_restack.proofs.giving.show_row.Given.{Over}

@@ -1,7 +1,7 @@
 use Rattle.std.proofs.Common.{◌≡◌, ◌≢◌, ◌+◌, ◌-◌, ◌<◌, ◌≤◌, ℕ, length}
 use Rattle.r9_plane.specs.Pixels.{along}
 use Rattle.model_kept.specs.Keeping.{keeping, Place}
-use Rattle.r9_locate.specs.Table.{shape}
+use Rattle.r9_locate.specs.locate.Table.{shape}
 use Rattle.r9_restack.specs.Giving.{pixels_of}
 use Rattle.r9_restack.proofs.giving.show_row.Given as goal
 

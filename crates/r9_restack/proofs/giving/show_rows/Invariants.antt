@@ -3,7 +3,7 @@ use Rattle.r9_geom.specs.declared.Point.{Point}
 use Rattle.r9_geom.specs.Geometry.{carried, holds, width}
 use Rattle.r9_geom.proofs.GeometryLemmas.{band}
 use Rattle.model_kept.specs.Keeping.{keeping, Place}
-use Rattle.r9_locate.specs.Table.{shape}
+use Rattle.r9_locate.specs.locate.Table.{shape}
 use Rattle.r9_restack.specs.Giving.{pixels_of}
 use Rattle.r9_restack.proofs.giving.show_rows.Given as goal
 

@@ -5,8 +5,8 @@ use Rattle.r9_geom.specs.Geometry.{IsNear}
 use Rattle.r9_region.specs.Region.{covers}
 use Rattle.model_forest.specs.declared.Window.{Window}
 use Rattle.model_forest.specs.World.{Image}
-use Rattle.r9_locate.specs.Forms.{bits_in}
-use Rattle.r9_locate.specs.Table.{shape}
+use Rattle.r9_locate.specs.locate.Forms.{bits_in}
+use Rattle.r9_locate.specs.locate.Table.{shape}
 use Rattle.r9_restack.specs.Changing.{HasPlacesBut, IsChange, IsChanged}
 use Rattle.r9_restack.proofs.Orders.{moved-all, moved-changed}
 use Rattle.r9_restack.proofs.Parting.{near_all, nearby, setting}

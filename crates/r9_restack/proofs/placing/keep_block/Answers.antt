@@ -8,8 +8,8 @@ use Rattle.r9_geom.proofs.GeometryLemmas.{bounds_of}
 use Rattle.r9_plane.specs.Pixels.{along}
 use Rattle.r9_plane.proofs.PlaneLemmas.{along_holds}
 use Rattle.model_kept.specs.Keeping.{own, Place}
-use Rattle.r9_locate.specs.Forms.{bits_in, Form}
-use Rattle.r9_locate.proofs.Locating.{strip_at}
+use Rattle.r9_locate.specs.locate.Forms.{bits_in, Form}
+use Rattle.r9_locate.proofs.locate.Locating.{strip_at}
 use Rattle.r9_shown.specs.Shown.{block, down}
 use Rattle.r9_shown.proofs.Pieces.{block_area, block_ordered, corner_in}
 use Rattle.r9_restack.proofs.Orders.{or_cases}

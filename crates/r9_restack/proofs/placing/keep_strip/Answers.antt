@@ -3,8 +3,8 @@ use Rattle.std.proofs.lemmas.Bool.{cases_lt}
 use Rattle.std.proofs.lemmas.List.{length-take-le}
 use Rattle.r9_plane.specs.Pixels.{along}
 use Rattle.model_kept.specs.Keeping.{own, Place}
-use Rattle.r9_locate.specs.Forms.{bits_in, Form}
-use Rattle.r9_locate.proofs.Locating.{along-along, along-apart}
+use Rattle.r9_locate.specs.locate.Forms.{bits_in, Form}
+use Rattle.r9_locate.proofs.locate.Locating.{along-along, along-apart}
 use Rattle.r9_restack.proofs.placing.keep_strip.Goals as goal
 
 pub loop-done-init : goal.loop-done-init

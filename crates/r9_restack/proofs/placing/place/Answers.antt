@@ -10,8 +10,8 @@ use Rattle.model_forest.specs.World.{image_at}
 use Rattle.model_kept.specs.Keeping.{own}
 use Rattle.model_kept.specs.Restack.{with_own}
 use Rattle.model_kept.proofs.Storing.{carried-back}
-use Rattle.r9_locate.specs.Forms.{bits_in, Form, HasBits}
-use Rattle.r9_locate.specs.Table.{shape}
+use Rattle.r9_locate.specs.locate.Forms.{bits_in, Form, HasBits}
+use Rattle.r9_locate.specs.locate.Table.{shape}
 use Rattle.r9_shown.specs.Shown.{block}
 use Rattle.r9_shown.proofs.Pieces.{bands_more, band_part}
 use Rattle.r9_restack.specs.Placing.{comes, shows, with_coming}

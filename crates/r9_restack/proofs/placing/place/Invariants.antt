@@ -5,7 +5,7 @@ use Rattle.r9_geom.specs.Geometry.{carried, height, holds, width}
 use Rattle.r9_geom.proofs.GeometryLemmas.{band}
 use Rattle.model_forest.specs.World.{image_at}
 use Rattle.model_kept.specs.Keeping.{own, Place}
-use Rattle.r9_locate.specs.Table.{shape}
+use Rattle.r9_locate.specs.locate.Table.{shape}
 use Rattle.r9_restack.specs.Placing.{comes, shows, IsPlaced}
 use Rattle.r9_restack.specs.Stacks.{after_of}
 use Rattle.r9_restack.proofs.placing.place.Given as goal

@@ -10,8 +10,8 @@ use Rattle.r9_plane.proofs.PlaneLemmas.{along_holds}
 use Rattle.model_forest.specs.World.{Image, image_at}
 use Rattle.model_kept.specs.Keeping.{own}
 use Rattle.model_kept.specs.Restack.{with_own}
-use Rattle.r9_locate.specs.Forms.{bits_in, Form, HasBits}
-use Rattle.r9_locate.specs.Table.{shape}
+use Rattle.r9_locate.specs.locate.Forms.{bits_in, Form, HasBits}
+use Rattle.r9_locate.specs.locate.Table.{shape}
 use Rattle.r9_shown.specs.Shown.{block}
 use Rattle.r9_shown.proofs.Pieces.{block_none, block_part, block_split, first_row}
 use Rattle.r9_restack.specs.Placing.{comes, with_coming, IsComing, IsPlaced}

@@ -3,7 +3,7 @@ use Rattle.r9_geom.specs.declared.Point.{Point}
 use Rattle.r9_geom.specs.Geometry.{carried, holds}
 use Rattle.model_forest.specs.World.{image_at}
 use Rattle.model_kept.specs.Keeping.{own, Place}
-use Rattle.r9_locate.specs.Table.{shape}
+use Rattle.r9_locate.specs.locate.Table.{shape}
 use Rattle.r9_shown.specs.Shown.{block}
 use Rattle.r9_restack.specs.Placing.{comes, shows, with_coming, IsComing, IsPlaced}
 use Rattle.r9_restack.specs.Stacks.{after_of}

@@ -8,7 +8,7 @@ use Rattle.model_forest.specs.World.{image_at}
 use Rattle.model_forest.proofs.Changes.{live-standing}
 use Rattle.model_kept.specs.Keeping.{own, Place}
 use Rattle.model_kept.specs.Restack.{with_own}
-use Rattle.r9_locate.specs.Table.{shape}
+use Rattle.r9_locate.specs.locate.Table.{shape}
 use Rattle.r9_shown.specs.Shown.{block}
 use Rattle.r9_shown.proofs.Pieces.{corner_in}
 use Rattle.r9_restack.specs.Moving.{more_in}

@@ -9,9 +9,9 @@ use Rattle.r9_plane.specs.Pixels.{along}
 use Rattle.model_forest.specs.World.{Image, image_at}
 use Rattle.model_kept.specs.Keeping.{own}
 use Rattle.model_kept.specs.Restack.{with_own}
-use Rattle.r9_locate.specs.Forms.{bits_in, Form, HasBits}
-use Rattle.r9_locate.specs.Table.{shape}
-use Rattle.r9_locate.proofs.Locating.{along-along}
+use Rattle.r9_locate.specs.locate.Forms.{bits_in, Form, HasBits}
+use Rattle.r9_locate.specs.locate.Table.{shape}
+use Rattle.r9_locate.proofs.locate.Locating.{along-along}
 use Rattle.r9_shown.specs.Shown.{block, down}
 use Rattle.r9_shown.proofs.Pieces.{block_part, block_split, corner_in}
 use Rattle.r9_restack.specs.Changing.{HasPlacesBut}

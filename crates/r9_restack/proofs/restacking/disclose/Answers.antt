@@ -3,7 +3,7 @@ use Rattle.std.specs.Prelude.{All}
 use Rattle.r9_geom.specs.Geometry.{holds, IsNear}
 use Rattle.model_forest.specs.declared.Window.{Window}
 use Rattle.model_forest.specs.World.{Image}
-use Rattle.r9_locate.specs.Table.{shape}
+use Rattle.r9_locate.specs.locate.Table.{shape}
 use Rattle.r9_restack.specs.Changing.{HasPlacesBut, IsChange, IsChanged}
 use Rattle.r9_restack.specs.Stacks.{after_of, IsFront}
 use Rattle.r9_restack.proofs.Changes.{changing}

@@ -3,7 +3,7 @@ use Rattle.std.specs.Prelude.{if◌then◌else◌}
 use Rattle.std.proofs.lemmas.Bool.{ne_eqb}
 use Rattle.r9_geom.specs.declared.Point.{Point}
 use Rattle.model_kept.specs.Keeping.{keeping, own}
-use Rattle.r9_locate.specs.Table.{shape}
+use Rattle.r9_locate.specs.locate.Table.{shape}
 use Rattle.r9_restack.proofs.restacking.leave.Goals as goal
 
 pub returns-clause-moved : goal.returns-clause-moved

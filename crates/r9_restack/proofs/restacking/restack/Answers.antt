@@ -6,8 +6,8 @@ use Rattle.model_forest.specs.declared.Window.{Window}
 use Rattle.model_forest.specs.World.{Image, image_at}
 use Rattle.model_kept.specs.Keeping.{is_top, own, place_among}
 use Rattle.model_kept.specs.Restack.{with_list, with_own, IsRestacked}
-use Rattle.r9_locate.specs.Forms.{bits_in, Form, HasBits}
-use Rattle.r9_locate.specs.Table.{shape}
+use Rattle.r9_locate.specs.locate.Forms.{bits_in, Form, HasBits}
+use Rattle.r9_locate.specs.locate.Table.{shape}
 use Rattle.r9_restack.specs.Changing.{HasPlacesBut, IsChange, IsGiven, StaysTop}
 use Rattle.r9_restack.specs.Placing.{shows}
 use Rattle.r9_restack.specs.Stacks.{after_of, IsFront, IsStacked}

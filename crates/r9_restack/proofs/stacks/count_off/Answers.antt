@@ -2,7 +2,7 @@ use Rattle.std.proofs.Common.{◌≡◌, ◌∙◌, ◌<◌, length, ⊎_elim, a
 use Rattle.std.proofs.lemmas.Bool.{cases_lt}
 use Rattle.r9_geom.specs.Geometry.{holds}
 use Rattle.model_forest.specs.declared.Window.{Window}
-use Rattle.r9_locate.proofs.Rowed.{here_is}
+use Rattle.r9_locate.proofs.locate.Rowed.{here_is}
 use Rattle.r9_restack.proofs.Stacked.{bare_until}
 use Rattle.r9_restack.proofs.stacks.count_off.Goals as goal
 

@@ -4,7 +4,7 @@ use Rattle.std.proofs.lemmas.List.{take_more_same}
 use Rattle.std.proofs.lemmas.List.Elements.{All-more}
 use Rattle.model_forest.specs.declared.Window.{Window}
 use Rattle.model_forest.specs.World.{no_rect}
-use Rattle.r9_locate.proofs.Rowed.{get_or_any}
+use Rattle.r9_locate.proofs.locate.Rowed.{get_or_any}
 use Rattle.r9_restack.proofs.stacks.count_same.Goals as goal
 
 pub loop-count-init : goal.loop-count-init

@@ -1,6 +1,6 @@
 use Rattle.std.proofs.Common.{rules, ◌≡◌, ◌∙◌, Bool, true, false, cond, sym, ap}
 use Rattle.std.specs.Prelude.{is_some}
-use Rattle.model_tree.specs.Node.{Node}
+use Rattle.model_files.specs.tree.Node.{Node}
 use Rattle.model_world.specs.Fids.{with_held}
 use Rattle.r9_session.proofs.holding.let_go.Goals as goal
 

@@ -2,7 +2,7 @@ use Rattle.std.proofs.Common.{rules, tests, ℕ}
 use Rattle.std.specs.Prelude.{nat_le}
 use Rattle.std.proofs.lemmas.Iterator.{YieldsList-from_slice}
 use Rattle.std.proofs.lemmas.Iterator.Search.{position_from_yields_List}
-use Rattle.model_map.proofs.Positions.{place_or_end}
+use Rattle.model_text.proofs.map.Positions.{place_or_end}
 use Rattle.r9_session.proofs.leaving.place_of.Goals as goal
 
 pub returns-clause-place : goal.returns-clause-place

@@ -1,6 +1,6 @@
 use Rattle.std.proofs.Common.{◌∙◌, ◌||◌, not, sym, ap}
 use Rattle.std.specs.Prelude.{◌==◌}
-use Rattle.model_tree.specs.Node.{Node}
+use Rattle.model_files.specs.tree.Node.{Node}
 use Rattle.model_world.specs.Sleeping.{gives_late}
 use Rattle.r9_tree.specs.View.{node_of}
 use Rattle.r9_session.proofs.Places.{placed_late}

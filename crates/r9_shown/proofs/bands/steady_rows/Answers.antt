@@ -2,7 +2,7 @@ use Rattle.std.proofs.Common.{◌≡◌, ◌∙◌, ◌<◌, length, ⊎_elim, s
 use Rattle.std.proofs.lemmas.Bool.{cases_lt}
 use Rattle.r9_geom.specs.Geometry.{holds}
 use Rattle.model_forest.specs.declared.Window.{Window}
-use Rattle.r9_locate.proofs.Rowed.{here_is, top_window-same}
+use Rattle.r9_locate.proofs.locate.Rowed.{here_is, top_window-same}
 use Rattle.r9_shown.specs.Shown.{down}
 use Rattle.r9_shown.proofs.bands.steady_rows.Goals as goal
 

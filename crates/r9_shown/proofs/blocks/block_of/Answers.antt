@@ -9,8 +9,8 @@ use Rattle.model_forest.specs.declared.Window.{Window}
 use Rattle.model_forest.specs.View.{is_bare}
 use Rattle.model_forest.specs.World.{Image, image_at, parent_of}
 use Rattle.model_kept.specs.Keeping.{keeping, own}
-use Rattle.r9_locate.specs.Table.{shape}
-use Rattle.r9_locate.proofs.Locating.{keeping-root, not_is, not_not, stands_nowhere, stands_where}
+use Rattle.r9_locate.specs.locate.Table.{shape}
+use Rattle.r9_locate.proofs.locate.Locating.{keeping-root, not_is, not_not, stands_nowhere, stands_where}
 use Rattle.r9_shown.specs.Shown.{block}
 use Rattle.r9_shown.proofs.Carried.{carried-self}
 use Rattle.r9_shown.proofs.Keepers.{block_carried, block_within, carried_through, lone_kept, window_kept}

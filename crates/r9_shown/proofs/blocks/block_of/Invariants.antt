@@ -3,7 +3,7 @@ use Rattle.r9_geom.specs.declared.Point.{Point}
 use Rattle.r9_geom.specs.Geometry.{carried, holds}
 use Rattle.model_forest.specs.World.{image_at, IsLive}
 use Rattle.model_kept.specs.Keeping.{keeping}
-use Rattle.r9_locate.specs.Table.{shape}
+use Rattle.r9_locate.specs.locate.Table.{shape}
 use Rattle.r9_shown.specs.Shown as shown
 use Rattle.r9_shown.proofs.blocks.block_of.Given as goal
 

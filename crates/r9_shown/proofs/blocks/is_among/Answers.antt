@@ -2,7 +2,7 @@ use Rattle.std.proofs.Common.{◌∙◌, ◌+◌, ◌<◌, ◌≤◌, length, ap
 use Rattle.std.specs.Prelude.{◌==◌}
 use Rattle.std.proofs.lemmas.Bool.{cases_lt, ne_eqb}
 use Rattle.model_forest.specs.declared.Window.{Window}
-use Rattle.r9_locate.proofs.Rowed.{here_is}
+use Rattle.r9_locate.proofs.locate.Rowed.{here_is}
 use Rattle.r9_shown.proofs.blocks.is_among.Goals as goal
 
 pub returns : goal.returns

@@ -6,7 +6,7 @@ use Rattle.r9_geom.specs.Geometry.{carried, holds, strip}
 use Rattle.r9_geom.proofs.GeometryLemmas.{near_wider, same_point}
 use Rattle.model_kept.specs.Keeping.{own}
 use Rattle.r9_plane.specs.Pixels.{along}
-use Rattle.r9_locate.specs.Table.{shape}
+use Rattle.r9_locate.specs.locate.Table.{shape}
 use Rattle.r9_shown.specs.Blocks.{IsKeptFrom}
 use Rattle.r9_shown.specs.Shown.{block}
 use Rattle.r9_shown.proofs.Keepers.{block_within, kept_below, strip_within}

@@ -2,7 +2,7 @@ use Rattle.std.proofs.Common.{◌≡◌, ◌<◌, ◌≤◌, ◌-◌, ℕ, true}
 use Rattle.r9_geom.specs.declared.Point.{Point}
 use Rattle.r9_geom.specs.Geometry.{holds, strip}
 use Rattle.r9_plane.specs.Pixels.{along}
-use Rattle.r9_locate.specs.Table.{shape}
+use Rattle.r9_locate.specs.locate.Table.{shape}
 use Rattle.r9_shown.specs.Blocks.{IsKeptFrom}
 use Rattle.r9_shown.specs.Shown.{IsKeptBelow}
 use Rattle.r9_shown.proofs.blocks.last_block.Given as goal

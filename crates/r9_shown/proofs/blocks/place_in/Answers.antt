@@ -3,7 +3,7 @@ use Rattle.std.specs.Prelude.{◌==◌}
 use Rattle.std.proofs.lemmas.Bool.{cases_lt, ne_eqb}
 use Rattle.model_forest.specs.declared.Window.{Window}
 use Rattle.model_forest.specs.World.{no_rect}
-use Rattle.r9_locate.proofs.Rowed.{here_is}
+use Rattle.r9_locate.proofs.locate.Rowed.{here_is}
 use Rattle.r9_shown.proofs.Above.{first_at, first_nowhere}
 use Rattle.r9_shown.proofs.blocks.place_in.Goals as goal
 

@@ -3,7 +3,7 @@ use Rattle.std.proofs.lemmas.Bool.{cases_lt}
 use Rattle.r9_geom.specs.Geometry.{holds}
 use Rattle.model_forest.specs.declared.Window.{Window}
 use Rattle.model_forest.specs.World.{no_rect}
-use Rattle.r9_locate.proofs.Rowed.{here_is}
+use Rattle.r9_locate.proofs.locate.Rowed.{here_is}
 use Rattle.r9_shown.proofs.Above.{top_first, top_none}
 use Rattle.r9_shown.proofs.Keepers.{block_within}
 use Rattle.r9_shown.proofs.blocks.top_over.Goals as goal

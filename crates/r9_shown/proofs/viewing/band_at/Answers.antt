@@ -5,7 +5,7 @@ use Rattle.r9_geom.specs.Geometry.{carried, holds, point_at, strip, width, IsNea
 use Rattle.r9_geom.proofs.GeometryLemmas.{distance_is, height_most, near_point, point_holds, same_point, width_most}
 use Rattle.model_kept.specs.Keeping.{own}
 use Rattle.r9_plane.specs.Pixels.{along}
-use Rattle.r9_locate.specs.Table.{shape}
+use Rattle.r9_locate.specs.locate.Table.{shape}
 use Rattle.r9_shown.specs.declared.blocks.Block.{Block}
 use Rattle.r9_shown.specs.Blocks.{IsKeptFrom}
 use Rattle.r9_shown.specs.Shown.{block}

@@ -3,8 +3,8 @@ use Rattle.std.specs.Prelude.{is_some, not, option_map}
 use Rattle.std.proofs.lemmas.Bool.{true≢false}
 use Rattle.model_forest.specs.declared.Standing.{Standing}
 use Rattle.model_forest.specs.World.{Image}
-use Rattle.r9_locate.specs.Table.{shape}
-use Rattle.r9_locate.proofs.Locating.{keeping-root}
+use Rattle.r9_locate.specs.locate.Table.{shape}
+use Rattle.r9_locate.proofs.locate.Locating.{keeping-root}
 use Rattle.r9_shown.proofs.viewing.keeps_all.Goals as goal
 
 nowhere : (o : Option Standing) → is_some o ≡ false → option_map (λ (s : Standing). s.parent) o ≡ None

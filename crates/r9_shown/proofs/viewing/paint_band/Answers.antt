@@ -4,8 +4,8 @@ use Rattle.r9_geom.specs.declared.Rect.{Rect}
 use Rattle.r9_geom.specs.Geometry.{area_of, holds, width, IsOrdered, IsRectNear}
 use Rattle.r9_geom.proofs.GeometryLemmas.{height_most, width_most}
 use Rattle.model_kept.specs.Keeping.{keeping, own, Place}
-use Rattle.r9_locate.specs.Forms.{bits_in}
-use Rattle.r9_locate.specs.Table.{shape}
+use Rattle.r9_locate.specs.locate.Forms.{bits_in}
+use Rattle.r9_locate.specs.locate.Table.{shape}
 use Rattle.r9_shown.specs.Shown.{block}
 use Rattle.r9_shown.proofs.Columns.{left_none, left_of}
 use Rattle.r9_shown.proofs.Parts.{columns_filled, kept_apart, part_bits, part_has, part_more, part_near, part_of, part_written}

@@ -3,7 +3,7 @@ use Rattle.r9_geom.specs.declared.Point.{Point}
 use Rattle.r9_geom.specs.Geometry.{carried, holds, point_at, width}
 use Rattle.r9_geom.proofs.GeometryLemmas.{height_most, width_most}
 use Rattle.model_kept.specs.Keeping.{own}
-use Rattle.r9_locate.specs.Table.{shape}
+use Rattle.r9_locate.specs.locate.Table.{shape}
 use Rattle.r9_shown.specs.declared.blocks.Block.{Block}
 use Rattle.r9_shown.specs.Blocks.{IsKeptFrom}
 use Rattle.r9_shown.specs.Shown.{block}

@@ -6,7 +6,7 @@ use Rattle.r9_geom.proofs.GeometryLemmas.{band, band_all, band_none, empty_holds
 use Rattle.model_kept.specs.Keeping.{keeping}
 use Rattle.r9_plane.specs.Pixels.{number_of}
 use Rattle.r9_plane.proofs.PlaneLemmas.{number_tells}
-use Rattle.r9_locate.specs.Table.{shape}
+use Rattle.r9_locate.specs.locate.Table.{shape}
 use Rattle.r9_shown.specs.Shown.{rows_of}
 use Rattle.r9_shown.proofs.Columns.{band_inside, rows_more, some_points, all_number, rows_among}
 use Rattle.r9_shown.proofs.Writing.{filled_more, filled_none}

@@ -7,7 +7,7 @@ use Rattle.model_kept.specs.Keeping.{keeping, own}
 use Rattle.r9_plane.specs.Blocks.{number_in, HasRows}
 use Rattle.r9_plane.specs.Pixels.{number_of}
 use Rattle.r9_plane.proofs.PlaneLemmas.{number_tells}
-use Rattle.r9_locate.specs.Table.{shape}
+use Rattle.r9_locate.specs.locate.Table.{shape}
 use Rattle.r9_shown.specs.Shown.{block}
 use Rattle.r9_shown.proofs.Columns.{all_number, left_none, left_of, piece_number, piece_rows, rows_among}
 use Rattle.r9_shown.proofs.Parts.{columns_filled, part_has, part_more, part_near, part_of}

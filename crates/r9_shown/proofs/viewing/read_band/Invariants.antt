@@ -3,7 +3,7 @@ use Rattle.r9_geom.specs.Geometry.{width}
 use Rattle.r9_geom.specs.declared.Point.{Point}
 use Rattle.r9_plane.specs.Pixels.{number_of}
 use Rattle.model_kept.specs.Keeping.{keeping}
-use Rattle.r9_locate.specs.Table.{shape}
+use Rattle.r9_locate.specs.locate.Table.{shape}
 use Rattle.r9_shown.proofs.Columns.{left_of}
 use Rattle.r9_shown.proofs.Writing.{IsFilled}
 use Rattle.r9_shown.proofs.viewing.read_band.Given as goal

@@ -4,9 +4,9 @@ use Rattle.r9_geom.specs.declared.Point.{Point}
 use Rattle.r9_geom.specs.Geometry.{area_of, carried, height, holds, width}
 use Rattle.r9_geom.proofs.GeometryLemmas.{band, band_all, band_none, empty_holds}
 use Rattle.model_kept.specs.Keeping.{keeping, own, Place}
-use Rattle.r9_locate.specs.Forms.{HasBits}
-use Rattle.r9_locate.specs.Table.{shape}
-use Rattle.r9_locate.proofs.Apart.{own-apart}
+use Rattle.r9_locate.specs.locate.Forms.{HasBits}
+use Rattle.r9_locate.specs.locate.Table.{shape}
+use Rattle.r9_locate.proofs.locate.Apart.{own-apart}
 use Rattle.r9_shown.specs.Shown.{rows_of}
 use Rattle.r9_shown.proofs.Columns.{band_inside, empty_area, rows_more, some_points}
 use Rattle.r9_shown.proofs.Parts.{own_target}

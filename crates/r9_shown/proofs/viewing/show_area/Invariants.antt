@@ -3,7 +3,7 @@ use Rattle.r9_geom.specs.declared.Point.{Point}
 use Rattle.r9_geom.specs.Geometry.{carried, height, width}
 use Rattle.r9_geom.proofs.GeometryLemmas.{band}
 use Rattle.model_kept.specs.Keeping.{keeping, own, Place}
-use Rattle.r9_locate.specs.Table.{shape}
+use Rattle.r9_locate.specs.locate.Table.{shape}
 use Rattle.r9_shown.proofs.Writing.{IsFilled}
 use Rattle.r9_shown.proofs.viewing.show_area.Given as goal
 

@@ -6,9 +6,9 @@ use Rattle.r9_geom.proofs.GeometryLemmas.{height_most, near_point, width_most}
 use Rattle.model_forest.specs.World.{image_at}
 use Rattle.model_forest.proofs.Changes.{live-standing}
 use Rattle.model_kept.specs.Keeping.{keeping, own, Place}
-use Rattle.r9_locate.specs.Forms.{bits_in}
-use Rattle.r9_locate.specs.Table.{shape}
-use Rattle.r9_locate.proofs.Apart.{own-apart}
+use Rattle.r9_locate.specs.locate.Forms.{bits_in}
+use Rattle.r9_locate.specs.locate.Table.{shape}
+use Rattle.r9_locate.proofs.locate.Apart.{own-apart}
 use Rattle.r9_shown.specs.Shown.{block}
 use Rattle.r9_shown.proofs.Carried.{carried-self, near_part}
 use Rattle.r9_shown.proofs.Columns.{left_none, left_of}

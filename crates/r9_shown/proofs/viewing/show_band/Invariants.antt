@@ -2,7 +2,7 @@ use Rattle.std.proofs.Common.{◌≡◌, ◌≤◌, ◌+◌, ◌*◌, ◌-◌}
 use Rattle.r9_geom.specs.declared.Point.{Point}
 use Rattle.r9_geom.specs.Geometry.{carried, width}
 use Rattle.model_kept.specs.Keeping.{keeping, own, Place}
-use Rattle.r9_locate.specs.Table.{shape}
+use Rattle.r9_locate.specs.locate.Table.{shape}
 use Rattle.r9_shown.proofs.Columns.{left_of}
 use Rattle.r9_shown.proofs.Writing.{IsFilled}
 use Rattle.r9_shown.proofs.viewing.show_band.Given as goal

@@ -5,8 +5,8 @@ use Rattle.r9_geom.specs.Geometry.{area_of, carried, holds, point_at, width, IsO
 use Rattle.r9_geom.proofs.GeometryLemmas.{height_most, width_most}
 use Rattle.model_kept.specs.Keeping.{keeping, own, Place}
 use Rattle.r9_plane.specs.Blocks.{number_in, HasRows}
-use Rattle.r9_locate.specs.Forms.{bits_in}
-use Rattle.r9_locate.specs.Table.{shape}
+use Rattle.r9_locate.specs.locate.Forms.{bits_in}
+use Rattle.r9_locate.specs.locate.Table.{shape}
 use Rattle.r9_shown.specs.Shown.{block}
 use Rattle.r9_shown.proofs.Columns.{back_number, left_none, left_of, piece_number, piece_rows}
 use Rattle.r9_shown.proofs.Keepers.{block_carried}

@@ -1,5 +1,5 @@
 use Rattle.std.proofs.Common.{◌≡◌, ◌*◌, take, drop}
-use Rattle.model_text.specs.Hex.{unhex}
+use Rattle.model_text.specs.text.Hex.{unhex}
 use Rattle.r9_text.proofs.HexLoop.{with_front}
 use Rattle.r9_text.proofs.hex.write_bytes.Given as goal
 

@@ -1,5 +1,5 @@
 use Rattle.std.proofs.Common.{◌≡◌, ◌*◌, ◌++◌, take, drop}
-use Rattle.model_text.specs.Hex.{hex}
+use Rattle.model_text.specs.text.Hex.{hex}
 use Rattle.r9_text.proofs.hex.write_digits.Given as goal
 
 abbrev pub invariant-bytes : goal.invariant-bytes

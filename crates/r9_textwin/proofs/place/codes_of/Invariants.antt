@@ -1,6 +1,6 @@
 use Rattle.std.proofs.Common.{◌≡◌, ◌++◌, drop}
 use Rattle.std.specs.Prelude.{map}
-use Rattle.model_textwin.specs.Wrap.{code_of}
+use Rattle.model_client.specs.textwin.Wrap.{code_of}
 use Rattle.r9_textwin.proofs.place.codes_of.Given as goal
 
 abbrev pub invariant-loop-byte : goal.invariant-loop-byte

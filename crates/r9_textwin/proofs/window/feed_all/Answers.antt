@@ -1,5 +1,5 @@
 use Rattle.std.proofs.Common.{◌++◌, List, [], refl, subst, sym, take}
-use Rattle.model_textwin.specs.declared.Move.{Move}
+use Rattle.model_client.specs.declared.textwin.Move.{Move}
 use Rattle.r9_textwin.specs.Steps.{Brings}
 use Rattle.r9_textwin.proofs.Pages.{nothing_brings, rest_cut}
 use Rattle.r9_textwin.proofs.window.feed_all.Goals as goal

@@ -1,7 +1,7 @@
 use Rattle.std.proofs.Common.{◌≡◌, ◌∙◌, ap, ap₂, ◌++◌}
 use Rattle.std.specs.List.{flat_map}
-use Rattle.model_tree.specs.declared.Kind.{Kind}
-use Rattle.model_tree.specs.Tree.{kinds_in, numbered_in}
+use Rattle.model_files.specs.declared.tree.Kind.{Kind}
+use Rattle.model_files.specs.tree.Tree.{kinds_in, numbered_in}
 use Rattle.r9_tree.specs.Stats.{kind_stat, numbered_stat}
 use Rattle.r9_tree.specs.View.{node_of, view_of}
 use Rattle.r9_tree.proofs.Listed.{listing_is}

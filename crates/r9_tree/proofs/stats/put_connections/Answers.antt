@@ -1,6 +1,6 @@
 use Rattle.std.proofs.Common.{◌∙◌, ap, ◌++◌, ◌<◌, length, arith}
-use Rattle.model_wire.specs.Spelling.{stat_bytes}
-use Rattle.model_tree.specs.Tree.{stat_named}
+use Rattle.model_files.specs.wire.Spelling.{stat_bytes}
+use Rattle.model_files.specs.tree.Tree.{stat_named}
 use Rattle.r9_tree.specs.Stats.{connection_stat, numbered_stat}
 use Rattle.r9_tree.specs.View.{node_of}
 use Rattle.r9_tree.proofs.Put.{put_more}

@@ -1,7 +1,7 @@
 use Rattle.std.proofs.Common.{◌∙◌, ap, ◌++◌, ◌<◌, length, arith}
-use Rattle.model_wire.specs.Spelling.{stat_bytes}
-use Rattle.model_tree.specs.declared.Kind.TheVariants.{Device}
-use Rattle.model_tree.specs.Tree.{stat_named}
+use Rattle.model_files.specs.wire.Spelling.{stat_bytes}
+use Rattle.model_files.specs.declared.tree.Kind.TheVariants.{Device}
+use Rattle.model_files.specs.tree.Tree.{stat_named}
 use Rattle.r9_tree.specs.Stats.{kind_stat}
 use Rattle.r9_tree.specs.View.{node_of, view_of}
 use Rattle.r9_tree.proofs.Put.{put_more}

@@ -1,5 +1,5 @@
 use Rattle.std.proofs.Common.{sym, subst}
-use Rattle.model_wire.specs.Spelling.{FitsStat}
+use Rattle.model_files.specs.wire.Spelling.{FitsStat}
 use Rattle.r9_tree.specs.View.{node_of}
 use Rattle.r9_tree.proofs.Named.{named_fits}
 use Rattle.r9_tree.proofs.stats.put_stat.Goals as goal

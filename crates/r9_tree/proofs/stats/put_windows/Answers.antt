@@ -1,8 +1,8 @@
 use Rattle.std.proofs.Common.{◌≡◌, ◌∙◌, ap, ◌++◌, ◌<◌, ℕ, length, arith, sym, take}
 use Rattle.std.proofs.lemmas.List.{take_all}
 use Rattle.std.specs.List.{flat_map, zip}
-use Rattle.model_wire.specs.Spelling.{stat_bytes}
-use Rattle.model_tree.specs.Tree.{stat_named}
+use Rattle.model_files.specs.wire.Spelling.{stat_bytes}
+use Rattle.model_files.specs.tree.Tree.{stat_named}
 use Rattle.r9_tree.specs.Stats.{window_stat, numbered_stat}
 use Rattle.r9_tree.specs.View.{node_of}
 use Rattle.r9_tree.proofs.Listed.{zip_at, zip_length}

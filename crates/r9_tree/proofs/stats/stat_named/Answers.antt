@@ -1,7 +1,7 @@
 use Rattle.std.proofs.Common.{◌∙◌, ap}
-use Rattle.model_tree.specs.declared.Kind.{Kind}
-use Rattle.model_tree.specs.Node.{row}
-use Rattle.model_tree.specs.Tree.{stat_named}
+use Rattle.model_files.specs.declared.tree.Kind.{Kind}
+use Rattle.model_files.specs.tree.Node.{row}
+use Rattle.model_files.specs.tree.Tree.{stat_named}
 use Rattle.r9_tree.proofs.stats.stat_named.Goals as goal
 
 pub returns : goal.returns

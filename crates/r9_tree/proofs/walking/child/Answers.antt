@@ -4,9 +4,9 @@ use Rattle.std.specs.List.{find}
 use Rattle.std.specs.Map.{lookup}
 use Rattle.std.specs.Option.{option_map, option_or}
 use Rattle.std.specs.Str.{bytes_eq}
-use Rattle.model_tree.specs.declared.Kind.{Kind}
-use Rattle.model_tree.specs.Node.{row}
-use Rattle.model_tree.specs.Tree.{kinds_in, numbered_in, placed}
+use Rattle.model_files.specs.declared.tree.Kind.{Kind}
+use Rattle.model_files.specs.tree.Node.{row}
+use Rattle.model_files.specs.tree.Tree.{kinds_in, numbered_in, placed}
 use Rattle.r9_tree.specs.View.{node_of, view_of}
 use Rattle.r9_tree.proofs.Finds.{found_file, is_number}
 use Rattle.r9_tree.proofs.walking.child.Goals as goal

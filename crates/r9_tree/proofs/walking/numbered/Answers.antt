@@ -1,7 +1,7 @@
 use Rattle.std.proofs.Common.{◌∙◌, ap, sym}
 use Rattle.std.specs.Prelude.{Some}
 use Rattle.std.specs.Option.{option_map}
-use Rattle.model_tree.specs.Tree.{connection_at, window_at}
+use Rattle.model_files.specs.tree.Tree.{connection_at, window_at}
 use Rattle.r9_tree.specs.View.{node_of, view_of}
 use Rattle.r9_tree.proofs.Finds.{found_connection, found_window}
 use Rattle.r9_tree.proofs.walking.numbered.Goals as goal

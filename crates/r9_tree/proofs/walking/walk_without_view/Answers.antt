@@ -2,8 +2,8 @@ use Rattle.std.proofs.Common.{rules, ◌≡◌, ◌∙◌, ap, sym, true, false}
 use Rattle.std.specs.Prelude.{Some, codes}
 use Rattle.std.specs.List.{find}
 use Rattle.std.specs.Str.{bytes_eq}
-use Rattle.model_tree.specs.Node.{row, is_directory}
-use Rattle.model_tree.specs.Tree.{kinds_in}
+use Rattle.model_files.specs.tree.Node.{row, is_directory}
+use Rattle.model_files.specs.tree.Tree.{kinds_in}
 use Rattle.r9_tree.specs.View.{node_of}
 use Rattle.r9_tree.proofs.Finds.{walked_without_view}
 use Rattle.r9_tree.proofs.walking.walk_without_view.Goals as goal

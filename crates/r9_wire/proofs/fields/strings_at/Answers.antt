@@ -1,5 +1,5 @@
 use Rattle.std.proofs.Common.{◌≡◌, ℕ, ◌+◌, List, [], ◌∷◌, ◌++◌, ap, subst, sym, ◌∙◌}
-use Rattle.model_wire.specs.Reading.{string_at, so_many}
+use Rattle.model_files.specs.wire.Reading.{string_at, so_many}
 use Rattle.r9_wire.proofs.Strings.{IsSoFar, one_more}
 use Rattle.r9_wire.proofs.fields.strings_at.Goals as goal
 

@@ -1,4 +1,4 @@
-use Rattle.model_wire.specs.Reading.{string_at, so_many}
+use Rattle.model_files.specs.wire.Reading.{string_at, so_many}
 use Rattle.r9_wire.proofs.Strings.{IsSoFar}
 use Rattle.r9_wire.proofs.fields.strings_at.Given as goal
 

@@ -1,6 +1,6 @@
 use Rattle.std.proofs.Common.{◌≡◌, ◌≤◌, ◌+◌, ◌*◌, ◌++◌, length, drop}
 use Rattle.std.specs.List.{flat_map}
-use Rattle.model_wire.specs.Spelling.{string}
+use Rattle.model_files.specs.wire.Spelling.{string}
 use Rattle.r9_wire.proofs.puts.put_each_name.Given as goal
 
 abbrev pub invariant-loop-name : goal.invariant-loop-name

@@ -1,6 +1,6 @@
 use Rattle.std.proofs.Common.{◌≡◌, ◌+◌, ◌*◌, ◌++◌, length, drop, map}
 use Rattle.std.specs.List.{flat_map}
-use Rattle.model_wire.specs.Spelling.{qid_bytes}
+use Rattle.model_files.specs.wire.Spelling.{qid_bytes}
 use Rattle.r9_wire.specs.Qid.{qid_of}
 use Rattle.r9_wire.proofs.puts.put_each_qid.Given as goal
 

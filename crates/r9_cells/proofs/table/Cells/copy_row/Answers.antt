@@ -2,7 +2,7 @@ use Rattle.std.proofs.Common.{◌∙◌, ap}
 use Rattle.r9_geom.specs.declared.Point.{Point}
 use Rattle.r9_geom.specs.Geometry.{carried, holds}
 use Rattle.r9_plane.specs.Pixels.{pixel_at, rect_of}
-use Rattle.r9_locate.proofs.Locating.{strip_at}
+use Rattle.r9_locate.proofs.locate.Locating.{strip_at}
 use Rattle.r9_cells.proofs.Rows.{row_at_place, row_others}
 use Rattle.r9_cells.proofs.Carried.{carried_along}
 use Rattle.r9_cells.proofs.table.Cells.copy_row.Goals as goal

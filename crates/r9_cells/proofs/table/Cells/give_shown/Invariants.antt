@@ -3,7 +3,7 @@ use Rattle.std.specs.Prelude.{◌&&◌, not, is_some, if◌then◌else◌}
 use Rattle.std.specs.List.{list_any}
 use Rattle.r9_geom.specs.declared.Point.{Point}
 use Rattle.r9_store.specs.Tiles.{spare}
-use Rattle.r9_locate.specs.Table.{shape}
+use Rattle.r9_locate.specs.locate.Table.{shape}
 use Rattle.r9_cells.specs.Rows.{cell_at, row_at}
 use Rattle.r9_cells.specs.Cells.{all_rows, cell_pixel, tiles_in}
 use Rattle.r9_cells.specs.Fitting.{shows_of}

@@ -5,7 +5,7 @@ use Rattle.r9_geom.proofs.GeometryLemmas.{near_wider}
 use Rattle.r9_geom.specs.Geometry.{holds}
 use Rattle.model_pixel.specs.Channels.{depth}
 use Rattle.r9_plane.specs.Pixels.{along, chan_of, pixel_at, rect_of}
-use Rattle.r9_locate.proofs.Locating.{along-along, along-apart, along_none}
+use Rattle.r9_locate.proofs.locate.Locating.{along-along, along-apart, along_none}
 use Rattle.model_kept.specs.Cells.{cell_of}
 use Rattle.r9_cells.specs.Rows.{cell_at, cell_place, rows_of}
 use Rattle.r9_cells.specs.Cells.{all_rows, place_pixel}

@@ -3,7 +3,7 @@ use Rattle.std.specs.Prelude.{◌==◌, is_some}
 use Rattle.std.specs.Option.{option_map_or}
 use Rattle.std.proofs.lemmas.Bool.{and_parts}
 use Rattle.std.proofs.lemmas.Bool.Decides.{Decides-eqb}
-use Rattle.r9_locate.proofs.Locating.{along_none}
+use Rattle.r9_locate.proofs.locate.Locating.{along_none}
 use Rattle.r9_store.specs.Tiles.{pixel}
 use Rattle.model_kept.specs.Cells.{cell_of, in_cell}
 use Rattle.r9_cells.specs.Cells.{all_rows, tiles_in}

@@ -4,8 +4,8 @@ use Rattle.r9_geom.specs.Geometry.{holds}
 use Rattle.std.specs.Prelude.{is_some}
 use Rattle.r9_geom.proofs.GeometryLemmas.{near_wider}
 use Rattle.r9_plane.specs.Pixels.{along}
-use Rattle.r9_locate.proofs.Locating.{along_none}
-use Rattle.r9_locate.proofs.Parts.{length-part, length-put_mid, put_mid_before, put_mid_inside}
+use Rattle.r9_locate.proofs.locate.Locating.{along_none}
+use Rattle.r9_locate.proofs.locate.Parts.{length-part, length-put_mid, put_mid_before, put_mid_inside}
 use borrow.Rule.Slice.PartMut.{put_mid}
 use Rattle.model_kept.specs.Cells.{cell_of}
 use Rattle.r9_cells.specs.Rows.{cell_at, cell_place, rows_of}

@@ -5,7 +5,7 @@ use Rattle.r9_geom.specs.Geometry.{carried, distance, holds, strip}
 use Rattle.r9_geom.proofs.GeometryLemmas.{near_wider, strip_distance}
 use Rattle.model_pixel.specs.Channels.{depth}
 use Rattle.r9_plane.specs.Pixels.{along, pixel_at, rect_of}
-use Rattle.r9_locate.proofs.Locating.{along-along, along_none, strip_at}
+use Rattle.r9_locate.proofs.locate.Locating.{along-along, along_none, strip_at}
 use Rattle.model_kept.specs.Cells.{cell_of}
 use Rattle.r9_cells.specs.Rows.{cell_at, cell_place, rows_of}
 use Rattle.r9_cells.specs.Cells.{all_rows, place_pixel}

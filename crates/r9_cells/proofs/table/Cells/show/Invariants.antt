@@ -3,7 +3,7 @@ use Rattle.std.specs.Prelude.{if◌then◌else◌}
 use Rattle.r9_geom.specs.declared.Point.{Point}
 use Rattle.r9_geom.specs.Geometry.{carried, holds, strip}
 use Rattle.r9_plane.specs.Pixels.{chan_of, pixel_at, rect_of}
-use Rattle.r9_watched.specs.Watched.{count_of, moment_of}
+use Rattle.r9_locate.specs.watched.Watched.{count_of, moment_of}
 use Rattle.r9_cells.specs.Rows.{cell_place}
 use Rattle.r9_cells.specs.Cells.{place_pixel}
 use Rattle.r9_cells.proofs.table.Cells.show.Given as goal

@@ -4,7 +4,7 @@ use Rattle.r9_geom.specs.declared.Point.{Point}
 use Rattle.r9_geom.specs.Geometry.{carried, height, holds, width}
 use Rattle.r9_geom.proofs.GeometryLemmas.{band}
 use Rattle.r9_plane.specs.Pixels.{chan_of, pixel_at, rect_of}
-use Rattle.r9_watched.specs.Watched.{count_of, moment_of}
+use Rattle.r9_locate.specs.watched.Watched.{count_of, moment_of}
 use Rattle.r9_cells.specs.Cells.{place_pixel}
 use Rattle.r9_cells.specs.Rows.{cell_place}
 use Rattle.r9_cells.proofs.table.Cells.show_block.Given as goal

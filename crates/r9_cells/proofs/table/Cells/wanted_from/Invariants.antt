@@ -1,5 +1,5 @@
 use Rattle.std.proofs.Common.{◌≡◌, ◌+◌, ◌-◌, drop, length}
-use Rattle.r9_locate.specs.Table.{shape}
+use Rattle.r9_locate.specs.locate.Table.{shape}
 use Rattle.r9_cells.specs.Cells.{all_rows}
 use Rattle.r9_cells.specs.Fitting.{wanted_among}
 use Rattle.r9_cells.proofs.table.Cells.wanted_from.Given as goal

@@ -4,8 +4,8 @@ use Rattle.std.specs.Prelude.{is_some}
 use Rattle.r9_geom.proofs.GeometryLemmas.{near_wider}
 use Rattle.r9_geom.specs.Geometry.{holds}
 use Rattle.r9_plane.specs.Pixels.{along}
-use Rattle.r9_locate.proofs.Locating.{along-apart, along_none}
-use Rattle.r9_locate.proofs.Parts.{get_or-part, length-part}
+use Rattle.r9_locate.proofs.locate.Locating.{along-apart, along_none}
+use Rattle.r9_locate.proofs.locate.Parts.{get_or-part, length-part}
 use Rattle.model_kept.specs.Cells.{cell_of}
 use Rattle.r9_cells.specs.Rows.{cell_at, cell_place, rows_of}
 use Rattle.r9_cells.specs.Cells.{all_rows, place_pixel}

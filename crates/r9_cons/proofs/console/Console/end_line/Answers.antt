@@ -1,5 +1,5 @@
 use Rattle.std.proofs.Common.{ℕ, ◌+◌, ◌≤◌, ◌++◌, List, length, [], ◌∷◌, ap, ◌∙◌, arith}
-use Rattle.model_console.specs.Console.{held}
+use Rattle.model_files.specs.console.Console.{held}
 use Rattle.r9_cons.proofs.Ending.{line-ends}
 use Rattle.r9_cons.proofs.console.Console.end_line.Goals as goal
 

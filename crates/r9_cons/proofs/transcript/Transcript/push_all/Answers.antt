@@ -1,6 +1,6 @@
 use Rattle.std.proofs.Common.{ℕ, List, ◌++◌, sym, ap, ◌∙◌}
-use Rattle.model_console.specs.Console.{last_of}
-use Rattle.model_console.proofs.Ends.{last_of-append, last_of-append-last_of}
+use Rattle.model_files.specs.console.Console.{last_of}
+use Rattle.model_files.proofs.console.Ends.{last_of-append, last_of-append-last_of}
 use Rattle.r9_cons.proofs.transcript.Transcript.push_all.Goals as goal
 
 pub returns-clause-ok : goal.returns-clause-ok

@@ -1,6 +1,6 @@
 use Rattle.std.proofs.Common.{◌≡◌, ◌≢◌, ◌∙◌, ◌<◌, ◌≤◌, ℕ, ap, sym, refl, arith, length, set, get_or, get_or-set_same, get_or-set_other, ⊎_elim}
 use Rattle.std.proofs.lemmas.Bool.{cases_eq, cases_lt}
-use Rattle.model_cursor.specs.Rows.{put_in}
+use Rattle.model_client.specs.cursor.Rows.{put_in}
 use Rattle.r9_cursor.specs.Bytes.{byte_under}
 use Rattle.r9_cursor.proofs.cursor.Cursor.over_row.Goals as goal
 

@@ -1,5 +1,5 @@
 use Rattle.std.proofs.Common.{◌≡◌, ℕ, ◌<◌, ◌≤◌, get_or}
-use Rattle.model_cursor.specs.Rows.{put_in}
+use Rattle.model_client.specs.cursor.Rows.{put_in}
 use Rattle.r9_cursor.specs.Bytes.{byte_under}
 use Rattle.r9_cursor.proofs.cursor.Cursor.over_row.Given as goal
 

@@ -2,7 +2,7 @@ use Rattle.std.proofs.Common.{◌≡◌, ℕ, ◌+◌, ◌*◌, ◌/◌, ◌^◌
 use Rattle.std.specs.Option.{unwrap_or}
 use Rattle.std.proofs.lemmas.Nat.{pow_pos}
 use Rattle.model_pixel.specs.Rows.{joined}
-use Rattle.model_cursor.specs.Rows.{put_in}
+use Rattle.model_client.specs.cursor.Rows.{put_in}
 use Rattle.r9_cursor.specs.Bytes.{old_bits}
 use Rattle.r9_cursor.proofs.Bytes.{filled, joined_more, under_small}
 use Rattle.r9_cursor.proofs.cursor.Cursor.small_byte.Goals as goal

@@ -1,7 +1,7 @@
 use Rattle.std.proofs.Common.{◌≡◌, ◌*◌, ◌/◌, ◌^◌, ◌<◌}
 use Rattle.std.specs.Option.{unwrap_or}
 use Rattle.model_pixel.specs.Rows.{joined}
-use Rattle.model_cursor.specs.Rows.{put_in}
+use Rattle.model_client.specs.cursor.Rows.{put_in}
 use Rattle.r9_cursor.specs.Bytes.{old_bits}
 use Rattle.r9_cursor.proofs.cursor.Cursor.small_byte.Given as goal
 

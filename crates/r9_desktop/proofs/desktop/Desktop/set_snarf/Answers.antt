@@ -1,7 +1,7 @@
 use Rattle.std.proofs.Common.{rules, ◌≡◌, None, sym, ap, ◌∙◌}
-use Rattle.model_text.specs.Map.{lookup}
+use Rattle.model_text.specs.text.Map.{lookup}
 use Rattle.std.specs.Prelude.{ℕ, List}
-use Rattle.model_map.proofs.Keys.{with-written}
+use Rattle.model_text.proofs.map.Keys.{with-written}
 use Rattle.model_world.specs.Desktop as model
 use Rattle.r9_desktop.specs.World.{desktop_of, parts_of}
 use Rattle.r9_desktop.proofs.Maps.{with-absent}

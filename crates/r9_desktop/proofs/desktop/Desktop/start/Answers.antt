@@ -1,6 +1,6 @@
 use Rattle.std.proofs.Common.{sym, subst}
-use Rattle.r9_draw.specs.declared.draw.Draw.{Draw}
-use Rattle.r9_draw.specs.World.{marked_in, marks_of, world_of, writes_of}
+use Rattle.r9_draw.specs.declared.draw.draw.Draw.{Draw}
+use Rattle.r9_draw.specs.draw.World.{marked_in, marks_of, world_of, writes_of}
 use Rattle.r9_desktop.specs.Marks.{AreCounted, IsBegun}
 use Rattle.r9_desktop.proofs.Display.{near}
 use Rattle.r9_desktop.proofs.Marks.{begun_here, counted_none}

@@ -1,8 +1,8 @@
 use Rattle.std.proofs.Common.{◌∙◌, ap}
-use Rattle.model_draw.specs.Orders.{carried_out}
+use Rattle.model_draw.specs.draw.Orders.{carried_out}
 use Rattle.model_world.specs.Desktop.{Desktop}
-use Rattle.r9_draw.specs.World.{world_of}
-use Rattle.r9_wmgr.specs.Acts.{act_of}
+use Rattle.r9_draw.specs.draw.World.{world_of}
+use Rattle.r9_wmgr.specs.wmgr.Acts.{act_of}
 use Rattle.r9_desktop.proofs.desktop.Desktop.step.Goals as goal
 
 pub returns-in_ok-follow-in-Ok-clause-clients : goal.returns-in_ok-follow-in-Ok-clause-clients

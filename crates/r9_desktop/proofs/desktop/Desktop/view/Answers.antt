@@ -1,7 +1,7 @@
 use Rattle.std.proofs.Common.{rules, ◌≡◌, map}
 use Rattle.std.specs.Prelude.{is_some}
-use Rattle.r9_window.specs.declared.Window.{Window}
-use Rattle.model_rio.specs.Table.{made_in, window_of}
+use Rattle.r9_event.specs.declared.window.Window.{Window}
+use Rattle.model_rio.specs.rio.Table.{made_in, window_of}
 use Rattle.model_world.specs.Whole.{host_by, view_of}
 use Rattle.r9_tree.specs.View.{node_of}
 use Rattle.r9_desktop.specs.World.{desktop_of}

@@ -1,5 +1,5 @@
 use Rattle.std.proofs.Common.{◌^◌, ap}
-use Rattle.model_fonts.specs.Font.{Font}
+use Rattle.model_draw_parts.specs.fonts.Font.{Font}
 use Rattle.r9_fonts.proofs.Kept.{cell-kept, near-kept}
 use Rattle.r9_fonts.proofs.font.Font.cell.Goals as goal
 

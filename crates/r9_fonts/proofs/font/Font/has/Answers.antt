@@ -1,6 +1,6 @@
 use Rattle.std.proofs.Common.{ap, ◌∙◌}
 use Rattle.std.specs.Prelude.{nat_lt}
-use Rattle.model_fonts.specs.Font.{Font}
+use Rattle.model_draw_parts.specs.fonts.Font.{Font}
 use Rattle.r9_fonts.proofs.Kept.{has-kept}
 use Rattle.r9_fonts.proofs.font.Font.has.Goals as goal
 

@@ -1,9 +1,9 @@
 use Rattle.std.proofs.Common.{◌^◌, ℕ, List, nat_cmp, sym, subst}
 use Rattle.std.specs.Map.{lookup}
 use Rattle.std.specs.BTreeMap.{get, is_at}
-use Rattle.model_fonts.specs.declared.Cell.{Cell}
-use Rattle.model_fonts.specs.Font.{Font, AreWithin}
-use Rattle.model_fonts.proofs.Within.{within-with}
+use Rattle.model_draw_parts.specs.declared.fonts.Cell.{Cell}
+use Rattle.model_draw_parts.specs.fonts.Font.{Font, AreWithin}
+use Rattle.model_draw_parts.proofs.fonts.Within.{within-with}
 use Rattle.r9_fonts.specs.Kept.{cells_of}
 use Rattle.r9_fonts.proofs.Kept.{kept, on_ok, with-kept, without-kept}
 use Rattle.r9_fonts.proofs.font.Font.set.Goals as goal

@@ -2,8 +2,8 @@ use Rattle.std.proofs.Common.{◌≡◌, ◌∙◌, ℕ, Option, refl, sym, subs
 use Rattle.std.specs.Prelude.{is_some}
 use Rattle.model_forest.specs.World.{image_at, parent_of, IsLive}
 use Rattle.model_kept.specs.Keeping.{with_kept, Place}
-use Rattle.r9_watched.specs.Moments.{Moment}
-use Rattle.r9_locate.specs.Table.{shape}
+use Rattle.r9_locate.specs.watched.Moments.{Moment}
+use Rattle.r9_locate.specs.locate.Table.{shape}
 use Rattle.r9_pixels.specs.Kept.{kept_at, mark_count, marked, moment, moment_now, writes}
 use Rattle.r9_forest.specs.Images.{numbers, world}
 use Rattle.r9_forest.specs.Marks.{shown_in, IsMoment}

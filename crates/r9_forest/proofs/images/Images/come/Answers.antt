@@ -7,13 +7,13 @@ use Rattle.model_pixel.specs.Channels.{depth}
 use Rattle.model_forest.specs.World.{Image, image_at, IsForest, IsLive}
 use Rattle.model_kept.specs.Keeping.{with_kept}
 use Rattle.model_kept.proofs.Worlds.{pictured}
-use Rattle.r9_locate.specs.Table.{made, shape, HasRoom}
+use Rattle.r9_locate.specs.locate.Table.{made, shape, HasRoom}
 use Rattle.r9_pixels.specs.Kept.{kept_at}
-use Rattle.r9_fills.specs.Content.{content}
-use Rattle.r9_arrive.specs.Arriving.{after_coming, listed}
-use Rattle.r9_arrive.proofs.Bare.{bared_lists}
-use Rattle.r9_arrive.proofs.Entering.{on_err}
-use Rattle.r9_arrive.proofs.Windows.{coming_live}
+use Rattle.r9_put.specs.fills.Content.{content}
+use Rattle.r9_relist.specs.arrive.Arriving.{after_coming, listed}
+use Rattle.r9_relist.proofs.arrive.Bare.{bared_lists}
+use Rattle.r9_relist.proofs.arrive.Entering.{on_err}
+use Rattle.r9_relist.proofs.arrive.Windows.{coming_live}
 use Rattle.r9_forest.specs.Given.{given_at}
 use Rattle.r9_forest.specs.Images.{numbers, world}
 use Rattle.r9_forest.specs.Numbered.{numbers_of, IsTaken}

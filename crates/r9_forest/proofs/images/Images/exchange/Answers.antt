@@ -11,18 +11,18 @@ use Rattle.model_forest.specs.World.{Image, World, image_at, SameSize}
 use Rattle.model_forest.proofs.Changes.{live-standing}
 use Rattle.model_kept.specs.Keeping.{place_among}
 use Rattle.model_kept.proofs.Worlds.{pictured}
-use Rattle.r9_locate.specs.declared.lists.Lists.{Lists}
-use Rattle.r9_locate.specs.Table.{shape, HasRoom}
-use Rattle.r9_locate.specs.Table as table
+use Rattle.r9_locate.specs.declared.locate.lists.Lists.{Lists}
+use Rattle.r9_locate.specs.locate.Table.{shape, HasRoom}
+use Rattle.r9_locate.specs.locate.Table as table
 use Rattle.r9_pixels.specs.declared.keeping.KeptPixels.{KeptPixels}
 use Rattle.r9_pixels.specs.Kept.{kept_at, room_of, spare_in, wanted_in, moment, writes}
 use Rattle.r9_pixels.specs.Places.{StandsOn}
 use Rattle.r9_cells.specs.Fitting.{AreOne}
-use Rattle.r9_arrive.specs.Arriving.{after_coming, with_coming, IsLeft, IsLeftOf}
-use Rattle.r9_arrive.proofs.Bare.{bared_lists}
-use Rattle.r9_arrive.proofs.Canvases.{bare_canvas}
-use Rattle.r9_arrive.proofs.Entering.{on_err}
-use Rattle.r9_arrive.proofs.Windows.{later_stands}
+use Rattle.r9_relist.specs.arrive.Arriving.{after_coming, with_coming, IsLeft, IsLeftOf}
+use Rattle.r9_relist.proofs.arrive.Bare.{bared_lists}
+use Rattle.r9_relist.proofs.arrive.Canvases.{bare_canvas}
+use Rattle.r9_relist.proofs.arrive.Entering.{on_err}
+use Rattle.r9_relist.proofs.arrive.Windows.{later_stands}
 use Rattle.r9_forest.specs.declared.coming.Given.{Given}
 use Rattle.r9_forest.specs.Given.{given_at}
 use Rattle.r9_forest.specs.Images.{numbers, world}

@@ -3,7 +3,7 @@ use Rattle.r9_geom.specs.declared.Rect.{Rect}
 use Rattle.r9_geom.specs.Geometry.{area_of, holds}
 use Rattle.model_pixel.specs.Channels.{depth}
 use Rattle.model_forest.specs.World.{Image}
-use Rattle.r9_fills.specs.Fills.{fill_at}
+use Rattle.r9_put.specs.fills.Fills.{fill_at}
 use Rattle.r9_forest.specs.Images.{world}
 use Rattle.r9_forest.proofs.Placing.{left_small, stood_below, stood_fill, stood_parent}
 use Rattle.r9_forest.proofs.images.Images.fill_left.Goals as goal

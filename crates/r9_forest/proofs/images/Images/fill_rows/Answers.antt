@@ -9,8 +9,8 @@ use Rattle.model_pixel.specs.Channels.{depth}
 use Rattle.model_forest.specs.World.{Image, image_at}
 use Rattle.r9_plane.specs.Pixels.{number_of}
 use Rattle.r9_plane.proofs.PlaneLemmas.{number_below}
-use Rattle.r9_locate.specs.Table.{shape}
-use Rattle.r9_fills.specs.Fills.{fill_at}
+use Rattle.r9_locate.specs.locate.Table.{shape}
+use Rattle.r9_put.specs.fills.Fills.{fill_at}
 use Rattle.r9_forest.specs.Given.{left_of}
 use Rattle.r9_forest.specs.Images.{world}
 use Rattle.r9_forest.proofs.Going.{fill_below}

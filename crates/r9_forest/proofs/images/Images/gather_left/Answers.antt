@@ -3,7 +3,7 @@ use Rattle.std.specs.Prelude.{if◌then◌else◌}
 use Rattle.r9_geom.specs.Geometry.{holds}
 use Rattle.model_pixel.specs.Channels.{depth}
 use Rattle.r9_plane.specs.Pixels.{number_of}
-use Rattle.r9_fills.specs.Fills.{fill_at}
+use Rattle.r9_put.specs.fills.Fills.{fill_at}
 use Rattle.r9_forest.specs.Images.{world}
 use Rattle.r9_forest.proofs.Going.{fill_below}
 use Rattle.r9_forest.proofs.Moves.{pictured_fits}

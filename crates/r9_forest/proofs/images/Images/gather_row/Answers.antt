@@ -5,10 +5,10 @@ use Rattle.r9_geom.specs.Geometry.{IsNear}
 use Rattle.model_forest.specs.World.{World, IsLive}
 use Rattle.model_kept.specs.Keeping.{with_kept}
 use Rattle.r9_plane.specs.Pixels.{along}
-use Rattle.r9_locate.specs.Table.{shape}
-use Rattle.r9_locate.proofs.Locating.{along-along}
+use Rattle.r9_locate.specs.locate.Table.{shape}
+use Rattle.r9_locate.proofs.locate.Locating.{along-along}
 use Rattle.r9_pixels.specs.Kept.{kept_at}
-use Rattle.r9_fills.specs.Fills.{fill_at}
+use Rattle.r9_put.specs.fills.Fills.{fill_at}
 use Rattle.r9_forest.specs.Images.{world}
 use Rattle.r9_forest.proofs.images.Images.gather_row.Goals as goal
 use Rattle.r9_forest.proofs.images.Images.gather_row.Goals.{At-loop-done}

@@ -1,6 +1,6 @@
 use Rattle.std.proofs.Common.{◌≡◌, ◌+◌, ◌-◌, ◌<◌, ◌≤◌, ℕ, get_or, length}
 use Rattle.r9_plane.specs.Pixels.{along}
-use Rattle.r9_fills.specs.Fills.{fill_at}
+use Rattle.r9_put.specs.fills.Fills.{fill_at}
 use Rattle.r9_forest.specs.Images.{world}
 use Rattle.r9_forest.proofs.images.Images.gather_row.Given as goal
 

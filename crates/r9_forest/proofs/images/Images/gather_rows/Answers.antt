@@ -8,12 +8,12 @@ use Rattle.model_forest.specs.World.{World, IsLive}
 use Rattle.model_kept.specs.Keeping.{with_kept}
 use Rattle.r9_plane.specs.Pixels.{along}
 use Rattle.r9_plane.proofs.PlaneLemmas.{along_holds}
-use Rattle.r9_locate.specs.Table.{shape}
+use Rattle.r9_locate.specs.locate.Table.{shape}
 use Rattle.r9_pixels.specs.Kept.{kept_at}
-use Rattle.r9_fills.specs.Fills.{fill_at}
+use Rattle.r9_put.specs.fills.Fills.{fill_at}
 use Rattle.r9_forest.specs.Images.{world}
 use Rattle.r9_forest.proofs.Gathering.{row_gathered}
-use Rattle.r9_put.proofs.Grids.{near_row, row_of}
+use Rattle.r9_put.proofs.put.Grids.{near_row, row_of}
 use Rattle.r9_forest.proofs.images.Images.gather_rows.Goals as goal
 use Rattle.r9_forest.proofs.images.Images.gather_rows.Goals.{At-loop-row}
 

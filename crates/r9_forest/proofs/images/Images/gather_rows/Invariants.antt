@@ -3,7 +3,7 @@ use Rattle.r9_geom.specs.declared.Point.{Point}
 use Rattle.r9_geom.specs.Geometry.{holds}
 use Rattle.r9_geom.proofs.GeometryLemmas.{band}
 use Rattle.r9_plane.specs.Pixels.{number_of}
-use Rattle.r9_fills.specs.Fills.{fill_at}
+use Rattle.r9_put.specs.fills.Fills.{fill_at}
 use Rattle.r9_forest.specs.Images.{world}
 use Rattle.r9_forest.proofs.images.Images.gather_rows.Given as goal
 

@@ -10,17 +10,17 @@ use Rattle.model_kept.specs.Restack.{with_own}
 use Rattle.model_kept.proofs.Once.{places-forest}
 use Rattle.model_kept.proofs.Worlds.{pictured, standing-forest}
 use Rattle.r9_plane.specs.Pixels.{pixel_at}
-use Rattle.r9_locate.specs.Forms.{form_of, Form}
-use Rattle.r9_locate.specs.Lists.{frame_image}
-use Rattle.r9_locate.specs.Table.{made, shape, HasRoom}
-use Rattle.r9_watched.specs.Moments.{moment_at, Moment}
+use Rattle.r9_locate.specs.locate.Forms.{form_of, Form}
+use Rattle.r9_locate.specs.locate.Lists.{frame_image}
+use Rattle.r9_locate.specs.locate.Table.{made, shape, HasRoom}
+use Rattle.r9_locate.specs.watched.Moments.{moment_at, Moment}
 use Rattle.r9_pixels.specs.Kept.{kept_at, moment, writes}
 use Rattle.r9_forest.specs.Images.{numbers, world}
 use Rattle.r9_forest.specs.Numbered.{bare_image, numbers_of, IsTaken}
-use Rattle.r9_arrive.proofs.Canvases.{bare_canvas}
+use Rattle.r9_relist.proofs.arrive.Canvases.{bare_canvas}
 use Rattle.r9_forest.proofs.Looking.{live-other, moment-other}
 use Rattle.r9_forest.proofs.Making.{made_world, with_made}
-use Rattle.r9_relist.proofs.Near.{nearby}
+use Rattle.r9_relist.proofs.relist.Near.{nearby}
 use Rattle.r9_forest.proofs.Numbers.{taken_next, IsNext}
 use Rattle.r9_forest.proofs.Sounding.{coming_forest, coming_sound, IsComing}
 use Rattle.r9_forest.proofs.Roomy.{fills_put, fills_same, needs_nothing}

@@ -1,9 +1,9 @@
 use Rattle.std.proofs.Common.{◌∙◌, rules, sym, ap}
-use Rattle.r9_locate.specs.Table.{shape}
+use Rattle.r9_locate.specs.locate.Table.{shape}
 use Rattle.r9_pixels.specs.Kept.{kept_at}
 use Rattle.r9_forest.specs.Images.{world}
 use Rattle.r9_forest.specs.Told.{info_of}
-use Rattle.r9_arrive.proofs.Canvases.{bare_canvas}
+use Rattle.r9_relist.proofs.arrive.Canvases.{bare_canvas}
 use Rattle.r9_forest.proofs.Setting.{told_alike}
 use Rattle.r9_forest.proofs.images.Images.info.Goals as goal
 

@@ -3,7 +3,7 @@ use Rattle.std.proofs.lemmas.Bool.{and_parts}
 use Rattle.r9_geom.specs.Geometry.{is_empty, meet}
 use Rattle.model_forest.specs.World.{Image, image_at}
 use Rattle.model_kept.specs.Keeping.{place_among}
-use Rattle.r9_locate.specs.Table.{shape}
+use Rattle.r9_locate.specs.locate.Table.{shape}
 use Rattle.r9_forest.specs.Images.{world}
 use Rattle.r9_forest.proofs.Placing.{apart_points, stood_below}
 use Rattle.r9_forest.proofs.images.Images.is_away.Goals as goal

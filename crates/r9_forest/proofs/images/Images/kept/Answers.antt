@@ -5,17 +5,17 @@ use Rattle.model_kept.specs.Cells.{cell_of}
 use Rattle.model_kept.specs.Keeping.{keeping, own, Place}
 use Rattle.model_kept.proofs.Worlds.{standing-forest}
 use Rattle.r9_plane.specs.Pixels.{along}
-use Rattle.r9_locate.specs.Forms.{form_of, Form}
-use Rattle.r9_locate.specs.Table.{shape}
-use Rattle.r9_locate.proofs.Locating.{along_none, keeping-root, strip_at}
+use Rattle.r9_locate.specs.locate.Forms.{form_of, Form}
+use Rattle.r9_locate.specs.locate.Table.{shape}
+use Rattle.r9_locate.proofs.locate.Locating.{along_none, keeping-root, strip_at}
 use Rattle.r9_pixels.specs.Kept.{has_place, kept_at, tile_at}
 use Rattle.r9_pixels.proofs.Tiled.{cell_tile}
 use Rattle.r9_forest.specs.Images.{world}
 use Rattle.r9_forest.specs.Keeping.{kept_itself, kept_of, tile_of}
-use Rattle.r9_arrive.proofs.Canvases.{bare_canvas}
+use Rattle.r9_relist.proofs.arrive.Canvases.{bare_canvas}
 use Rattle.r9_forest.proofs.Keepers.{hidden_keeps, hidden_tile, kept_nowhere, shown_keeps}
 use Rattle.r9_forest.proofs.Showing.{keeping_seen, point_has, shown_kept}
-use Rattle.r9_put.proofs.Forms.{form_live}
+use Rattle.r9_put.proofs.put.Forms.{form_live}
 use Rattle.r9_forest.proofs.images.Images.kept.Goals as goal
 use Rattle.r9_forest.proofs.images.Images.kept.Goals.{After-locate-run}
 

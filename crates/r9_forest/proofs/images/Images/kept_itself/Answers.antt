@@ -5,17 +5,17 @@ use Rattle.r9_geom.specs.declared.Rect.{Rect}
 use Rattle.model_forest.specs.World.{Image, image_at, parent_of, IsLive}
 use Rattle.model_kept.specs.Cells.{cell_of, in_cell}
 use Rattle.model_kept.specs.Keeping.{own}
-use Rattle.r9_locate.specs.Forms.{form_of, Form}
-use Rattle.r9_locate.specs.Table.{shape}
+use Rattle.r9_locate.specs.locate.Forms.{form_of, Form}
+use Rattle.r9_locate.specs.locate.Table.{shape}
 use Rattle.r9_store.specs.Tiles.{is_held}
 use Rattle.r9_pixels.specs.Kept.{form_at, has_place, kept_at, store_of}
 use Rattle.r9_forest.specs.declared.images.Images.{Images}
 use Rattle.r9_forest.specs.declared.keeping.Kept.TheVariants.{Tile}
 use Rattle.r9_forest.specs.Images.{world}
 use Rattle.r9_forest.specs.Keeping.{on_plane, tiles_of}
-use Rattle.r9_arrive.proofs.Canvases.{bare_canvas, parent_same}
+use Rattle.r9_relist.proofs.arrive.Canvases.{bare_canvas, parent_same}
 use Rattle.r9_forest.proofs.Keepers.{cells_alike, kept_nowhere, kept_window, place_live, window_form}
-use Rattle.r9_put.proofs.Forms.{form_live, nowhere_none}
+use Rattle.r9_put.proofs.put.Forms.{form_live, nowhere_none}
 use Rattle.r9_forest.proofs.images.Images.kept_itself.Goals as goal
 
 pub get-requires : goal.get-requires

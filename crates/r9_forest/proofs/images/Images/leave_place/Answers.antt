@@ -6,18 +6,18 @@ use Rattle.model_pixel.specs.Channels.{depth, is_descriptor}
 use Rattle.model_forest.specs.Stack.{with_windows}
 use Rattle.model_forest.specs.World.{Image, World, image_at, IsForest}
 use Rattle.model_kept.specs.Keeping.{with_kept}
-use Rattle.r9_locate.specs.declared.lists.Lists.{Lists}
-use Rattle.r9_locate.specs.Forms.{bits_in}
-use Rattle.r9_locate.specs.Table.{shape}
+use Rattle.r9_locate.specs.declared.locate.lists.Lists.{Lists}
+use Rattle.r9_locate.specs.locate.Forms.{bits_in}
+use Rattle.r9_locate.specs.locate.Table.{shape}
 use Rattle.r9_pixels.specs.declared.keeping.KeptPixels.{KeptPixels}
 use Rattle.r9_pixels.specs.Kept.{form_at, kept_at, spare_in, wanted_in, moment, writes}
-use Rattle.r9_fills.specs.Content.{content}
-use Rattle.r9_fills.specs.Fills.{fill_at}
+use Rattle.r9_put.specs.fills.Content.{content}
+use Rattle.r9_put.specs.fills.Fills.{fill_at}
 use Rattle.r9_forest.specs.Given.{given_at, left_of}
 use Rattle.r9_forest.specs.Groups.{IsMoved}
 use Rattle.r9_forest.specs.Images.{numbers, world}
 use Rattle.r9_forest.specs.Numbered.{numbers_of}
-use Rattle.r9_arrive.proofs.Canvases.{bare_canvas}
+use Rattle.r9_relist.proofs.arrive.Canvases.{bare_canvas}
 use Rattle.r9_forest.proofs.Placing.{left_covers, left_filled, left_inside, left_small, moves_change, moves_fills, moves_sound, still_numbers, still_world, stood_below, stood_bits, stood_fill, stood_forest, stood_lawful, stood_parent}
 use Rattle.r9_forest.proofs.images.Images.leave_place.Given.{Over}
 use Rattle.r9_forest.proofs.images.Images.leave_place.Goals as goal

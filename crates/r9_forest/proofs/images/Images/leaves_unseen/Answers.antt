@@ -5,9 +5,9 @@ use Rattle.r9_geom.specs.Geometry.{is_empty, meet}
 use Rattle.model_forest.specs.declared.Window.{Window}
 use Rattle.model_forest.specs.Steps.{carried_rect, outside}
 use Rattle.model_forest.specs.World.{Image, image_at}
-use Rattle.r9_locate.specs.Table.{shape}
+use Rattle.r9_locate.specs.locate.Table.{shape}
 use Rattle.r9_pixels.specs.Kept.{kept_at}
-use Rattle.r9_arrive.proofs.Canvases.{bare_canvas}
+use Rattle.r9_relist.proofs.arrive.Canvases.{bare_canvas}
 use Rattle.r9_forest.specs.Images.{world}
 use Rattle.r9_forest.proofs.Exchanged.{stands_at}
 use Rattle.r9_forest.proofs.Going.{fill_stands}

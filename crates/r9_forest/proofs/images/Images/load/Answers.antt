@@ -4,15 +4,15 @@ use Rattle.model_pixel.specs.Channels.{depth}
 use Rattle.model_pixel.specs.Rows.{row_bytes, row_pixel}
 use Rattle.model_forest.specs.Draw.{after_load}
 use Rattle.model_forest.specs.World.{image_at}
-use Rattle.r9_locate.specs.Table.{shape}
+use Rattle.r9_locate.specs.locate.Table.{shape}
 use Rattle.r9_pixels.specs.Kept.{kept_at}
 use Rattle.r9_forest.specs.Images.{numbers, world}
-use Rattle.r9_arrive.proofs.Canvases.{bare_canvas}
+use Rattle.r9_relist.proofs.arrive.Canvases.{bare_canvas}
 use Rattle.r9_forest.proofs.Putting.{put_shown, put_sound, stored_sound}
-use Rattle.r9_put.proofs.Putting.{written_same}
+use Rattle.r9_put.proofs.put.Putting.{written_same}
 use Rattle.r9_forest.proofs.Raws.{row_pixel_below}
 use Rattle.r9_forest.proofs.Showing.{bits_of}
-use Rattle.r9_put.specs.Written.{IsWritten}
+use Rattle.r9_put.specs.put.Written.{IsWritten}
 use Rattle.r9_forest.proofs.images.Images.load.Goals as goal
 
 pub load_area-requires-clause-live : goal.load_area-requires-clause-live

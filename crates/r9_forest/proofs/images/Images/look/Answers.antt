@@ -1,8 +1,8 @@
 use Rattle.std.proofs.Common.{◌≡◌, ◌∙◌, ℕ, Option, refl, sym, ap}
 use Rattle.std.specs.Prelude.{is_some}
 use Rattle.model_kept.specs.Keeping.{with_kept}
-use Rattle.r9_watched.specs.Moments.{Moment}
-use Rattle.r9_locate.specs.Table.{shape}
+use Rattle.r9_locate.specs.watched.Moments.{Moment}
+use Rattle.r9_locate.specs.locate.Table.{shape}
 use Rattle.r9_pixels.specs.Kept.{moment, moment_now}
 use Rattle.r9_forest.specs.Images.{numbers, world}
 use Rattle.r9_forest.proofs.Looking.{looked_sound, moment-here, moment-other, moment_is, moment_there}

@@ -1,7 +1,7 @@
 use Rattle.std.proofs.Common.{◌<◌, sym, subst}
 use Rattle.r9_geom.specs.declared.Rect.{Rect}
 use Rattle.r9_geom.specs.Geometry.{height, width}
-use Rattle.r9_marks.specs.Cells.{cells_over}
+use Rattle.r9_marks.specs.marks.Cells.{cells_over}
 use Rattle.r9_forest.specs.Images.{world}
 use Rattle.r9_forest.proofs.Looking.{rect_live}
 use Rattle.r9_forest.proofs.images.Images.marked.Goals as goal

@@ -4,13 +4,13 @@ use Rattle.model_pixel.specs.Channels.{depth}
 use Rattle.model_forest.specs.declared.Window.{Window}
 use Rattle.model_forest.specs.Stack.{with_windows}
 use Rattle.model_forest.specs.World.{World, image_at, IsForest}
-use Rattle.r9_locate.specs.declared.lists.Lists.{Lists}
-use Rattle.r9_locate.specs.Table.{shape}
+use Rattle.r9_locate.specs.declared.locate.lists.Lists.{Lists}
+use Rattle.r9_locate.specs.locate.Table.{shape}
 use Rattle.r9_pixels.specs.declared.keeping.KeptPixels.{KeptPixels}
 use Rattle.r9_pixels.specs.Kept.{spare_in, wanted_in, moment, writes}
-use Rattle.r9_fills.specs.Fills.{fill_at}
-use Rattle.r9_relist.specs.Relisting.{IsAway}
-use Rattle.r9_arrive.proofs.Entering.{on_err}
+use Rattle.r9_put.specs.fills.Fills.{fill_at}
+use Rattle.r9_relist.specs.relist.Relisting.{IsAway}
+use Rattle.r9_relist.proofs.arrive.Entering.{on_err}
 use Rattle.r9_forest.specs.Given.{filled_at, left_of, IsEnough}
 use Rattle.r9_forest.specs.Groups.{IsMoved}
 use Rattle.r9_forest.specs.Images.{world}

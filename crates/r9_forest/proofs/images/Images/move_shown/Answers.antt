@@ -3,12 +3,12 @@ use Rattle.r9_geom.specs.Geometry.{area_of, holds}
 use Rattle.model_pixel.specs.Channels.{depth}
 use Rattle.model_forest.specs.Stack.{with_windows}
 use Rattle.model_forest.specs.World.{World, image_at, IsForest}
-use Rattle.r9_locate.specs.declared.lists.Lists.{Lists}
-use Rattle.r9_locate.specs.Table.{shape}
+use Rattle.r9_locate.specs.declared.locate.lists.Lists.{Lists}
+use Rattle.r9_locate.specs.locate.Table.{shape}
 use Rattle.r9_pixels.specs.declared.keeping.KeptPixels.{KeptPixels}
 use Rattle.r9_pixels.specs.Kept.{kept_at, spare_in, wanted_in, moment, writes}
-use Rattle.r9_fills.specs.Fills.{fill_at}
-use Rattle.r9_arrive.proofs.Canvases.{bare_canvas}
+use Rattle.r9_put.specs.fills.Fills.{fill_at}
+use Rattle.r9_relist.proofs.arrive.Canvases.{bare_canvas}
 use Rattle.r9_forest.specs.Given.{filled_at, left_of, IsEnough}
 use Rattle.r9_forest.specs.Groups.{IsMoved}
 use Rattle.r9_forest.specs.Images.{world}

@@ -12,13 +12,13 @@ use Rattle.model_forest.specs.World.{Image, World, image_at, parent_of, IsForest
 use Rattle.model_forest.proofs.Changes.{live-standing}
 use Rattle.model_forest.proofs.Steps.{IsForest-moved_to}
 use Rattle.model_kept.specs.Keeping.{place_among, with_kept}
-use Rattle.r9_locate.specs.Table.{shape}
+use Rattle.r9_locate.specs.locate.Table.{shape}
 use Rattle.r9_pixels.specs.Kept.{kept_at, spare_in, wanted_in}
-use Rattle.r9_relist.proofs.Lists.{lists_near}
-use Rattle.r9_relist.specs.Relisting.{IsRelisting}
+use Rattle.r9_relist.proofs.relist.Lists.{lists_near}
+use Rattle.r9_relist.specs.relist.Relisting.{IsRelisting}
 use Rattle.r9_forest.specs.Images.{numbers, world}
-use Rattle.r9_arrive.proofs.Canvases.{bare_canvas}
-use Rattle.r9_arrive.proofs.Entering.{on_err}
+use Rattle.r9_relist.proofs.arrive.Canvases.{bare_canvas}
+use Rattle.r9_relist.proofs.arrive.Entering.{on_err}
 use Rattle.r9_forest.proofs.Going.{parent_is}
 use Rattle.r9_forest.proofs.Leftover.{hidden_top}
 use Rattle.r9_forest.proofs.Moves.{moved_relisting}

@@ -7,12 +7,12 @@ use Rattle.r9_geom.specs.Geometry.{carried, holds}
 use Rattle.model_forest.specs.View.{view}
 use Rattle.model_forest.proofs.Sound.{view-below}
 use Rattle.model_kept.specs.Keeping.{keeping, with_kept}
-use Rattle.r9_locate.specs.Table.{shape}
+use Rattle.r9_locate.specs.locate.Table.{shape}
 use Rattle.r9_pixels.specs.declared.keeping.KeptPixels.{KeptPixels}
 use Rattle.r9_pixels.specs.Kept.{kept_at, moment}
-use Rattle.r9_put.specs.Written.{IsWritten}
-use Rattle.r9_put.proofs.Putting.{written_same}
-use Rattle.r9_arrive.proofs.Canvases.{bare_canvas}
+use Rattle.r9_put.specs.put.Written.{IsWritten}
+use Rattle.r9_put.proofs.put.Putting.{written_same}
+use Rattle.r9_relist.proofs.arrive.Canvases.{bare_canvas}
 use Rattle.r9_forest.specs.Images.{numbers, world}
 use Rattle.r9_forest.specs.Sound.{IsSound}
 use Rattle.r9_forest.proofs.Putting.{put_shown, put_sound, stored_sound}

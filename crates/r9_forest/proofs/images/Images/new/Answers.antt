@@ -4,7 +4,7 @@ use Rattle.model_forest.specs.World.{Image, World}
 use Rattle.model_forest.proofs.Changes.{World-same}
 use Rattle.model_kept.specs.Keeping.{with_kept}
 use Rattle.model_kept.proofs.Worlds.{pictured}
-use Rattle.r9_locate.specs.Table.{shape}
+use Rattle.r9_locate.specs.locate.Table.{shape}
 use Rattle.r9_pixels.specs.Kept.{kept_at}
 use Rattle.r9_forest.specs.Images.{numbers, world}
 use Rattle.r9_forest.specs.Numbered.{numbers_of}

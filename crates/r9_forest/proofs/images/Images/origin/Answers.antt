@@ -6,10 +6,10 @@ use Rattle.model_forest.specs.Steps.{carried_rect}
 use Rattle.model_forest.specs.World.{Image, World, image_at, IsLive}
 use Rattle.model_forest.proofs.Windows.{lives-with_windows}
 use Rattle.model_kept.specs.Keeping.{place_among}
-use Rattle.r9_locate.specs.Table.{shape}
+use Rattle.r9_locate.specs.locate.Table.{shape}
 use Rattle.r9_pixels.specs.Kept.{kept_at}
 use Rattle.r9_forest.specs.Images.{world}
-use Rattle.r9_arrive.proofs.Canvases.{bare_canvas}
+use Rattle.r9_relist.proofs.arrive.Canvases.{bare_canvas}
 use Rattle.r9_forest.proofs.Moves.{origin_root, origin_window}
 use Rattle.r9_forest.proofs.images.Images.origin.Given.{Over}
 use Rattle.r9_forest.proofs.images.Images.origin.Goals as goal

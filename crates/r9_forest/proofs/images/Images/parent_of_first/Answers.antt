@@ -3,10 +3,10 @@ use Rattle.std.specs.Prelude.{is_some, option_map, IsSome}
 use Rattle.std.proofs.lemmas.Bool.{true≢false}
 use Rattle.model_forest.specs.declared.Standing.{Standing}
 use Rattle.model_forest.specs.World.{Image, image_at, parent_of}
-use Rattle.r9_locate.specs.Table.{shape}
+use Rattle.r9_locate.specs.locate.Table.{shape}
 use Rattle.r9_pixels.specs.Kept.{kept_at}
 use Rattle.r9_forest.specs.Images.{world}
-use Rattle.r9_arrive.proofs.Canvases.{bare_canvas}
+use Rattle.r9_relist.proofs.arrive.Canvases.{bare_canvas}
 use Rattle.r9_forest.proofs.Groups.{group_on, of_first, stands-live}
 use Rattle.r9_forest.proofs.Sounding.{sound_live}
 use Rattle.r9_forest.proofs.images.Images.parent_of_first.Goals as goal

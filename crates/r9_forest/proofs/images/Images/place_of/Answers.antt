@@ -2,9 +2,9 @@ use Rattle.std.proofs.Common.{◌≡◌, ◌∙◌, sym, ap, subst}
 use Rattle.r9_geom.specs.Geometry.{IsRectNear}
 use Rattle.model_forest.specs.World.{Image, image_at}
 use Rattle.model_kept.specs.Keeping.{place_among}
-use Rattle.r9_locate.specs.Table.{shape}
-use Rattle.r9_relist.specs.Relisting.{meet_from}
-use Rattle.r9_relist.proofs.Lists.{lists_near}
+use Rattle.r9_locate.specs.locate.Table.{shape}
+use Rattle.r9_relist.specs.relist.Relisting.{meet_from}
+use Rattle.r9_relist.proofs.relist.Lists.{lists_near}
 use Rattle.r9_forest.specs.Images.{world}
 use Rattle.r9_forest.proofs.Placing.{stood_below, stood_placed}
 use Rattle.r9_forest.proofs.images.Images.place_of.Goals as goal

@@ -1,11 +1,11 @@
 use Rattle.std.proofs.Common.{◌≡◌, ◌∙◌, get_or, sym, ap}
 use Rattle.std.specs.Prelude.{◌&&◌, ◌||◌}
 use Rattle.r9_geom.specs.Geometry.{holds}
-use Rattle.r9_info.specs.declared.ImageNo.{ImageNo}
+use Rattle.r9_locate.specs.declared.info.ImageNo.{ImageNo}
 use Rattle.model_forest.specs.World.{Image, image_at}
 use Rattle.model_kept.specs.Keeping.{place_among}
 use Rattle.r9_region.specs.Region.{covers}
-use Rattle.r9_locate.specs.Table.{shape}
+use Rattle.r9_locate.specs.locate.Table.{shape}
 use Rattle.r9_forest.proofs.Groups.{corner_covers, places_all, places_more}
 use Rattle.r9_forest.proofs.images.Images.places_of.Goals as goal
 

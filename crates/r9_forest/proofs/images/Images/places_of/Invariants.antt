@@ -1,7 +1,7 @@
 use Rattle.std.proofs.Common.{◌≡◌, map, take}
 use Rattle.r9_geom.specs.declared.Point.{Point}
 use Rattle.r9_region.specs.Region.{covers}
-use Rattle.r9_locate.specs.Table.{shape}
+use Rattle.r9_locate.specs.locate.Table.{shape}
 use Rattle.r9_forest.specs.Groups.{places_of}
 use Rattle.r9_forest.proofs.images.Images.places_of.Given as goal
 

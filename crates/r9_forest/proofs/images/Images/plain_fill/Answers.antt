@@ -4,11 +4,11 @@ use Rattle.r9_geom.specs.Geometry.{holds}
 use Rattle.model_pixel.specs.Channels.{expand, pack}
 use Rattle.model_forest.specs.Draw.{reaches}
 use Rattle.model_forest.specs.World.{Image, image_at}
-use Rattle.r9_locate.specs.Table.{shape}
+use Rattle.r9_locate.specs.locate.Table.{shape}
 use Rattle.r9_pixels.specs.Kept.{kept_at}
-use Rattle.r9_fills.proofs.Runs.{fill_passes}
+use Rattle.r9_put.proofs.fills.Runs.{fill_passes}
 use Rattle.r9_forest.specs.Images.{world}
-use Rattle.r9_arrive.proofs.Canvases.{bare_canvas}
+use Rattle.r9_relist.proofs.arrive.Canvases.{bare_canvas}
 use Rattle.r9_forest.proofs.Going.{reach_is}
 use Rattle.r9_forest.proofs.images.Images.plain_fill.Goals as goal
 

@@ -1,16 +1,16 @@
 use Rattle.std.proofs.Common.{◌≡◌, ◌∙◌, ℕ, Option, Some, sym, ap}
 use Rattle.std.specs.Prelude.{option_map}
 use Rattle.model_forest.specs.World.{image_at}
-use Rattle.r9_locate.specs.Forms.{form_of, Form}
-use Rattle.r9_locate.specs.Table.{shape}
-use Rattle.r9_locate.proofs.Locating.{keeping-root}
+use Rattle.r9_locate.specs.locate.Forms.{form_of, Form}
+use Rattle.r9_locate.specs.locate.Table.{shape}
+use Rattle.r9_locate.proofs.locate.Locating.{keeping-root}
 use Rattle.r9_pixels.specs.Kept.{kept_at}
 use Rattle.r9_pixels.specs.Owns.{plane_form}
 use Rattle.r9_forest.specs.Images.{world}
 use Rattle.r9_forest.specs.Keeping.{on_plane}
-use Rattle.r9_arrive.proofs.Canvases.{bare_canvas, parent_same}
+use Rattle.r9_relist.proofs.arrive.Canvases.{bare_canvas, parent_same}
 use Rattle.r9_forest.proofs.Showing.{shown_kept}
-use Rattle.r9_put.proofs.Forms.{form_live, standing_nowhere}
+use Rattle.r9_put.proofs.put.Forms.{form_live, standing_nowhere}
 use Rattle.r9_forest.proofs.images.Images.plane.Goals as goal
 use Rattle.r9_forest.proofs.images.Images.plane.Goals.{After-plane}
 

@@ -1,7 +1,7 @@
 use Rattle.std.proofs.Common.{◌≡◌, List, Some, subst}
 use Rattle.model_forest.specs.declared.Window.{Window}
 use Rattle.model_forest.specs.World.{parent_of}
-use Rattle.r9_locate.specs.Table.{shape}
+use Rattle.r9_locate.specs.locate.Table.{shape}
 use Rattle.r9_forest.specs.Images.{world}
 use Rattle.r9_forest.specs.Replaced.{IsLater}
 use Rattle.r9_forest.proofs.Exchanged.{stands_at}

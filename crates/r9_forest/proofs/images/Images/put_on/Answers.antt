@@ -1,11 +1,11 @@
 use Rattle.std.proofs.Common.{◌≡◌, ◌∙◌, ℕ, Some, None, sym, ap}
 use Rattle.std.proofs.lemmas.Result.{IfOk-weaker}
 use Rattle.model_forest.specs.declared.Standing.{Standing}
-use Rattle.model_exchanged.specs.Exchanged.{after_put_on}
+use Rattle.model_exchanged.specs.exchanged.Exchanged.{after_put_on}
 use Rattle.model_forest.specs.World.{Image, image_at}
-use Rattle.r9_locate.specs.Table.{shape}
+use Rattle.r9_locate.specs.locate.Table.{shape}
 use Rattle.r9_pixels.specs.Kept.{kept_at}
-use Rattle.r9_arrive.proofs.Canvases.{bare_canvas}
+use Rattle.r9_relist.proofs.arrive.Canvases.{bare_canvas}
 use Rattle.r9_forest.specs.declared.ranking.Rank.TheVariants.{Top}
 use Rattle.r9_forest.specs.Images.{world}
 use Rattle.r9_forest.specs.Replaced.{replaced, IsReplacing}

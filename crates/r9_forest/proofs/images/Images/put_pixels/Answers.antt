@@ -3,10 +3,10 @@ use Rattle.std.specs.Prelude.{slice_index}
 use Rattle.r9_geom.specs.Geometry.{holds}
 use Rattle.r9_plane.specs.Pixels.{number_of}
 use Rattle.r9_plane.proofs.PlaneLemmas.{number_below}
-use Rattle.r9_locate.specs.Table.{shape}
+use Rattle.r9_locate.specs.locate.Table.{shape}
 use Rattle.r9_pixels.specs.Kept.{kept_at}
 use Rattle.r9_forest.specs.Images.{numbers, world}
-use Rattle.r9_arrive.proofs.Canvases.{bare_canvas}
+use Rattle.r9_relist.proofs.arrive.Canvases.{bare_canvas}
 use Rattle.r9_forest.proofs.Putting.{put_shown, put_sound, stored_sound}
 use Rattle.r9_forest.proofs.Showing.{bits_of}
 use Rattle.r9_forest.proofs.images.Images.put_pixels.Goals as goal

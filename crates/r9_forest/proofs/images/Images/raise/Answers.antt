@@ -7,13 +7,13 @@ use Rattle.r9_geom.specs.declared.Point.{Point}
 use Rattle.r9_geom.specs.Geometry.{holds}
 use Rattle.r9_region.specs.Region.{covers, how_many_hold}
 use Rattle.r9_region.proofs.Counted.{areas_apart}
-use Rattle.r9_info.specs.declared.ImageNo.{ImageNo}
+use Rattle.r9_locate.specs.declared.info.ImageNo.{ImageNo}
 use Rattle.model_forest.specs.declared.Window.{Window}
 use Rattle.model_forest.specs.World.{Image, image_at, parent_of, IsForest}
 use Rattle.model_forest.specs.Stack.{after_raise, raised}
 use Rattle.model_forest.proofs.Steps.{IsForest-after_raise}
 use Rattle.model_kept.proofs.Once.{places-forest}
-use Rattle.r9_locate.specs.Table.{shape}
+use Rattle.r9_locate.specs.locate.Table.{shape}
 use Rattle.r9_pixels.specs.Kept.{kept_at}
 use Rattle.r9_restack.specs.Moving.{IsReordering, IsSameTop}
 use Rattle.r9_restack.proofs.Areas.{areas_in}
@@ -21,7 +21,7 @@ use Rattle.r9_restack.proofs.Raised.{outside-raised, reordering-raised}
 use Rattle.r9_forest.specs.Images.{world}
 use Rattle.r9_forest.specs.Groups.{places_of}
 use Rattle.r9_forest.proofs.Groups.{group_area-bare, group_listed, left_false, places_most}
-use Rattle.r9_relist.proofs.Lists.{lists_near}
+use Rattle.r9_relist.proofs.relist.Lists.{lists_near}
 use Rattle.r9_forest.proofs.Sounding.{sound_forest, sound_live, sound_windows}
 use Rattle.r9_forest.proofs.images.Images.raise.Given.{Over}
 use Rattle.r9_forest.proofs.images.Images.raise.Goals as goal

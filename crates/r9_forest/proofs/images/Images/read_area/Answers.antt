@@ -6,10 +6,10 @@ use Rattle.r9_geom.specs.declared.Point.{Point as Spot}
 use Rattle.r9_geom.specs.Geometry.{height, holds, reduced, width}
 use Rattle.model_forest.specs.World.{Image, image_at}
 use Rattle.model_forest.specs.View.{view}
-use Rattle.r9_locate.specs.Table.{shape}
+use Rattle.r9_locate.specs.locate.Table.{shape}
 use Rattle.r9_pixels.specs.Kept.{kept_at}
 use Rattle.r9_forest.specs.Images.{world}
-use Rattle.r9_arrive.proofs.Canvases.{bare_canvas}
+use Rattle.r9_relist.proofs.arrive.Canvases.{bare_canvas}
 use Rattle.r9_forest.proofs.Showing.{point_has, shown_kept}
 use Rattle.r9_forest.proofs.images.Images.read_area.Goals as goal
 use Rattle.r9_forest.proofs.images.Images.read_area.Goals.{After-get}

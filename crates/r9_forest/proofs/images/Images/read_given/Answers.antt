@@ -10,15 +10,15 @@ use Rattle.model_forest.specs.Draw.{reaches}
 use Rattle.model_forest.specs.View.{at}
 use Rattle.model_forest.specs.World.{Image, image_at}
 use Rattle.r9_plane.specs.Pixels.{along}
-use Rattle.r9_fills.specs.Fills.{fill_at}
-use Rattle.r9_locate.specs.Lists.{frame_image}
+use Rattle.r9_put.specs.fills.Fills.{fill_at}
+use Rattle.r9_locate.specs.locate.Lists.{frame_image}
 use Rattle.r9_forest.specs.Images.{world}
-use Rattle.r9_locate.proofs.Locating.{along-along}
-use Rattle.r9_locate.proofs.Parts.{length-part}
-use Rattle.r9_fills.proofs.Runs.{fails, fill_fails, fill_passes, passes, run_strip, run_written}
-use Rattle.r9_locate.specs.Table.{shape}
+use Rattle.r9_locate.proofs.locate.Locating.{along-along}
+use Rattle.r9_locate.proofs.locate.Parts.{length-part}
+use Rattle.r9_put.proofs.fills.Runs.{fails, fill_fails, fill_passes, passes, run_strip, run_written}
+use Rattle.r9_locate.specs.locate.Table.{shape}
 use Rattle.r9_pixels.specs.Kept.{kept_at}
-use Rattle.r9_arrive.proofs.Canvases.{bare_canvas}
+use Rattle.r9_relist.proofs.arrive.Canvases.{bare_canvas}
 use Rattle.r9_forest.proofs.Going.{reach_is}
 use Rattle.r9_forest.proofs.images.Images.read_given.Goals as goal
 use Rattle.r9_forest.proofs.images.Images.read_given.Goals.{After-get-frame}

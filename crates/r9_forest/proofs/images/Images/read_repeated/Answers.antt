@@ -8,13 +8,13 @@ use Rattle.r9_geom.proofs.GeometryLemmas.{near_wider, rect_near_wider}
 use Rattle.r9_plane.specs.Pixels.{along}
 use Rattle.model_forest.specs.View.{view}
 use Rattle.model_forest.specs.World.{Image, image_at}
-use Rattle.r9_locate.specs.Table.{shape}
-use Rattle.r9_locate.proofs.Parts.{length-part, length-put_mid, put_mid_before, put_mid_inside}
+use Rattle.r9_locate.specs.locate.Table.{shape}
+use Rattle.r9_locate.proofs.locate.Parts.{length-part, length-put_mid, put_mid_before, put_mid_inside}
 use Rattle.r9_pixels.specs.Kept.{kept_at}
 use Rattle.r9_forest.specs.Images.{world}
-use Rattle.r9_arrive.proofs.Canvases.{bare_canvas}
+use Rattle.r9_relist.proofs.arrive.Canvases.{bare_canvas}
 use Rattle.r9_forest.proofs.Repeats.{reduced_run, run_inside}
-use Rattle.r9_put.proofs.Forms.{image_near}
+use Rattle.r9_put.proofs.put.Forms.{image_near}
 use borrow.Rule.Slice.PartMut.{put_mid}
 use Rattle.r9_forest.proofs.images.Images.read_repeated.Goals as goal
 use Rattle.r9_forest.proofs.images.Images.read_repeated.Goals.{After-get}

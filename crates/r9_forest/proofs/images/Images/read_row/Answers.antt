@@ -7,10 +7,10 @@ use Rattle.r9_plane.specs.Pixels.{along}
 use Rattle.model_forest.specs.World.{Image, image_at}
 use Rattle.model_forest.specs.View.{view}
 use Rattle.model_forest.proofs.Sound.{view-below}
-use Rattle.r9_locate.specs.Table.{shape}
+use Rattle.r9_locate.specs.locate.Table.{shape}
 use Rattle.r9_pixels.specs.Kept.{kept_at}
 use Rattle.r9_forest.specs.Images.{world}
-use Rattle.r9_arrive.proofs.Canvases.{bare_canvas}
+use Rattle.r9_relist.proofs.arrive.Canvases.{bare_canvas}
 use Rattle.r9_forest.proofs.images.Images.read_row.Goals as goal
 use Rattle.r9_forest.proofs.images.Images.read_row.Goals.{After-get}
 

@@ -4,10 +4,10 @@ use Rattle.r9_geom.specs.declared.Point.{Point as Spot}
 use Rattle.r9_geom.specs.Geometry.{height, holds, IsNearBy}
 use Rattle.r9_geom.proofs.GeometryLemmas.{band, band_all, band_none, near_wider, width_most}
 use Rattle.model_forest.specs.View.{at}
-use Rattle.r9_locate.proofs.Parts.{length-part, put_mid_before, put_mid_inside, row_within}
+use Rattle.r9_locate.proofs.locate.Parts.{length-part, put_mid_before, put_mid_inside, row_within}
 use Rattle.r9_forest.specs.Images.{world}
 use Rattle.r9_forest.proofs.Gathering.{row_gathered}
-use Rattle.r9_put.proofs.Grids.{near_row, row_of}
+use Rattle.r9_put.proofs.put.Grids.{near_row, row_of}
 use borrow.Rule.Slice.PartMut.{put_mid}
 use Rattle.r9_forest.proofs.images.Images.read_rows.Goals as goal
 

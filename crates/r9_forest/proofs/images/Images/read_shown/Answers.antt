@@ -4,11 +4,11 @@ use Rattle.r9_geom.specs.declared.Rect.{Rect}
 use Rattle.r9_geom.specs.Geometry.{area_of, holds, IsOrdered, IsRectNear}
 use Rattle.model_forest.specs.World.{Image, image_at, IsLive}
 use Rattle.r9_plane.specs.Pixels.{number_of}
-use Rattle.r9_locate.specs.Table.{shape}
+use Rattle.r9_locate.specs.locate.Table.{shape}
 use Rattle.r9_pixels.specs.Kept.{kept_at}
-use Rattle.r9_relist.proofs.Lists.{lists_near}
+use Rattle.r9_relist.proofs.relist.Lists.{lists_near}
 use Rattle.r9_forest.specs.Images.{world}
-use Rattle.r9_arrive.proofs.Canvases.{bare_canvas}
+use Rattle.r9_relist.proofs.arrive.Canvases.{bare_canvas}
 use Rattle.r9_forest.proofs.Showing.{point_has, shown_kept}
 use Rattle.r9_forest.proofs.Sounding.{sound_forest, sound_live}
 use Rattle.r9_forest.proofs.images.Images.read_shown.Goals as goal

@@ -4,12 +4,12 @@ use Rattle.r9_geom.proofs.GeometryLemmas.{near_point, near_wider}
 use Rattle.model_forest.specs.World.{image_at}
 use Rattle.r9_plane.specs.Pixels.{along}
 use Rattle.r9_plane.proofs.PlaneLemmas.{along_holds, some_of, start_in}
-use Rattle.r9_locate.specs.Table.{shape}
+use Rattle.r9_locate.specs.locate.Table.{shape}
 use Rattle.r9_pixels.specs.Kept.{kept_at}
 use Rattle.r9_forest.specs.Images.{world}
-use Rattle.r9_arrive.proofs.Canvases.{bare_canvas}
+use Rattle.r9_relist.proofs.arrive.Canvases.{bare_canvas}
 use Rattle.r9_forest.proofs.Showing.{bits_sound, point_has, row_width, shown_kept}
-use Rattle.r9_put.proofs.Forms.{image_near}
+use Rattle.r9_put.proofs.put.Forms.{image_near}
 use Rattle.r9_forest.proofs.images.Images.read_view.Goals as goal
 
 pub read_view-requires-clause-live : goal.read_view-requires-clause-live

@@ -2,11 +2,11 @@ use Rattle.std.proofs.Common.{◌≡◌, ◌∙◌, ℕ, Option, Some, None, sym
 use Rattle.std.specs.Prelude.{option_map}
 use Rattle.model_forest.specs.declared.Standing.{Standing}
 use Rattle.model_forest.specs.World.{Image}
-use Rattle.r9_watched.specs.Moments.{Moment}
-use Rattle.r9_locate.specs.Table.{shape}
+use Rattle.r9_locate.specs.watched.Moments.{Moment}
+use Rattle.r9_locate.specs.locate.Table.{shape}
 use Rattle.r9_pixels.specs.Kept.{kept_at}
 use Rattle.r9_forest.specs.Images.{world}
-use Rattle.r9_arrive.proofs.Canvases.{bare_canvas}
+use Rattle.r9_relist.proofs.arrive.Canvases.{bare_canvas}
 use Rattle.r9_forest.proofs.images.Images.release.Goals as goal
 
 pub get-requires : goal.get-requires

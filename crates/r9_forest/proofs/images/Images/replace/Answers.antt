@@ -3,9 +3,9 @@ use Rattle.std.proofs.lemmas.Result.{IfOk-weaker}
 use Rattle.model_pixel.specs.Channels.{depth}
 use Rattle.model_forest.specs.Steps.{after_replace}
 use Rattle.model_forest.specs.World.{Image, image_at}
-use Rattle.r9_locate.specs.Table.{shape}
+use Rattle.r9_locate.specs.locate.Table.{shape}
 use Rattle.r9_pixels.specs.Kept.{kept_at}
-use Rattle.r9_arrive.proofs.Canvases.{bare_canvas}
+use Rattle.r9_relist.proofs.arrive.Canvases.{bare_canvas}
 use Rattle.r9_forest.specs.declared.ranking.Rank.TheVariants.{Above}
 use Rattle.r9_forest.specs.Images.{world}
 use Rattle.r9_forest.specs.Replaced.{moved_out, replaced, IsReplacing}

@@ -4,7 +4,7 @@ use Rattle.r9_pixels.specs.Kept.{kept_at}
 use Rattle.r9_forest.specs.Images.{numbers, world}
 use Rattle.r9_forest.specs.Numbered.{numbers_of}
 use Rattle.r9_forest.specs.Sound.{IsSound}
-use Rattle.r9_locate.specs.Table.{shape}
+use Rattle.r9_locate.specs.locate.Table.{shape}
 use Rattle.r9_forest.proofs.Roomy.{fills_same}
 use Rattle.r9_forest.proofs.Sounding.{sound_same}
 use Rattle.r9_forest.proofs.images.Images.reserve.Goals as goal

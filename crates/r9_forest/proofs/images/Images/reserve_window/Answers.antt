@@ -1,5 +1,5 @@
 use Rattle.std.proofs.Common.{arith}
-use Rattle.r9_locate.specs.Table.{shape}
+use Rattle.r9_locate.specs.locate.Table.{shape}
 use Rattle.r9_forest.specs.Images.{numbers, world}
 use Rattle.r9_forest.proofs.Roomy.{fills_more}
 use Rattle.r9_forest.proofs.images.Images.reserve_window.Goals as goal

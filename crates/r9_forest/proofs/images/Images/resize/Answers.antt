@@ -2,14 +2,14 @@ use Rattle.std.proofs.Common.{◌<◌, ◌^◌, ℕ, subst, sym, ap, arith}
 use Rattle.r9_geom.specs.Geometry.{area_of}
 use Rattle.model_pixel.specs.Channels.{depth}
 use Rattle.model_kept.specs.Keeping.{with_kept}
-use Rattle.model_resize.specs.Resize.{sized}
-use Rattle.r9_locate.specs.Table.{shape}
+use Rattle.model_exchanged.specs.resize.Resize.{sized}
+use Rattle.r9_locate.specs.locate.Table.{shape}
 use Rattle.r9_pixels.specs.Kept.{kept_at}
-use Rattle.r9_resize.specs.Sizes.{with_rects}
+use Rattle.r9_relist.specs.resize.Sizes.{with_rects}
 use Rattle.r9_forest.specs.Images.{numbers, world}
 use Rattle.r9_forest.specs.Numbered.{numbers_of}
-use Rattle.r9_arrive.proofs.Canvases.{bare_canvas}
-use Rattle.r9_arrive.proofs.Entering.{on_err}
+use Rattle.r9_relist.proofs.arrive.Canvases.{bare_canvas}
+use Rattle.r9_relist.proofs.arrive.Entering.{on_err}
 use Rattle.r9_forest.proofs.Roomy.{fills_same}
 use Rattle.r9_forest.proofs.Sized.{can_lists, either_way, resized_fills, resized_sound, unsized_sound}
 use Rattle.r9_forest.proofs.Sounding.{sound_forest}

@@ -2,7 +2,7 @@ use Rattle.std.proofs.Common.{◌≡◌, ◌∙◌, ◌*◌, ◌≤◌, ap, subs
 use Rattle.r9_geom.specs.Geometry.{area_of, IsOrdered}
 use Rattle.model_forest.specs.World.{Image}
 use Rattle.model_forest.proofs.Changes.{live-standing}
-use Rattle.r9_locate.specs.Table.{shape}
+use Rattle.r9_locate.specs.locate.Table.{shape}
 use Rattle.r9_pixels.specs.Kept.{kept_at}
 use Rattle.r9_forest.specs.Images.{world}
 use Rattle.r9_forest.proofs.Going.{parent_is}

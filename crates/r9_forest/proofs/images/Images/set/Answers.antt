@@ -5,9 +5,9 @@ use Rattle.model_kept.specs.Keeping.{with_kept}
 use Rattle.r9_pixels.specs.Kept.{kept_at}
 use Rattle.r9_forest.specs.Images.{numbers, world}
 use Rattle.r9_forest.specs.Numbered.{numbers_of}
-use Rattle.r9_arrive.proofs.Canvases.{bare_canvas}
+use Rattle.r9_relist.proofs.arrive.Canvases.{bare_canvas}
 use Rattle.r9_forest.proofs.Setting.{set_shown, set_sound}
-use Rattle.r9_locate.specs.Table.{shape}
+use Rattle.r9_locate.specs.locate.Table.{shape}
 use Rattle.r9_forest.proofs.Roomy.{fills_same, fills_set}
 use Rattle.r9_forest.proofs.images.Images.set.Goals as goal
 

@@ -1,20 +1,20 @@
 use Rattle.std.proofs.Common.{◌≡◌, ◌∙◌, ◌≤◌, ℕ, All, List, Some, refl, sym, subst, ap, arith}
 use Rattle.r9_geom.specs.Geometry.{area_of}
-use Rattle.r9_arrive.proofs.Canvases.{bare_canvas}
-use Rattle.r9_arrive.proofs.Entering.{on_err}
+use Rattle.r9_relist.proofs.arrive.Canvases.{bare_canvas}
+use Rattle.r9_relist.proofs.arrive.Entering.{on_err}
 use Rattle.model_forest.specs.declared.Window.{Window}
 use Rattle.model_forest.specs.Stack.{with_windows}
 use Rattle.model_forest.specs.World.{image_at, IsForest}
 use Rattle.model_kept.specs.Keeping.{with_kept, Place}
 use Rattle.model_kept.specs.Restack.{with_list}
-use Rattle.r9_locate.specs.Table.{shape}
+use Rattle.r9_locate.specs.locate.Table.{shape}
 use Rattle.r9_pixels.specs.Kept.{has_place, kept_at, spare_in, wanted_in}
 use Rattle.r9_cells.specs.Fitting.{AreOne}
 use Rattle.r9_pixels.specs.Places.{HasCells, HasTakenOff, StandsOn}
 use Rattle.r9_forest.specs.Images.{numbers, world}
 use Rattle.r9_forest.specs.Numbered.{numbers_of}
-use Rattle.r9_relist.proofs.Off.{ordered_taken}
-use Rattle.r9_relist.proofs.Relisted.{relist_on, relist_ones}
+use Rattle.r9_relist.proofs.relist.Off.{ordered_taken}
+use Rattle.r9_relist.proofs.relist.Relisted.{relist_on, relist_ones}
 use Rattle.r9_forest.proofs.Sounding.{list_sound, sound_forest, sound_list, sound_same}
 use Rattle.r9_forest.proofs.Roomy.{fills_put, fills_same}
 use Rattle.r9_forest.proofs.images.Images.set_order.Given.{Over}

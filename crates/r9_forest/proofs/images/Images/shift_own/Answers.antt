@@ -1,6 +1,6 @@
 use Rattle.std.proofs.Common.{arith}
 use Rattle.model_kept.specs.Restack.{shifted_shape}
-use Rattle.r9_locate.specs.Table.{shape}
+use Rattle.r9_locate.specs.locate.Table.{shape}
 use Rattle.r9_pixels.specs.Kept.{kept_at}
 use Rattle.r9_forest.specs.Images.{numbers, world}
 use Rattle.r9_forest.specs.Numbered.{numbers_of}

@@ -6,14 +6,14 @@ use Rattle.r9_geom.specs.Geometry.{height, holds}
 use Rattle.r9_geom.proofs.GeometryLemmas.{band, band_all, band_none, height_most, rect_near_wider}
 use Rattle.model_pixel.specs.Channels.{depth}
 use Rattle.r9_plane.specs.Pixels.{along, pixel_at}
-use Rattle.r9_locate.specs.Table.{shape}
+use Rattle.r9_locate.specs.locate.Table.{shape}
 use Rattle.r9_pixels.specs.Kept.{kept_at}
 use Rattle.model_forest.specs.View.{view}
 use Rattle.model_forest.specs.World.{Image, image_at}
 use Rattle.model_forest.proofs.Sound.{view-below}
 use Rattle.r9_forest.specs.Images.{world}
-use Rattle.r9_put.proofs.Grids.{band_shown, begins_row, row_lies}
-use Rattle.r9_arrive.proofs.Canvases.{bare_canvas}
+use Rattle.r9_put.proofs.put.Grids.{band_shown, begins_row, row_lies}
+use Rattle.r9_relist.proofs.arrive.Canvases.{bare_canvas}
 use Rattle.r9_forest.proofs.images.Images.shown.Goals as goal
 
 pub get-requires : goal.get-requires

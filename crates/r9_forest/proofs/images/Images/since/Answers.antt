@@ -1,7 +1,7 @@
 use Rattle.std.proofs.Common.{◌∙◌, ap}
 use Rattle.r9_geom.specs.declared.Rect.{Rect}
 use Rattle.r9_geom.specs.Geometry.{height, width}
-use Rattle.r9_marks.specs.Cells.{cells_over, count_cells}
+use Rattle.r9_marks.specs.marks.Cells.{cells_over, count_cells}
 use Rattle.r9_pixels.specs.Kept.{marked}
 use Rattle.r9_forest.specs.Images.{world}
 use Rattle.r9_forest.proofs.Looking.{moment_kept, rect_live, shown_fits, since_shown}

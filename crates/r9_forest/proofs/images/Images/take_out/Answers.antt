@@ -10,19 +10,19 @@ use Rattle.model_forest.specs.Numbers.{given_back}
 use Rattle.model_forest.specs.Steps.{after_release}
 use Rattle.model_forest.specs.World.{CanGo, Image, World, image_at}
 use Rattle.model_kept.specs.Keeping.{with_kept}
-use Rattle.r9_locate.specs.declared.lists.Lists.{Lists}
-use Rattle.r9_locate.specs.Forms.{bits_in}
-use Rattle.r9_locate.specs.Table.{made, shape}
+use Rattle.r9_locate.specs.declared.locate.lists.Lists.{Lists}
+use Rattle.r9_locate.specs.locate.Forms.{bits_in}
+use Rattle.r9_locate.specs.locate.Table.{made, shape}
 use Rattle.r9_pixels.specs.Kept.{form_at, kept_at, moment, writes}
-use Rattle.r9_fills.specs.Content.{content}
-use Rattle.r9_fills.specs.Fills.{fill_at}
-use Rattle.r9_relist.specs.Leaving.{gone, others, IsGoing}
+use Rattle.r9_put.specs.fills.Content.{content}
+use Rattle.r9_put.specs.fills.Fills.{fill_at}
+use Rattle.r9_relist.specs.relist.Leaving.{gone, others, IsGoing}
 use Rattle.r9_forest.specs.Given.{given_at, left_of}
 use Rattle.r9_forest.specs.Images.{numbers, world}
 use Rattle.r9_forest.specs.Numbered.{numbers_of}
 use Rattle.r9_forest.specs.Sound.{IsSound}
 use Rattle.r9_forest.proofs.Backs.{back_numbers, back_room, pushed, IsBack}
-use Rattle.r9_arrive.proofs.Canvases.{bare_canvas}
+use Rattle.r9_relist.proofs.arrive.Canvases.{bare_canvas}
 use Rattle.r9_forest.proofs.Going.{back_gone, going_shape, gone_sound, parent_is, released_from}
 use Rattle.r9_forest.proofs.Placing.{left_covers, left_filled, left_inside, left_small, still_world, stood_below, stood_bits, stood_fill, stood_lawful, stood_parent}
 use Rattle.r9_forest.proofs.Roomy.{fills_gone, fills_same}

@@ -8,22 +8,22 @@ use Rattle.model_forest.specs.Stack.{with_windows}
 use Rattle.model_forest.specs.World.{Image, World, image_at, IsForest}
 use Rattle.model_kept.specs.Keeping.{with_kept}
 use Rattle.r9_plane.specs.Pixels.{number_of}
-use Rattle.r9_locate.specs.declared.lists.Lists.{Lists}
-use Rattle.r9_locate.specs.Forms.{bits_in}
-use Rattle.r9_locate.specs.Table.{shape}
+use Rattle.r9_locate.specs.declared.locate.lists.Lists.{Lists}
+use Rattle.r9_locate.specs.locate.Forms.{bits_in}
+use Rattle.r9_locate.specs.locate.Table.{shape}
 use Rattle.r9_pixels.specs.declared.keeping.KeptPixels.{KeptPixels}
 use Rattle.r9_pixels.specs.Kept.{form_at, kept_at, spare_in, wanted_in, moment, writes}
-use Rattle.r9_fills.specs.Content.{content}
-use Rattle.r9_fills.specs.Fills.{fill_at}
-use Rattle.r9_fills.specs.Gathered.{pictured}
-use Rattle.r9_relist.specs.Relisting.{IsAsBefore}
-use Rattle.r9_relist.proofs.Lists.{lists_near}
+use Rattle.r9_put.specs.fills.Content.{content}
+use Rattle.r9_put.specs.fills.Fills.{fill_at}
+use Rattle.r9_put.specs.fills.Gathered.{pictured}
+use Rattle.r9_relist.specs.relist.Relisting.{IsAsBefore}
+use Rattle.r9_relist.proofs.relist.Lists.{lists_near}
 use Rattle.r9_forest.specs.Given.{filled_at, left_of, IsEnough}
 use Rattle.r9_forest.specs.Groups.{IsMoved}
 use Rattle.r9_forest.specs.Images.{numbers, world}
 use Rattle.r9_forest.specs.Numbered.{numbers_of}
 use Rattle.r9_forest.specs.Replaced.{IsShown}
-use Rattle.r9_arrive.proofs.Canvases.{bare_canvas}
+use Rattle.r9_relist.proofs.arrive.Canvases.{bare_canvas}
 use Rattle.r9_forest.proofs.Placing.{given_below, given_shown, left_covers, left_inside, left_small, moves_before, moves_change, moves_fills, moves_places, moves_sound, still_numbers, still_world, stood_alive, stood_bits, stood_forest, stood_parent, stood_shown}
 use Rattle.r9_forest.proofs.images.Images.take_place.Given.{Over}
 use Rattle.r9_forest.proofs.images.Images.take_place.Goals as goal

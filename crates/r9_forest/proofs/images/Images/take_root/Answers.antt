@@ -3,8 +3,8 @@ use Rattle.std.specs.Prelude.{is_some}
 use Rattle.model_forest.specs.Steps.{after_release}
 use Rattle.model_forest.specs.World.{World, with_image, IsLive}
 use Rattle.model_kept.specs.Keeping.{with_kept}
-use Rattle.r9_locate.specs.Table.{made, shape}
-use Rattle.r9_watched.specs.Moments.{Moment}
+use Rattle.r9_locate.specs.locate.Table.{made, shape}
+use Rattle.r9_locate.specs.watched.Moments.{Moment}
 use Rattle.r9_pixels.specs.Kept.{kept_at, moment}
 use Rattle.r9_forest.specs.Images.{numbers, world}
 use Rattle.r9_forest.specs.Numbered.{numbers_of}

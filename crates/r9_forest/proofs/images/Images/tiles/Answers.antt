@@ -3,11 +3,11 @@ use Rattle.std.specs.Prelude.{option_map}
 use Rattle.model_forest.specs.World.{Image, World}
 use Rattle.model_kept.specs.Keeping.{with_kept, Place}
 use Rattle.model_kept.proofs.Worlds.{pictured}
-use Rattle.r9_locate.specs.Table.{made, shape}
+use Rattle.r9_locate.specs.locate.Table.{made, shape}
 use Rattle.r9_pixels.specs.Kept.{kept_at}
 use Rattle.r9_forest.specs.Images.{numbers, world}
 use Rattle.r9_forest.specs.Keeping.{tiles_of}
-use Rattle.r9_arrive.proofs.Canvases.{bare_canvas}
+use Rattle.r9_relist.proofs.arrive.Canvases.{bare_canvas}
 use Rattle.r9_forest.proofs.Keepers.{cells_same}
 use Rattle.r9_forest.proofs.images.Images.tiles.Goals as goal
 

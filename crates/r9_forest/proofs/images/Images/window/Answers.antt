@@ -11,13 +11,13 @@ use Rattle.model_forest.specs.World.{Image, World, image_at, no_rect, IsForest, 
 use Rattle.model_forest.proofs.Steps.{IsForest-after_window}
 use Rattle.model_kept.specs.Keeping.{place_among}
 use Rattle.model_kept.proofs.Worlds.{pictured}
-use Rattle.r9_locate.specs.Table.{made, shape}
+use Rattle.r9_locate.specs.locate.Table.{made, shape}
 use Rattle.r9_pixels.specs.Kept.{kept_at}
 use Rattle.r9_pixels.specs.Places.{StandsOn}
-use Rattle.r9_arrive.specs.Arriving.{after_coming, with_coming, IsComing}
-use Rattle.r9_arrive.proofs.Canvases.{bare_canvas}
-use Rattle.r9_arrive.proofs.Coming.{on_top_comes}
-use Rattle.r9_arrive.proofs.Entering.{on_err}
+use Rattle.r9_relist.specs.arrive.Arriving.{after_coming, with_coming, IsComing}
+use Rattle.r9_relist.proofs.arrive.Canvases.{bare_canvas}
+use Rattle.r9_relist.proofs.arrive.Coming.{on_top_comes}
+use Rattle.r9_relist.proofs.arrive.Entering.{on_err}
 use Rattle.r9_forest.specs.Images.{numbers, world}
 use Rattle.r9_forest.specs.Numbered.{numbers_of}
 use Rattle.r9_forest.proofs.Numbers.{peeked}

@@ -7,12 +7,12 @@ use Rattle.model_pixel.specs.Rows.{rows_of}
 use Rattle.r9_plane.specs.Pixels.{pixel_at}
 use Rattle.model_forest.specs.View.{view}
 use Rattle.model_forest.specs.World.{Image, image_at}
-use Rattle.r9_locate.specs.Table.{shape}
+use Rattle.r9_locate.specs.locate.Table.{shape}
 use Rattle.r9_pixels.specs.Kept.{kept_at}
 use Rattle.r9_forest.specs.Images.{world}
-use Rattle.r9_arrive.proofs.Canvases.{bare_canvas, parent_same}
+use Rattle.r9_relist.proofs.arrive.Canvases.{bare_canvas, parent_same}
 use Rattle.r9_forest.proofs.Rows.{rows_of-same}
-use Rattle.r9_put.proofs.Forms.{nowhere_none}
+use Rattle.r9_put.proofs.put.Forms.{nowhere_none}
 use Rattle.r9_forest.proofs.images.Images.with_view.Goals as goal
 
 pub get-requires : goal.get-requires

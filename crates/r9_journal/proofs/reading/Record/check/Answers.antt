@@ -1,6 +1,6 @@
 use Rattle.std.proofs.Common.{ℕ, List, [], ◌∷◌, ◌++◌, refl, sym, subst, arith}
-use Rattle.model_record.specs.Record.{IsBadAt, IsRecord}
-use Rattle.r9_event.specs.declared.event.Event.{Event}
+use Rattle.model_history.specs.records.Record.{IsBadAt, IsRecord}
+use Rattle.r9_event.specs.declared.event.event.Event.{Event}
 use Rattle.r9_journal.proofs.Records.{begins, reads_on, read_all, open_bad, line_bad, headless_bad, rest_within, shorter, place_is, not_both, bad_late, found_late, is_late, memory_late}
 use Rattle.r9_journal.proofs.Headers.{headed_late, record_not_late}
 use Rattle.r9_journal.proofs.Rest.{all_told, told_again, are_lines}

@@ -1,5 +1,5 @@
 use Rattle.std.proofs.Common.{length, List}
-use Rattle.r9_event.specs.declared.event.Event.{Event}
+use Rattle.r9_event.specs.declared.event.event.Event.{Event}
 use Rattle.r9_journal.proofs.Records.{IsRead}
 use Rattle.r9_journal.proofs.reading.Record.check.Given as goal
 

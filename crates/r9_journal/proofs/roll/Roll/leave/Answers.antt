@@ -1,7 +1,7 @@
 use Rattle.std.proofs.Common.{◌≡◌, ℕ, List, eqb, rules, ap, subst}
 use Rattle.std.specs.Prelude.{not, filter}
 use Rattle.std.proofs.lemmas.Fn.{filter_same}
-use Rattle.model_event.specs.Legal.{Roll}
+use Rattle.model_history.specs.event.Legal.{Roll}
 use Rattle.r9_journal.proofs.roll.Roll.leave.Goals as goal
 
 pub returns : goal.returns

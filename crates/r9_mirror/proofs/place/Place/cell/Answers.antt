@@ -1,6 +1,6 @@
 use Rattle.std.proofs.Common.{◌≡◌, ◌∙◌, ◌+◌, ◌-◌, suc, arith, sym, refl, subst, Option}
 use Rattle.std.specs.Option.{option_map}
-use Rattle.model_mirror.specs.Picture.{Picture, with_rows}
+use Rattle.model_client.specs.mirror.Picture.{Picture, with_rows}
 use Rattle.r9_mirror.specs.declared.place.Place.{Place}
 use Rattle.r9_mirror.specs.Left.{Leaves}
 use Rattle.r9_mirror.proofs.Steps.{cell_leads, cell_refused, with_picture}

@@ -2,8 +2,8 @@ use Rattle.std.proofs.Common.{◌≡◌, ◌∙◌, ℕ, Option, Some, Ok, IfSom
 use Rattle.std.specs.Option.{option_map}
 use Rattle.r9_plane.specs.declared.plane.Plane.{Plane}
 use Rattle.r9_plane.specs.Pixels as planes
-use Rattle.model_mirror.specs.Picture.{Picture}
-use Rattle.model_mirror.specs.Frames.{viewed}
+use Rattle.model_client.specs.mirror.Picture.{Picture}
+use Rattle.model_client.specs.mirror.Frames.{viewed}
 use Rattle.r9_mirror.specs.Sizes.{size_of}
 use Rattle.r9_mirror.specs.Shown.{shown, IsScreen}
 use Rattle.r9_mirror.specs.View.{picture_of}

@@ -3,7 +3,7 @@ use Rattle.r9_plane.specs.declared.plane.Plane.{Plane}
 use Rattle.r9_plane.specs.Marks.{mark_count, marked_at}
 use Rattle.r9_plane.specs.Pixels.{chan_of, pixel_at, rect_of}
 use Rattle.model_kept.specs.Keeping.{Place}
-use Rattle.r9_watched.specs.Moments.{moment_at, Moment}
+use Rattle.r9_locate.specs.watched.Moments.{moment_at, Moment}
 use Rattle.r9_cells.specs.Cells.{all_rows}
 use Rattle.r9_pixels.specs.declared.own.Own.{Own}
 use Rattle.r9_pixels.specs.declared.own.Own.TheVariants.{Whole}

@@ -7,7 +7,7 @@ use Rattle.r9_geom.specs.Geometry.{area_of, carried, holds}
 use Rattle.r9_geom.proofs.GeometryLemmas.{same_point}
 use Rattle.model_forest.proofs.Sound.{some_same}
 use Rattle.r9_plane.specs.Pixels.{chan_of, pixel_at, rect_of}
-use Rattle.r9_locate.specs.Forms.{Form}
+use Rattle.r9_locate.specs.locate.Forms.{Form}
 use Rattle.r9_cells.specs.Cells.{all_rows}
 use Rattle.r9_pixels.specs.declared.own.Own.{Own}
 use Rattle.r9_pixels.specs.declared.own.Own.TheVariants.{Whole}

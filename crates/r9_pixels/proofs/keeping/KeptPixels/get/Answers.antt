@@ -3,7 +3,7 @@ use Rattle.std.specs.Prelude.{slice_index, if◌then◌else◌}
 use Rattle.std.specs.Option.{option_map_or}
 use Rattle.r9_geom.specs.Geometry.{holds}
 use Rattle.r9_plane.specs.Pixels.{along, rect_of}
-use Rattle.r9_locate.proofs.Locating.{strip_at}
+use Rattle.r9_locate.proofs.locate.Locating.{strip_at}
 use Rattle.r9_cells.specs.Cells.{all_rows, place_pixel}
 use Rattle.r9_cells.specs.Rows.{cell_place}
 use Rattle.r9_cells.proofs.Places.{tile_parts}

@@ -1,6 +1,6 @@
 use Rattle.r9_cells.specs.Cells.{all_rows, cell_pixel}
 use Rattle.r9_cells.specs.Rows.{cell_at}
-use Rattle.r9_locate.specs.Table.{shape}
+use Rattle.r9_locate.specs.locate.Table.{shape}
 use Rattle.std.specs.Prelude.{is_some}
 use Rattle.r9_pixels.specs.Owns.{own_at}
 use Rattle.r9_pixels.proofs.Off.{given_off}

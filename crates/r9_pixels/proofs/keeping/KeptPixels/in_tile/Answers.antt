@@ -3,7 +3,7 @@ use Rattle.std.specs.Prelude.{option_map, if◌then◌else◌}
 use Rattle.std.specs.Option.{option_map_or}
 use Rattle.r9_geom.specs.declared.Point.{Point}
 use Rattle.model_kept.specs.Cells.{cell_of, in_cell}
-use Rattle.r9_locate.specs.Forms.{Form}
+use Rattle.r9_locate.specs.locate.Forms.{Form}
 use Rattle.r9_cells.specs.Cells.{all_rows, place_pixel}
 use Rattle.r9_cells.specs.Rows.{cell_place}
 use Rattle.r9_cells.proofs.Places.{tile_parts}

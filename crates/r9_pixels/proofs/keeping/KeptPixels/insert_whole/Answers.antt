@@ -4,7 +4,7 @@ use Rattle.r9_geom.specs.Geometry.{holds}
 use Rattle.model_kept.specs.Restack.{with_own}
 use Rattle.r9_plane.specs.declared.plane.Plane.{Plane}
 use Rattle.r9_plane.specs.Pixels.{pixel_at, rect_of}
-use Rattle.r9_watched.specs.Moments.{with_moment, Moment}
+use Rattle.r9_locate.specs.watched.Moments.{with_moment, Moment}
 use Rattle.r9_cells.specs.Cells.{all_rows}
 use Rattle.r9_pixels.specs.declared.own.Own.{Own}
 use Rattle.r9_pixels.specs.declared.own.Own.TheVariants.{Whole}

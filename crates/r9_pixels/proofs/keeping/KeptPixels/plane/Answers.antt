@@ -3,7 +3,7 @@ use Rattle.std.specs.Prelude.{option_map}
 use Rattle.r9_plane.specs.declared.plane.Plane.{Plane}
 use Rattle.r9_plane.specs.Pixels.{pixel_at}
 use Rattle.r9_pixels.specs.Owns.{form_in, plane_form}
-use Rattle.r9_locate.specs.Forms.{Form}
+use Rattle.r9_locate.specs.locate.Forms.{Form}
 use Rattle.r9_pixels.proofs.Owning.{own_is, plane_told, whole_below}
 use Rattle.r9_pixels.proofs.Telling.{kept_of}
 use Rattle.r9_pixels.proofs.keeping.KeptPixels.plane.Goals as goal

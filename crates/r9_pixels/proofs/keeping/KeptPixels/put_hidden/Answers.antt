@@ -5,7 +5,7 @@ use Rattle.std.proofs.lemmas.Bool.{cases_Bool, false≢true}
 use Rattle.r9_geom.specs.Geometry.{holds}
 use Rattle.model_pixel.specs.Channels.{depth}
 use Rattle.r9_plane.specs.Pixels.{along}
-use Rattle.r9_locate.specs.Forms.{bits_in}
+use Rattle.r9_locate.specs.locate.Forms.{bits_in}
 use Rattle.r9_cells.specs.Cells.{all_rows, cell_pixel, place_pixel}
 use Rattle.r9_cells.specs.Rows.{cell_place, has_tile, CellPlace}
 use Rattle.r9_cells.proofs.Places.{place_injective, tile_parts}

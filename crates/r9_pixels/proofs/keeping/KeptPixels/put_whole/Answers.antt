@@ -7,7 +7,7 @@ use Rattle.r9_geom.proofs.GeometryLemmas.{strip_distance}
 use Rattle.r9_plane.specs.Pixels.{along, rect_of}
 use Rattle.r9_plane.proofs.PlaneLemmas.{along_holds}
 use Rattle.model_kept.specs.Keeping.{own}
-use Rattle.r9_locate.proofs.Locating.{strip_at}
+use Rattle.r9_locate.proofs.locate.Locating.{strip_at}
 use Rattle.r9_cells.specs.Cells.{all_rows}
 use Rattle.r9_pixels.specs.declared.own.Own.{Own}
 use Rattle.r9_pixels.specs.declared.own.Own.TheVariants.{Whole}

@@ -1,7 +1,7 @@
 use Rattle.std.proofs.Common.{rules, ◌≡◌, ◌∙◌, ℕ, ◌<◌, false, length, List, Option, Some, sym, ap, subst, arith}
 use Rattle.std.specs.Prelude.{option_and_then, option_map, slice_set}
 use Rattle.r9_cells.specs.Cells.{all_rows}
-use Rattle.r9_locate.specs.Forms.{Form}
+use Rattle.r9_locate.specs.locate.Forms.{Form}
 use Rattle.r9_pixels.specs.declared.own.Own.{Own}
 use Rattle.r9_pixels.specs.declared.own.Own.TheVariants.{Whole}
 use Rattle.r9_pixels.specs.Owns.{form_in, moment_in, own_at, AreFew, IsTabled, IsWithinBits}

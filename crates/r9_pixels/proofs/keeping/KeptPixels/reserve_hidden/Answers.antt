@@ -1,5 +1,5 @@
 use Rattle.r9_cells.specs.Cells.{all_rows}
-use Rattle.r9_locate.specs.Table.{shape}
+use Rattle.r9_locate.specs.locate.Table.{shape}
 use Rattle.r9_pixels.proofs.Off.{taken_off}
 use Rattle.r9_pixels.proofs.Standing.{windowed}
 use Rattle.r9_pixels.proofs.keeping.KeptPixels.reserve_hidden.Goals as goal

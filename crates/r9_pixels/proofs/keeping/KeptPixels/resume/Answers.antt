@@ -4,16 +4,16 @@ use Rattle.std.specs.Option.{option_map_or}
 use Rattle.std.proofs.lemmas.Bool.{or_left}
 use Rattle.r9_geom.specs.declared.Rect.{Rect}
 use Rattle.r9_geom.specs.Geometry.{area_of, height, holds, width}
-use Rattle.r9_marks.specs.Cells.{cells_over}
+use Rattle.r9_marks.specs.marks.Cells.{cells_over}
 use Rattle.r9_plane.specs.declared.plane.Plane.{Plane}
 use Rattle.r9_plane.specs.Marks.{mark_count, touched}
 use Rattle.r9_plane.specs.Pixels.{chan_of, pixel_at, rect_of}
 use Rattle.model_forest.specs.World.{no_rect}
 use Rattle.model_kept.specs.Keeping.{Place}
-use Rattle.r9_watched.specs.declared.Watched.{Watched}
-use Rattle.r9_watched.specs.Moments.{Moment}
-use Rattle.r9_watched.specs.Watched.{moment_of}
-use Rattle.r9_locate.specs.Forms.{Form}
+use Rattle.r9_locate.specs.declared.watched.Watched.{Watched}
+use Rattle.r9_locate.specs.watched.Moments.{Moment}
+use Rattle.r9_locate.specs.watched.Watched.{moment_of}
+use Rattle.r9_locate.specs.locate.Forms.{Form}
 use Rattle.r9_cells.specs.Cells.{all_rows}
 use Rattle.r9_pixels.specs.declared.own.Own.{Own}
 use Rattle.r9_pixels.specs.declared.own.Own.TheVariants.{Whole}

@@ -7,7 +7,7 @@ use Rattle.model_forest.specs.World.{no_rect}
 use Rattle.model_kept.specs.Keeping.{own, Place}
 use Rattle.model_kept.specs.Restack.{with_shifted}
 use Rattle.r9_cells.specs.Cells.{all_rows}
-use Rattle.r9_locate.specs.Forms.{Form}
+use Rattle.r9_locate.specs.locate.Forms.{Form}
 use Rattle.r9_pixels.specs.declared.own.Own.{Own}
 use Rattle.r9_pixels.specs.Kept.{form_at, has_place, kept_at}
 use Rattle.r9_pixels.specs.Owns.{form_in, moment_in, own_at}

@@ -7,7 +7,7 @@ use Rattle.model_pixel.specs.Channels.{depth}
 use Rattle.r9_plane.specs.Pixels.{along, chan_of}
 use Rattle.r9_plane.proofs.PlaneLemmas.{along_holds}
 use Rattle.model_kept.specs.Keeping.{own}
-use Rattle.r9_locate.proofs.Locating.{strip_at}
+use Rattle.r9_locate.proofs.locate.Locating.{strip_at}
 use Rattle.r9_cells.specs.Cells.{all_rows, place_pixel}
 use Rattle.r9_cells.specs.Rows.{cell_place, has_tile, CellPlace}
 use Rattle.r9_cells.proofs.Carried.{carried_along}

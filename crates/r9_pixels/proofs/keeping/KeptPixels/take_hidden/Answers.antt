@@ -1,6 +1,6 @@
 use Rattle.std.proofs.Common.{arith}
 use Rattle.r9_cells.specs.Cells.{all_rows}
-use Rattle.r9_locate.specs.Table.{shape}
+use Rattle.r9_locate.specs.locate.Table.{shape}
 use Rattle.r9_pixels.proofs.Off.{taken_off}
 use Rattle.r9_pixels.proofs.Standing.{windowed}
 use Rattle.r9_pixels.proofs.Taking.{still_bounded, taken_place, taken_tabled}

@@ -4,9 +4,9 @@ use Rattle.r9_geom.specs.declared.Rect.{Rect}
 use Rattle.r9_geom.specs.Geometry.{at_min, carried, holds, IsRectNear}
 use Rattle.r9_plane.specs.Pixels.{rect_of}
 use Rattle.r9_plane.proofs.Shifts.{holds-at_min}
-use Rattle.r9_watched.specs.declared.Watched.{Watched}
-use Rattle.r9_watched.specs.Moments.{IsFew, Moment}
-use Rattle.r9_watched.specs.Watched.{count_of, moment_of}
+use Rattle.r9_locate.specs.declared.watched.Watched.{Watched}
+use Rattle.r9_locate.specs.watched.Moments.{IsFew, Moment}
+use Rattle.r9_locate.specs.watched.Watched.{count_of, moment_of}
 use Rattle.r9_cells.specs.Cells.{all_rows, place_pixel}
 use Rattle.r9_cells.specs.Rows.{cell_place, has_tile}
 use Rattle.r9_pixels.specs.declared.own.Own.{Own}

@@ -3,7 +3,7 @@ use Rattle.std.specs.Prelude.{if◌then◌else◌}
 use Rattle.r9_geom.specs.Geometry.{carried, holds}
 use Rattle.model_pixel.specs.Channels.{depth}
 use Rattle.r9_kern.specs.Over.{over_of}
-use Rattle.r9_marks.specs.Marks.{marked, marked_count}
+use Rattle.r9_marks.specs.marks.Marks.{marked, marked_count}
 use Rattle.r9_plane.specs.Pixels.{pixel_at}
 use Rattle.r9_plane.proofs.plane.Plane.compose_over.Goals as goal
 

@@ -4,7 +4,7 @@ use Rattle.std.proofs.lemmas.Int.{ints}
 use Rattle.r9_geom.specs.declared.Point.{Point}
 use Rattle.r9_geom.specs.Geometry.{carried, distance, height, holds, strip, width, IsNearBy}
 use Rattle.r9_geom.proofs.GeometryLemmas.{band, band_all, distance_below, height_most, row_inside}
-use Rattle.r9_marks.specs.Marks.{marked, marked_count}
+use Rattle.r9_marks.specs.marks.Marks.{marked, marked_count}
 use Rattle.r9_plane.specs.Marks.{touched}
 use Rattle.r9_plane.specs.Pixels.{along, pixel_at}
 use Rattle.r9_plane.proofs.PlaneLemmas.{band_begins, band_grows, carried_along, carried_strip, carried_twice}

@@ -5,7 +5,7 @@ use Rattle.r9_geom.specs.Geometry.{distance, height, holds, strip, width}
 use Rattle.r9_geom.proofs.GeometryLemmas.{band, band_all, distance_below, row_distance, row_inside, width_most}
 use Rattle.model_pixel.specs.Channels.{depth, is_depth}
 use Rattle.model_pixel.specs.Rows.{raw_at, row_bytes, row_pixel, skip}
-use Rattle.r9_marks.specs.Marks.{marked, marked_count}
+use Rattle.r9_marks.specs.marks.Marks.{marked, marked_count}
 use Rattle.r9_plane.specs.Marks.{touched}
 use Rattle.r9_plane.specs.Pixels.{pixel_at}
 use Rattle.r9_plane.proofs.PlaneLemmas.{band_begins, band_grows, lines_left, rest_is}

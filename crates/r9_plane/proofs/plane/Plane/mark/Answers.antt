@@ -3,8 +3,8 @@ use Rattle.std.specs.Prelude.{◌||◌, ◌&&◌}
 use Rattle.std.proofs.lemmas.Int.{ints}
 use Rattle.r9_geom.specs.Geometry.{area_of}
 use Rattle.r9_geom.proofs.GeometryLemmas.{corner, distance_is, height_most, width_most}
-use Rattle.r9_marks.specs.Cells.{touches}
-use Rattle.r9_marks.specs.Marks.{marked}
+use Rattle.r9_marks.specs.marks.Cells.{touches}
+use Rattle.r9_marks.specs.marks.Marks.{marked}
 use Rattle.r9_plane.specs.Pixels.{pixel_at}
 use Rattle.r9_plane.proofs.Marking.{area_fits, columns_fit, inner_of, no_area, rows_fit, untouched}
 use Rattle.r9_plane.proofs.plane.Plane.mark.Goals as goal

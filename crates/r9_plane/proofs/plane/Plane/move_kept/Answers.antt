@@ -2,7 +2,7 @@ use Rattle.std.proofs.Common.{◌∙◌, ap, arith}
 use Rattle.std.specs.Int.Bits.{bit_and}
 use Rattle.std.specs.Prelude.{if◌then◌else◌}
 use Rattle.r9_geom.specs.Geometry.{carried, holds}
-use Rattle.r9_marks.specs.Marks.{marked, marked_count}
+use Rattle.r9_marks.specs.marks.Marks.{marked, marked_count}
 use Rattle.r9_plane.proofs.plane.Plane.move_kept.Goals as goal
 
 pub move_rows-requires-clause-inside : goal.move_rows-requires-clause-inside

@@ -4,7 +4,7 @@ use Rattle.std.proofs.lemmas.Int.{ints}
 use Rattle.r9_geom.specs.declared.Point.{Point}
 use Rattle.r9_geom.specs.Geometry.{carried, distance, height, holds, strip, width, IsNearBy}
 use Rattle.r9_geom.proofs.GeometryLemmas.{band, band_all, distance_below, height_most, row_inside}
-use Rattle.r9_marks.specs.Marks.{marked, marked_count}
+use Rattle.r9_marks.specs.marks.Marks.{marked, marked_count}
 use Rattle.r9_plane.specs.Marks.{touched}
 use Rattle.std.proofs.lemmas.Bool.{cond-false}
 use Rattle.model_pixel.specs.Channels.{depth}

@@ -5,7 +5,7 @@ use Rattle.std.specs.Prelude.{◌||◌}
 use Rattle.r9_geom.specs.declared.Rect.{Rect}
 use Rattle.r9_geom.specs.Geometry.{area_of, holds, IsOrdered}
 use Rattle.r9_geom.proofs.GeometryLemmas.{near_point}
-use Rattle.r9_marks.specs.Marks.{marked}
+use Rattle.r9_marks.specs.marks.Marks.{marked}
 use Rattle.r9_plane.specs.Marks.{touched}
 use Rattle.r9_plane.specs.Pixels.{pixel_at, pixel_of}
 use Rattle.r9_plane.proofs.PlaneLemmas.{put_pixels}

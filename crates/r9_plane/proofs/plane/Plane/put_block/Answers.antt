@@ -1,7 +1,7 @@
 use Rattle.std.proofs.Common.{◌∙◌, ap, arith}
 use Rattle.std.specs.Prelude.{◌||◌}
 use Rattle.r9_geom.specs.Geometry.{holds}
-use Rattle.r9_marks.specs.Marks.{marked, marked_count}
+use Rattle.r9_marks.specs.marks.Marks.{marked, marked_count}
 use Rattle.r9_plane.specs.Marks.{touched}
 use Rattle.r9_plane.proofs.plane.Plane.put_block.Goals as goal
 

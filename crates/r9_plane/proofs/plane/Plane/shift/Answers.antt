@@ -1,7 +1,7 @@
 use Rattle.std.proofs.Common.{◌≡◌, ◌∙◌, ◌<◌, ◌≤◌, ◌^◌, ◌*◌, ℕ, ap, sym, subst, vec_len}
 use Rattle.r9_geom.specs.declared.Rect.{Rect}
 use Rattle.r9_geom.specs.Geometry.{height, width, IsOrdered, IsRectNear}
-use Rattle.r9_marks.specs.Cells.{cells_over}
+use Rattle.r9_marks.specs.marks.Cells.{cells_over}
 use Rattle.r9_plane.specs.Pixels.{pixel_at, pixel_of}
 use Rattle.r9_plane.proofs.Shifts.{height-at_min, ordered-at_min, pixel-at_min, width-at_min}
 use Rattle.r9_plane.proofs.plane.Plane.shift.Goals as goal

@@ -1,7 +1,7 @@
 use Rattle.std.proofs.Common.{◌≡◌, ◌∙◌, ◌^◌, ◌<◌, ℕ, List, subst}
 use Rattle.model_pixel.specs.Rows.{raw_at}
-use Rattle.r9_marks.specs.Cells.{count_cells}
-use Rattle.r9_marks.specs.Marks.{marked}
+use Rattle.r9_marks.specs.marks.Cells.{count_cells}
+use Rattle.r9_marks.specs.marks.Marks.{marked}
 use Rattle.r9_plane.specs.Pixels.{pixel_at}
 use Rattle.r9_plane.proofs.Fitting.{pixel_below}
 use Rattle.r9_plane.proofs.plane.Plane.sound.Goals as goal

@@ -1,6 +1,6 @@
 use Rattle.std.proofs.Common.{◌≡◌, ◌∙◌, None, sym, arith}
 use Rattle.std.proofs.lemmas.Result.{IfOk-weaker}
-use Rattle.model_wire.specs.Reading.{message_of}
+use Rattle.model_files.specs.wire.Reading.{message_of}
 use Rattle.model_world.specs.Sleeping.{written_at, written_to}
 use Rattle.model_world.specs.Answer.{Ignored, TooLong, Closes, Reads, taking}
 use Rattle.r9_session.proofs.Telling.{never_data}

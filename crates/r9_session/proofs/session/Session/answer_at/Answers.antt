@@ -1,10 +1,10 @@
 use Rattle.std.proofs.Common.{rules, ◌≡◌, ◌∙◌, ◌≤◌, ℕ, List, length, get_or, Option, Ok, Err, IfSome, sym, ap, subst, arith}
 use Rattle.std.specs.Prelude.{max}
-use Rattle.model_wire.specs.Message.{R, Rread}
-use Rattle.model_wire.specs.Spelling.{FitsR}
+use Rattle.model_files.specs.wire.Message.{R, Rread}
+use Rattle.model_files.specs.wire.Spelling.{FitsR}
 use Rattle.model_world.specs.Session.{Session, Wait}
 use Rattle.model_world.specs.Waiting.{wait_answer}
-use Rattle.r9_files.specs.declared.fault.Fault.{Fault}
+use Rattle.r9_files.specs.declared.files.fault.Fault.{Fault}
 use Rattle.r9_wire.specs.View.{r_of}
 use Rattle.r9_session.specs.Reads.{IsAwaited}
 use Rattle.r9_session.specs.Places.{AreCovered}

@@ -1,13 +1,13 @@
 use Rattle.std.proofs.Common.{◌≡◌, ℕ, Option, Some, Result, Err, ap, subst, ◌∙◌}
 use Rattle.std.specs.Prelude.{is_ok}
-use Rattle.model_text.specs.Outcome.{Outcome}
+use Rattle.model_text.specs.text.Outcome.{Outcome}
 use Rattle.model_world.specs.Fids.{Left}
 use Rattle.model_world.specs.Answer.{answer_read}
-use Rattle.model_draw.specs.Act.{no_memory}
-use Rattle.r9_files.specs.declared.fault.Fault.{Fault}
-use Rattle.r9_files.specs.declared.fault.Fault.TheVariants.{Refused}
+use Rattle.model_draw.specs.draw.Act.{no_memory}
+use Rattle.r9_files.specs.declared.files.fault.Fault.{Fault}
+use Rattle.r9_files.specs.declared.files.fault.Fault.TheVariants.{Refused}
 use Rattle.r9_wire.specs.View.{t_of}
-use Rattle.r9_around.specs.Words.{mark_after}
+use Rattle.r9_files.specs.around.Words.{mark_after}
 use Rattle.r9_session.specs.Answers.{IsReply}
 use Rattle.r9_session.specs.declared.writing.Answered.{Answered}
 use Rattle.r9_session.specs.Telling.{IsToldOf}

@@ -1,9 +1,9 @@
 use Rattle.std.proofs.Common.{◌≡◌, Option, None, ap, arith}
 use Rattle.std.specs.Prelude.{is_ok}
-use Rattle.model_wire.specs.Message.{T}
-use Rattle.model_wire.specs.Reading.{message_of}
+use Rattle.model_files.specs.wire.Message.{T}
+use Rattle.model_files.specs.wire.Reading.{message_of}
 use Rattle.model_world.specs.Answer.{read_or_not}
-use Rattle.r9_around.specs.Words.{mark_after}
+use Rattle.r9_files.specs.around.Words.{mark_after}
 use Rattle.r9_session.specs.Telling.{IsToldRead}
 use Rattle.r9_wire.specs.View.{t_of}
 use Rattle.r9_session.proofs.Taken.{new_tag}

@@ -1,7 +1,7 @@
 use Rattle.std.proofs.Common.{subst}
 use Rattle.std.specs.Map.{keys_of}
-use Rattle.model_map.specs.Ascending.{Ascend}
-use Rattle.model_map.proofs.Ascending.{ascend-from_sorted}
+use Rattle.model_text.specs.map.Ascending.{Ascend}
+use Rattle.model_text.proofs.map.Ascending.{ascend-from_sorted}
 use Rattle.model_world.specs.Session.{Session}
 use Rattle.r9_session.proofs.session.Session.ascends.Goals as goal
 

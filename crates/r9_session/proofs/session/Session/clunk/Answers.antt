@@ -1,8 +1,8 @@
 use Rattle.std.proofs.Common.{◌≡◌, ◌∙◌, ℕ, List, sym, ap, subst}
 use Rattle.std.specs.Prelude.{filter}
 use Rattle.std.specs.Map.{keys_of}
-use Rattle.model_text.specs.Map.{without}
-use Rattle.model_map.specs.Ascending.{Ascend}
+use Rattle.model_text.specs.text.Map.{without}
+use Rattle.model_text.specs.map.Ascending.{Ascend}
 use Rattle.model_world.specs.Session.{Fid, Session}
 use Rattle.model_world.specs.Fids.{is_kept}
 use Rattle.r9_session.specs.Clients.{without_fid}

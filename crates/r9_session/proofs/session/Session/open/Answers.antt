@@ -2,11 +2,11 @@ use Rattle.std.proofs.Common.{rules, ◌≡◌, ◌∙◌, true, false, Some, Ok
 use Rattle.std.specs.Prelude.{is_some, nat_le}
 use Rattle.std.proofs.lemmas.Bool.{le-leb}
 use Rattle.std.proofs.lemmas.Bool.Decides.{nat_tests}
-use Rattle.model_text.specs.Map.{lookup}
-use Rattle.model_wire.specs.Message.{Ropen}
-use Rattle.model_tree.specs.declared.Kind.TheVariants.{New}
-use Rattle.model_tree.specs.Node.{Node, may, qid}
-use Rattle.model_tree.specs.Tree.{check_live}
+use Rattle.model_text.specs.text.Map.{lookup}
+use Rattle.model_files.specs.wire.Message.{Ropen}
+use Rattle.model_files.specs.declared.tree.Kind.TheVariants.{New}
+use Rattle.model_files.specs.tree.Node.{Node, may, qid}
+use Rattle.model_files.specs.tree.Tree.{check_live}
 use Rattle.model_world.specs.Session.{Session}
 use Rattle.model_world.specs.Fids.{Left, is_kind, with_held}
 use Rattle.model_world.specs.Walking.{is_taken, most_made}

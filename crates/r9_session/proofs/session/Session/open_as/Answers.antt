@@ -1,5 +1,5 @@
 use Rattle.std.proofs.Common.{rules, ◌≡◌, ◌∙◌, Some, sym, ap, subst}
-use Rattle.model_text.specs.Map.{lookup}
+use Rattle.model_text.specs.text.Map.{lookup}
 use Rattle.model_world.specs.Session.{Session}
 use Rattle.model_world.specs.Sleeping.{has_place}
 use Rattle.r9_session.specs.SessionView.{IsSession}

@@ -1,8 +1,8 @@
 use Rattle.std.proofs.Common.{◌≡◌, ℕ, ◌+◌, List, true, sym, ap, subst, ◌∙◌, arith}
 use Rattle.std.specs.List.{list_any}
-use Rattle.model_map.proofs.Keys.{eqb-same}
-use Rattle.model_tree.specs.declared.Kind.TheVariants.{Ctl}
-use Rattle.model_tree.specs.Node.{Node, row}
+use Rattle.model_text.proofs.map.Keys.{eqb-same}
+use Rattle.model_files.specs.declared.tree.Kind.TheVariants.{Ctl}
+use Rattle.model_files.specs.tree.Node.{Node, row}
 use Rattle.model_world.specs.Session.{Session, fid_at}
 use Rattle.model_world.specs.Fids.{is_kept, is_kind, keeps}
 use Rattle.model_world.specs.Links.{AreWithin}

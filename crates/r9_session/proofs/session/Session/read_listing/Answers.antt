@@ -1,6 +1,6 @@
 use Rattle.std.proofs.Common.{rules, ◌≡◌, ℕ, List, Option, Some, IfSome, refl, subst, sym}
-use Rattle.model_tree.specs.Listing.{stats}
-use Rattle.model_text.specs.Map.{lookup, with}
+use Rattle.model_files.specs.tree.Listing.{stats}
+use Rattle.model_text.specs.text.Map.{lookup, with}
 use Rattle.model_world.specs.Session.{Fid, Session}
 use Rattle.model_world.specs.Reading.{directory_read}
 use Rattle.r9_tree.specs.View.{view_of}

@@ -1,5 +1,5 @@
 use Rattle.std.proofs.Common.{rules, ◌≡◌, ℕ, List, Option, Some, IfSome, refl, subst, sym}
-use Rattle.model_text.specs.Map.{lookup, with}
+use Rattle.model_text.specs.text.Map.{lookup, with}
 use Rattle.model_world.specs.Session.{Fid, Session}
 use Rattle.model_world.specs.Reading.{file_read}
 use Rattle.r9_session.specs.Reads.{IsReadOf}

@@ -2,8 +2,8 @@ use Rattle.std.proofs.Common.{rules, ◌≡◌, ◌∙◌, inl, inr, ℕ, List, 
 use Rattle.std.specs.Prelude.{◌==◌, filter}
 use Rattle.std.specs.List.{fold}
 use Rattle.std.proofs.lemmas.Result.{on_ok_weaker}
-use Rattle.model_text.specs.Map.{lookup}
-use Rattle.model_tree.specs.Node.{Node}
+use Rattle.model_text.specs.text.Map.{lookup}
+use Rattle.model_files.specs.tree.Node.{Node}
 use Rattle.model_world.specs.Session.{Session}
 use Rattle.model_world.specs.Fids.{is_kept, keeps}
 use Rattle.r9_session.specs.Clients.{without_fid}

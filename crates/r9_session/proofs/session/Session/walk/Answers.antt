@@ -1,9 +1,9 @@
 use Rattle.std.proofs.Common.{rules, ◌≡◌, ◌∙◌, ◌++◌, ℕ, false, length, map, Option, Some, arith, eq-eqb, sym, ap, subst}
 use Rattle.std.specs.Prelude.{◌==◌, is_some}
 use Rattle.std.proofs.lemmas.Bool.{false≢true}
-use Rattle.model_text.specs.Map.{lookup}
-use Rattle.model_text.specs.Outcome.{Outcome}
-use Rattle.model_tree.specs.Node.{qid}
+use Rattle.model_text.specs.text.Map.{lookup}
+use Rattle.model_text.specs.text.Outcome.{Outcome}
+use Rattle.model_files.specs.tree.Node.{qid}
 use Rattle.model_world.specs.Fids.{Done, is_bound, is_full}
 use Rattle.model_world.specs.Walking.{last, walk_ended, walked}
 use Rattle.r9_tree.specs.View.{node_of}

@@ -1,14 +1,14 @@
 use Rattle.std.proofs.Common.{rules, ◌≡◌, ◌∙◌, true, Some, sym, ap, subst}
-use Rattle.model_text.specs.Map.{lookup}
-use Rattle.model_tree.specs.Node.{Node, writes}
+use Rattle.model_text.specs.text.Map.{lookup}
+use Rattle.model_files.specs.tree.Node.{Node, writes}
 use Rattle.model_world.specs.Reading.{is_open_for}
-use Rattle.model_draw.specs.Act.{no_memory}
+use Rattle.model_draw.specs.draw.Act.{no_memory}
 use Rattle.model_world.specs.Refusal.{Refuses}
 use Rattle.r9_wire.specs.declared.message.Rmsg.{Rmsg}
 use Rattle.r9_wire.specs.View.{r_of}
 use Rattle.r9_tree.specs.View.{node_of}
 use Rattle.r9_session.proofs.Opened.{cut_of}
-use Rattle.r9_around.specs.Words.{mark_after}
+use Rattle.r9_files.specs.around.Words.{mark_after}
 use Rattle.r9_session.proofs.Telling.{told_of}
 use Rattle.r9_session.proofs.Told.{write_tells}
 use Rattle.r9_session.proofs.session.Session.write.Goals as goal

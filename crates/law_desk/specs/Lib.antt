@@ -1,0 +1,4 @@
+pub mod bands
+pub mod piloted
+pub mod ready
+pub mod steered

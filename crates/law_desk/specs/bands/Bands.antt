@@ -1,0 +1,32 @@
+-- The draw messages by which a client that points shows a menu's bands in a window (draw(3)).
+use Rattle.std.specs.Prelude.{ℕ, ◌+◌, ◌*◌, List, [], ◌∷◌, ◌++◌, codes}
+use Rattle.std.specs.Fmt.{decimal}
+use Rattle.std.specs.List.{flat_map}
+use Rattle.model_text.specs.text.Number.{four_bytes}
+use Rattle.law_text.specs.client.Messages.{drawing, image, named}
+use Rattle.law_text.specs.page.Text.{box, dot, everywhere, origin, rgb24}
+
+-- white, through which all is drawn, and the colours of the bands from the top
+unfoldable pub inks : List ℕ
+inks =
+    image 1 rgb24 1 dot everywhere 0xffffffff
+    ++ image 2 rgb24 1 dot everywhere 0xff0000ff
+    ++ image 3 rgb24 1 dot everywhere 0x00ff00ff
+    ++ image 4 rgb24 1 dot everywhere 0x0000ffff
+    ++ image 5 rgb24 1 dot everywhere 0xffff00ff
+    ++ image 6 rgb24 1 dot everywhere 0x808080ff
+
+-- f: an image id goes
+unfoldable pub freed : (id : ℕ) → List ℕ
+freed id = 102 ∷ [] ++ four_bytes id
+
+-- a band of a menu whose min is there, 40 wide and 16 high
+abbrev pub band : (x y item : ℕ) → List ℕ
+band x y item = drawing 7 (2 + item) 1 (box (x + 4) (y + 4 + 16 * item) (x + 44) (y + 20 + 16 * item)) origin origin
+
+-- The window's first image gets an id for as long as the bands are drawn.
+unfoldable pub bands : (window x y : ℕ) → List ℕ
+bands window x y =
+    named 7 (codes "window." ++ decimal window ++ codes ".1")
+    ++ flat_map (band x y) (0 ∷ 1 ∷ 2 ∷ 3 ∷ 4 ∷ [])
+    ++ freed 7

@@ -1,0 +1,81 @@
+-- When the windows of the root rio are those of a desk's table (rio(1), rio(4)).
+use Rattle.std.specs.Prelude.{◌≡◌, ◌<◌, ◌≤◌, ◌+◌, ◌^◌, ◌==◌, ℕ, pos, Bool, true, false, not, List, [], length, map, filter, find, Option, All}
+use Rattle.model_files.specs.declared.mouse.Mouse.{Mouse}
+use Rattle.model_client.specs.declared.desk.Mode.{Mode}
+use Rattle.model_client.specs.declared.desk.Mode.TheVariants.{Drag, Drain, Idle, Menu, Pick, Sweep, Sweeping}
+use Rattle.model_client.specs.declared.desk.Pane.{Pane}
+use Rattle.model_client.specs.desk.Table.{Desk}
+use Rattle.model_rio.specs.rio.Table.{Free, Held, Hold, Nobody, Table, Window, windows_in}
+use Rattle.model_rio.specs.rio.Sound.{IsSound}
+use Rattle.model_world.specs.World.{World}
+use Rattle.law_text.specs.client.Pointing.{pointer}
+use Rattle.law_text.specs.client.Saying.{IsClient}
+
+-- a window, as a desk tells it
+abbrev pub pane_of : Window → Pane
+pane_of w = record { number = w.number; r = w.r }
+
+-- those that can be seen, and those that are hidden
+abbrev pub seen_panes : List Window → List Pane
+seen_panes ws = map pane_of (filter (λ w. not w.hidden) ws)
+
+abbrev pub hidden_panes : List Window → List Pane
+hidden_panes ws = map pane_of (filter (λ w. w.hidden) ws)
+
+-- the first with a number
+abbrev pub pane_by : ℕ → List Pane → Option Pane
+pane_by number panes = find (λ pane. pane.number == number) panes
+
+-- The same windows can be seen, in the same order, topmost first, and the same are hidden, each with its number and its rectangle.
+pub record HasWindows (d : Desk) (table : Table) : Type 0 where
+  pub visible : seen_panes (windows_in table 0) ≡ d.visible
+  pub hidden : (number : ℕ) → pane_by number (hidden_panes (windows_in table 0)) ≡ pane_by number d.hidden
+  pub count : length (hidden_panes (windows_in table 0)) ≡ length d.hidden
+
+-- ---- what stands between two events
+
+abbrev pub is_free : Hold → Bool
+is_free Free = true
+is_free (Held serial) = false
+is_free Nobody = false
+
+-- no press goes on that went to the windows
+abbrev pub is_over : Mode → (last : ℕ) → Bool
+is_over Idle last = last == 0
+is_over (Menu at window) last = true
+is_over (Pick item) last = true
+is_over (Drain sweep) last = true
+is_over (Sweep window) last = true
+is_over (Sweeping window from) last = true
+is_over (Drag pane from) last = true
+
+-- All windows are in the root rio, numbered as they were made, and those of the desk's table; the desk has the number of the next
+-- window; and where a window or nobody holds the mouse, a press goes on.
+pub record Follows (d : Desk) (table : Table) : Type 0 where
+  pub sound : IsSound table
+  pub alone : table.rios ≡ []
+  pub own : All (λ w. w.number ≡ w.serial) table.windows
+  pub visible : seen_panes table.windows ≡ d.visible
+  pub hidden : (number : ℕ) → pane_by number (hidden_panes table.windows) ≡ pane_by number d.hidden
+  pub count : length (hidden_panes table.windows) ≡ length d.hidden
+  pub next : table.root.next ≡ d.next
+  pub given : table.serials + 1 ≡ d.next
+  pub hold : is_free table.root.hold ≡ is_over d.mode d.last
+
+-- a client that points is the only session, and the windows follow the desk's table
+pub record IsDeskIn (d : Desk) (world : World) : Type 0 where
+  pub alone : IsClient world pointer
+  pub follows : Follows d world.desktop.table
+
+-- ---- events
+
+-- an event at a point of the display, as mouse(3) tells it
+pub record IsEvent (e : Mouse) : Type 0 where
+  pub left : ℕ
+  pub x : e.x ≡ pos left
+  pub wide : left < 640
+  pub top : ℕ
+  pub y : e.y ≡ pos top
+  pub high : top < 480
+  pub buttons : e.buttons ≤ 31
+  pub msec : e.msec < 2 ^ 32

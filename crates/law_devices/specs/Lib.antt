@@ -1,0 +1,5 @@
+pub mod assembled
+pub mod beside
+pub mod grounded
+pub mod holding
+pub mod sides

@@ -1,0 +1,2 @@
+pub mod followed
+pub mod near

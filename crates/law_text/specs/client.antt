@@ -1,0 +1,4 @@
+pub mod Saying
+pub mod Files
+pub mod Messages
+pub mod Pointing

@@ -1,0 +1,4 @@
+pub mod Uses
+pub mod Own
+pub mod Lone
+pub mod Isolated

@@ -1,0 +1,3 @@
+pub mod dmsg
+pub mod fonts
+pub mod images

@@ -1,9 +1,0 @@
-mod Rows
-pub mod Squares
-pub mod Numerals
-pub mod Lines
-pub mod Onward
-pub mod Listed
-pub mod Drawn
-pub mod Whole
-pub mod Same

@@ -1,5 +1,0 @@
-use Rattle.model_mirrored.proofs.Same.{changed, sized}
-use Rattle.model_mirrored.proofs.frames_show_what_they_send.Goals as goal
-
-pub returns : goal.returns
-returns c = record { sized = sized; changed = changed }

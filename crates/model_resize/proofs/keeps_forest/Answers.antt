@@ -1,5 +1,0 @@
-use Rattle.model_resize.proofs.Sizes.{resize-forest}
-use Rattle.model_resize.proofs.keeps_forest.Goals as goal
-
-pub returns : goal.returns
-returns c = λ world i columns rows raw ok can few low fits. resize-forest world i columns rows raw ok can few low fits

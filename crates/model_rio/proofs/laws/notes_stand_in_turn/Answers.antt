@@ -1,5 +1,0 @@
-use Rattle.model_rio.proofs.Turns.{acts_turn}
-use Rattle.model_rio.proofs.laws.notes_stand_in_turn.Goals as goal
-
-pub returns : goal.returns
-returns c = acts_turn

@@ -1,5 +1,0 @@
-use Rattle.model_rio.proofs.Paths.{path_whole}
-use Rattle.model_rio.proofs.laws.paths_have_at_most_nine_numbers.Goals as goal
-
-pub returns : goal.returns
-returns c = path_whole

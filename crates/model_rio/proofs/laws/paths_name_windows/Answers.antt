@@ -1,5 +1,0 @@
-use Rattle.model_rio.proofs.Paths.{path_found, found_path}
-use Rattle.model_rio.proofs.laws.paths_name_windows.Goals as goal
-
-pub returns : goal.returns
-returns c = record { found = path_found; path = found_path }

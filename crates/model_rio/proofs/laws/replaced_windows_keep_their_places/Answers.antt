@@ -1,5 +1,0 @@
-use Rattle.model_rio.proofs.RioLaws.{placed}
-use Rattle.model_rio.proofs.laws.replaced_windows_keep_their_places.Goals as goal
-
-pub returns : goal.returns
-returns c = placed

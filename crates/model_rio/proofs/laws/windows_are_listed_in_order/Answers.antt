@@ -1,5 +1,0 @@
-use Rattle.model_rio.proofs.Listing.{listed_up, listed_there, listed_all}
-use Rattle.model_rio.proofs.laws.windows_are_listed_in_order.Goals as goal
-
-pub returns : goal.returns
-returns c = record { ascending = listed_up; there = listed_there; each = listed_all }

@@ -1,5 +1,0 @@
-use Rattle.model_rio.proofs.Lives.{acts_tell}
-use Rattle.model_rio.proofs.laws.windows_come_and_go_with_notes.Goals as goal
-
-pub returns : goal.returns
-returns c = acts_tell

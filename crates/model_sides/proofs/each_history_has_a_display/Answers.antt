@@ -1,5 +1,0 @@
-use Rattle.model_sides.proofs.Display.{history_display, history_nowhere}
-use Rattle.model_sides.proofs.each_history_has_a_display.Goals as goal
-
-pub returns : goal.returns
-returns c = record { display = history_display; nowhere = history_nowhere }

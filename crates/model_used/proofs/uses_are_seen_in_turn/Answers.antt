@@ -1,5 +1,0 @@
-use Rattle.model_used.proofs.Turns.{seen_in_turn}
-use Rattle.model_used.proofs.uses_are_seen_in_turn.Goals as goal
-
-pub returns : goal.returns
-returns c = seen_in_turn

@@ -1,4 +1,0 @@
-use Rattle.r9_alone.proofs.watching.watched.Given as goal
-
-abbrev pub ghosts-watch_events : goal.ghosts-watch_events
-ghosts-watch_events a = record { name = a.blank.name; parts = a.blank.parts }

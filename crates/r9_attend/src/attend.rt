@@ -1,0 +1,13 @@
+//! One session of a server: a reader that asks what comes from its one end, and a writer that gives what waits to the other.
+#![tactic(auto)]
+
+mod ends;
+mod reading;
+mod room;
+mod serves;
+mod session;
+mod writing;
+
+pub use ends::{Attended, ReadEnd, WriteEnd};
+pub use serves::Serves;
+pub use session::attend;

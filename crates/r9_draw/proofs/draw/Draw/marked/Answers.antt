@@ -1,8 +1,0 @@
-use Rattle.r9_layers.specs.Forest.{world}
-use Rattle.r9_device.proofs.Lookups.{display-lives}
-use Rattle.r9_draw.proofs.draw.Draw.marked.Goals as goal
-
-pub marked-requires-clause-live : goal.marked-requires-clause-live
-marked-requires-clause-live c =
-    let device = c.args.self.now.device in
-    display-lives (world device.forest) device.book.book device.kept

@@ -1,9 +1,0 @@
-use Rattle.std.proofs.Common.{ℕ, List, ap, ◌∙◌}
-use Rattle.model_text.specs.Map.{lookup}
-use Rattle.model_draw.specs.World.{Client}
-use Rattle.r9_device.proofs.Manager.{manager-with}
-use Rattle.r9_draw.proofs.draw.Draw.write_ctl.Goals as goal
-
-pub invariant_of-self-clause-manager : goal.invariant_of-self-clause-manager
-invariant_of-self-clause-manager c =
-    ap (λ (es : List (ℕ × Client)). lookup es 0) c.describe.ensures ∙ manager-with c.args.self.now.device.clients.entries c.args.client _ c.requires c.args.self.now.device.manager

@@ -1,8 +1,0 @@
-use Rattle.r9_device.specs.World.{world_of}
-use Rattle.r9_draw.proofs.Messages.{listed-rows, same-rows}
-use Rattle.r9_draw.proofs.message.one_message.Goals as goal
-
-pub returns-in-Some-clause-rows : goal.returns-in-Some-clause-rows
-returns-in-Some-clause-rows g c =
-    let w = world_of c.args.device.now in
-    same-rows c.args.client w c.args.bytes.now c.args.rows.now c.listed_message.result (listed-rows c.args.client w c.args.bytes.now _ c.in-Some.asked c.in-Some.ensures.found)

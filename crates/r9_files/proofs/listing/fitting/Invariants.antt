@@ -1,6 +1,0 @@
-use Rattle.std.proofs.Common.{◌≡◌, ◌+◌, length, drop}
-use Rattle.model_tree.specs.Listing.{fitting}
-use Rattle.r9_files.proofs.listing.fitting.Given as goal
-
-abbrev pub invariant-loop-fit : goal.invariant-loop-fit
-invariant-loop-fit l = l.fit + length (fitting l.room (drop l.fit l.stats)) ≡ length (fitting l.count l.stats)

@@ -1,0 +1,2 @@
+pub mod FileView
+pub mod Reads

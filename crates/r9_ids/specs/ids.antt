@@ -1,0 +1,4 @@
+pub mod ImageIds
+pub mod Own
+pub mod Rows
+pub mod ScreenIds

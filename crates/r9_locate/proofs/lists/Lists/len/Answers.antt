@@ -1,6 +1,0 @@
-use Rattle.r9_locate.specs.Table.{made}
-use Rattle.r9_locate.proofs.lists.Lists.len.Goals as goal
-
-pub returns-clause-value : goal.returns-clause-value
-unfolding made
-returns-clause-value c = c.len.ensures.value

@@ -1,6 +1,0 @@
-use Rattle.std.proofs.Common.{sym, ◌∙◌}
-use Rattle.r9_device.proofs.Rects.{near-point}
-use Rattle.r9_messages.proofs.lookup.is_near_at.Goals as goal
-
-pub at_min-requires-clause-min : goal.at_min-requires-clause-min
-at_min-requires-clause-min c = near-point c.args.min (sym c.is_near_point.ensures ∙ c.if-not-is_near_point.false)

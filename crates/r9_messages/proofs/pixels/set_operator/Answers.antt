@@ -1,9 +1,0 @@
-use Rattle.std.proofs.Common.{ℕ, List, ap, ◌∙◌}
-use Rattle.model_text.specs.Map.{lookup}
-use Rattle.model_draw.specs.World.{Client}
-use Rattle.r9_device.proofs.Manager.{manager-with}
-use Rattle.r9_messages.proofs.pixels.set_operator.Goals as goal
-
-pub invariant_of-device-clause-manager : goal.invariant_of-device-clause-manager
-invariant_of-device-clause-manager c =
-    ap (λ (es : List (ℕ × Client)). lookup es 0) c.set_op.ensures ∙ manager-with c.args.device.now.clients.entries c.args.client _ c.requires c.args.device.now.manager

@@ -1,4 +1,0 @@
-use Rattle.r9_mirroring.proofs.run.mirror_input.Given as goal
-
-abbrev pub ghosts-put_frames : goal.ghosts-put_frames
-ghosts-put_frames g a = record { name = a.blank.name; parts = a.blank.parts }

@@ -1,7 +1,0 @@
-use Rattle.std.proofs.Common.{ap, ◌∙◌}
-use Rattle.std.specs.Prelude.{is_ok}
-use Rattle.r9_device.proofs.Lookups.{screen-found}
-use Rattle.r9_orders.proofs.there.has_rio.Goals as goal
-
-pub returns : goal.returns
-returns c = c.is_ok.ensures.value ∙ ap is_ok c.screen.ensures ∙ screen-found c.args.device.now.book.book 0 c.args.host

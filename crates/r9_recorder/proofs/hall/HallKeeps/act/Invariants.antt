@@ -1,4 +1,0 @@
-use Rattle.r9_recorder.proofs.hall.HallKeeps.act.Given as goal
-
-abbrev pub ghosts-act : goal.ghosts-act
-ghosts-act a = record { name = a.blank.name; parts = a.blank.parts }

@@ -1,4 +1,0 @@
-use Rattle.r9_recorder.proofs.recorder.Recorder.is_stopped.Goals as goal
-
-pub returns : goal.returns
-returns g c = λ loan history was. c.is_stopped.ensures history was.stood

@@ -1,4 +1,0 @@
-use Rattle.r9_recorder.proofs.recorder.told_of_recorder.Goals as goal
-
-pub returns : goal.returns
-returns g c = λ loan recorder history is. g.met.H.Keeps.lawful recorder.hall history is.stood

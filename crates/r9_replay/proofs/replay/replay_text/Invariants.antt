@@ -1,4 +1,0 @@
-use Rattle.r9_replay.proofs.replay.replay_text.Given as goal
-
-abbrev pub ghosts-replayed : goal.ghosts-replayed
-ghosts-replayed a = record { name = a.blank.name; parts = a.blank.parts }

@@ -1,8 +1,0 @@
-use Rattle.std.proofs.Common.{◌≡◌, ◌++◌, ◌∷◌, drop}
-use Rattle.std.specs.Fmt.{decimal}
-use Rattle.std.specs.List.{flat_map}
-use Rattle.r9_sending.proofs.frame.push_numbers.Given as goal
-
-abbrev pub invariant-loop-number : goal.invariant-loop-number
-invariant-loop-number l =
-    l.text ++ flat_map (λ n. 32 ∷ decimal n) (drop l.number-index l.numbers) ≡ l.initial.text ++ flat_map (λ n. 32 ∷ decimal n) l.numbers

@@ -1,8 +1,0 @@
-use Rattle.std.proofs.Common.{take}
-use Rattle.model_mirrored.specs.Shown.{mirrored}
-use Rattle.r9_hall.specs.WorldView.{world_in}
-use Rattle.r9_sending.specs.Cells.{pairs_of, AreAdded}
-use Rattle.r9_sending.proofs.frame.with_cells.Given as goal
-
-abbrev pub invariant-loop-cell : goal.invariant-loop-cell
-invariant-loop-cell l = AreAdded l.chan (mirrored (world_in l.world)) (pairs_of (take l.cell-index l.cells)) l.fn.text l.text

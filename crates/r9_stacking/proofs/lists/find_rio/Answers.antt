@@ -1,9 +1,0 @@
-use Rattle.std.proofs.Common.{◌==◌, ◌∙◌, rules, tests}
-use Rattle.std.proofs.lemmas.Iterator.{YieldsList-from_slice}
-use Rattle.std.proofs.lemmas.Iterator.Search.{find_from_yields_List}
-use Rattle.r9_window.specs.declared.Rio.{Rio}
-use Rattle.r9_stacking.proofs.lists.find_rio.Goals as goal
-
-pub returns : goal.returns
-returns c =
-    c.copied.ensures ∙ find_from_yields_List (λ (rio : Rio). rio.host == c.args.host) _ _ _ c.find.ensures.ran (YieldsList-from_slice c.args.rios.now cc) (λ x b q k. search (rules, tests))

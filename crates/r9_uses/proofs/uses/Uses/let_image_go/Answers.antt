@@ -1,6 +1,0 @@
-use Rattle.r9_uses.proofs.Parts.{le-refl, le-same, le-trans, room-kept}
-use Rattle.r9_uses.proofs.uses.Uses.let_image_go.Goals as goal
-
-pub returns-clause-more : goal.returns-clause-more
-returns-clause-more c =
-    le-trans _ _ _ c.close-screen.ensures.more (room-kept c.close-screen.new.self _ (le-refl _) (le-refl _) (le-refl _) (le-refl _) (le-same _ _ c.mark.ensures.room) (le-refl _) (le-refl _))

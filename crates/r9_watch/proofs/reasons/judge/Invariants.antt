@@ -1,7 +1,0 @@
-use Rattle.std.proofs.Common.{drop}
-use Rattle.r9_watch.specs.Words.{watched_of}
-use Rattle.r9_watch.proofs.Judging.{Goes}
-use Rattle.r9_watch.proofs.reasons.judge.Given as goal
-
-abbrev pub invariant-loop-used : goal.invariant-loop-used
-invariant-loop-used l = Goes l.own (watched_of l.fn.seen) l.uses (watched_of l.seen) l.reason (drop l.used-index l.uses)

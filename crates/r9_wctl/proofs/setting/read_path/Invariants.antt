@@ -1,7 +1,0 @@
-use Rattle.std.proofs.Common.{◌≡◌, Some, map}
-use Rattle.model_text.specs.Field.{number}
-use Rattle.model_wctl.specs.Words.{all_some}
-use Rattle.r9_wctl.proofs.setting.read_path.Given as goal
-
-abbrev pub invariant-loop-part : goal.invariant-loop-part
-invariant-loop-part l = all_some (map (λ part. number 9 part.now) l.yielded) ≡ Some l.path

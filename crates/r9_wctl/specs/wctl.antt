@@ -1,0 +1,6 @@
+pub mod Small
+pub mod Reach
+pub mod Names
+pub mod Values
+pub mod Gather
+pub mod Faults

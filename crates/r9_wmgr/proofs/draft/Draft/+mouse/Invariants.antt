@@ -1,4 +1,0 @@
-use Rattle.r9_wmgr.proofs.draft.Draft.+mouse.Given as goal
-
-abbrev pub decreases-mouse : goal.decreases-mouse
-decreases-mouse l = l.levels

@@ -1,0 +1,11 @@
+use Rattle.std.proofs.Common.{◌==◌, ◌&&◌, ◌∙◌, rules, tests}
+use Rattle.std.proofs.lemmas.Iterator.{YieldsList-from_slice}
+use Rattle.std.proofs.lemmas.Iterator.Search.{find_from_yields_List}
+use Rattle.r9_event.specs.declared.window.Window.{Window}
+use Rattle.std.specs.Prelude.{not}
+use Rattle.r9_geom.specs.Geometry.{holds}
+use Rattle.r9_wmgr.proofs.stacking.lists.find_topmost.Goals as goal
+
+pub returns : goal.returns
+returns c =
+    c.copied.ensures ∙ find_from_yields_List (λ (w : Window). (w.host == c.args.host) && not w.hidden && holds w.r c.args.p) _ _ _ c.find.ensures.ran (YieldsList-from_slice c.args.windows.now cc) (λ x b q k. search (rules, tests))
