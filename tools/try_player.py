@@ -369,7 +369,7 @@ def page_of(first, cases, order, refused):
     """The page, with what it is tried on, and what it does first."""
     found = [{**given_files({"channels": case.channels, "frames": case.frames, "record": case.record}), "entries": order[case.name]} for case in cases]
     text = json.dumps({"cases": found, "broken": [given_files(files) for files, _ in refused]})
-    page = (TOOLS / "rio9" / "player.html").read_text(encoding="utf-8")
+    page = (TOOLS.parent / "python" / "rio9" / "player.html").read_text(encoding="utf-8")
     return page.replace("</body>", f'<script id="found" type="application/json">{text}</script>{TRY.replace("FIRST", first)}</body>')
 
 
