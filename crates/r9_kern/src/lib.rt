@@ -10,6 +10,6 @@ mod row;
 
 pub use bytes::over_bytes;
 pub use layout::{Layout, MaskLayout, Over, read, write};
+pub use r9_chan::Chan;
 pub use raw::{comp_raw_row, over_raw_row};
 pub use row::comp_row;
-pub use r9_chan::Chan;
