@@ -4,13 +4,18 @@
     tools/contracts.py TREE                    prints each public function: its kind, place, head and clauses
     tools/contracts.py OLD NEW [--map FILE]    tells what NEW has lost, has otherwise, or has more than OLD
 
-A tree is a folder, or a revision of this repository. Five kinds of things are compared: calls (functions of a crate that
-others can name), laws (functions that take nothing and give nothing, whose clauses are proved), types (structs, enums, traits
-and constants that others can name), words (definitions in `specs/`), and lemmas (public ones in `proofs/`, by their
-statements). White space and comments do not count. A map has a line for each crate that moved: its old name, a tab, its new
-name, and, if the new crate has parts, a tab and the part's name, which is the old name where it is left out. What stands
-elsewhere in NEW and is otherwise the same is told as moved, and is not lost. The exit status is 0 where nothing is lost or
-changed, 1 where something is, and 2 where the words are wrong.
+A tree is a folder, or a revision of this repository. Five kinds of things are compared:
+
+    call   a function that other crates can name: its head and clauses
+    law    a function that takes and gives nothing: its clauses, which are proved
+    type   a struct, an enum, a constant, or what a trait has for proofs, if other crates can name it
+    word   a definition in specs/
+    lemma  what a public lemma in proofs/ states
+
+White space and comments do not count. A map has a line for each crate that moved: its old name, a tab and its new name. If
+the new crate has parts, the part is the old name from behind its first `_`, or stands behind another tab. What is the same
+but for its place or its name is told as moved, and is not lost. The exit status is 0 if nothing is lost or changed, 1 if
+something is, and 2 if the words are wrong.
 """
 
 from __future__ import annotations
@@ -60,7 +65,8 @@ class Map:
             inner = part[0] if part else old.partition("_")[2] if joined[new] > 1 else ""
             self.moves[old] = f"{new}::{inner}" if inner else new
         names = "|".join(re.escape(name) for name in sorted(self.moves, key=len, reverse=True)) or "(?!)"
-        self.named = re.compile(rf"(?<![\w:.])(Rattle\.)?({names})(?=::|\.)(\.(?:specs|proofs)(?:\.declared|\.contracts)?)?")
+        behind = r"(\.(?:specs|proofs)(?:\.declared|\.contracts)?)?"
+        self.named = re.compile(rf"(?<![\w:.])(Rattle\.)?({names})(?=::|\.){behind}")
 
     def place(self, crate: str, path: list[str]) -> str:
         """The place of a file, by the crate's new name."""
@@ -96,7 +102,8 @@ def exported(root: str, crate: str) -> set[str]:
 
 
 def is_law(item: Item) -> bool:
-    return bool(re.match(r"fn \w+(<[^(]*>)?\(\)$", item.head)) and any(word != "requires" for word, _, _ in item.clauses)
+    is_bare = re.match(r"fn \w+(<[^(]*>)?\(\)$", item.head)
+    return bool(is_bare) and any(word != "requires" for word, _, _ in item.clauses)
 
 
 def functions(items: list[Item], names: set[str], is_trait: bool = False) -> Iterator[tuple[str, str, tuple[str, ...]]]:
@@ -106,7 +113,8 @@ def functions(items: list[Item], names: set[str], is_trait: bool = False) -> Ite
         reached = item.name in names if not item.scope else target in names
         if item.word == "fn" and reached and (item.is_public or is_trait):
             clauses = tuple(f"{word} {name} {{ {text} }}" for word, name, text in item.clauses)
-            yield LAW if is_law(item) else CALL, f"{target}::{item.name}" if target else item.name, (item.head, *clauses)
+            name = f"{target}::{item.name}" if target else item.name
+            yield LAW if is_law(item) else CALL, name, (item.head, *clauses)
         elif item.word in ("struct", "enum", "trait", "const", "type") and item.is_public and item.name in names:
             if item.word != "trait":
                 yield TYPE, item.name, (item.text,)
@@ -163,8 +171,8 @@ class Difference:
 
 
 def compare(old: list[Thing], new: list[Thing]) -> Difference:
-    """Pairs things of one kind: those that are the same in all, that moved, that changed in place, that have another name,
-    and at last those that moved and changed."""
+    """Pairs things of one kind: those that are the same in all, that moved, that changed in place, that have another
+    name, and at last those that moved and changed."""
     keys: list[Callable[[Thing], Hashable]] = [
         lambda it: (it.place, it.name, it.parts),
         lambda it: (it.name, it.parts),

@@ -1,4 +1,4 @@
-"""Reads the sources of a tree of Rattle crates: what each file declares, and what it imports. Formatted text is taken for granted."""
+"""Reads the sources of a tree of Rattle crates: what each file declares, and what it imports. They must be formatted."""
 
 from __future__ import annotations
 
@@ -21,7 +21,7 @@ OPENING, CLOSING = "([{", ")]}"
 
 @dataclass
 class Item:
-    """What a .rt file declares: a function with its contract, a type, a trait, an implementation, or a line of `ghost`."""
+    """What a .rt file declares: a function with its contract, a type, a trait, an implementation, a line of `ghost`."""
 
     word: str
     scope: str
@@ -132,7 +132,8 @@ class Reader:
             else:
                 self.ghost_uses.append(line)
             return None, close + 1
-        close = self.value_end(start, end) if word in ("const", "static", "ghost", "type") else self.end_of_head(start, end)
+        is_value = word in ("const", "static", "ghost", "type")
+        close = self.value_end(start, end) if is_value else self.end_of_head(start, end)
         item = Item(word, scope, name, bool(found["pub"]) and not found["in"], normal(self.shown[start:close]))
         while clause := CLAUSE.match(self.code, close):
             after = self.closing(clause.end())
@@ -198,7 +199,7 @@ ANTT_COMMENT = re.compile(r"(?<!\S)--(?=\s|-|$)[^\n]*")
 
 @dataclass
 class Declared:
-    """What an .antt file declares: a definition or a lemma, a record, or data, with the telescope of the modules around it."""
+    """What an .antt file declares: a definition or a lemma, a record, or data. `around` are the modules around it."""
 
     word: str
     name: str

@@ -98,7 +98,8 @@ class Comparing(unittest.TestCase):
     def test_the_same(self):
         status, lines = self.differ(TREE)
         self.assertEqual(status, 0)
-        self.assertEqual([line.split()[:3] for line in lines[1:]], [[kind, n, n] for kind, n in zip(contracts.KINDS, "11221")])
+        wanted = [[kind, n, n] for kind, n in zip(contracts.KINDS, "11221")]
+        self.assertEqual([line.split()[:3] for line in lines[1:]], wanted)
 
     def test_white_space_and_comments_do_not_count(self):
         name = "crates/r9_shelf/src/shelf.rt"
@@ -107,7 +108,7 @@ class Comparing(unittest.TestCase):
 
     def test_bodies_and_proofs_do_not_count(self):
         self.assertEqual(self.changed("crates/r9_shelf/src/shelf.rt", "key.fits('{')", "true")[0], 0)
-        self.assertEqual(self.changed("crates/m_words/proofs/Lemmas.antt", "room_is n = refl", "room_is n = refl {n}")[0], 0)
+        self.assertEqual(self.changed("crates/m_words/proofs/Lemmas.antt", "_is n = refl", "_is n = refl {n}")[0], 0)
 
     def test_a_clause_that_is_lost(self):
         status, lines = self.changed("crates/r9_shelf/src/shelf.rt", "ensures more { self.new ≡ self.old + 1 }", "")
@@ -116,7 +117,8 @@ class Comparing(unittest.TestCase):
         self.assertEqual(lines[1].strip(), "- ensures more { self.new ≡ self.old + 1 }")
 
     def test_a_clause_that_is_asked_more(self):
-        status, lines = self.changed("crates/r9_shelf/src/shelf.rt", "requires {", "requires key { true ≡ true }\n        requires {")
+        more = "requires key { true ≡ true }\n        requires {"
+        status, lines = self.changed("crates/r9_shelf/src/shelf.rt", "requires {", more)
         self.assertEqual((status, lines[1].strip()), (1, "+ requires key { true ≡ true }"))
 
     def test_a_law_a_word_and_a_lemma_that_change(self):
@@ -132,16 +134,19 @@ class Comparing(unittest.TestCase):
 
     def test_what_is_lost_and_added(self):
         less = {name: text for name, text in TREE.items() if not name.endswith("Words.antt")}
-        status, lines = self.differ({**less, "crates/m_words/specs/Other.antt": "pub record Other : Type 0 where\n  pub on : ℕ\n"})
+        other = "pub record Other : Type 0 where\n  pub on : ℕ\n"
+        status, lines = self.differ({**less, "crates/m_words/specs/Other.antt": other})
         self.assertEqual(status, 1)
         told = [line for line in lines if not line.startswith(" ")]
-        self.assertEqual(told[:3], ["lost word m_words::Words::room", "lost word m_words::Words::Place", "added word m_words::Other::Other"])
+        self.assertEqual(told[:2], ["lost word m_words::Words::room", "lost word m_words::Words::Place"])
+        self.assertEqual(told[2], "added word m_words::Other::Other")
 
     def test_crates_that_move(self):
+        shelf = SHELF.replace("m_words.specs.", "r9_all.specs.words.").replace("crate::", "crate::shelf::")
         moved = {
             "crates/r9_all/src/lib.rt": "pub mod shelf;\npub mod words;\n",
             "crates/r9_all/src/shelf.rt": LIB,
-            "crates/r9_all/src/shelf/shelf.rt": SHELF.replace("m_words.specs.", "r9_all.specs.words.").replace("crate::", "crate::shelf::"),
+            "crates/r9_all/src/shelf/shelf.rt": shelf,
             "crates/r9_all/src/shelf/hidden.rt": HIDDEN,
             "crates/r9_all/specs/words/Words.antt": WORDS,
             "crates/r9_all/proofs/words/Lemmas.antt": LEMMAS,
@@ -153,7 +158,8 @@ class Comparing(unittest.TestCase):
         moved = {name.replace("Words", "Names"): text for name, text in TREE.items()}
         status, lines = self.differ(moved)
         self.assertEqual((status, lines[0]), (0, "moved word m_words::Words::room (now m_words::Names::room)"))
-        status, lines = self.changed("crates/m_words/specs/Words.antt", "abbrev pub room : ℕ → ℕ\nroom n", "abbrev pub space : ℕ → ℕ\nspace n")
+        room = "abbrev pub room : ℕ → ℕ\nroom n"
+        status, lines = self.changed("crates/m_words/specs/Words.antt", room, room.replace("room", "space"))
         self.assertEqual((status, lines[0]), (0, "moved word m_words::Words::room (now m_words::Words::space)"))
 
 
