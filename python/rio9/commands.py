@@ -32,7 +32,7 @@ COMMANDS: Dict[str, Command] = {
     "write": Command("rio9.record", "writes a record of readable lines", "write_main"),
     "explain": Command("rio9.record", "tells a record or reply lines in words", "explain_main"),
     "picture": Command("rio9.picture", "makes a PNG file of what a run printed"),
-    "font": Command("rio9.font", "makes the font that `rio9 text` reads"),
+    "font": Command("rio9.fonts", "makes fonts of Plan 9 of BDF, PCF and PSF fonts, and the font that `rio9 text` reads"),
     "events": Command("rio9.events", "makes the events that `rio9 desk` reads"),
     "wireshark": Command("rio9.wireshark", "makes a capture of a record and its replies"),
 }

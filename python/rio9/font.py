@@ -1,20 +1,15 @@
-"""Writes the font that is drawn in a text, as what `rio9 text` reads before its own text.
+"""The font that is drawn in a text, which `rio9d font` writes as what `rio9 text` reads before its own text.
 
-    rio9d font > font
-    rio9d font FILE > font
+Such a text's first lines, up to an empty one, are not looked at. Then come blocks with an empty line between them: a line of names,
+and the rows of sixteen characters side by side, in the last block of fifteen, with a blank between each two. `#` is a point with
+ink, `.` one without. All characters are of one size, 1 to 8 points wide and 1 to 16 high, and they are those from 0x20 to 0x7E in
+order; a name stands over its character, so that whoever reads the text finds it.
 
-FILE is rio9/font.txt where nothing is said. Its first lines, up to an empty one, are not looked at. Then come blocks with an
-empty line between them: a line of names, and the rows of sixteen characters side by side, in the last block of fifteen, with a
-blank between each two. `#` is a point with ink, `.` one without. All characters are of one size, 1 to 8 points wide and 1 to 16
-high, and they are those from 0x20 to 0x7E in order; a name stands over its character, so that whoever reads the text finds it.
-
-The output is an image file (image(6)) in k8, in which the characters stand side by side: 255 is ink, 0 is none.
-Status 1 where a text has no such font, 2 where a word or a file is wrong; one line tells why.
 It is outside the proof. Needs: Python 3.9 or later, its standard library alone.
 """
 
 import os
-import sys
+from typing import List, Sequence, Tuple
 
 from rio9 import formats
 
@@ -25,14 +20,15 @@ MOST_WIDE, MOST_HIGH = 8, 16
 INK = {"#": 255, ".": 0}
 
 
-def image_file(channels, width, height, rows):
+def image_file(channels: str, width: int, height: int, rows: bytes) -> bytes:
     """The image file of a rectangle whose min is the origin."""
     return b"".join(b"%11b " % str(field).encode() for field in (channels, 0, 0, width, height)) + rows
 
 
-def blocks_of(text):
+def blocks_of(text: str) -> List[Tuple[int, List[str]]]:
     """The blocks behind the first empty line: the number of each one's first line, and its lines."""
-    found, lines = [], text.split("\n")
+    found: List[Tuple[int, List[str]]] = []
+    lines = text.split("\n")
     for number, line in enumerate(lines, 1):
         if line and lines[number - 2] == "" and number > 1:
             found.append((number, []))
@@ -41,14 +37,14 @@ def blocks_of(text):
     return found
 
 
-def check_names(number, line, names, width):
+def check_names(number: int, line: str, names: Sequence[str], width: int) -> None:
     """Raises BadText where a line has not each name over the middle of its character."""
     wanted = "".join(name.rjust((width - 1) // 2 + 1).ljust(width + 1) for name in names).rstrip()
     if line.rstrip() != wanted:
         raise formats.BadText(number, f"these are the characters from {names[0]!r} to {names[-1]!r}, and each name stands over its own")
 
 
-def rows_of(number, line, count):
+def rows_of(number: int, line: str, count: int) -> List[bytes]:
     """The points of a row of some characters, each with its own, as bytes."""
     cells = line.split(" ")
     if len(cells) != count or len({len(cell) for cell in cells}) != 1 or set("".join(cells)) - INK.keys():
@@ -56,7 +52,7 @@ def rows_of(number, line, count):
     return [bytes(INK[point] for point in cell) for cell in cells]
 
 
-def read_block(number, lines, names):
+def read_block(number: int, lines: Sequence[str], names: Sequence[str]) -> List[List[bytes]]:
     """The characters of a block, each as the list of its rows."""
     rows = [rows_of(number + at, line, len(names)) for at, line in enumerate(lines[1:], 1)]
     if not rows:
@@ -65,10 +61,10 @@ def read_block(number, lines, names):
     return [list(cell) for cell in zip(*rows)]
 
 
-def read_font(text):
+def read_font(text: str) -> List[List[bytes]]:
     """The characters of a font that is drawn in a text, each as the list of its rows."""
-    cells, blocks = [], blocks_of(text)
-    for number, lines in blocks:
+    cells: List[List[bytes]] = []
+    for number, lines in blocks_of(text):
         names = [chr(code) for code in range(FIRST + len(cells), min(FIRST + len(cells) + IN_A_BLOCK, LAST + 1))]
         if not names:
             raise formats.BadText(number, "the font goes on behind its last character")
@@ -76,30 +72,13 @@ def read_font(text):
     sizes = {(len(row), len(cell)) for cell in cells for row in cell}
     if len(cells) != CELLS or len(sizes) != 1:
         raise formats.BadText(text.count("\n") + 1, f"{len(cells)} characters in {len(sizes)} sizes, where {CELLS} of one size are wanted")
-    (width, height), = sizes
+    ((width, height),) = sizes
     if width > MOST_WIDE or height > MOST_HIGH:
         raise formats.BadText(1, f"characters of {width} by {height} points, which have at most {MOST_WIDE} by {MOST_HIGH}")
     return cells
 
 
-def font_file(cells):
+def font_file(cells: Sequence[Sequence[bytes]]) -> bytes:
     """The image file of characters side by side."""
     rows = b"".join(b"".join(rows) for rows in zip(*cells))
     return image_file("k8", len(cells) * len(cells[0][0]), len(cells[0]), rows)
-
-
-def main(words):
-    parser = formats.Words(prog="rio9d font", description=__doc__.split("\n")[0])
-    parser.add_argument("file", nargs="?", default=DRAWN, metavar="FILE", help="the text in which the font is drawn")
-    options = parser.parse_args(words)
-    try:
-        with open(options.file, encoding="ascii") as file:
-            made = font_file(read_font(file.read()))
-        sys.stdout.buffer.write(made)
-        sys.stdout.buffer.flush()
-    except (formats.BadText, UnicodeDecodeError) as error:
-        sys.stderr.write(f"rio9d font: {error}\n")
-        return 1
-    except OSError as error:
-        formats.stop("rio9d font", formats.why_not(error))
-    return 0
