@@ -11,7 +11,8 @@ use Rattle.model_served.specs.session.Server.{Server}
 use Rattle.model_world.specs.Session.{max_msize}
 use Rattle.model_world.specs.Answer.{asks_for_9p}
 use Rattle.model_world.specs.World.{World, opened}
-use Rattle.model_world.specs.Replay.{step, replies, bytes_for, outbox}
+use Rattle.model_world.specs.Cut.{IsCutEvent}
+use Rattle.model_world.specs.Replay.{step, replay, replies, bytes_for, outbox}
 
 -- ---- the greatest size of a session's next message, by its messages so far (version(5))
 
@@ -57,4 +58,5 @@ served opening = record {
   replied = λ events c. bytes_for c (replies opening events);
   outbox = λ events c. outbox (journal_of opening events) c;
   closed = λ events c. closed_from (opened opening) events c None;
+  cut = λ events c bytes k. IsCutEvent (replay opening events) (Msg c bytes None) k;
 }

@@ -1,5 +1,5 @@
 -- What a server may do in a turn: of the history before, what it is asked, what it answers, and the history after.
-use Rattle.std.specs.Prelude.{◌≡◌, ◌≢◌, ◌≤◌, ◌<◌, ◌+◌, ◌-◌, ◌^◌, ◌⊎◌, ℕ, IsTrue, IsFalse, List, [], ◌∷◌, ◌++◌, length, Contains, Option, Some, None}
+use Rattle.std.specs.Prelude.{◌≡◌, ◌≢◌, ◌≤◌, ◌<◌, ◌+◌, ◌-◌, ◌^◌, ◌⊎◌, ℕ, IsTrue, IsFalse, List, [], ◌∷◌, ◌++◌, length, Contains, Option, Some, None, IfSome}
 use Rattle.r9_event.specs.declared.event.event.Event.{Event}
 use Rattle.r9_event.specs.declared.event.event.Event.TheVariants as event
 use Rattle.r9_event.specs.declared.event.event.Entry.{Entry}
@@ -43,13 +43,13 @@ module _ (s : Server) where
   Begins before Memory after = GivesUp before after
   Begins before _ after = ⊥
 
-  -- a mark says where memory ran out in the message
+  -- a mark says where memory ran out in the message, which it may only where the message may want memory
   abbrev TakesMessage : (c : ℕ) (bytes : List ℕ) (before : List Entry) → Answer → (after : List Entry) → Type 0
   TakesMessage c bytes before (Went msize) after =
-      ((mark : Option ℕ) × Enters (event.Msg c bytes mark) before after) × (s.closed (events_of after) c ≡ None)
+      ((mark : Option ℕ) × Enters (event.Msg c bytes mark) before after × IfSome mark (s.cut (events_of before) c bytes)) × (s.closed (events_of after) c ≡ None)
       × (msize ≡ s.limit (messages_of c (events_of after)))
   TakesMessage c bytes before (Duplicate tag) after =
-      ((mark : Option ℕ) × Enters (event.Msg c bytes mark) before after) × (s.closed (events_of after) c ≡ Some tag)
+      ((mark : Option ℕ) × Enters (event.Msg c bytes mark) before after × IfSome mark (s.cut (events_of before) c bytes)) × (s.closed (events_of after) c ≡ Some tag)
   TakesMessage c bytes before Closed after = Stays before after × (AllowedTo (roll_at before) (event.Msg c bytes None) → ⊥)
   TakesMessage c bytes before Memory after = GivesUp before after
   TakesMessage c bytes before _ after = ⊥

@@ -7,12 +7,14 @@ use Rattle.model_history.specs.event.Legal.{IsLegal}
 
 -- a server, by what its sessions see of it. `limit`: the greatest size of a session's next message, by its messages so far.
 -- The rest are functions of a history. `replied`: the bytes of all replies to a session, joined; `outbox`: those of them that
--- no Take has handed out; `closed`: the tag by which one of its messages has closed a session.
-pub record Server : Type 0 where
+-- no Take has handed out; `closed`: the tag by which one of its messages has closed a session; `cut`: that want of memory may stop a
+-- message to a session behind so many of its draw messages.
+pub record Server : Type 1 where
   pub limit : (messages : List (List ℕ)) → ℕ
   pub replied : List Event → (c : ℕ) → List ℕ
   pub outbox : List Event → (c : ℕ) → List ℕ
   pub closed : List Event → (c : ℕ) → Option ℕ
+  pub cut : List Event → (c : ℕ) (bytes : List ℕ) (k : ℕ) → Type 0
 
 -- ---- the messages and the takes of session c
 

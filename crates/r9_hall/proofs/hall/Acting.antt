@@ -1,6 +1,6 @@
 -- What a session asks of a hall, as the server of its history may do it.
 use Rattle.std.proofs.Common.{◌≡◌, ◌≤◌, ◌<◌, ◌+◌, ◌^◌, inl, inr, ℕ, Bool, true, false, List, [], ◌∷◌, ◌++◌, Option, Some, None, Result, Ok, Err, IfOk, IsOk, length, refl, sym, ap, subst, ◌∙◌, arith, length-append}
-use Rattle.std.specs.Prelude.{◌≢◌, IsFalse, IsSome, Contains, MatchBool, filter, not, ◌==◌, if◌then◌else◌}
+use Rattle.std.specs.Prelude.{◌≢◌, IfSome, IsFalse, IsSome, Contains, MatchBool, filter, not, ◌==◌, if◌then◌else◌}
 use Rattle.std.proofs.lemmas.Bool.{eqb-true}
 use Rattle.std.proofs.lemmas.List.{nil_from_length}
 use Rattle.r9_event.specs.declared.event.event.Event.{Event}
@@ -179,18 +179,18 @@ msg_marked c bytes None = refl
 msg_marked c bytes (Some k) = refl
 
 -- the answer is that of the session, which lives
-heard_may : (opening : Opening) (c : ℕ) (bytes : List ℕ) (mark : Option ℕ) (before after : List Entry) (answer : Answer) (found : Option Session) → Enters (Msg c bytes mark) before after → IsLegal (events_of after)
+heard_may : (opening : Opening) (c : ℕ) (bytes : List ℕ) (mark : Option ℕ) (before after : List Entry) (answer : Answer) (found : Option Session) → Enters (Msg c bytes mark) before after → IfSome mark ((served opening).cut (events_of before) c bytes) → IsLegal (events_of after)
     → lookup (replay opening (events_of after)).sessions c ≡ found → IsSome found → IsHeard found answer → May (served opening) before (ask.Msg c bytes) answer after
-heard_may opening c bytes mark before after answer None enters legal at lives heard = absurd (cc lives)
-heard_may opening c bytes mark before after answer (Some session) enters legal at lives heard =
+heard_may opening c bytes mark before after answer None enters cut legal at lives heard = absurd (cc lives)
+heard_may opening c bytes mark before after answer (Some session) enters cut legal at lives heard =
     let events = events_of after in
     let shut : session.closed ≡ closed_from (opened opening) events c None = kept_closed opening events c session legal at in
     subst (λ (a : Answer). May (served opening) before (ask.Msg c bytes) a after) (sym heard) (by session.closed refl shut (kept_size opening events c session legal at))
   where
     by : (closed : Option ℕ) → session.closed ≡ closed → session.closed ≡ closed_from (opened opening) (events_of after) c None
         → (session.closed ≡ None → session.msize ≡ (served opening).limit (messages_of c (events_of after))) → May (served opening) before (ask.Msg c bytes) (answer_by closed session.msize) after
-    by None is shut size = ((mark, enters), sym shut ∙ is, size is)
-    by (Some tag) is shut size = ((mark, enters), sym shut ∙ is)
+    by None is shut size = ((mark, enters, cut), sym shut ∙ is, size is)
+    by (Some tag) is shut size = ((mark, enters, cut), sym shut ∙ is)
 
 lives_on : (h now : HallValue) (c : ℕ) (bytes : List ℕ) (mark : Option ℕ) (before : List Entry) → StandsFor h before → StandsFor now (before ++ record { number = length before + 1; event = Msg c bytes mark } ∷ [])
     → Allowed h.roll (Msg c bytes mark) → IsSome (lookup (replay now.opening (events_of (before ++ record { number = length before + 1; event = Msg c bytes mark } ∷ []))).sessions c)
@@ -199,17 +199,19 @@ lives_on h now c bytes mark before stands after allowed =
     let lives : Contains (roll_of (events_of before)).live c = subst (λ (r : Roll). Contains r.live c) stands.roll allowed.1.0 in
     (live_there now.opening (events_of (before ++ entry ∷ [])) c after.legal).0 (subst (λ (r : Roll). Contains r.live c) (sym (roll_next before entry)) lives)
 
-pub heard_act : (h now : HallValue) (c : ℕ) (bytes : List ℕ) (did : Did) (answer : Answer) → IsMadeOf h (Msg c bytes None) did now → now.opening ≡ h.opening → now.broken ≡ false
+pub heard_act : (h now : HallValue) (c : ℕ) (bytes : List ℕ) (did : Did) (answer : Answer) → IsMadeOf h (Msg c bytes None) did now → now.opening ≡ h.opening → h.broken ≡ false → now.broken ≡ false
     → IsHeard (lookup (world_in now.world).sessions c) answer → IsAct h (ask.Msg c bytes) (made answer) now
-heard_act h now c bytes did answer is opening whole heard before stands =
+heard_act h now c bytes did answer is opening was whole heard before stands =
     let event = Msg c bytes did.short in
+    let cut : IfSome did.short ((served now.opening).cut (events_of before) c bytes) =
+    subst (λ (o : Opening). IfSome did.short ((served o).cut (events_of before) c bytes)) (sym opening) (is.short was before stands) in
     let entry : Entry = record { number = length before + 1; event = event } in
     let entered : StandsForMore h event now = subst (λ (e : Event). StandsForMore h e now) (msg_marked c bytes did.short) is.entered in
     let allowed : Allowed h.roll event = subst (λ (e : Event). Allowed h.roll e) (msg_marked c bytes did.short) is.allowed.0 in
     let after = entered before stands in
     let heard_there : IsHeard (lookup (replay now.opening (events_of (before ++ entry ∷ []))).sessions c) answer = subst (λ (w : World). IsHeard (lookup w.sessions c) answer) (after.led whole).world heard in
     let may : May (served now.opening) before (ask.Msg c bytes) answer (before ++ entry ∷ []) =
-    heard_may now.opening c bytes did.short before (before ++ entry ∷ []) answer _ (enters h event before stands allowed) after.legal refl (lives_on h now c bytes did.short before stands after allowed) heard_there in
+    heard_may now.opening c bytes did.short before (before ++ entry ∷ []) answer _ (enters h event before stands allowed) cut after.legal refl (lives_on h now c bytes did.short before stands after allowed) heard_there in
     (before ++ entry ∷ [], after, subst (λ (o : Opening). May (served o) before (ask.Msg c bytes) answer (before ++ entry ∷ [])) opening may, (entry, refl))
 
 -- ---- Look

@@ -9,7 +9,7 @@ use Rattle.r9_hall.proofs.hall.hall.Hall.hear.Goals as goal
 pub returns-clause-history : goal.returns-clause-history
 returns-clause-history g c =
     subst (λ (a : Acted Answer). IsAct c.args.self.now (ask.Msg c.args.session c.args.bytes) a c.event.new.self) (sym c.made.ensures)
-    (heard_act c.args.self.now c.event.new.self c.args.session c.args.bytes c.in-Ok.did c.heard.result c.in-Ok.ensures.made c.event.ensures.opening (c.in-Ok.ensures.whole ∙ c.requires.whole) c.heard.ensures)
+    (heard_act c.args.self.now c.event.new.self c.args.session c.args.bytes c.in-Ok.did c.heard.result c.in-Ok.ensures.made c.event.ensures.opening c.requires.whole (c.in-Ok.ensures.whole ∙ c.requires.whole) c.heard.ensures)
 
 pub returns-in_default-clause-history : goal.returns-in_default-clause-history
 returns-in_default-clause-history g c =
