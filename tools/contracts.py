@@ -12,10 +12,10 @@ A tree is a folder, or a revision of this repository. Five kinds of things are c
     word   a definition in specs/
     lemma  what a public lemma in proofs/ states
 
-White space and comments do not count. A map has a line for each crate that moved: its old name, a tab and its new name. If
-the new crate has parts, the part is the old name from behind its first `_`, or stands behind another tab. What is the same
-but for its place or its name is told as moved, and is not lost. The exit status is 0 if nothing is lost or changed, 1 if
-something is, and 2 if the words are wrong.
+White space and comments do not count. A map has a line for each crate that moved: its old name, a tab and its new
+name. If the new crate has parts, the part is the old name from behind its first `_`, or stands behind another tab.
+What is the same but for its place or its name is told as moved, and is not lost. The exit status is 0 if nothing is
+lost or changed, 1 if something is, and 2 if the words are wrong.
 """
 
 from __future__ import annotations

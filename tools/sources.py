@@ -1,4 +1,4 @@
-"""Reads the sources of a tree of Rattle crates: what each file declares, and what it imports. They must be formatted."""
+"""Reads the sources of a tree of Rattle crates, which are formatted: what each file declares, and what it imports."""
 
 from __future__ import annotations
 
