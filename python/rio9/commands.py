@@ -34,6 +34,7 @@ COMMANDS: Dict[str, Command] = {
     "picture": Command("rio9.picture", "makes a PNG file of what a run printed"),
     "font": Command("rio9.fonts", "makes fonts of Plan 9 of BDF, PCF and PSF fonts, and the font that `rio9 text` reads"),
     "events": Command("rio9.events", "makes the events that `rio9 desk` reads"),
+    "term": Command("rio9.term.command", "runs a program in a window", extra="term"),
     "wireshark": Command("rio9.wireshark", "makes a capture of a record and its replies"),
 }
 
@@ -43,6 +44,7 @@ LIBRARIES: Dict[str, str] = {
     "PIL": "python3-pil",
     "pyte": "python3-pyte",
     "pytest": "python3-pytest",
+    "wcwidth": "python3-wcwidth",
 }
 
 
