@@ -75,9 +75,20 @@ class Late(Failure):
 
 def address_of(text):
     """The host and the port of HOST:PORT; a host of IPv6 stands in brackets."""
+    try:
+        host, port = address_or_free(text)
+    except ValueError as error:
+        raise argparse.ArgumentTypeError(str(error)) from None
+    if port == 0:
+        raise argparse.ArgumentTypeError(f"a port from 1 to 65535 is wanted: {text}")
+    return host, port
+
+
+def address_or_free(text):
+    """The host and the port of HOST:PORT, of which the port may be 0; ValueError where a text is none."""
     found = re.fullmatch(r"(?:\[([^\[\]]+)\]|([^:\[\]]+)):([0-9]{1,5})", text)
-    if not found or not 1 <= int(found[3]) <= 65535:
-        raise argparse.ArgumentTypeError(f"no address, as 127.0.0.1:5640: {text}")
+    if not found or int(found[3]) > 65535:
+        raise ValueError(f"an address as 127.0.0.1:5640 is wanted, and not {text!r}")
     return found[1] or found[2], int(found[3])
 
 

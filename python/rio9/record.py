@@ -37,6 +37,7 @@ option --chan C (x8r8g8b8). So the words for a write may be wrong where a sessio
 bytes are exact in any case.
 """
 
+import argparse
 import json
 import re
 import sys
@@ -856,22 +857,20 @@ def stat_lines(payload):
 
 def write_main(words):
     """The command `rio9d write`."""
-    formats.Words(prog="rio9d write", description="Writes a record of readable lines, from standard input.").parse_args(words)
+    parser = formats.Words(prog="rio9d write", description=__doc__, formatter_class=argparse.RawDescriptionHelpFormatter)
+    parser.parse_args(words)
     return turn("rio9d write", lambda data: write(readable_text(data)))
 
 
-def explain_main(words):
-    """The command `rio9d explain`."""
-    parser = formats.Words(prog="rio9d explain", description="Explains a record or reply lines, from standard input.")
-    parser.add_argument("--chan", type=formats.channels_option, default="x8r8g8b8", help="the display's channels")
-    options = parser.parse_args(words)
-    return turn("rio9d explain", lambda data: explain(data, options.chan).encode())
-
-
-def turn(name, made_of):
-    """Writes what is made of standard input to standard output, and gives the status."""
+def turn(name, made_of, path=None):
+    """Writes what is made of a file, or of standard input, to standard output, and gives the status."""
     try:
-        sys.stdout.buffer.write(made_of(sys.stdin.buffer.read()))
+        if path is None:
+            data = sys.stdin.buffer.read()
+        else:
+            with open(path, "rb") as file:
+                data = file.read()
+        sys.stdout.buffer.write(made_of(data))
         sys.stdout.buffer.flush()
     except BadText as error:
         sys.stderr.write(f"{name}: {error}\n")
