@@ -30,7 +30,7 @@ CASES = [
     (f"wireshark {NOT_THERE} {EXAMPLES}/first.replies OUT", b"", 2, NOT_THERE),
     (f"wireshark {EXAMPLES}/first.record {EXAMPLES}/first.record OUT", b"", 1, "line 1, word 1 `rio9`: "),
     (f"font {NOT_THERE}", b"", 2, NOT_THERE),
-    (f"font {EXAMPLES}/first.record", b"", 1, "0 characters"),
+    (f"font {EXAMPLES}/first.record", b"", 1, "it is no font"),
     ("events file", b"", 2, "file"),
     ("events", b"# none\n1 2\n", 1, "line 2: "),
     ("events", b"640 0 0\n", 1, "line 1: columns"),
