@@ -10,6 +10,7 @@ these few are made here, and what they add to the record is taken off again.
 
 import contextlib
 import os
+import re
 import resource
 import signal
 import socket
@@ -181,14 +182,19 @@ class Server:
         told = self.lines()
         self.errors.close()
         ended_by_us = was_asked and code == program.DOOR_FAULT
-        for line in told:
-            if not (ended_by_us and line.startswith("rio9: door fault")):
+        for line in filter(self.is_of_clients, told):
+            if not (ended_by_us and line.startswith("rio9: ")):
                 self.tell("told", {"line": line})
         status = program.DONE if ended_by_us else program.status_of(code)
         self.is_whole = status == program.DONE
         if self.words.record is not None and self.is_whole:
             self.finish(self.words.record)
         return status
+
+    def is_of_clients(self, line: str) -> bool:
+        """Whether a line on standard error is about no session that was made here at the end."""
+        found = re.match(r"session ([0-9]+):", line)
+        return found is None or int(found[1]) <= self.relay.begun
 
     def use_up(self) -> None:
         """Lets each worker end: the program may open no further file, so a worker that is given a client takes no other one."""
