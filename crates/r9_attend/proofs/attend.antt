@@ -3,6 +3,7 @@ pub mod Cutting
 pub mod Served
 pub mod TheReader
 pub mod TheEnd
+pub mod TheRest
 pub mod TheWriter
 pub mod TheSession
 pub mod Complete

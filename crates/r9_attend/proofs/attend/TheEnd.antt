@@ -131,24 +131,6 @@ module _ (s : Server) (c : ℕ) (start old new : Known Entry) (goes : GoesOn old
     read = λ history own. read.3 history (own_back (is_msg c) start old new goes_first goes (no_message_made c old new ending (is_msg c) refl refl) history own);
   }
 
-  pub written_ended : {O : Type 0} (held : O → Option (List ℕ)) (unflushed : O → Bool) (faults : O → ℕ) (end : WriteEnd) (output_old output : O) → (end ≡ writer.WriteFault) ⊎ (end ≡ writer.Memory) → GoesOn start old
-      → All (λ m. (is_take c m.1.event ≡ true) ⊎ (m.1.event ≡ Stop)) (made_since start old)
-      → (end ≡ writer.WriteFault → Rose (faults output_old) (faults output)) → faults output_old ≤ faults output
-      → ((history : List Entry) → IsOwn (is_take c) old.seen (made_since start old) history → IsWritten s c end (held output_old) (held output) (events_of history))
-      → HasWritten held unflushed faults s c end start new output_old output
-  written_ended held unflushed faults end output_old output which goes_first made failed counted out = record {
-    pass = goes_both start old new goes_first goes;
-    made = All-since (IsWriters c) start old new goes_first goes
-        (All-weaker (λ m. (is_take c m.1.event ≡ true) ⊎ (m.1.event ≡ Stop)) (IsWriters c) (λ m h. ⊎_elim (λ (k : is_take c m.1.event ≡ true). inl k) (λ (k : m.1.event ≡ Stop). inr (inr k)) h) (made_since start old) made)
-        (All-weaker (λ m. (m.1.event ≡ End c) ⊎ (m.1.event ≡ Stop)) (IsWriters c) (λ m h. inr h) (made_since old new) ending);
-    ends = ⊎_elim (λ (k : end ≡ writer.WriteFault). inl k) (λ (k : end ≡ writer.Memory). inr (inl k)) which;
-    spent = ⊎_elim (λ (k : end ≡ writer.WriteFault). subst (λ e. IsSpent e new) (sym k) tt) (λ (k : end ≡ writer.Memory). subst (λ e. IsSpent e new) (sym k) tt) which;
-    failed = failed;
-    counted = counted;
-    flushed = λ e. absurd (⊎_elim (λ (k : end ≡ writer.WriteFault). let a : writer.Done ≡ writer.WriteFault = sym e ∙ k in cc) (λ (k : end ≡ writer.Memory). let a : writer.Done ≡ writer.Memory = sym e ∙ k in cc) which);
-    out = λ history own. out history (own_back (is_take c) start old new goes_first goes (no_message_made c old new ending (is_take c) refl refl) history own);
-  }
-
 -- a writer that did not end the session
 pub written_so : (s : Server) (c : ℕ) (start new : Known Entry) {O : Type 0} (held : O → Option (List ℕ)) (unflushed : O → Bool) (faults : O → ℕ) (end : WriteEnd) (output_old output : O) → GoesOn start new
     → All (λ m. (is_take c m.1.event ≡ true) ⊎ (m.1.event ≡ Stop)) (made_since start new) → IsSpent end new

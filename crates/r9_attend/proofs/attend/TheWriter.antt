@@ -53,7 +53,7 @@ module _ (s : Server) (c : ℕ) where
       ap (takes s c) (ap events_of b.is ∙ events_append seen b.rest) ∙ takes_from-append [] (events_of seen) (events_of b.rest)
       ∙ ap (λ l. takes s c (events_of seen) ++ l) (nothing_taken (events_of seen) b.rest b.none) ∙ append-nil (takes s c (events_of seen))
 
-  takes_more : (events : List Event) → takes s c (events ++ Take c ∷ []) ≡ takes s c events ++ s.outbox events c
+  pub takes_more : (events : List Event) → takes s c (events ++ Take c ∷ []) ≡ takes s c events ++ s.outbox events c
   takes_more events =
       takes_from-append [] events (Take c ∷ [])
       ∙ ap (λ l. takes s c events ++ l) (append-nil (handed s c events (Take c)) ∙ ap (λ (b : Bool). cond b (s.outbox events c) []) (eq-eqb c c refl))

@@ -101,6 +101,15 @@ IsSpent (written.Spent count) pass = (2 ^ 62 ≤ count) × (count / 2 ≤ pass.l
 IsSpent written.Crowded pass = ⊥
 IsSpent _ pass = Unit {0}
 
+-- A writer gave its session up: the session was ended, where it lived, and what still waited for it was taken and went nowhere.
+pub record HasGivenUp (s : Server) (c : ℕ) (old new : Known Entry) : Type 0 where
+  pub ended : Known Entry
+  pub on : GoesOn old ended
+  pub ending : All (λ m. (m.1.event ≡ event.End c) ⊎ (m.1.event ≡ event.Stop)) (made_since old ended)
+  pub goes : GoesOn ended new
+  pub found : Result (Option (List ℕ)) WriteEnd
+  pub looked : IsLooked s c found ended new
+
 -- ---- all that a reader and a writer leave
 
 pub record HasRead {I : Type 0} (left : I → Option (List ℕ)) (faults : I → ℕ) (s : Server) (c : ℕ) (end : ReadEnd) (old new : Known Entry) (input_old input : I) : Type 0 where

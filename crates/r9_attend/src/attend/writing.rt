@@ -7,7 +7,7 @@ ghost use Rattle.model_history.specs.event.Journal.{events_of};
 ghost use Rattle.model_served.specs.session.Server.{is_take};
 ghost use Rattle.r9_attend.specs.attend.Passes.{GoesOn, made_since, IsOwn};
 ghost use Rattle.r9_attend.specs.attend.Sessions.{IsWritten};
-ghost use Rattle.r9_attend.specs.attend.Steps.{IsLooked, IsPut, IsSpent, HasWritten};
+ghost use Rattle.r9_attend.specs.attend.Steps.{IsLooked, IsPut, IsSpent, HasGivenUp, HasWritten};
 
 use crate::attend::ends::WriteEnd;
 use crate::attend::room::{Room, ask, end_session};
@@ -83,7 +83,16 @@ fn write_on<T: Serves, O: Sink, R: Wait>(
     unreachable!()
 }
 
-/// Writes to an end, and ends the session where no more of it can go out.
+/// Ends the session, if it lives, and drops what still waits for it, since no more of it can go out.
+fn give_up<T: Serves, R: Wait>(room: &Room<'_, '_, T, R>, pass: &mut Pass<T>)
+    requires { pass.old.lock ≡ room.now.lock.now.id }
+    ensures { HasGivenUp T.server room.now.session pass.old pass.new }
+{
+    end_session(room, pass);
+    let _ = look(room, pass);
+}
+
+/// Writes to an end, and gives the session up where no more of it can go out.
 pub(crate) fn write_in<T: Serves, O: Sink, R: Wait>(
     room: &Room<'_, '_, T, R>,
     pass: &mut Pass<T>,
@@ -94,11 +103,11 @@ pub(crate) fn write_in<T: Serves, O: Sink, R: Wait>(
 {
     match write_on(room, pass, output) {
         WriteEnd::WriteFault => {
-            end_session(room, pass);
+            give_up(room, pass);
             WriteEnd::WriteFault
         }
         WriteEnd::Memory => {
-            end_session(room, pass);
+            give_up(room, pass);
             WriteEnd::Memory
         }
         end => end,
