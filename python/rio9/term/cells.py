@@ -11,6 +11,7 @@ import re
 import unicodedata
 from collections import defaultdict
 from dataclasses import dataclass
+from functools import lru_cache
 from typing import Any, Callable, Dict, List, Optional, Set, Tuple
 
 import pyte
@@ -23,16 +24,18 @@ MOUSE_PRESSES, MOUSE_DRAGS, MOUSE_MOVES, MOUSE_SGR = (number << PRIVATE for numb
 SECOND_SCREEN = {47, 1047, 1049}
 COLUMNS_132 = 3
 MOST_MOVES, MOST_PENS, MOST_SAVED, MOST_HELD = 8, 256, 16, 4096
+NOTHING = "\0"  # what does nothing, and keeps what stands before and behind it apart
 PLAIN = re.compile("[ -~]+")
 
 # Control sequences that pyte would take for others, or print: commands of the operating system (all but titles), strings of a
-# device, and those with a private mark other than `?`, with bytes between, or with colons.
+# device, and those with a private mark other than `?`, with bytes between, with colons, or cut by a character that is not of ASCII.
 OTHERS = re.compile(
     r"\x1b(?:\]R|\]P[0-9a-fA-F]{7}|\](?P<kind>[0-9]*);?(?P<text>[^\x07\x1b]{0,4096})(?:\x07|\x1b\\)"
     r"|[PX^_k][^\x1b]{0,4096}\x1b\\|[\]PX^_k]"
+    r"|\[[\x07-\x0d -?]*(?=[^\x00-\x7f])"
     r"|\[[<=>][0-9;:]*[ -/]*[@-~]|\[[?0-9;:]*[ -/]+[@-~]|\[[?0-9;:]*:[0-9;:]*[@-~]|[ #%*+./-][ -~])|[\x80-\x9f]"
 )
-UNFINISHED = re.compile(r"\x1b(?:\[[0-?]*[ -/]*|\](?!R)[^\x07\x1b]{0,4096}\x1b?|[PX^_k][^\x1b]{0,4096}\x1b?|[ #%*+./()-])?\Z")
+UNFINISHED = re.compile(r"\x1b(?:\[[\x07-\x0d -?]*|\](?!R|P[0-9a-fA-F]{7})[^\x07\x1b]{0,4096}\x1b?|[PX^_k][^\x1b]{0,4096}\x1b?|[ #%*+./()-])?\Z")
 
 
 class Pen(Dict[str, Any]):
@@ -95,6 +98,8 @@ class Cells(pyte.Screen):  # type: ignore[misc]
         if width == 0 and unicodedata.combining(char):
             self.combine(char)
         elif width == 1 or width == 2 and self.columns > 1:
+            if self.cursor.x + width > self.columns:
+                self.wrap(width)
             if modes.IRM in self.mode:
                 self.insert_characters(width)
             self.put(char, width)
@@ -320,16 +325,25 @@ class Cells(pyte.Screen):  # type: ignore[misc]
         return mode in self.mode
 
 
-def guarded(method: Callable[..., Any]) -> Callable[..., None]:
-    """A method that takes as many parameters as it has, whatever a sequence gives, and does nothing with a mark that it does not know."""
-    parameters = inspect.signature(method).parameters.values()
-    takes_all = any(one.kind is one.VAR_POSITIONAL for one in parameters)
-    most = sum(one.kind is one.POSITIONAL_OR_KEYWORD and one.name != "private" for one in parameters)
-    takes_mark = any(one.name == "private" or one.kind is one.VAR_KEYWORD for one in parameters)
+@lru_cache(maxsize=None)
+def taken(function: Callable[..., Any]) -> Tuple[int, bool]:
+    """How many parameters of a sequence a method of cells takes, and whether it takes the private mark."""
+    parameters = list(inspect.signature(function).parameters.values())[1:]
+    if any(one.kind is one.VAR_POSITIONAL for one in parameters):
+        most = MOST_HELD
+    else:
+        most = sum(one.kind is one.POSITIONAL_OR_KEYWORD and one.name != "private" for one in parameters)
+    return most, any(one.name == "private" or one.kind is one.VAR_KEYWORD for one in parameters)
+
+
+def guarded(cells: Cells, event: str) -> Callable[..., None]:
+    """What does an event by a method of cells: with no more parameters than it takes, and not with a mark that it does not know."""
+    most, takes_mark = taken(getattr(type(cells), event))
+    method = getattr(cells, event)
 
     def call(*values: Any, **marks: Any) -> None:
-        if takes_mark or not marks:
-            method(*(values if takes_all else values[:most]), **marks)
+        if takes_mark or "private" not in marks:
+            method(*values[:most], **marks)
 
     return call
 
@@ -349,7 +363,7 @@ class Stream(pyte.Stream):  # type: ignore[misc]
     def listener_of(self, cells: Cells) -> Any:
         """What pyte gives events to."""
         events: Set[str] = set(self.events)
-        return type("Events", (), {event: staticmethod(guarded(getattr(cells, event))) for event in events})()
+        return type("Events", (), {event: staticmethod(guarded(cells, event)) for event in events})()
 
     def feed_bytes(self, data: bytes) -> None:
         """Takes what a program has written."""
@@ -362,7 +376,7 @@ class Stream(pyte.Stream):  # type: ignore[misc]
         self.feed(OTHERS.sub(self.other, text))
 
     def other(self, found: "re.Match[str]") -> str:
-        """What stands for a sequence that pyte does not take: nothing. A title is kept."""
+        """What stands for a sequence that pyte does not take. A title is kept."""
         if found["kind"] in ("0", "2"):
             self.cells.set_title(found["text"])
-        return ""
+        return NOTHING
