@@ -32,7 +32,7 @@ COMMANDS: Dict[str, Command] = {
     "replay": Command("rio9.replays", "answers a record, on the display that stands beside it", "replay_main"),
     "mirror": Command("rio9.replays", "makes frames of a record, for the player", "mirror_main"),
     "alone": Command("rio9.replays", "answers one session of a record in a world of its own", "alone_main"),
-    "client": Command("rio9.client", "asks a server: ls, cat, write, screen, new, wctl, type, click, draw"),
+    "client": Command("rio9.client_commands", "asks a server: ls, cat, write, screen, new, wctl, type, click, draw"),
     "write": Command("rio9.record", "writes a record of readable lines", "write_main"),
     "explain": Command("rio9.replays", "tells a record or reply lines in words", "explain_main"),
     "picture": Command("rio9.picture", "makes a PNG file of what a run printed"),

@@ -87,13 +87,28 @@ def colour(pixel, channels):
     return red, green, blue, found.get("a", 255)
 
 
-def png_bytes(pixel, channels, has_alpha):
-    """A pixel as the PNG has it."""
-    red, green, blue, alpha = colour(pixel, channels)
-    if not has_alpha:
-        return bytes([red, green, blue])
-    divided = [min(255, (part * 255 + alpha // 2) // alpha) if alpha else 0 for part in (red, green, blue)]
-    return bytes([*divided, alpha])
+def divided(colours):
+    """Red, green and blue that are not multiplied by alpha, and alpha."""
+    *parts, alpha = colours
+    red, green, blue = (min(255, (part * 255 + alpha // 2) // alpha) if alpha else 0 for part in parts)
+    return red, green, blue, alpha
+
+
+def colours(word, left, right, height, rows):
+    """The pixels of rows, row by row: the red, green, blue and alpha of each."""
+    channels, bits = formats.channels(word), formats.depth(word)
+    row_bytes, width = formats.row_bytes(bits, left, right), right - left
+    if bits > 8 and bits % 8 or bits < 8 and 8 % bits:
+        raise NoPicture(f"pixels of {bits} bits")
+    if width <= 0 or height <= 0 or len(rows) != row_bytes * height:
+        raise NoPicture(f"{len(rows)} bytes for {width}x{height}, which takes {row_bytes * height}")
+    seen, found = {}, []
+    for at in range(0, len(rows), row_bytes):
+        pixels = raw_pixels(rows[at : at + row_bytes], bits, left, right)
+        for pixel in set(pixels) - seen.keys():
+            seen[pixel] = divided(colour(pixel, channels))
+        found.append([seen[pixel] for pixel in pixels])
+    return found
 
 
 def png_chunk(kind, data):
@@ -102,20 +117,12 @@ def png_chunk(kind, data):
 
 def picture(word, left, right, height, rows, scale=1):
     """The PNG file of rows of pixels, each of them so many by so many."""
-    channels, bits = formats.channels(word), formats.depth(word)
-    row_bytes, width = formats.row_bytes(bits, left, right), right - left
-    if bits > 8 and bits % 8 or bits < 8 and 8 % bits:
-        raise NoPicture(f"pixels of {bits} bits")
-    if width <= 0 or height <= 0 or len(rows) != row_bytes * height:
-        raise NoPicture(f"{len(rows)} bytes for {width}x{height}, which takes {row_bytes * height}")
-    has_alpha = any(letter == "a" for letter, _ in channels)
-    seen, lines = {}, []
-    for at in range(0, len(rows), row_bytes):
-        pixels = raw_pixels(rows[at : at + row_bytes], bits, left, right)
-        for pixel in set(pixels) - seen.keys():
-            seen[pixel] = scale * png_bytes(pixel, channels, has_alpha)
-        lines += scale * [b"\0" + b"".join(seen[pixel] for pixel in pixels)]
-    header = struct.pack(">IIBBBBB", scale * width, scale * height, 8, 6 if has_alpha else 2, 0, 0, 0)
+    has_alpha = any(letter == "a" for letter, _ in formats.channels(word))
+    parts, lines = 4 if has_alpha else 3, []
+    for row in colours(word, left, right, height, rows):
+        lines += scale * [b"\0" + b"".join(scale * bytes(pixel[:parts]) for pixel in row)]
+    size = scale * (right - left), scale * height
+    header = struct.pack(">IIBBBBB", *size, 8, 6 if has_alpha else 2, 0, 0, 0)
     chunks = [(b"IHDR", header), (b"IDAT", zlib.compress(b"".join(lines), 9)), (b"IEND", b"")]
     return b"\x89PNG\r\n\x1a\n" + b"".join(png_chunk(kind, data) for kind, data in chunks)
 

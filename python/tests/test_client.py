@@ -8,7 +8,7 @@ import tempfile
 import threading
 import unittest
 
-from rio9 import client, formats, record
+from rio9 import client, client_commands, formats, record
 from test_picture import IMAGE_FILE, pixels_of
 
 EXAMPLES = pathlib.Path(__file__).resolve().parent.parent.parent / "examples"
@@ -96,6 +96,7 @@ class Files(Server):
         super().__init__()
         self.files = {"label": b"a label", "screen": IMAGE_FILE, "wsys/1/window": IMAGE_FILE, "draw/1/data": b"\1\2"}
         self.files["draw/new"] = b"          1 ".ljust(144)
+        self.files["hwsize"] = b"        640         480 "
         self.waiting = {"cons": [b"one\n", b"two\n"], "wsys/1/wctl": [b"a rectangle"]}
         self.places, self.written, self.names = ("kbdin", "mousein", "wctl", "snarf"), [], list(DIRECTORIES["wsys"])
 
@@ -247,7 +248,7 @@ def command(server, *words):
     out, err = io.TextIOWrapper(io.BytesIO()), io.StringIO()
     with contextlib.redirect_stdout(out), contextlib.redirect_stderr(err):
         try:
-            status = client.main(["--seconds", "5", f"127.0.0.1:{server.address[1]}", *words])
+            status = client_commands.main(["--seconds", "5", f"127.0.0.1:{server.address[1]}", *words])
         except SystemExit as end:
             status = end.code
     return status, out.buffer.getvalue(), err.getvalue()
@@ -293,7 +294,7 @@ class Commands(unittest.TestCase):
 
     def test_clicks(self):
         for words, events in (
-            (["3", "-4"], [(3, -4, 1), (3, -4, 0)]),
+            (["3", "4"], [(3, 4, 1), (3, 4, 0)]),
             (["3", "4", "5", "6", "--button", "3"], [(3, 4, 4), (5, 6, 4), (5, 6, 0)]),
         ):
             with self.subTest(words), Files() as server:
@@ -317,6 +318,10 @@ class Commands(unittest.TestCase):
             (["cat"], 2, "path"),
             (["dance"], 2, "dance"),
             (["click", "1"], 2, "two numbers"),
+            (["click", "640", "3"], 1, "rio9d client: (640,3) is outside of the display, which has 640x480 points"),
+            (["click", "5", "5", "3", "-1"], 1, "(3,-1) is outside"),
+            (["cat", "wsys"], 1, "wsys is a directory: `ls wsys` tells what it has"),
+            (["screen", "a.jpg"], 2, "name it .png, and not a.jpg"),
             (["click", "1", "2", "--button", "6"], 2, "6"),
             (["type", r"\q"], 2, "JSON"),
             (["draw", "v", "n id=1"], 2, "line 2, word 1 `n`"),
@@ -333,20 +338,20 @@ class Commands(unittest.TestCase):
                 words = ["--seconds", "0.01", f"127.0.0.1:{server.address[1]}", "cat", "cons"]
                 err = io.StringIO()
                 with contextlib.redirect_stderr(err):
-                    self.assertEqual(client.main(words), 1)
+                    self.assertEqual(client_commands.main(words), 1)
                 self.assertEqual(err.getvalue(), "rio9d client: no answer within 0.01 seconds\n")
 
     def test_addresses(self):
         self.assertEqual(client.address_of("[::1]:564"), ("::1", 564))
         self.assertEqual(client.address_of("host:5640"), ("host", 5640))
         for text in ("host", "host:", ":564", "a:b:564", "host:0", "host:65536", "[]:1"):
-            with self.subTest(text), self.assertRaises(client.argparse.ArgumentTypeError):
+            with self.subTest(text), self.assertRaises(client_commands.argparse.ArgumentTypeError):
                 client.address_of(text)
         with socket.create_server(("127.0.0.1", 0)) as taken:
             port = taken.getsockname()[1]
         err = io.StringIO()
         with contextlib.redirect_stderr(err):
-            self.assertEqual(client.main([f"127.0.0.1:{port}", "ls"]), 1)
+            self.assertEqual(client_commands.main([f"127.0.0.1:{port}", "ls"]), 1)
         self.assertTrue(err.getvalue().startswith(f"rio9d client: no connection to 127.0.0.1:{port}: "), err.getvalue())
 
 
