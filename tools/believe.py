@@ -75,19 +75,23 @@ def gather(root: str) -> Belief:
     return Belief(tree, names, parents, uses.library)
 
 
-def in_turn(nodes: Iterable[str], uses: dict[str, set[str]]) -> list[str]:
-    """Names in an order in which each stands after those that it uses."""
-    done: dict[str, None] = {}
+def in_turn(uses: dict[str, set[str]], rank: dict[str, int]) -> list[str]:
+    """Names in an order in which each stands after those that it uses, and beside those of its folder; else by rank and name."""
+    done: list[str] = []
+    waiting = dict(uses)
+    while waiting:
+        ready = [name for name, used in waiting.items() if not used & waiting.keys()] or list(waiting)
+        folder = os.path.dirname(done[-1]) if done else ""
+        done.append(min(ready, key=lambda name: (os.path.dirname(name) != folder, rank.get(name, 0), name)))
+        del waiting[done[-1]]
+    return done
 
-    def visit(name: str, above: tuple[str, ...]) -> None:
-        if name not in done and name not in above:
-            for other in sorted(uses[name]):
-                visit(other, (*above, name))
-            done[name] = None
 
-    for name in sorted(nodes):
-        visit(name, ())
-    return list(done)
+def ranks(root: str) -> dict[str, int]:
+    """The places of the crates in crates.txt."""
+    with open(f"{root}/crates.txt", encoding="utf-8") as file:
+        names = re.findall(r"(?m)^(\w+)[^#\n:]*:", file.read())
+    return {name: number for number, name in enumerate(names)}
 
 
 def crate_of(file: str) -> str:
@@ -96,15 +100,20 @@ def crate_of(file: str) -> str:
 
 def files_in_turn(belief: Belief) -> list[str]:
     """The files that have to be read, in reading order: crate by crate, and each after those that it uses."""
-    by_file: dict[str, set[str]] = defaultdict(set)
-    by_crate: dict[str, set[str]] = defaultdict(set)
+    by_file: dict[str, set[str]] = {node.file: set() for node in belief.names}
+    by_crate: dict[str, set[str]] = {crate_of(CALL_FILE): set(), **{crate_of(node.file): set() for node in belief.names}}
     for node, others in belief.names.items():
         by_file[node.file] |= {other.file for other in others} - {node.file}
-        by_crate[crate_of(node.file)] |= {crate_of(other.file) for other in others} - {crate_of(node.file)}
-    own = crate_of(CALL_FILE)
-    by_crate[own] |= {crate_of(node.file) for node, parent in belief.parents.items() if parent is None} - {own}
-    place = {crate: number for number, crate in enumerate(in_turn(list(by_crate), by_crate))}
-    return sorted(in_turn(list(by_file), by_file), key=lambda file: place[crate_of(file)])
+        by_crate[crate_of(node.file)] |= {crate_of(other.file) for other in others}
+    by_crate[crate_of(CALL_FILE)] |= {crate_of(node.file) for node, parent in belief.parents.items() if parent is None}
+    for crate, used in by_crate.items():
+        used.discard(crate)
+    place = {crate: number for number, crate in enumerate(in_turn(by_crate, ranks(belief.tree.root)))}
+    files: list[str] = []
+    for crate in sorted(place, key=lambda crate: place[crate]):
+        own = {file: used for file, used in by_file.items() if crate_of(file) == crate}
+        files += in_turn(own, {})
+    return files
 
 
 def first_sentence(text: str) -> str:

@@ -109,6 +109,7 @@ pub trait Door {
     "crates/m_words/proofs/Lemmas.antt": "pub lemma : ℕ\nlemma = 1\n",
     "tools/believe.txt": "crates/r9_way/src/way.rt\tDoors, and ways to them\n",
     "docs/README.md": "",
+    "crates.txt": "# Crates\nr9_serve may_wait=1: r9_way m_words\nr9_way: m_words\nm_words:\n",
 }
 
 
