@@ -5,11 +5,12 @@
     tools/rooms.py --update   writes it into docs/ARCHITECTURE.md
     tools/rooms.py --check    tells what is out of date or above a bar, and then ends with status 1
 
-docs/rooms.txt has the crates in the order of the table: a heading behind a `#`, or a crate's name and, behind a tab, one sentence
-that says what is in the crate. A crate without a sentence there is told by the first sentence at the head of its source.
+docs/rooms.txt has the crates in the order of the table: a heading behind a `#`, or a crate's name and, behind a tab,
+one sentence that says what is in the crate. A crate without a sentence there is told by the first one at the head of
+its source.
 
-The toolchain walks each path through crates.txt and keeps nothing of it, so the paths below a crate are what it costs to begin.
-A crate has one path of its own, and those of each crate that it lists.
+The toolchain walks each path through crates.txt and keeps nothing of it, so the paths below a crate are what it costs
+to begin. A crate has one path of its own, and those of each crate that it lists.
 """
 
 import argparse

@@ -1,12 +1,12 @@
 #!/usr/bin/env python3
-"""Tests that the pages lead where they say: each link of a page is there, each file of the repository that a page names is there, and
-each word that a table names in a file of a crate stands in that file. Run it with no words."""
+"""Tests that the pages lead where they say: each link of a page is there, each file of the repository that a page names
+is there, and each word that a table names in a file of a crate stands in that file. Run it with no words."""
 
 import re
 import subprocess
 import unittest
 from pathlib import Path
-from typing import Iterator, List, Set, Tuple
+from typing import Callable, Iterator, List, Set, Tuple
 
 TOP = Path(__file__).resolve().parent.parent
 FOLDERS = ("bench", "crates", "docs", "examples", "python", "tools", "wrong-bodies", ".ci")
@@ -15,16 +15,18 @@ LINK = re.compile(r"!?\[[^\]]*\]\(([^)\s]+)\)")
 HEADING = re.compile(r"^#+ (.*)$", re.MULTILINE)
 SPAN = re.compile(r"`([^`\n]+)`")
 # A path from the top of the repository, also in a block of commands. `../` before it is from the folder of a crate.
-PATH = re.compile(r"(?<![\w/.$~-])(?:\.\./)*((?:" + "|".join(map(re.escape, FOLDERS)) + r")/[\w./*-]*)")
+PATH = re.compile(rf"(?<![\w/.$~-])(?:\.\./)*((?:{'|'.join(map(re.escape, FOLDERS))})/[\w./*-]*)")
 # A file of a crate and the words in it, as a table has them: `r9_cons/src/line.rt`: `key`, `erase`
-PLACE = re.compile(r"`((?:model|law|r9|tests)_\w+/(?:src|specs)/[\w./]+|rio9/src/main\.rt)`(?:: ((?:`[^`]+`(?:, )?)+))?")
+CRATE_FILE = r"(?:model|law|r9|tests)_\w+/(?:src|specs)/[\w./]+|rio9/src/main\.rt"
+PLACE = re.compile(rf"`({CRATE_FILE})`(?:: ((?:`[^`]+`(?:, )?)+))?")
 # What a page names that is made by a build, or stands for any name.
 MADE = ("crates/rio9/out/", "wrong-bodies/NAME", "crates/NAME")
 
 
 def pages() -> List[Path]:
     """The pages that git knows."""
-    listed = subprocess.run(["git", "ls-files", "-co", "--exclude-standard", "*.md"], cwd=TOP, check=True, capture_output=True, text=True)
+    command = ["git", "ls-files", "-co", "--exclude-standard", "*.md"]
+    listed = subprocess.run(command, cwd=TOP, check=True, capture_output=True, text=True)
     return [TOP / line for line in listed.stdout.split("\n") if line and (TOP / line).is_file()]
 
 
@@ -73,7 +75,7 @@ def lost_places(text: str) -> Iterator[str]:
 
 
 class Documents(unittest.TestCase):
-    def each_page(self, lost) -> None:
+    def each_page(self, lost: Callable[[Path], Iterator[str]]) -> None:
         for page in pages():
             with self.subTest(page=str(page.relative_to(TOP))):
                 self.assertEqual(list(lost(page)), [])
@@ -90,7 +92,7 @@ class Documents(unittest.TestCase):
 
 class Reading(unittest.TestCase):
     def test_a_path_in_a_sentence_and_in_a_command(self) -> None:
-        text = "docs/NONE.md says it. `rt run < ../../examples/none.record | tools/rooms.py` and /work/docs/x, crates/rio9/out/rio9."
+        text = "docs/NONE.md. `rt run < ../../examples/none.record | tools/rooms.py`, /far/docs/x, crates/rio9/out/rio9."
         self.assertEqual(list(lost_paths(text)), ["docs/NONE.md", "examples/none.record"])
 
     def test_anchors(self) -> None:

@@ -14,7 +14,8 @@ GRAPH = "# Kinds.\nbase:\nleft: base clap\nright may_wait=2: base\n\nrio9: left 
 class Graphs(unittest.TestCase):
     def test_what_a_crate_lists(self) -> None:
         self.assertEqual(
-            rooms.read_graph(GRAPH), {"base": [], "left": ["base"], "right": ["base"], "rio9": ["left", "right", "base"]}
+            rooms.read_graph(GRAPH),
+            {"base": [], "left": ["base"], "right": ["base"], "rio9": ["left", "right", "base"]},
         )
 
     def test_paths_and_levels(self) -> None:
@@ -50,7 +51,8 @@ class Tables(unittest.TestCase):
         self.source = self.crates / "base" / "src" / "lib.rt"
 
     def test_a_sentence_of_the_source(self) -> None:
-        self.source.write_text("//! Points of draw(2), in\n//! pixels. More.\n//!\n//! Else.\n#![tactic(auto)]\n\npub mod near;\nmod far;\n")
+        head = "//! Points of draw(2), in\n//! pixels. More.\n//!\n//! Else.\n#![tactic(auto)]\n\n"
+        self.source.write_text(f"{head}pub mod near;\nmod far;\n")
         table = rooms.make_table([Group("Base", [Room("base", None)])], self.crates)
         self.assertEqual(table.splitlines()[0], "**Base**")
         self.assertEqual(table.splitlines()[4], "| `base` | Points of draw(2), in pixels. | near, far |")
