@@ -92,7 +92,7 @@ class Documents(unittest.TestCase):
 
 class Reading(unittest.TestCase):
     def test_a_path_in_a_sentence_and_in_a_command(self) -> None:
-        text = "docs/NONE.md. `rt run < ../../examples/none.record | tools/rooms.py`, /far/docs/x, crates/rio9/out/rio9."
+        text = "docs/NONE.md. `rt run < ../../examples/none.record | tools/rooms.py`, /far/docs, crates/rio9/out/rio9."
         self.assertEqual(list(lost_paths(text)), ["docs/NONE.md", "examples/none.record"])
 
     def test_anchors(self) -> None:
