@@ -1,4 +1,4 @@
-"""Runs a test file by an interpreter that has the libraries that it needs, if this one lacks them."""
+"""Runs a test file by another Python of the machine, if this one lacks libraries that the file needs."""
 
 import importlib.util
 import os
@@ -6,33 +6,23 @@ import subprocess
 import sys
 import unittest
 
-INTERPRETERS = ("/usr/bin/python3",)
-MARK = "RIO9_TESTS_ELSEWHERE"
+from needs import python_with
 
 
-def missing(libraries):
-    """Which of some libraries this interpreter lacks."""
+def missing(*libraries):
+    """Which of some libraries this Python lacks."""
     return [name for name in libraries if importlib.util.find_spec(name) is None]
 
 
-def has_all(interpreter, libraries):
-    """Whether an interpreter is there and has some libraries."""
-    try:
-        return subprocess.run([interpreter, "-c", f"import {', '.join(libraries)}"], stderr=subprocess.DEVNULL).returncode == 0
-    except OSError:
-        return False
-
-
 class Elsewhere(unittest.TestCase):
-    """The tests of a file, by another interpreter."""
+    """The tests of a file, by another Python."""
 
-    def run_file(self, file, libraries, packages):
+    def run_file(self, file, *libraries):
         """Runs a test file, or tells why it is skipped."""
-        found = next((one for one in INTERPRETERS if has_all(one, libraries)), None)
-        if found is None or os.environ.get(MARK):
-            self.skipTest(f"no interpreter here has {' and '.join(libraries)}: apt install {packages}")
-        told = subprocess.run([found, file], env={**os.environ, MARK: "1"}, stdout=subprocess.PIPE, stderr=subprocess.STDOUT)
-        self.assertEqual(told.returncode, 0, told.stdout.decode(errors="replace"))
-        skipped = [line for line in told.stdout.decode(errors="replace").splitlines() if "skipped" in line]
-        if skipped:
-            sys.stderr.write("".join(f"{os.path.basename(file)}: {line}\n" for line in skipped))
+        python = python_with(*libraries)
+        if python is None:
+            self.skipTest(f"no Python has {' and '.join(libraries)}: tools/setup_tests.sh installs what tests need")
+        told = subprocess.run([python, file, "-v"], stdout=subprocess.PIPE, stderr=subprocess.STDOUT)
+        lines = told.stdout.decode(errors="replace").splitlines()
+        self.assertEqual(told.returncode, 0, "\n".join(lines))
+        sys.stderr.write("".join(f"{os.path.basename(file)}: {line}\n" for line in lines if " ... skipped " in line))

@@ -6,13 +6,13 @@ import unittest
 import elsewhere
 
 LIBRARIES = ("pyte", "wcwidth")
-LACKS = elsewhere.missing(LIBRARIES)
+LACKS = elsewhere.missing(*LIBRARIES)
 
 if LACKS:
 
     class Elsewhere(elsewhere.Elsewhere):
         def test_by_another_interpreter(self):
-            self.run_file(__file__, LIBRARIES, "python3-pyte")
+            self.run_file(__file__, *LIBRARIES)
 
 else:
     import pyte

@@ -97,19 +97,21 @@ def rectangle(options: argparse.Namespace, shape: glyphs.Glyphs, columns: int, l
 
 
 def run(options: argparse.Namespace, command: List[str]) -> int:
-    """Runs the command in a window, and gives its status."""
+    """Runs the command in a window, and gives its status; 0 if the window goes before it."""
     shape = glyphs.load(options.font)
     with client.Client(options.address, options.seconds) as session:
         session.version()
         columns, lines = size_of(options, shape, window.display_size(session))
         pane = window.Window(session, rectangle(options, shape, columns, lines))
-        pane.label(command[0])
-        child = Child(command, columns, lines, options.term)
+        child, has_ended = Child(command, columns, lines, options.term), False
         try:
-            Terminal(pane, shape, child, Cells(columns, lines)).run(options.hold)
+            pane.label(command[0])
+            has_ended = Terminal(pane, shape, child, Cells(columns, lines)).run(options.hold)
+        except window.Closed:
+            pass
         finally:
             status = child.end()
-        return status
+        return status if has_ended else 0
 
 
 def main(words: List[str]) -> int:
