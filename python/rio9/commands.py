@@ -39,6 +39,8 @@ COMMANDS: Dict[str, Command] = {
     "font": Command("rio9.fonts", "makes fonts of Plan 9 of BDF, PCF and PSF fonts, and the font that `rio9 text` reads"),
     "events": Command("rio9.events", "makes the events that `rio9 desk` reads"),
     "term": Command("rio9.term.command", "runs a program in a window", extra="term"),
+    "live": Command("rio9.live.command", "serves a page that shows a desktop and drives it", "live_main", "live"),
+    "repaint": Command("rio9.live.repaint", "paints the desk again, beneath the windows", "repaint_main"),
     "wireshark": Command("rio9.wireshark", "makes a capture of a record and its replies"),
 }
 

@@ -2,6 +2,7 @@
 
 import importlib.util
 import os
+import pathlib
 import subprocess
 import sys
 import unittest
@@ -22,7 +23,8 @@ class Elsewhere(unittest.TestCase):
         python = python_with(*libraries)
         if python is None:
             self.skipTest(f"no Python has {' and '.join(libraries)}: tools/setup_tests.sh installs what tests need")
-        told = subprocess.run([python, file, "-v"], stdout=subprocess.PIPE, stderr=subprocess.STDOUT)
+        environment = {**os.environ, "PYTHONPATH": str(pathlib.Path(__file__).resolve().parent.parent)}
+        told = subprocess.run([python, file, "-v"], env=environment, stdout=subprocess.PIPE, stderr=subprocess.STDOUT)
         lines = told.stdout.decode(errors="replace").splitlines()
         self.assertEqual(told.returncode, 0, "\n".join(lines))
         sys.stderr.write("".join(f"{os.path.basename(file)}: {line}\n" for line in lines if " ... skipped " in line))
