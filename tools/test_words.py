@@ -21,6 +21,8 @@ CASES = [
     ("text_soak.py --program /bin/true --cases 0", b"", 2, "--cases"),
     (f"text_soak.py --program {NOT_THERE}", b"", 2, NOT_THERE),
     (f"desk_soak.py --program {NOT_THERE}", b"", 2, NOT_THERE),
+    ("clients/run.py --run nothing", b"", 2, "nothing"),
+    (f"clients/run.py --program {NOT_THERE}", b"", 2, NOT_THERE),
     ("refused_memory.py --every 0", b"", 2, "0"),
     (f"refused_memory.py --program {NOT_THERE}", b"", 2, NOT_THERE),
 ]
