@@ -1,9 +1,9 @@
 """The font that is drawn in a text, which `rio9d font` writes as what `rio9 text` reads before its own text.
 
-Such a text's first lines, up to an empty one, are not looked at. Then come blocks with an empty line between them: a line of names,
-and the rows of sixteen characters side by side, in the last block of fifteen, with a blank between each two. `#` is a point with
-ink, `.` one without. All characters are of one size, 1 to 8 points wide and 1 to 16 high, and they are those from 0x20 to 0x7E in
-order; a name stands over its character, so that whoever reads the text finds it.
+Such a text's first lines, up to an empty one, are not looked at. Then come blocks with an empty line between them: a
+line of names, and the rows of sixteen characters side by side, in the last block of fifteen, with a blank between each
+two. `#` is a point with ink, `.` one without. All characters are of one size, 1 to 8 points wide and 1 to 16 high, and
+they are those from 0x20 to 0x7E in order; a name stands over its character, so that whoever reads the text finds it.
 
 It is outside the proof. Needs: Python 3.9 or later, its standard library alone.
 """
@@ -41,7 +41,8 @@ def check_names(number: int, line: str, names: Sequence[str], width: int) -> Non
     """Raises BadText where a line has not each name over the middle of its character."""
     wanted = "".join(name.rjust((width - 1) // 2 + 1).ljust(width + 1) for name in names).rstrip()
     if line.rstrip() != wanted:
-        raise formats.BadText(number, f"these are the characters from {names[0]!r} to {names[-1]!r}, and each name stands over its own")
+        told = f"these are the characters from {names[0]!r} to {names[-1]!r}, and each name stands over its own"
+        raise formats.BadText(number, told)
 
 
 def rows_of(number: int, line: str, count: int) -> List[bytes]:
@@ -71,10 +72,12 @@ def read_font(text: str) -> List[List[bytes]]:
         cells += read_block(number, lines, names)
     sizes = {(len(row), len(cell)) for cell in cells for row in cell}
     if len(cells) != CELLS or len(sizes) != 1:
-        raise formats.BadText(text.count("\n") + 1, f"{len(cells)} characters in {len(sizes)} sizes, where {CELLS} of one size are wanted")
+        told = f"{len(cells)} characters in {len(sizes)} sizes, and {CELLS} of one size are wanted"
+        raise formats.BadText(text.count("\n") + 1, told)
     ((width, height),) = sizes
     if width > MOST_WIDE or height > MOST_HIGH:
-        raise formats.BadText(1, f"characters of {width} by {height} points, which have at most {MOST_WIDE} by {MOST_HIGH}")
+        told = f"characters of {width} by {height} points, which have at most {MOST_WIDE} by {MOST_HIGH}"
+        raise formats.BadText(1, told)
     return cells
 
 

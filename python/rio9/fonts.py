@@ -4,17 +4,17 @@
     rio9d font /usr/share/fonts/X11/misc/6x13.pcf.gz > font
     rio9d font /usr/share/fonts/X11/misc/9x15.pcf.gz --out fonts
 
-With --out FOLDER it writes a font file there, and beside it a subfont for each 256 characters that the font has: images in k1 that
-are not packed, as rio9 takes them. It prints the name of the font file, which a client of Plan 9 takes as its $font. A character
-that is missing shows as the font's own sign for that. Fonts of Debian stand in /usr/share/fonts/X11/misc (xfonts-base) and in
-/usr/share/consolefonts (console-setup-linux).
+With --out FOLDER it writes a font file there, and beside it a subfont for each 256 characters that the font has: images
+in k1 that are not packed, as rio9 takes them. It prints the name of the font file, which a client of Plan 9 takes as
+its $font. A character that is missing shows as the font's own sign for that. Fonts of Debian stand in
+/usr/share/fonts/X11/misc (xfonts-base) and in /usr/share/consolefonts (console-setup-linux).
 
-Without --out it writes the characters from 0x20 to 0x7E to standard output, side by side, as an image file (image(6)) in k8: what
-`rio9 text` reads before its own text. They have to be of one width, and at most 8 points wide and 16 high. FILE is rio9/font.txt
-if nothing is said: a font that is drawn in a text. rio9.font tells how such a text is read.
+Without --out it writes the characters from 0x20 to 0x7E to standard output, side by side, as an image file (image(6))
+in k8: what `rio9 text` reads before its own text. They have to be of one width, and at most 8 points wide and 16 high.
+FILE is rio9/font.txt if nothing is said: a font that is drawn in a text. rio9.font tells how such a text is read.
 
-Status 1 if a file has no such font, 2 if a word or a file is wrong; one line tells why. It is outside the proof. Needs: Python 3.9
-or later, its standard library alone.
+Status 1 if a file has no such font, 2 if a word or a file is wrong; one line tells why. It is outside the proof. Needs:
+Python 3.9 or later, its standard library alone.
 """
 
 import argparse
@@ -43,8 +43,8 @@ class BadFont(Exception):
 
 @dataclass(frozen=True)
 class Glyph:
-    """How a character is drawn: how far the pen moves; where its bitmap begins, right of the pen and above the writing line; and the
-    bitmap, each row as a number whose highest bit is the leftmost point."""
+    """How a character is drawn: how far the pen moves; where its bitmap begins, right of the pen and above the
+    writing line; and the bitmap, each row as a number whose highest bit is the leftmost point."""
 
     advance: int
     left: int
@@ -197,7 +197,8 @@ CODECS: List[Tuple[str, Callable[["re.Match[str]"], Tuple[str, int]]]] = [
 
 
 def in_unicode(registry: str, glyphs: Dict[int, Glyph], missing: int) -> Dict[int, Glyph]:
-    """The characters of a font by their codes in Unicode. The one that the font shows for those that are missing has the code 0."""
+    """The characters of a font by their codes in Unicode. The one that the font shows for those that are missing has
+    the code 0."""
     code = code_of(registry)
     found = {place: glyph for number, glyph in glyphs.items() if (place := code(number)) is not None}
     if missing in glyphs:
@@ -484,7 +485,8 @@ def rows_of_bits(rows: Sequence[int], wide: int) -> bytes:
 
 
 def subfont(face: Face, first: int, last: int) -> bytes:
-    """A subfont of the characters from one code to another. Those that the font does not have are as wide as nothing."""
+    """A subfont of the characters from one code to another. Those that the font does not have are as wide as
+    nothing."""
     x, strip, places = 0, [0] * face.height, []
     for code in range(first, last + 1):
         glyph = face.glyphs.get(code, Glyph(0, 0, 0, 0, ()))
@@ -497,7 +499,11 @@ def subfont(face: Face, first: int, last: int) -> bytes:
     wide = max(x, 1)
     places.append(struct.pack("<HBBbB", x, 0, face.height, 0, 0))
     head = b"".join(b"%11d " % number for number in (last - first + 1, face.height, face.ascent))
-    return font.image_file("k1", wide, face.height, rows_of_bits([row << wide - x for row in strip], wide)) + head + b"".join(places)
+    return (
+        font.image_file("k1", wide, face.height, rows_of_bits([row << wide - x for row in strip], wide))
+        + head
+        + b"".join(places)
+    )
 
 
 def parts_of(face: Face) -> List[Tuple[int, int]]:
@@ -526,7 +532,10 @@ def strip(face: Face) -> bytes:
         raise BadFont(f"the character {chr(missing[0])!r} is missing: name a font that has all of ASCII")
     if not 1 <= wide <= font.MOST_WIDE or high > font.MOST_HIGH:
         size = f"{wide} by {high} points" if wide else "several widths"
-        raise BadFont(f"it has characters of {size}, and `rio9 text` takes one size of at most {font.MOST_WIDE} by {font.MOST_HIGH}")
+        raise BadFont(
+            f"it has characters of {size}, and `rio9 text` takes one size of at most"
+            f" {font.MOST_WIDE} by {font.MOST_HIGH}: name another font"
+        )
     cells = [face.cell(face.glyphs[code], wide) for code in range(font.FIRST, font.LAST + 1)]
     points = [[bytes(255 * (row >> wide - 1 - at & 1) for at in range(wide)) for row in cell] for cell in cells]
     return font.font_file(points)
@@ -558,13 +567,17 @@ def put(options: argparse.Namespace) -> None:
     print(put_files(face, name_of(options.file), options.out))
     beyond = sum(code > LAST_CODE for code in face.glyphs)
     if beyond:
-        sys.stderr.write(f"rio9d font: {beyond} characters behind 0x{LAST_CODE:x}, which a font file cannot tell, are left out\n")
+        sys.stderr.write(
+            f"rio9d font: {beyond} characters behind 0x{LAST_CODE:x}, which a font file cannot tell, are left out\n"
+        )
 
 
 def main(words: List[str]) -> int:
     """Runs `rio9d font`."""
     parser = formats.Words(prog="rio9d font", description=__doc__, formatter_class=argparse.RawDescriptionHelpFormatter)
-    parser.add_argument("file", nargs="?", default=font.DRAWN, metavar="FILE", help="a font in BDF, PCF or PSF, or drawn in a text")
+    parser.add_argument(
+        "file", nargs="?", default=font.DRAWN, metavar="FILE", help="a font in BDF, PCF or PSF, or drawn in a text"
+    )
     parser.add_argument("--out", metavar="FOLDER", help="where the font file and its subfonts go")
     options = parser.parse_args(words)
     try:

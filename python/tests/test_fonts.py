@@ -1,4 +1,5 @@
-"""Tests of rio9.fonts: fonts in BDF, PCF and PSF, made here byte by byte and those of Debian, and what is made of them."""
+"""Tests of rio9.fonts: fonts in BDF, PCF and PSF, made here byte by byte and those of Debian, and what is made of
+them."""
 
 import contextlib
 import gzip
@@ -88,20 +89,30 @@ BROKEN_BDF = [
 
 
 def pcf(is_high_first=True, pad=2, unit=0, is_compressed=True, swap=False, registry=b"ISO10646", encoding=b"1"):
-    """A PCF file of the glyphs above. Numbers and bits are stored as the words say; `swap` stores bits the other way."""
+    """A PCF file of the glyphs above. Numbers and bits are stored as the words say; `swap` stores bits the other
+    way."""
     order = ">" if is_high_first else "<"
     is_high_bit = is_high_first != swap
     kind = (4 if is_high_first else 0) | (8 if is_high_bit else 0) | pad | unit << 4
     strings = b"CHARSET_REGISTRY\0" + registry + b"\0CHARSET_ENCODING\0" + encoding + b"\0"
     value = 17
     name, one = value + len(registry) + 1, value + len(registry) + 18
-    words = struct.pack(order + "iiBiiBi", 2, 0, 1, value, name, 1, one) + b"\0\0" + struct.pack(order + "i", len(strings)) + strings
+    words = (
+        struct.pack(order + "iiBiiBi", 2, 0, 1, value, name, 1, one)
+        + b"\0\0"
+        + struct.pack(order + "i", len(strings))
+        + strings
+    )
     metrics, rows, offsets = b"", b"", []
     for glyph in GLYPHS.values():
         numbers = (glyph.left, glyph.left + glyph.wide, glyph.advance, glyph.top, len(glyph.rows) - glyph.top)
-        metrics += bytes(number + 0x80 for number in numbers) if is_compressed else struct.pack(order + "5hH", *numbers, 0)
+        metrics += (
+            bytes(number + 0x80 for number in numbers) if is_compressed else struct.pack(order + "5hH", *numbers, 0)
+        )
         offsets.append(len(rows))
-        rows += b"".join(stored(row << 8 - glyph.wide, 1 << pad, 1 << unit, is_high_bit, is_high_first) for row in glyph.rows)
+        rows += b"".join(
+            stored(row << 8 - glyph.wide, 1 << pad, 1 << unit, is_high_bit, is_high_first) for row in glyph.rows
+        )
     count = struct.pack(order + ("h" if is_compressed else "i"), len(GLYPHS))
     sizes = [len(rows) if at == pad else 0 for at in range(4)]
     bitmaps = struct.pack(order + "i3i4i", len(GLYPHS), *offsets, *sizes) + rows
@@ -110,7 +121,15 @@ def pcf(is_high_first=True, pad=2, unit=0, is_compressed=True, swap=False, regis
         indices[code] = index
     encodings = struct.pack(order + "5H", 0, 106, 0, 0, 0) + struct.pack(order + "107H", *indices)
     heights = struct.pack(order + "8Bii", 0, 0, 0, 0, 0, 0, 0, 0, 4, 1)
-    return pcf_file([(1, kind, words), (2, kind, heights), (4, kind | 0x100 * is_compressed, count + metrics), (8, kind, bitmaps), (32, kind, encodings)])
+    return pcf_file(
+        [
+            (1, kind, words),
+            (2, kind, heights),
+            (4, kind | 0x100 * is_compressed, count + metrics),
+            (8, kind, bitmaps),
+            (32, kind, encodings),
+        ]
+    )
 
 
 def stored(byte, pad, unit, is_high_bit, is_high_byte):
@@ -166,7 +185,12 @@ class Subfont:
         """The points with ink of a character, seen from the pen on the writing line."""
         x, top, bottom, left, _ = self.chars[at]
         columns = range(x, self.chars[at + 1][0])
-        return {(left + column - x, row - self.ascent) for row in range(top, bottom) for column in columns if self.point(column, row)}
+        return {
+            (left + column - x, row - self.ascent)
+            for row in range(top, bottom)
+            for column in columns
+            if self.point(column, row)
+        }
 
 
 def ink_of(glyph):
@@ -226,7 +250,10 @@ class Reading(unittest.TestCase):
         lists = [[65, 0x410]] + [[]] * 510 + [[0xFFFD, 0xFFFE, 66, 67]]
         table = b"".join(struct.pack("<H", code) for codes in lists for code in [*codes, 0xFFFF])
         face = fonts.read_face(psf1(3, table))
-        self.assertEqual({code: glyph.rows for code, glyph in face.glyphs.items()}, {65: (0, 128), 0x410: (0, 128), 0xFFFD: (255, 128), 0: (255, 128)})
+        self.assertEqual(
+            {code: glyph.rows for code, glyph in face.glyphs.items()},
+            {65: (0, 128), 0x410: (0, 128), 0xFFFD: (255, 128), 0: (255, 128)},
+        )
 
     def test_a_psf_font_of_the_second_version(self):
         face = fonts.read_face(psf2(0))
@@ -254,11 +281,20 @@ class Reading(unittest.TestCase):
 
 class Writing(unittest.TestCase):
     def test_a_subfont_byte_by_byte(self):
-        face = fonts.Face(2, 1, {65: fonts.Glyph(4, 1, 2, 2, (0b10, 0b01)), 67: fonts.Glyph(5, -1, 1, 3, (0b111, 0b101))})
+        face = fonts.Face(
+            2, 1, {65: fonts.Glyph(4, 1, 2, 2, (0b10, 0b01)), 67: fonts.Glyph(5, -1, 1, 3, (0b111, 0b101))}
+        )
         made = fonts.subfont(face, 65, 67)
-        image = b"         k1           0           0           5           3 " + bytes([0b10000000, 0b01111000, 0b00101000])
+        image = b"         k1           0           0           5           3 " + bytes(
+            [0b10000000, 0b01111000, 0b00101000]
+        )
         head = b"          3           3           2 "
-        chars = bytes([0, 0, 0, 2, 1, 4]) + bytes([2, 0, 2, 2, 0, 0]) + bytes([2, 0, 1, 3, 0xFF, 5]) + bytes([5, 0, 0, 3, 0, 0])
+        chars = (
+            bytes([0, 0, 0, 2, 1, 4])
+            + bytes([2, 0, 2, 2, 0, 0])
+            + bytes([2, 0, 1, 3, 0xFF, 5])
+            + bytes([5, 0, 0, 3, 0, 0])
+        )
         self.assertEqual(made, image + head + chars)
 
     def test_the_files_of_a_font(self):
@@ -331,7 +367,12 @@ class Command(unittest.TestCase):
             self.assertIn("more than 67108864 bytes", self.run_font(path)[2])
 
     def test_names(self):
-        for path, name in (("/a/6x13.pcf.gz", "6x13"), ("b.BDF", "b"), ("Lat15-Fixed16.psf.gz", "Lat15-Fixed16"), (".gz", "font")):
+        for path, name in (
+            ("/a/6x13.pcf.gz", "6x13"),
+            ("b.BDF", "b"),
+            ("Lat15-Fixed16.psf.gz", "Lat15-Fixed16"),
+            (".gz", "font"),
+        ):
             self.assertEqual(fonts.name_of(path), name)
 
 

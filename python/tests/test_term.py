@@ -1,8 +1,10 @@
-"""Tests of rio9d term before a server: what a window shows of programs, and what programs get of keys, the mouse and sizes.
+"""Tests of rio9d term before a server: what a window shows of programs, and what programs get of keys, the mouse and
+sizes.
 
-The golden picture golden/term_bash.png shows the window's inside after KEYS were typed into bash. It is right by three looks: it was
-looked at by eye; it is what `golden_points` draws of ROWS, the cells that were to be there, by the text in which the font is drawn,
-and by nothing of rio9.term; and it is what the server's `screen` has. RIO9_UPDATE=1 writes it anew of what `golden_points` draws.
+The golden picture golden/term_bash.png shows the window's inside after KEYS were typed into bash. It is right by three
+looks: it was looked at by eye; it is what `golden_points` draws of ROWS, the cells that were to be there, by the text
+in which the font is drawn, and by nothing of rio9.term; and it is what the server's `screen` has. RIO9_UPDATE=1 writes
+it anew of what `golden_points` draws.
 """
 
 import contextlib
@@ -46,10 +48,15 @@ else:
     SECONDS = 20
     COLUMNS, LINES = 48, 9
     BASH = ("env", "-u", "HISTFILE", "PS1=$ ", "bash", "--norc", "--noprofile")
-    KEYS = ["echo hello, world\n", "printf '\\033[31mred \\033[1;34mblue\\033[m \\033[4mu\\033[7mr'\n", "printf '\\033[m'; seq 4\n", "cd nowhere"]
+    KEYS = [
+        "echo hello, world\n",
+        "printf '\\033[31mred \\033[1;34mblue\\033[m \\033[4mu\\033[7mr'\n",
+        "printf '\\033[m'; seq 4\n",
+        "cd nowhere",
+    ]
 
-    # The rows that are to be there behind KEYS, of which the first one has scrolled away, and the cells that have another look: row,
-    # first column, text, colour, paper, and whether it is bold or has a line beneath.
+    # The rows that are to be there behind KEYS, of which the first one has scrolled away, and the cells that have another
+    # look: row, first column, text, colour, paper, and whether it is bold or has a line beneath.
     ROWS = [
         "hello, world",
         "$ printf '\\033[31mred \\033[1;34mblue\\033[m \\033[",
@@ -131,7 +138,9 @@ else:
             self.addCleanup(self.desktop.close)
 
         def start(self, *words, columns=COLUMNS, lines=LINES):
-            running = Running(self.address, *FONT, "--at", "4,4", "--columns", str(columns), "--rows", str(lines), *words)
+            running = Running(
+                self.address, *FONT, "--at", "4,4", "--columns", str(columns), "--rows", str(lines), *words
+            )
             end = time.monotonic() + SECONDS
             while running.thread.is_alive() and not self.desktop.numbers() and time.monotonic() < end:
                 time.sleep(0.02)
@@ -209,7 +218,7 @@ else:
             return [*rows, *[""] * (LINES - len(rows))]
 
         def test_a_selection_goes_to_snarf_and_is_put_in(self):
-            self.start("--hold", "--", "sh", "-c", "echo one two; echo three; read line; echo \"<$line>\"")
+            self.start("--hold", "--", "sh", "-c", 'echo one two; echo three; read line; echo "<$line>"')
             self.shows(self.rows("one two", "three"), self.cursor(2, 0))
             at = lambda row, column: (10 + column * WIDE + 2, 10 + row * HIGH + 4)  # noqa: E731
             self.desktop.drag(at(0, 4), at(1, 1))
@@ -227,7 +236,8 @@ else:
             self.desktop.write("wctl", b"delete -id 1")
 
         def test_a_program_gets_the_mouse_and_the_wheel(self):
-            script = "stty raw -echo; printf '\\033[?1000h\\033[?1006h'; head -c 18 | cat -v; printf '\\033[?1000l\\033[?1049h\\033[H'; head -c 9 | cat -v"
+            first = "stty raw -echo; printf '\\033[?1000h\\033[?1006h'; head -c 18 | cat -v"
+            script = f"{first}; printf '\\033[?1000l\\033[?1049h\\033[H'; head -c 9 | cat -v"
             self.start("--hold", "--", "sh", "-c", script)
             time.sleep(1)
             self.desktop.click(10 + 3 * WIDE, 10 + 2 * HIGH)
@@ -249,11 +259,17 @@ else:
 
         def test_much_output_is_taken_in_time(self):
             with tempfile.NamedTemporaryFile("w") as file:
-                file.write("".join(f"{number:5} the quick brown fox jumps over the lazy dog {number}\n" for number in range(10000)))
+                file.write(
+                    "".join(
+                        f"{number:5} the quick brown fox jumps over the lazy dog {number}\n" for number in range(10000)
+                    )
+                )
                 file.flush()
                 begin = time.monotonic()
                 running = self.start("--hold", "--", "cat", file.name)
-                rows = [f"{number:5} the quick brown fox jumps over the lazy dog"[:COLUMNS] for number in range(9992, 10000)]
+                rows = [
+                    f"{number:5} the quick brown fox jumps over the lazy dog"[:COLUMNS] for number in range(9992, 10000)
+                ]
                 shown = golden_points(self.wrapped(9996), [], COLUMNS, LINES)
                 found = self.wait_until(shown, self.points)
                 taken = time.monotonic() - begin
@@ -264,7 +280,9 @@ else:
 
         def wrapped(self, first):
             """The last rows of such output, whose lines take two rows each."""
-            lines = [f"{number:5} the quick brown fox jumps over the lazy dog {number}" for number in range(first, 10000)]
+            lines = [
+                f"{number:5} the quick brown fox jumps over the lazy dog {number}" for number in range(first, 10000)
+            ]
             return [part for line in lines for part in (line[:COLUMNS], line[COLUMNS:])] + [""]
 
     @needs_program
@@ -284,7 +302,9 @@ else:
             self.shows([""] * 9, [(0, 0, " ", PAPER, INK, "")])
             self.server.process.kill()
             self.assertEqual(running.ended(), 1)
-            self.assertRegex(running.err.getvalue(), "^rio9d term: the (server ended the session|connection ended.*)\n$")
+            self.assertRegex(
+                running.err.getvalue(), "^rio9d term: the (server ended the session|connection ended.*)\n$"
+            )
 
         def test_what_is_told_of_wrong_words(self):
             for words, status, told in (
@@ -295,7 +315,11 @@ else:
                 (("--columns", "400", "--rows", "10", "--", "true"), 1, "400 by 10 cells take"),
                 (("--columns", "1", "--", "true"), 2, "no number from 2 to 500: 1"),
                 (("--at", "5", "--", "true"), 2, "no point, as 16,16: 5"),
-                (("--at", "99999,0", "--columns", "9", "--rows", "9", "--", "/etc/passwd"), 2, "no command: /etc/passwd"),
+                (
+                    ("--at", "99999,0", "--columns", "9", "--rows", "9", "--", "/etc/passwd"),
+                    2,
+                    "no command: /etc/passwd",
+                ),
             ):
                 running = Running(self.address, *words)
                 self.assertEqual(running.ended(), status, words)
@@ -319,7 +343,16 @@ else:
             self.assertEqual(running.ended(), 0)
 
         def test_it_is_a_command_that_a_signal_ends(self):
-            words = [sys.executable, str(PYTHON / "rio9d"), "term", self.address, "--", "sh", "-c", "echo $$ > $0; sleep 100"]
+            words = [
+                sys.executable,
+                str(PYTHON / "rio9d"),
+                "term",
+                self.address,
+                "--",
+                "sh",
+                "-c",
+                "echo $$ > $0; sleep 100",
+            ]
             with tempfile.TemporaryDirectory() as room:
                 path = pathlib.Path(room, "pid")
                 running = subprocess.Popen([*words, str(path)], stderr=subprocess.PIPE)
@@ -364,7 +397,9 @@ else:
                     window.mouse_of(data)
             with self.assertRaises(client.Broken):
                 window.place_of(b"          1 " * 12, 6, 10)
-            ctl = b"".join(field.rjust(11) + b" " for field in (b"1", b"1", b"k8", b"0", b"0", b"0", b"20", b"20", *[b"0"] * 4))
+            ctl = b"".join(
+                field.rjust(11) + b" " for field in (b"1", b"1", b"k8", b"0", b"0", b"0", b"20", b"20", *[b"0"] * 4)
+            )
             self.assertEqual(window.place_of(ctl, 6, 10), paint.Place(0x38, (4, 4, 16, 16), 6, 6, 2, 1))
 
 

@@ -63,15 +63,34 @@ else:
                     stream.feed(text)
                     rows = [[other.buffer[y][x] for x in range(other.columns)] for y in range(other.lines)]
                     self.assertEqual([self.cells.row(y) for y in range(other.lines)], rows, (seed, step, text))
-                    self.assertEqual((self.cells.cursor.x, self.cells.cursor.y), (other.cursor.x, other.cursor.y), (seed, step, text))
+                    self.assertEqual(
+                        (self.cells.cursor.x, self.cells.cursor.y), (other.cursor.x, other.cursor.y), (seed, step, text)
+                    )
 
     class Sequences(Cases):
         def test_junk_is_taken(self):
             chance = random.Random(1)
             for _ in range(100):
                 self.begin()
-                pieces = [b"\x1b", b"\x1b[", b"[", b";", b"?", b"9999", b"m", b"\x1b]", b"\x07", b"\x1bP", b"\xff", b"\xc2\xb9", b"\xe4\xb8\xad", b"\xcc\x81"]
-                self.feed(b"".join(chance.choice(pieces) if chance.randrange(2) else chance.randbytes(1) for _ in range(300)))
+                pieces = [
+                    b"\x1b",
+                    b"\x1b[",
+                    b"[",
+                    b";",
+                    b"?",
+                    b"9999",
+                    b"m",
+                    b"\x1b]",
+                    b"\x07",
+                    b"\x1bP",
+                    b"\xff",
+                    b"\xc2\xb9",
+                    b"\xe4\xb8\xad",
+                    b"\xcc\x81",
+                ]
+                self.feed(
+                    b"".join(chance.choice(pieces) if chance.randrange(2) else chance.randbytes(1) for _ in range(300))
+                )
                 self.assertTrue(0 <= self.cells.cursor.y < 6 and 0 <= self.cells.cursor.x <= 20)
                 self.assertEqual({len(self.cells.row(y)) for y in range(6)}, {20})
 
@@ -84,10 +103,10 @@ else:
 
         def test_sequences_that_are_left_out_print_nothing(self):
             for text in (
-                "\x1b]0;title\x07", "\x1b]2;title\x1b\\", "\x1b]10;?\x07", "\x1bP+q544e\x1b\\", "\x1b_Gx\x1b\\", "\x1bkname\x1b\\", "\x1b[>4;2m",
-                "\x1b[>c", "\x1b[?2026$p", "\x1b[!p", "\x1b[2 q", "\x1b[4:3m", "\x1b[=1c", "\x1b]R", "\x1b]P1234567", "\x1b%G", "\x1b=", "\x1b>",
-                "\x1b[?1049h", "\x1b[?3h", "\x1b[22;0;0t", "\x9b", "\x1b[58:2::1:2:3m",
-            ):  # fmt: skip
+                *("\x1b]0;title\x07", "\x1b]2;title\x1b\\", "\x1b]10;?\x07", "\x1bP+q544e\x1b\\", "\x1b_Gx\x1b\\", "\x1bkname\x1b\\"),
+                *("\x1b[>4;2m", "\x1b[>c", "\x1b[?2026$p", "\x1b[!p", "\x1b[2 q", "\x1b[4:3m", "\x1b[=1c", "\x1b]R", "\x1b]P1234567"),
+                *("\x1b%G", "\x1b=", "\x1b>", "\x1b[?1049h", "\x1b[?3h", "\x1b[22;0;0t", "\x9b", "\x1b[58:2::1:2:3m"),
+            ):
                 self.begin()
                 self.feed(text + "x")
                 self.assertEqual(self.rows(), ["x", "", "", "", "", ""], repr(text))
@@ -102,7 +121,9 @@ else:
                 for at in range(0, len(data), step):
                     self.feed(data[at : at + step])
                 self.assertEqual(self.rows()[0], "abcde\u4e2df")
-                self.assertEqual((self.cells.title, self.cells.cursor.hidden, self.cells.row(0)[1].fg), ("the title", True, "red"))
+                self.assertEqual(
+                    (self.cells.title, self.cells.cursor.hidden, self.cells.row(0)[1].fg), ("the title", True, "red")
+                )
 
         def test_an_endless_string_does_not_hold_all_back(self):
             self.begin()
@@ -170,7 +191,10 @@ else:
         def test_marks_go_over_the_character_before(self):
             self.begin()
             self.feed("e\u0301\u4e2d\u0308x\u0308\u0307\x1b[1;1H\u0301")
-            self.assertEqual([cell.data for cell in self.cells.row(0)[:4]], ["\u00e9", "\u4e2d\u0308", "", "x\u0308\u0307".replace("x\u0308", "\u1e8d")])
+            self.assertEqual(
+                [cell.data for cell in self.cells.row(0)[:4]],
+                ["\u00e9", "\u4e2d\u0308", "", "x\u0308\u0307".replace("x\u0308", "\u1e8d")],
+            )
             self.feed("\x1b[2;2Ha" + "\u0308" * 100)
             self.assertLessEqual(len(self.cells.row(1)[1].data), 16)
 

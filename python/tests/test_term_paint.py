@@ -1,4 +1,5 @@
-"""Tests of rio9.term.paint, glyphs and keys: draw messages by a small display that is drawn here, and what keys and the mouse send."""
+"""Tests of rio9.term.paint, glyphs and keys: draw messages by a small display that is drawn here, and what keys and
+the mouse send."""
 
 import pathlib
 import random
@@ -24,7 +25,10 @@ else:
 
     DRAWN = font.read_font(pathlib.Path(font.DRAWN).read_text())
     # Characters of 3 by 4 points, each of which has other points with ink; the blank has none.
-    POINTS = {code: (code & 7, code >> 3 & 7, code >> 6 & 7, code >> 9) if code != ord(" ") else (0, 0, 0, 0) for code in range(32, 2600)}
+    POINTS = {
+        code: (code & 7, code >> 3 & 7, code >> 6 & 7, code >> 9) if code != ord(" ") else (0, 0, 0, 0)
+        for code in range(32, 2600)
+    }
     SMALL = fonts.Face(3, 1, {code: fonts.Glyph(3, 0, 3, 3, rows) for code, rows in POINTS.items()})
     LEFT, TOP, EDGE = 7, 5, 3  # where the cells begin in the window's image, and how wide its margin is
 
@@ -78,7 +82,10 @@ else:
             assert target == 1 and self.images[mask] == 0xFFFFFF and len(body) == 44
             points = [(at, down) for at in range(left, right) for down in range(top, bottom)]
             assert all(point in self.window for point in points)
-            found = [self.window[x + at - left, y + down - top] if source == 1 else self.images[source] for at, down in points]
+            found = [
+                self.window[x + at - left, y + down - top] if source == 1 else self.images[source]
+                for at, down in points
+            ]
             self.window.update(zip(points, found))
 
         def x(self, body):
@@ -93,7 +100,9 @@ else:
                     for down in range(lower - upper):
                         point = (x + at, y - self.ascent + down)
                         if left <= point[0] < right and top <= point[1] < bottom:
-                            self.window[point] = self.images[ink if self.images[number][begin + at, upper + down] else paper]
+                            self.window[point] = self.images[
+                                ink if self.images[number][begin + at, upper + down] else paper
+                            ]
                 x += wide
 
         def v(self, body):
@@ -120,7 +129,10 @@ else:
         def cell(self, y, x):
             """The points of a cell, as rows of colours."""
             left, top = LEFT + x * self.shape.width, TOP + y * self.shape.height
-            return [[self.display.window[left + at, top + down] for at in range(self.shape.width)] for down in range(self.shape.height)]
+            return [
+                [self.display.window[left + at, top + down] for at in range(self.shape.width)]
+                for down in range(self.shape.height)
+            ]
 
         def wanted(self, text, ink=paint.INK, paper=paint.PAPER):
             """The points of a character of the drawn font, as its text has it."""
@@ -147,7 +159,9 @@ else:
             self.assertEqual(self.cell(0, 2), self.wanted("c", 0x010203))
             self.assertEqual(self.cell(0, 3), self.wanted("d", paper=0xFF0000))
             self.assertEqual(self.cell(0, 4), self.wanted("e"))
-            self.assertEqual({point for row in self.cell(0, 5) for point in row}, {ink["cyan"], paint.COLOURS["green"][0]})
+            self.assertEqual(
+                {point for row in self.cell(0, 5) for point in row}, {ink["cyan"], paint.COLOURS["green"][0]}
+            )
 
         def test_lines_under_and_through(self):
             self.begin()
@@ -184,7 +198,9 @@ else:
             self.assertEqual([at for at in range(high) if right[at][wide - 2] == paint.INK], list(range(1, high - 1)))
             self.assertEqual(left[1][1:] + right[1][: wide - 1], [paint.INK] * (2 * wide - 2))
             box = self.cell(0, 2)
-            self.assertEqual((box[1][1], box[1][wide - 2], box[0][1], box[2][2]), (paint.INK, paint.INK, paint.PAPER, paint.PAPER))
+            self.assertEqual(
+                (box[1][1], box[1][wide - 2], box[0][1], box[2][2]), (paint.INK, paint.INK, paint.PAPER, paint.PAPER)
+            )
             self.show("\x1b[1;1Hab")
             self.assertEqual((self.cell(0, 0), self.cell(0, 1)), (self.wanted("a"), self.wanted("b")))
 
@@ -229,8 +245,14 @@ else:
                 self.begin(chance.randrange(2, 14), chance.randrange(2, 6), glyphs.Glyphs(SMALL))
                 for _ in range(12):
                     text = "".join(self.made(chance) for _ in range(chance.randrange(12)))
-                    cursor = (chance.randrange(self.cells.lines), chance.randrange(self.cells.columns)) if chance.randrange(2) else None
-                    points = sorted((chance.randrange(self.cells.lines), chance.randrange(self.cells.columns)) for _ in range(2))
+                    cursor = (
+                        (chance.randrange(self.cells.lines), chance.randrange(self.cells.columns))
+                        if chance.randrange(2)
+                        else None
+                    )
+                    points = sorted(
+                        (chance.randrange(self.cells.lines), chance.randrange(self.cells.columns)) for _ in range(2)
+                    )
                     selected = tuple(points) if chance.randrange(3) == 0 else None
                     self.show(text, cursor, selected)
                     window = self.display.window
@@ -250,8 +272,38 @@ else:
 
         def made(self, chance):
             return chance.choice(
-                ["ab", "X", "  ", "\u4e2d", "\r\n", "\n", "\n\n", "\x1bM", "\x1b[H", "\x1b[2;1H", "\x1b[31m", "\x1b[7m", "\x1b[0m", "\x1b[4m", "\x1b[9m"]
-                + ["\x1b[L", "\x1b[2M", "\x1b[K", "\x1b[J", "\x1b[1;2r", "\x1b[r", "\x1b[S", "\x1b[T", "\x1b[P", "\x1b[@", "\x1b[44m", "\x1b[?1049h", "\x1b[?1049l"]
+                [
+                    "ab",
+                    "X",
+                    "  ",
+                    "\u4e2d",
+                    "\r\n",
+                    "\n",
+                    "\n\n",
+                    "\x1bM",
+                    "\x1b[H",
+                    "\x1b[2;1H",
+                    "\x1b[31m",
+                    "\x1b[7m",
+                    "\x1b[0m",
+                    "\x1b[4m",
+                    "\x1b[9m",
+                ]
+                + [
+                    "\x1b[L",
+                    "\x1b[2M",
+                    "\x1b[K",
+                    "\x1b[J",
+                    "\x1b[1;2r",
+                    "\x1b[r",
+                    "\x1b[S",
+                    "\x1b[T",
+                    "\x1b[P",
+                    "\x1b[@",
+                    "\x1b[44m",
+                    "\x1b[?1049h",
+                    "\x1b[?1049l",
+                ]
             )
 
     class Faces(unittest.TestCase):
@@ -282,11 +334,32 @@ else:
 
     class Keys(unittest.TestCase):
         def test_keys(self):
-            told = {"a": "a", "\n": "\r", "\b": "\x7f", "\x7f": "\x1b[3~", "\uf00e": "\x1b[A", "\uf001": "\x1bOP", "\uf00c": "\x1b[24~", "\uf015": ""}
-            told.update({"\x03": "\x03", "é": "é", "\uf00d": "\x1b[1~", "\uf018": "\x1b[4~", "\uf00f": "\x1b[5~", "\uf013": "\x1b[6~", "\uf014": "\x1b[2~"})
+            told = {
+                "a": "a",
+                "\n": "\r",
+                "\b": "\x7f",
+                "\x7f": "\x1b[3~",
+                "\uf00e": "\x1b[A",
+                "\uf001": "\x1bOP",
+                "\uf00c": "\x1b[24~",
+                "\uf015": "",
+            }
+            told.update(
+                {
+                    "\x03": "\x03",
+                    "é": "é",
+                    "\uf00d": "\x1b[1~",
+                    "\uf018": "\x1b[4~",
+                    "\uf00f": "\x1b[5~",
+                    "\uf013": "\x1b[6~",
+                    "\uf014": "\x1b[2~",
+                }
+            )
             for key, text in told.items():
                 self.assertEqual(keys.of_key(key, False), text, ascii(key))
-            self.assertEqual([keys.of_key(key, True) for key in "\uf00e\uf800\uf012\uf011"], ["\x1bOA", "\x1bOB", "\x1bOC", "\x1bOD"])
+            self.assertEqual(
+                [keys.of_key(key, True) for key in "\uf00e\uf800\uf012\uf011"], ["\x1bOA", "\x1bOB", "\x1bOC", "\x1bOD"]
+            )
 
         def test_what_is_put_in(self):
             self.assertEqual(keys.of_paste("a\nb\r\nc\x1b[201~", False), "a\rb\rc[201~")

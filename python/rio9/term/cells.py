@@ -1,7 +1,9 @@
-"""The cells of a terminal: what a program writes, by pyte, and by how much rows have moved since they were last painted.
+"""The cells of a terminal: what a program writes, by pyte, and by how much rows have moved since they were last
+painted.
 
-pyte takes the parameters of a control sequence as they come, and knows those of a console. What stands here keeps it from sequences
-that it would take for others, and adds the second screen, rows that move by a command, and lines as fast as `cat` writes them.
+pyte takes the parameters of a control sequence as they come, and knows those of a console. What stands here keeps it
+from sequences that it would take for others, and adds the second screen, rows that move by a command, and lines as fast
+as `cat` writes them.
 """
 
 import codecs
@@ -27,15 +29,19 @@ MOST_MOVES, MOST_PENS, MOST_SAVED, MOST_HELD = 8, 256, 16, 4096
 NOTHING = "\0"  # what does nothing, and keeps what stands before and behind it apart
 PLAIN = re.compile("[ -~]+")
 
-# Control sequences that pyte would take for others, or print: commands of the operating system (all but titles), strings of a
-# device, and those with a private mark other than `?`, with bytes between, with colons, or cut by a character that is not of ASCII.
+# Control sequences that pyte would take for others, or print: commands of the operating system (all but titles), strings
+# of a device, and those with a private mark other than `?`, with bytes between, with colons, or cut by a character that
+# is not of ASCII.
 OTHERS = re.compile(
     r"\x1b(?:\]R|\]P[0-9a-fA-F]{7}|\](?P<kind>[0-9]*);?(?P<text>[^\x07\x1b]{0,4096})(?:\x07|\x1b\\)"
     r"|[PX^_k][^\x1b]{0,4096}\x1b\\|[\]PX^_k]"
     r"|\[[\x07-\x0d -?]*(?=[^\x00-\x7f])"
     r"|\[[<=>][0-9;:]*[ -/]*[@-~]|\[[?0-9;:]*[ -/]+[@-~]|\[[?0-9;:]*:[0-9;:]*[@-~]|[ #%*+./-][ -~])|[\x80-\x9f]"
 )
-UNFINISHED = re.compile(r"\x1b(?:\[[\x07-\x0d -?]*|\](?!R|P[0-9a-fA-F]{7})[^\x07\x1b]{0,4096}\x1b?|[PX^_k][^\x1b]{0,4096}\x1b?|[ #%*+./()-])?\Z")
+UNFINISHED = re.compile(
+    r"\x1b(?:\[[\x07-\x0d -?]*|\](?!R|P[0-9a-fA-F]{7})[^\x07\x1b]{0,4096}\x1b?"
+    r"|[PX^_k][^\x1b]{0,4096}\x1b?|[ #%*+./()-])?\Z"
+)
 
 
 class Pen(Dict[str, Any]):
@@ -72,7 +78,9 @@ class Cells(pyte.Screen):  # type: ignore[misc]
         self.moves: List[Move] = []
         self.answers: List[str] = []
         self.pens: Dict[Any, Pen] = {}
-        self.first: Optional[Tuple[Any, Any]] = None  # the rows and the cursor of the first screen while the second one shows
+        self.first: Optional[
+            Tuple[Any, Any]
+        ] = None  # the rows and the cursor of the first screen while the second one shows
         super().__init__(columns, lines)
 
     # Writing.
@@ -285,7 +293,8 @@ class Cells(pyte.Screen):  # type: ignore[misc]
         super().reset()
 
     def resize(self, lines: Optional[int] = None, columns: Optional[int] = None) -> None:
-        """Gives the terminal another size. Rows go at its upper edge only if the cursor would else be below its lower one."""
+        """Gives the terminal another size. Rows go at its upper edge only if the cursor would else be below its
+        lower one."""
         lines, columns = lines or self.lines, columns or self.columns
         self.set_margins()
         extra = self.cursor.y - lines + 1
@@ -337,7 +346,8 @@ def taken(function: Callable[..., Any]) -> Tuple[int, bool]:
 
 
 def guarded(cells: Cells, event: str) -> Callable[..., None]:
-    """What does an event by a method of cells: with no more parameters than it takes, and not with a mark that it does not know."""
+    """What does an event by a method of cells: with no more parameters than it takes, and not with a mark that it
+    does not know."""
     most, takes_mark = taken(getattr(type(cells), event))
     method = getattr(cells, event)
 
@@ -351,7 +361,14 @@ def guarded(cells: Cells, event: str) -> Callable[..., None]:
 class Stream(pyte.Stream):  # type: ignore[misc]
     """A reader of what a program writes, for cells."""
 
-    csi = {**pyte.Stream.csi, "S": "scroll_up", "T": "scroll_down", "Z": "back_tab", "s": "save_cursor", "u": "restore_cursor"}
+    csi = {
+        **pyte.Stream.csi,
+        "S": "scroll_up",
+        "T": "scroll_down",
+        "Z": "back_tab",
+        "s": "save_cursor",
+        "u": "restore_cursor",
+    }
     events = pyte.Stream.events | {"scroll_up", "scroll_down", "back_tab"}
 
     def __init__(self, cells: Cells):

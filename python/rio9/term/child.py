@@ -66,7 +66,8 @@ class Child:
         fcntl.ioctl(self.master, termios.TIOCSWINSZ, struct.pack("HHHH", lines, columns, 0, 0))
 
     def read(self) -> Optional[bytes]:
-        """What the program has written since the last read: no bytes if it has gone, and None if it has written nothing."""
+        """What the program has written since the last read: no bytes if it has gone, and None if it has written
+        nothing."""
         try:
             return os.read(self.master, MOST_AT_ONCE)
         except BlockingIOError:

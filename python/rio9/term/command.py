@@ -3,19 +3,20 @@
     rio9d term
     rio9d term 127.0.0.1:5640 --columns 100 --rows 30 -- vim notes.txt
 
-The words are [HOST:PORT] [OPTION..] [-- COMMAND [WORD..]]. HOST:PORT is 127.0.0.1:5640 if nothing is said, and COMMAND the shell
-that SHELL names. The window is as large as the display has room for, at most 80 columns and 24 rows if nothing is said. The program
-gets another size when the window does.
+The words are [HOST:PORT] [OPTION..] [-- COMMAND [WORD..]]. HOST:PORT is 127.0.0.1:5640 if nothing is said, and COMMAND
+the shell that SHELL names. The window is as large as the display has room for, at most 80 columns and 24 rows if
+nothing is said. The program gets another size when the window does.
 
-Keys go to the program as typed, and the mouse too if it asks for it. Else the first button selects a text, which goes to the snarf
-buffer, and the second one types what is there. The terminal's kind is tmux-256color.
+Keys go to the program as typed, and the mouse too if it asks for it. Else the first button selects a text, which goes
+to the snarf buffer, and the second one types what is there. The terminal's kind is tmux-256color.
 
-The font is Debian's misc-fixed 7x13 (xfonts-base), or the one of rio9/font.txt if that is not there. --font takes a file in BDF, PCF
-or PSF whose characters have one width, or the name of one of xfonts-base, as 9x15. A character of two cells shows as a box, and so
-does one that the font does not have.
+The font is Debian's misc-fixed 7x13 (xfonts-base), or the one of rio9/font.txt if that is not there. --font takes a
+file in BDF, PCF or PSF whose characters have one width, or the name of one of xfonts-base, as 9x15. A character of two
+cells shows as a box, and so does one that the font does not have.
 
-The status is that of COMMAND, and 0 if its window goes before. It is 1 if the server refuses or does not answer, and 2 if a word or a
-file is wrong; one line tells why. It is outside the proof. Needs: Python 3.9 or later, pyte and wcwidth (apt: python3-pyte).
+The status is that of COMMAND, and 0 if its window goes before. It is 1 if the server refuses or does not answer, and 2
+if a word or a file is wrong; one line tells why. It is outside the proof. Needs: Python 3.9 or later, pyte and wcwidth
+(apt: python3-pyte).
 """
 
 import argparse
@@ -59,13 +60,28 @@ def place_of(text: str) -> Tuple[int, int]:
 def parser_of() -> argparse.ArgumentParser:
     """The reader of the words before `--`."""
     parser = formats.Words(prog="rio9d term", description=__doc__, formatter_class=argparse.RawDescriptionHelpFormatter)
-    parser.add_argument("address", nargs="?", type=client.address_of, default=ADDRESS, metavar="HOST:PORT", help="where the server listens")
-    parser.add_argument("--columns", type=count_of(2, MOST_COLUMNS), metavar="N", help="how many characters stand in a row")
+    parser.add_argument(
+        "address",
+        nargs="?",
+        type=client.address_of,
+        default=ADDRESS,
+        metavar="HOST:PORT",
+        help="where the server listens",
+    )
+    parser.add_argument(
+        "--columns", type=count_of(2, MOST_COLUMNS), metavar="N", help="how many characters stand in a row"
+    )
     parser.add_argument("--rows", type=count_of(1, MOST_LINES), metavar="N", help="how many rows there are")
-    parser.add_argument("--at", type=place_of, default=PLACE, metavar="X,Y", help="where the window's upper left corner is")
+    parser.add_argument(
+        "--at", type=place_of, default=PLACE, metavar="X,Y", help="where the window's upper left corner is"
+    )
     parser.add_argument("--font", metavar="FILE", help="the font")
-    parser.add_argument("--hold", action="store_true", help="the window stays when the program has ended, until it is deleted")
-    parser.add_argument("--seconds", type=client.seconds_of, default=client.SECONDS, metavar="S", help="how long an answer may take")
+    parser.add_argument(
+        "--hold", action="store_true", help="the window stays when the program has ended, until it is deleted"
+    )
+    parser.add_argument(
+        "--seconds", type=client.seconds_of, default=client.SECONDS, metavar="S", help="how long an answer may take"
+    )
     parser.add_argument("--term", default=TERMINAL, metavar="NAME", help="the terminal's kind that the program is told")
     return parser
 
@@ -81,7 +97,9 @@ def split(words: List[str]) -> Tuple[List[str], List[str]]:
 def size_of(options: argparse.Namespace, shape: glyphs.Glyphs, display: List[int]) -> Tuple[int, int]:
     """How many columns and rows the window has: what the words say, or what the display has room for."""
     edge = 2 * (window.BORDER + window.MARGIN)
-    room = [(side - max(at, 0) - edge) // cell for side, at, cell in zip(display, options.at, (shape.width, shape.height))]
+    room = [
+        (side - max(at, 0) - edge) // cell for side, at, cell in zip(display, options.at, (shape.width, shape.height))
+    ]
     columns = options.columns or max(min(COLUMNS, room[0]), window.LEAST_COLUMNS)
     return columns, options.rows or max(min(LINES, room[1]), window.LEAST_LINES)
 
@@ -91,7 +109,9 @@ def rectangle(options: argparse.Namespace, shape: glyphs.Glyphs, columns: int, l
     edge = 2 * (window.BORDER + window.MARGIN)
     wide, high = columns * shape.width + edge, lines * shape.height + edge
     if max(wide, high) > MOST_SIDE:
-        raise client.Failure(f"{columns} by {lines} cells take {wide} by {high} points, and a window has at most {MOST_SIDE}: name fewer")
+        raise client.Failure(
+            f"{columns} by {lines} cells take {wide} by {high} points, and a window has at most {MOST_SIDE}: name fewer"
+        )
     x, y = options.at
     return f"-r {x} {y} {x + wide} {y + high}"
 

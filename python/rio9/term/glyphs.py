@@ -32,7 +32,8 @@ class Glyphs:
         return fonts.rows_of_bits(rows, self.width)
 
     def rows(self, text: str, is_bold: bool) -> List[int]:
-        """The rows of a character: of the bold font, or of the other one, made bold by a second stroke beside the first."""
+        """The rows of a character: of the bold font, or of the other one, made bold by a second stroke beside the
+        first."""
         code = ord(text) if len(text) == 1 else None
         if code is not None and is_bold and self.bold and code in self.bold.glyphs:
             return self.bold.cell(self.bold.glyphs[code], self.width)
@@ -67,7 +68,8 @@ def bold_of(path: str) -> str:
 
 
 def load(path: Optional[str]) -> Glyphs:
-    """The bitmaps of a font: of the one that is named, else Debian's misc-fixed one, else the one that is drawn in rio9/font.txt."""
+    """The bitmaps of a font: of the one that is named, else Debian's misc-fixed one, else the one that is drawn in
+    rio9/font.txt."""
     if path is None:
         path = found(USUAL) if os.path.exists(found(USUAL)) else font.DRAWN
     path = found(path)

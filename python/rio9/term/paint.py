@@ -1,5 +1,5 @@
-"""Draw messages (draw(3)) that make a window show cells: only what has changed, by strings of a font that is made as it is needed,
-and rows that moved by one drawing of the window onto itself.
+"""Draw messages (draw(3)) that make a window show cells: only what has changed, by strings of a font that is made as it
+is needed, and rows that moved by one drawing of the window onto itself.
 """
 
 import re
@@ -90,7 +90,9 @@ def inverse(look: Look) -> Look:
 def allocate(number: int, chan: int, is_repeated: bool, size: Tuple[int, int], colour: int) -> bytes:
     """`b`: an image."""
     box = (0, 0, *size)
-    return struct.pack("<cIIBIB4i4iI", b"b", number, 0, 0, chan, is_repeated, *box, *(FAR if is_repeated else box), colour << 8 | 0xFF)
+    return struct.pack(
+        "<cIIBIB4i4iI", b"b", number, 0, 0, chan, is_repeated, *box, *(FAR if is_repeated else box), colour << 8 | 0xFF
+    )
 
 
 def free(number: int) -> bytes:
@@ -124,7 +126,8 @@ FLUSH = b"v"
 
 @dataclass(frozen=True)
 class Place:
-    """Where cells stand in a window's image: its channels, its inside, and the cells' upper left corner and their count."""
+    """Where cells stand in a window's image: its channels, its inside, and the cells' upper left corner and their
+    count."""
 
     chan: int
     inside: Box
@@ -172,8 +175,14 @@ class Painter:
 
     # A frame.
 
-    def frame(self, cells: Cells, cursor: Optional[Tuple[int, int]], selected: Optional[Tuple[Tuple[int, int], Tuple[int, int]]]) -> List[bytes]:
-        """The messages that paint what has changed, with a cursor at a row and a column and what is selected between two."""
+    def frame(
+        self,
+        cells: Cells,
+        cursor: Optional[Tuple[int, int]],
+        selected: Optional[Tuple[Tuple[int, int], Tuple[int, int]]],
+    ) -> List[bytes]:
+        """The messages that paint what has changed, with a cursor at a row and a column and what is selected between
+        two."""
         for move in cells.moves:
             self.move(move)
         cells.moves.clear()
@@ -265,7 +274,9 @@ class Painter:
         wide, high = self.glyphs.width, self.glyphs.height
         left = index * wide
         self.out.append(struct.pack("<cI4i", b"y", SCRATCH, 0, 0, wide, high) + self.glyphs.bitmap(shape))
-        self.out.append(struct.pack("<cIIH4i2ibB", b"l", FONT, SCRATCH, index, left, 0, left + wide, high, 0, 0, 0, wide))
+        self.out.append(
+            struct.pack("<cIIH4i2ibB", b"l", FONT, SCRATCH, index, left, 0, left + wide, high, 0, 0, 0, wide)
+        )
         return index
 
     def colour(self, rgb: int) -> int:

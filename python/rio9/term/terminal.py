@@ -1,4 +1,5 @@
-"""A terminal: a program, its cells, and the window that shows them, each of which is attended to when it has something."""
+"""A terminal: a program, its cells, and the window that shows them, each of which is attended to when it has
+something."""
 
 import selectors
 import time
@@ -39,8 +40,8 @@ class Terminal:
         self.settle()
 
     def run(self, holds: bool) -> bool:
-        """Attends to all of it until the program has gone, or, if the window is held, until that has. Tells whether the program has
-        gone by itself."""
+        """Attends to all of it until the program has gone, or, if the window is held, until that has. Tells whether
+        the program has gone by itself."""
         try:
             while not self.is_over or holds or self.waits_since is not None:
                 self.attend()

@@ -1,4 +1,5 @@
-"""A window of a served desktop, as a session that waits for several files at once and draws without waiting for each answer."""
+"""A window of a served desktop, as a session that waits for several files at once and draws without waiting for each
+answer."""
 
 import time
 from collections import deque
