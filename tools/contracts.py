@@ -29,22 +29,28 @@ import tempfile
 from collections import Counter, defaultdict
 from collections.abc import Callable, Hashable, Iterator
 from contextlib import contextmanager
-from dataclasses import dataclass
+from dataclasses import dataclass, field
+from functools import lru_cache
 
-from sources import Item, Source, files_of, read_antt, read_rt
+from names import Lost, Node, Tree, Uses, names_in_code, shown_to_proofs
+from sources import Declared, Item, files_of, normal, read_antt, read_rt
 
 CALL, LAW, TYPE, WORD, LEMMA = "call", "law", "type", "word", "lemma"
 KINDS = [CALL, LAW, TYPE, WORD, LEMMA]
 
+# A name, the place of what it stands for, and the text of that.
+Meaning = tuple[str, str, str]
+
 
 @dataclass(frozen=True)
 class Thing:
-    """One thing that is compared. `parts` are its head and clauses."""
+    """One thing that is compared. `parts` are its head and clauses, and `meant` is what names in them stand for."""
 
     kind: str
     place: str
     name: str
     parts: tuple[str, ...]
+    meant: tuple[Meaning, ...] = field(default=(), compare=False)
 
     @property
     def full(self) -> str:
@@ -125,29 +131,64 @@ def functions(items: list[Item], names: set[str], is_trait: bool = False) -> Ite
             yield from functions(item.inner, names)
 
 
-def things_of(root: str, moved: Map) -> list[Thing]:
-    """All things of a tree."""
-    found: list[Thing] = []
-    names: dict[str, set[str]] = {}
+class Contents:
+    """Gathers the things of a tree."""
 
-    def add(kind: str, crate: str, path: str, name: str, parts: tuple[str, ...]) -> None:
-        steps = os.path.splitext(path)[0].split(f"/crates/{crate}/", 1)[1].split("/")[1:]
-        found.append(Thing(kind, moved.place(crate, steps), name, tuple(moved.text(crate, part) for part in parts)))
+    def __init__(self, root: str, moved: Map) -> None:
+        self.root, self.moved = root, moved
+        self.uses = Uses(Tree(root))
+        self.meaning = lru_cache(maxsize=None)(self.read_meaning)
+        self.found: list[Thing] = []
 
-    for crate, path in files_of(root, "src", ".rt"):
-        names.setdefault(crate, exported(root, crate))
-        source: Source = read_rt(path)
-        for kind, name, parts in functions(source.items, names[crate]):
-            add(kind, crate, path, name, parts)
-    for crate, path in files_of(root, "specs", ".antt"):
-        for word in read_antt(path).declared:
-            add(WORD, crate, path, word.name, (" ".join(f"{word.around} {word.text}".split()),))
-    for crate, path in files_of(root, "proofs", ".antt"):
-        for lemma in read_antt(path).declared:
-            if lemma.is_public:
-                text = lemma.statement
-                add(LEMMA, crate, path, lemma.name, (" ".join(f"{lemma.around} {text}".split()),))
-    return found
+    def place(self, file: str) -> str:
+        _, crate, _, *steps = os.path.splitext(file)[0].split("/")
+        return self.moved.place(crate, steps)
+
+    def read_meaning(self, node: Node) -> tuple[str, str]:
+        """The place of a definition, and its text."""
+        path = f"{self.root}/{node.file}"
+        if node.file.endswith(".antt"):
+            texts = [f"{it.around} {it.text}" for it in read_antt(path).declared if it.name == node.name]
+        else:
+            texts = shown_to_proofs(read_rt(path).items, node.name)
+        return f"{self.place(node.file)}::{node.name}", self.moved.text(node.file.split("/")[1], normal(" ".join(texts)))
+
+    def meanings(self, names: Callable[[], dict[str, Node]]) -> tuple[Meaning, ...]:
+        """What names stand for; a name that stands for nothing leaves out those that stand beside it."""
+        try:
+            return tuple((name, *self.meaning(node)) for name, node in sorted(names().items()))
+        except Lost:
+            return ()
+
+    def add(self, kind: str, file: str, name: str, parts: tuple[str, ...], meant: tuple[Meaning, ...]) -> None:
+        crate = file.split("/")[1]
+        parts = tuple(self.moved.text(crate, part) for part in parts)
+        self.found.append(Thing(kind, self.place(file), name, parts, meant))
+
+    def add_declared(self, kind: str, file: str, declared: Declared, text: str) -> None:
+        meant = self.meanings(lambda: self.uses.names_of_word(file, declared, text))
+        self.add(kind, file, declared.name, (" ".join(f"{declared.around} {text}".split()),), meant)
+
+    def add_functions(self, file: str, names: set[str]) -> None:
+        for kind, name, parts in functions(read_rt(f"{self.root}/{file}").items, names):
+            texts = [names_in_code(parts[0]), *parts[1:]]
+            meant = () if kind == TYPE else self.meanings(lambda: self.uses.names_in(file, "\n".join(texts), set()))
+            self.add(kind, file, name, parts, meant)
+
+    def gather(self) -> list[Thing]:
+        """All things of the tree."""
+        names: dict[str, set[str]] = {}
+        for crate, path in files_of(self.root, "src", ".rt"):
+            names.setdefault(crate, exported(self.root, crate))
+            self.add_functions(os.path.relpath(path, self.root), names[crate])
+        for _, path in files_of(self.root, "specs", ".antt"):
+            for word in read_antt(path).declared:
+                self.add_declared(WORD, os.path.relpath(path, self.root), word, word.text)
+        for _, path in files_of(self.root, "proofs", ".antt"):
+            for lemma in read_antt(path).declared:
+                if lemma.is_public:
+                    self.add_declared(LEMMA, os.path.relpath(path, self.root), lemma, lemma.statement)
+        return self.found
 
 
 def unnamed(thing: Thing) -> tuple[str, ...]:
@@ -195,7 +236,20 @@ def compare(old: list[Thing], new: list[Thing]) -> Difference:
                 left.append(thing)
         old, new = left, [thing for others in waiting.values() for thing in others]
         pairs.append(found)
-    return Difference(len(pairs[0]), pairs[1] + pairs[3], pairs[2] + pairs[4], old, new)
+    misread = [pair for pair in pairs[0] + pairs[1] + pairs[3] if other_meanings(*pair)]
+    same, moved = ([pair for pair in found if pair not in misread] for found in (pairs[0], pairs[1] + pairs[3]))
+    return Difference(len(same), moved, pairs[2] + pairs[4] + misread, old, new)
+
+
+def other_meanings(before: Thing, after: Thing) -> list[str]:
+    """The names by which the same text says something else: what they stand for has another place, and another text."""
+    meant = {name: (place, text) for name, place, text in after.meant}
+    found = []
+    for name, place, text in before.meant:
+        other_place, other_text = meant.get(name, (place, text))
+        if place != other_place and text != other_text:
+            found.append(f"{name} was {place}, and is {other_place}")
+    return found
 
 
 def told(difference: Difference, kind: str) -> Iterator[str]:
@@ -208,6 +262,7 @@ def told(difference: Difference, kind: str) -> Iterator[str]:
         yield f"changed {kind} {before.full}{place}"
         yield from (f"    - {part}" for part in before.parts if part not in after.parts)
         yield from (f"    + {part}" for part in after.parts if part not in before.parts)
+        yield from (f"    ! {line}" for line in other_meanings(before, after))
     for before, after in difference.moved:
         yield f"moved {kind} {before.full} (now {after.full})"
     for thing in difference.added:
@@ -232,7 +287,7 @@ def tree(name: str) -> Iterator[str]:
 def show(name: str) -> int:
     """Prints the calls and laws of a tree."""
     with tree(name) as root:
-        for thing in things_of(root, Map(None)):
+        for thing in Contents(root, Map(None)).gather():
             if thing.kind in (CALL, LAW):
                 print(f"{thing.kind} {thing.full}", *(f"    {part}" for part in thing.parts), sep="\n")
     return 0
@@ -241,9 +296,9 @@ def show(name: str) -> int:
 def differ(old_name: str, new_name: str, moved: Map) -> int:
     """Prints what one tree has otherwise than another."""
     with tree(old_name) as root:
-        old = things_of(root, moved)
+        old = Contents(root, moved).gather()
     with tree(new_name) as root:
-        new = things_of(root, Map(None))
+        new = Contents(root, Map(None)).gather()
     rows: list[tuple[str, list[int]]] = []
     is_less = False
     for kind in KINDS:

@@ -232,11 +232,15 @@ class Uses:
 
     def of_text(self, file: str, text: str, bound: set[str]) -> set[Node]:
         """What a text names, but for what it binds itself."""
+        return set(self.names_in(file, text, bound).values())
+
+    def names_in(self, file: str, text: str, bound: set[str]) -> dict[str, Node]:
+        """The same, by the names in the text."""
         text = TEXT.sub('""', text)
         bound = bound | bound_by(text)
         fields = {found.start(1) for found in FIELD.finditer(text)}
         operators = self.operators(file)
-        nodes = set()
+        nodes = {}
         for found in NAME.finditer(text):
             name = found[0]
             behind_dot = found.start() > 0 and text[found.start() - 1] == "."
@@ -244,18 +248,18 @@ class Uses:
                 continue
             node = self.meaning(file, operators.get(name, name))
             if node:
-                nodes.add(node)
+                nodes[name] = node
         return nodes
 
-    def of_word(self, file: str, declared: Declared) -> set[Node]:
-        """What a definition or a lemma names."""
+    def names_of_word(self, file: str, declared: Declared, text: str) -> dict[str, Node]:
+        """What a text of a definition or a lemma names, by the names in it: its statement, or all of it."""
         around = bound_by(declared.around)
-        nodes = self.of_text(file, declared.around, set())
+        nodes = self.names_in(file, declared.around, set())
         fields = set(" ".join(RECORD_FIELD.findall(declared.text)).split())
-        for chunk in clauses_of(declared):
+        for chunk in clauses_of(declared.statement, text):
             bound = around | (fields if declared.word == "record" else self.patterns(file, chunk, declared.name))
-            nodes |= self.of_text(file, chunk, bound)
-        return nodes - {Node(file, declared.name)}
+            nodes.update(self.names_in(file, chunk, bound))
+        return {name: node for name, node in nodes.items() if node != Node(file, declared.name)}
 
     def patterns(self, file: str, chunk: str, own: str) -> set[str]:
         """The names that the left side of a clause and the cases of `elim` bind: all but those that make data."""
@@ -283,7 +287,7 @@ class Uses:
             return self.of_code(node.file, node.name)
         for declared in read_antt(f"{self.tree.root}/{node.file}").declared:
             if declared.name == node.name:
-                return self.of_word(node.file, declared)
+                return set(self.names_of_word(node.file, declared, declared.text).values())
         raise Lost(f"{node.name} in {node.file}")
 
 
@@ -296,10 +300,10 @@ def bound_by(text: str) -> set[str]:
     return {name for names in found for name in re.split(r"[\s(){}]+", names) if name}
 
 
-def clauses_of(declared: Declared) -> list[str]:
-    """The signature of a definition and its clauses."""
-    parts = [declared.statement]
-    rest = declared.text[len(declared.statement) :].split("\n")
+def clauses_of(statement: str, text: str) -> list[str]:
+    """The statement with which a text begins, and the clauses behind it."""
+    parts = [statement]
+    rest = text[len(statement) :].split("\n")
     depth = min((len(line) - len(line.lstrip()) for line in rest if line.strip()), default=0)
     for line in rest:
         if line.strip() and len(line) - len(line.lstrip()) <= depth:

@@ -6,7 +6,7 @@ ghost use Rattle.std.specs.Prelude.{◌≤◌, ◌^◌, List, All, length};
 ghost use Rattle.model_files.specs.declared.mouse.Mouse.{Mouse};
 ghost use Rattle.law_text.specs.client.Saying.{AreMessages};
 ghost use Rattle.law_desk.specs.piloted.Following.{IsEvent};
-ghost use Rattle.law_desk.specs.piloted.History.{IsPiloted};
+ghost use Rattle.model_clients.specs.piloted.History.{IsPiloted};
 ghost use Rattle.law_menus.specs.menus.Writes.{desk_history, desk_messages};
 
 /// Where the events of the mouse are on the display, and each message that a desk says is whole, its history does what they say.

@@ -1,4 +1,3 @@
 pub mod Saying
 pub mod Files
-pub mod Messages
 pub mod Pointing

@@ -15,10 +15,12 @@ ghost use Rattle.model_text.specs.text.Number.{AreBytes};
 ghost use Rattle.model_client.specs.textwin.Moves.{put_codes};
 ghost use Rattle.model_client.specs.textwin.Pieces.{pieces};
 ghost use Rattle.model_client.specs.textwin.Wrap.{blank, characters};
-ghost use Rattle.law_text.specs.page.Text.{Shape, cells, page_rect};
-ghost use Rattle.law_text.specs.page.Page.{IsShape, Numbers, page};
+ghost use Rattle.model_clients.specs.page.Text.{Shape, cells, page_rect};
+ghost use Rattle.model_clients.specs.page.Page.{page};
+ghost use Rattle.law_text.specs.page.Page.{IsShape, Numbers};
 ghost use Rattle.law_text.specs.typed.Typing.{AllFit, Piece, ShowsPage, ShowsText, text_history, text_messages};
-ghost use Rattle.law_text.specs.typed.Shown.{IsShown, pages};
+ghost use Rattle.model_clients.specs.typed.Shown.{IsShown};
+ghost use Rattle.law_text.specs.typed.Shown.{pages};
 
 /// A client that is a server's only session shows a text in a window: what it says before the first piece is answered without
 /// an error, and leaves the empty page; each piece is answered by the number of its bytes, and leaves the page after it. A page that

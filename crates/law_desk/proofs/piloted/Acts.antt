@@ -28,7 +28,8 @@ use Rattle.model_client.specs.declared.desk.Act.TheVariants.{Delete, Hide, Move,
 use Rattle.model_client.specs.declared.desk.Mode.{Mode}
 use Rattle.model_client.specs.declared.desk.Pane.{Pane}
 use Rattle.model_client.specs.desk.Table.{Desk, done, with_rect}
-use Rattle.law_desk.specs.piloted.Following.{Follows, is_free, is_over, pane_by, pane_of}
+use Rattle.model_clients.specs.piloted.Following.{pane_by, pane_of}
+use Rattle.law_desk.specs.piloted.Following.{Follows, is_free, is_over}
 use Rattle.law_desk.proofs.piloted.Panes.{IsSeen, count_more, hidden_gone, hidden_more, hidden_placed, only_seen, seen_gone, seen_hidden, seen_placed, seen_window}
 use Rattle.law_desk.proofs.piloted.Plain.{AreOwn, IsAt, are_own, current_at, follows_at, gone_at, plain, plain_is}
 

@@ -27,10 +27,12 @@ use Rattle.model_world.specs.Desktop.{Desktop, stepped, stepped_or}
 use Rattle.model_world.specs.Whole.{device_commanded}
 use Rattle.model_world.specs.Replay.{Turn, step}
 use Rattle.law_text.specs.client.Pointing.{command, pointer}
-use Rattle.law_text.specs.client.Saying.{answered, says}
+use Rattle.model_clients.specs.client.Saying.{says}
+use Rattle.law_text.specs.client.Saying.{answered}
 use Rattle.law_text.proofs.client.Pointing.{ordered}
 use Rattle.law_text.proofs.client.Saying.{stays}
-use Rattle.law_desk.specs.piloted.Following.{Follows, IsDeskIn, is_over, pane_by}
+use Rattle.model_clients.specs.piloted.Following.{pane_by}
+use Rattle.law_desk.specs.piloted.Following.{Follows, IsDeskIn, is_over}
 use Rattle.law_desk.proofs.piloted.Acts.{IsDone, delete_done, hide_done, move_done, new_done, resize_done}
 use Rattle.law_desk.proofs.piloted.Commands.{IsWord, box, delete_read, hide_read, move_read, new_read, resize_read}
 use Rattle.law_desk.proofs.piloted.Numbers.{IsChange}

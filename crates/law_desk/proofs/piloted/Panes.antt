@@ -9,7 +9,7 @@ use Rattle.model_rio.specs.rio.Step.{in_place, raised, without}
 use Rattle.model_rio.specs.rio.Sound.{window_in}
 use Rattle.law_shown.proofs.shown.Tests.{find-passes, same_Some, split}
 use Rattle.law_shown.proofs.fitting.Lists.{Apart, Each, IsOther, each_found, each_own, each_then}
-use Rattle.law_desk.specs.piloted.Following.{hidden_panes, pane_by, pane_of, seen_panes}
+use Rattle.model_clients.specs.piloted.Following.{hidden_panes, pane_by, pane_of, seen_panes}
 
 abbrev pub topmost_in : List Window → Point → Option Window
 topmost_in ws p = find (λ w. (w.host == 0) && not w.hidden && holds w.r p) ws

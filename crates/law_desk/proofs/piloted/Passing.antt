@@ -18,7 +18,8 @@ use Rattle.model_client.specs.declared.desk.Mode.TheVariants.{Idle}
 use Rattle.model_client.specs.declared.desk.Pane.{Pane}
 use Rattle.model_client.specs.desk.Table.{Desk, with_raised}
 use Rattle.model_client.specs.desk.Asked as asked
-use Rattle.law_desk.specs.piloted.Following.{Follows, hidden_panes, is_free, is_over, pane_by, pane_of, seen_panes}
+use Rattle.model_clients.specs.piloted.Following.{hidden_panes, pane_by, pane_of, seen_panes}
+use Rattle.law_desk.specs.piloted.Following.{Follows, is_free, is_over}
 use Rattle.law_desk.proofs.piloted.Plain.{IsAt, are_own, held_at, made_current, plain, plain_is}
 use Rattle.law_desk.proofs.piloted.Panes.{hidden_raised, seen_raised, top_pane, topmost_in}
 

@@ -10,7 +10,8 @@ use Rattle.model_rio.specs.rio.Sound.{IfHeld, IsSeenIn, IsSound, IsSoundRio, IsS
 use Rattle.law_shown.proofs.shown.Tests.{find-passes}
 use Rattle.law_shown.proofs.fitting.Lists.{Each, all_of, each_found, each_of, each_then}
 use Rattle.model_client.specs.desk.Table.{Desk}
-use Rattle.law_desk.specs.piloted.Following.{Follows, hidden_panes, is_free, is_over, pane_by, seen_panes}
+use Rattle.model_clients.specs.piloted.Following.{hidden_panes, pane_by, seen_panes}
+use Rattle.law_desk.specs.piloted.Following.{Follows, is_free, is_over}
 
 -- ---- a table of the root rio alone
 

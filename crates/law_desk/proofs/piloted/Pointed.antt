@@ -18,7 +18,8 @@ use Rattle.model_world.specs.Desktop.{stepped}
 use Rattle.model_world.specs.Whole.{moused}
 use Rattle.model_world.specs.Replay.{Turn, step}
 use Rattle.law_text.specs.client.Pointing.{point, pointer}
-use Rattle.law_text.specs.client.Saying.{answered, says, world_left}
+use Rattle.model_clients.specs.client.Saying.{says}
+use Rattle.law_text.specs.client.Saying.{answered, world_left}
 use Rattle.law_text.proofs.client.Pointing.{pointed}
 use Rattle.law_text.proofs.client.Saying.{stays}
 use Rattle.law_desk.specs.piloted.Following.{Follows, IsDeskIn, IsEvent}

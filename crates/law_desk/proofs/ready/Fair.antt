@@ -24,7 +24,8 @@ use Rattle.model_client.specs.declared.desk.Pane.{Pane}
 use Rattle.model_client.specs.declared.desk.Spot.{Spot}
 use Rattle.model_client.specs.desk.Table.{Desk, done, pane_at, with_raised, without}
 use Rattle.model_client.specs.desk.Asked.{after_drain, ask, asked_in, chosen, chosen_at, is_within, items, menu_rect, picked, raised, spot, swept, swept_to}
-use Rattle.law_desk.specs.piloted.Following.{is_over, pane_by}
+use Rattle.model_clients.specs.piloted.Following.{pane_by}
+use Rattle.law_desk.specs.piloted.Following.{is_over}
 use Rattle.law_desk.specs.ready.Ready.{ArePanes, IsAble, IsOnDisplay, IsThere, awaited}
 use Rattle.law_desk.proofs.ready.Lists.{IsOne, one_less, one_of}
 use Rattle.law_desk.proofs.ready.Places.{IsBox, IsStep, menu_box, shifted_fits, step_between, swept_box, window_box}

@@ -5,7 +5,7 @@ use Rattle.model_files.specs.wctl.Rectangle.{is_window}
 use Rattle.law_shown.proofs.shown.Tests.{same, same_Some}
 use Rattle.model_client.specs.declared.desk.Pane.{Pane}
 use Rattle.model_client.specs.desk.Table.{with_raised, with_rect, without}
-use Rattle.law_desk.specs.piloted.Following.{pane_by}
+use Rattle.model_clients.specs.piloted.Following.{pane_by}
 use Rattle.law_desk.specs.ready.Ready.{ArePanes}
 
 -- ---- which has a number

@@ -12,8 +12,9 @@ use Rattle.model_client.specs.desk.Pilot.{after, after_all, pilot, written, writ
 use Rattle.model_world.specs.World.{World}
 use Rattle.law_text.specs.client.Saying.{AreAnswered}
 use Rattle.law_text.proofs.client.Saying.{all_said, nothing_said}
-use Rattle.law_desk.specs.piloted.Following.{Follows, HasWindows, IsDeskIn, IsEvent, hidden_panes, pane_by, seen_panes}
-use Rattle.law_desk.specs.piloted.History.{writes, written_all}
+use Rattle.model_clients.specs.piloted.Following.{HasWindows, hidden_panes, pane_by, seen_panes}
+use Rattle.law_desk.specs.piloted.Following.{Follows, IsDeskIn, IsEvent}
+use Rattle.model_clients.specs.piloted.History.{writes, written_all}
 use Rattle.law_desk.proofs.piloted.Plain.{are_own}
 use Rattle.law_desk.specs.ready.Ready.{IsReady}
 use Rattle.law_desk.proofs.ready.Kept.{ready_after, starts}

@@ -38,9 +38,11 @@ use Rattle.model_world.specs.Whole.{moused}
 use Rattle.model_world.specs.Desktop.{Desktop, stepped}
 use Rattle.model_world.specs.Replay.{Turn, step}
 use Rattle.law_text.specs.client.Pointing.{command, point, pointer}
-use Rattle.law_text.specs.client.Saying.{AreAnswered, answered, says, world_left}
+use Rattle.model_clients.specs.client.Saying.{says}
+use Rattle.law_text.specs.client.Saying.{AreAnswered, answered, world_left}
 use Rattle.law_text.proofs.client.Saying.{nothing_said, then_said}
-use Rattle.law_desk.specs.piloted.Following.{IsDeskIn, IsEvent, is_over, pane_by}
+use Rattle.model_clients.specs.piloted.Following.{pane_by}
+use Rattle.law_desk.specs.piloted.Following.{IsDeskIn, IsEvent, is_over}
 use Rattle.law_desk.proofs.piloted.Acts.{moves_on}
 use Rattle.law_desk.proofs.piloted.Commands.{box}
 use Rattle.law_desk.proofs.piloted.Ordered.{IsOrdered, delete_ordered, hide_ordered, move_ordered, new_ordered, resize_ordered}

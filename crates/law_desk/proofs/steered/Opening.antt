@@ -7,8 +7,10 @@ use Rattle.model_rio.specs.rio.Table.{Window}
 use Rattle.model_rio.proofs.rio.Soundness.{opened_sound}
 use Rattle.model_world.specs.World.{World, display_of, opened}
 use Rattle.model_world.specs.Replay.{step}
-use Rattle.law_text.specs.client.Pointing.{point_replies, pointer, to_point, with_connection}
-use Rattle.law_text.specs.client.Saying.{greeted, hello, welcome, world_left}
+use Rattle.model_clients.specs.client.Pointing.{point_replies, to_point}
+use Rattle.law_text.specs.client.Pointing.{pointer, with_connection}
+use Rattle.model_clients.specs.client.Saying.{hello, welcome}
+use Rattle.law_text.specs.client.Saying.{greeted, world_left}
 use Rattle.law_text.proofs.client.Pointing.{points}
 use Rattle.law_text.proofs.client.Saying.{agreed_on_version, stays, then_said}
 use Rattle.law_desk.specs.steered.Steered.{IsBegun}

@@ -3,18 +3,8 @@ use Rattle.std.specs.Prelude.{ℕ, ◌+◌, ◌*◌, List, [], ◌∷◌, ◌++�
 use Rattle.std.specs.Fmt.{decimal}
 use Rattle.std.specs.List.{flat_map}
 use Rattle.model_text.specs.text.Number.{four_bytes}
-use Rattle.law_text.specs.client.Messages.{drawing, image, named}
-use Rattle.law_text.specs.page.Text.{box, dot, everywhere, origin, rgb24}
-
--- white, through which all is drawn, and the colours of the bands from the top
-unfoldable pub inks : List ℕ
-inks =
-    image 1 rgb24 1 dot everywhere 0xffffffff
-    ++ image 2 rgb24 1 dot everywhere 0xff0000ff
-    ++ image 3 rgb24 1 dot everywhere 0x00ff00ff
-    ++ image 4 rgb24 1 dot everywhere 0x0000ffff
-    ++ image 5 rgb24 1 dot everywhere 0xffff00ff
-    ++ image 6 rgb24 1 dot everywhere 0x808080ff
+use Rattle.model_clients.specs.client.Messages.{drawing, named}
+use Rattle.model_clients.specs.page.Text.{box, origin}
 
 -- f: an image id goes
 unfoldable pub freed : (id : ℕ) → List ℕ

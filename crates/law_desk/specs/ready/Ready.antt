@@ -8,7 +8,7 @@ use Rattle.model_client.specs.declared.desk.Pane.{Pane}
 use Rattle.model_client.specs.declared.desk.Spot.{Spot}
 use Rattle.model_client.specs.desk.Table.{Desk}
 use Rattle.model_client.specs.desk.Asked.{menu_rect}
-use Rattle.law_desk.specs.piloted.Following.{pane_by}
+use Rattle.model_clients.specs.piloted.Following.{pane_by}
 
 -- ---- points of the display
 

@@ -24,10 +24,12 @@ use Rattle.model_world.specs.Desktop.{Desktop, first_desktop}
 use Rattle.model_world.specs.Whole.{client}
 use Rattle.model_world.specs.World.{World, display_of, opened}
 use Rattle.model_world.specs.Replay.{step}
-use Rattle.law_text.specs.client.Pointing.{point_replies, to_point}
-use Rattle.law_text.specs.client.Saying.{AreAnswered, hello, welcome}
-use Rattle.law_desk.specs.piloted.Following.{HasWindows, IsDeskIn}
-use Rattle.law_desk.specs.piloted.History.{Write, writes, written_all}
+use Rattle.model_clients.specs.client.Pointing.{point_replies, to_point}
+use Rattle.model_clients.specs.client.Saying.{hello, welcome}
+use Rattle.law_text.specs.client.Saying.{AreAnswered}
+use Rattle.model_clients.specs.piloted.Following.{HasWindows}
+use Rattle.law_desk.specs.piloted.Following.{IsDeskIn}
+use Rattle.model_clients.specs.piloted.History.{Write, writes, written_all}
 
 -- a text goes to `mousein`, which is fid 1, or to `wctl`, which is fid 2
 abbrev pub write_of : Text → Write

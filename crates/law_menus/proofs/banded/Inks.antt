@@ -5,7 +5,7 @@ use Rattle.r9_geom.specs.declared.Point.{Point}
 use Rattle.r9_geom.specs.Geometry.{holds}
 use Rattle.model_pixel.specs.Channels.{channels, expand, pack, promoted}
 use Rattle.law_shown.proofs.shown.Tests.{not-true}
-use Rattle.law_text.specs.page.Text.{rgb24}
+use Rattle.model_clients.specs.page.Text.{rgb24}
 use Rattle.law_text.proofs.page.Colours.{IsOpaque}
 use Rattle.law_text.proofs.page.Spots.{held_in_box, spot_in}
 use Rattle.law_menus.specs.banded.Banded.{band_box, ink, shaded}

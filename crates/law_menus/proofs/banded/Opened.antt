@@ -29,7 +29,7 @@ use Rattle.law_shown.proofs.lasting.Ordering.{free_taken, shows_rio}
 use Rattle.law_shown.proofs.fitting.Stepping.{root_shown}
 use Rattle.law_likeness.proofs.making.Making.{entered}
 use Rattle.law_others.proofs.managed.Ordering.{id_given}
-use Rattle.law_text.specs.page.Text.{rgb24}
+use Rattle.model_clients.specs.page.Text.{rgb24}
 use Rattle.law_text.specs.page.Page.{IsSheet}
 use Rattle.law_menus.specs.inked.Inked.{IsInked}
 use Rattle.law_menus.specs.banded.Banded.{HasSheet, blank}

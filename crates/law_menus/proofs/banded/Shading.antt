@@ -20,7 +20,7 @@ use Rattle.model_draw.specs.draw.Act.{act, behind}
 use Rattle.law_text.proofs.client.Messages.{drawing_first, is_coordinate}
 use Rattle.law_text.proofs.client.Writes.{Leads, leads_message}
 use Rattle.law_desk.specs.bands.Bands.{band}
-use Rattle.law_text.specs.page.Text.{box, origin, rgb24}
+use Rattle.model_clients.specs.page.Text.{box, origin, rgb24}
 use Rattle.law_text.specs.page.Page.{IsColour, IsSheet}
 use Rattle.law_text.proofs.page.Acting.{drawn_on}
 use Rattle.law_text.proofs.page.Colours.{copy}

@@ -32,11 +32,11 @@ use Rattle.law_others.specs.apart.Apart.{IsApart}
 use Rattle.law_likeness.proofs.making.Entries.{all_found}
 use Rattle.law_likeness.specs.whole.Steady.{IsSteady}
 use Rattle.law_likeness.proofs.whole.Messages.{written_steady}
-use Rattle.law_text.specs.client.Messages.{drawing, named}
+use Rattle.model_clients.specs.client.Messages.{drawing, named}
 use Rattle.law_text.proofs.client.Messages.{named_first}
 use Rattle.law_text.proofs.client.Writes.{Leads, leads_message, leads_nowhere, leads_then, leads_written}
 use Rattle.law_desk.specs.bands.Bands.{band, bands, freed}
-use Rattle.law_text.specs.page.Text.{rgb24}
+use Rattle.model_clients.specs.page.Text.{rgb24}
 use Rattle.law_text.specs.page.Page.{IsColour}
 use Rattle.law_text.proofs.page.Painting.{sheet_view}
 use Rattle.law_text.proofs.page.Spots.{box_holds, held_in_box, spot_in}

@@ -32,10 +32,10 @@ use Rattle.law_likeness.proofs.whole.Messages.{connect_whole, written_steady}
 use Rattle.law_others.proofs.managed.Starting.{first_whole}
 use Rattle.model_world.specs.World.{display_of}
 use Rattle.law_text.proofs.client.Writes.{leads_written}
-use Rattle.law_text.specs.page.Text.{rgb24}
+use Rattle.model_clients.specs.page.Text.{rgb24}
 use Rattle.law_text.specs.page.Page.{IsColour}
-use Rattle.law_desk.specs.bands.Bands.{inks}
-use Rattle.law_desk.specs.piloted.History.{colours, display}
+use Rattle.model_clients.specs.bands.Bands.{inks}
+use Rattle.model_clients.specs.piloted.History.{colours, display}
 use Rattle.law_menus.specs.pens.Pens.{pens}
 use Rattle.law_menus.specs.inked.Inked.{IsInked, IsPen, IsWindowTie, connection}
 use Rattle.law_menus.specs.inking.Inking.{own_id, with_ink}

@@ -11,12 +11,12 @@ use Rattle.model_draw.specs.draw.Making.{allocate}
 use Rattle.model_draw.specs.draw.Act.{act, behind}
 use Rattle.model_draw.specs.draw.Orders.{with_root_rio}
 use Rattle.model_world.specs.World.{display_of}
-use Rattle.law_text.specs.client.Messages.{image}
+use Rattle.model_clients.specs.client.Messages.{image}
 use Rattle.law_text.proofs.client.Messages.{IsRect, image_first, is_coordinate}
 use Rattle.law_text.proofs.client.Writes.{Leads, leads_message, leads_then}
-use Rattle.law_text.specs.page.Text.{dot, everywhere, rgb24}
-use Rattle.law_desk.specs.bands.Bands.{inks}
-use Rattle.law_desk.specs.piloted.History.{display}
+use Rattle.model_clients.specs.page.Text.{dot, everywhere, rgb24}
+use Rattle.model_clients.specs.bands.Bands.{inks}
+use Rattle.model_clients.specs.piloted.History.{display}
 use Rattle.law_menus.specs.inked.Inked.{connection}
 use Rattle.law_menus.specs.inking.Inking.{device, with_ink}
 

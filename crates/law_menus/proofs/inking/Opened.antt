@@ -7,13 +7,15 @@ use Rattle.model_draw.specs.draw.World as draw
 use Rattle.model_world.specs.World.{World, opened}
 use Rattle.model_world.specs.Whole.{with_device}
 use Rattle.model_world.specs.Replay.{step}
-use Rattle.law_text.specs.client.Pointing.{paint, point_replies, pointer, to_point}
-use Rattle.law_text.specs.client.Saying.{drawn, hello, welcome, world_left}
+use Rattle.model_clients.specs.client.Pointing.{point_replies, to_point}
+use Rattle.law_text.specs.client.Pointing.{paint, pointer}
+use Rattle.model_clients.specs.client.Saying.{hello, welcome}
+use Rattle.law_text.specs.client.Saying.{drawn, world_left}
 use Rattle.law_text.proofs.client.Pointing.{painted}
 use Rattle.law_text.proofs.client.Saying.{all_said, nothing_said, stays, then_said}
 use Rattle.law_text.proofs.client.Writes.{Leads}
-use Rattle.law_desk.specs.bands.Bands.{inks}
-use Rattle.law_desk.specs.piloted.History.{display, writes, written_all}
+use Rattle.model_clients.specs.bands.Bands.{inks}
+use Rattle.model_clients.specs.piloted.History.{display, writes, written_all}
 use Rattle.law_desk.proofs.steered.Opening.{begun}
 use Rattle.law_menus.specs.inked.Inked.{IsInked, connection}
 use Rattle.law_menus.specs.inking.Inking.{IsOpened}

@@ -19,11 +19,12 @@ use Rattle.model_client.specs.desk.Table.{Desk, start}
 use Rattle.model_client.specs.desk.Pilot.{after, after_all, pilot, written, written_from}
 use Rattle.model_world.specs.World.{World, opened}
 use Rattle.model_world.specs.Replay.{replay, replies, replies_from, step}
-use Rattle.law_text.specs.client.Saying.{AreAnswered, AreMessages, says}
+use Rattle.model_clients.specs.client.Saying.{says}
+use Rattle.law_text.specs.client.Saying.{AreAnswered, AreMessages}
 use Rattle.law_text.proofs.client.Legal.{legal}
 use Rattle.law_text.proofs.client.Saying.{all_said, nothing_said}
 use Rattle.law_desk.specs.piloted.Following.{IsDeskIn, IsEvent}
-use Rattle.law_desk.specs.piloted.History.{IsPiloted, ShowsDesk, ShowsMenu, Write, display, opening, opening_replies, texts_in, writes, written_all}
+use Rattle.model_clients.specs.piloted.History.{IsPiloted, ShowsDesk, ShowsMenu, Write, display, opening, opening_replies, texts_in, writes, written_all}
 use Rattle.law_desk.specs.ready.Ready.{IsReady}
 use Rattle.law_desk.proofs.ready.Kept.{ready_after, starts}
 use Rattle.law_desk.specs.steered.Steered.{write_of}

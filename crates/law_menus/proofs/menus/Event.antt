@@ -19,10 +19,11 @@ use Rattle.model_client.specs.desk.Pilot.{after, written}
 use Rattle.model_world.specs.World.{World}
 use Rattle.model_world.specs.Replay.{world_from}
 use Rattle.law_text.specs.client.Pointing.{paint}
-use Rattle.law_text.specs.client.Saying.{AreAnswered, says}
+use Rattle.model_clients.specs.client.Saying.{says}
+use Rattle.law_text.specs.client.Saying.{AreAnswered}
 use Rattle.law_desk.specs.bands.Bands.{bands}
 use Rattle.law_desk.specs.piloted.Following.{IsDeskIn, IsEvent}
-use Rattle.law_desk.specs.piloted.History.{ShowsMenu, Write, writes, written_all}
+use Rattle.model_clients.specs.piloted.History.{ShowsMenu, Write, writes, written_all}
 use Rattle.law_desk.specs.ready.Ready.{IsReady}
 use Rattle.law_desk.specs.steered.Steered.{messages, replies_to, write_of}
 use Rattle.law_menus.specs.inked.Inked.{IsInked}

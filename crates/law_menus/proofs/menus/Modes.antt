@@ -16,7 +16,7 @@ use Rattle.model_client.specs.declared.desk.Spot.{Spot}
 use Rattle.model_client.specs.desk.Table.{Desk, pane_at}
 use Rattle.model_client.specs.desk.Asked.{after_drain, ask, asked_in, chosen, is_within, items, menu_rect, picked, spot}
 use Rattle.model_world.specs.World.{World}
-use Rattle.law_desk.specs.piloted.History.{ShowsMenu}
+use Rattle.model_clients.specs.piloted.History.{ShowsMenu}
 use Rattle.law_menus.specs.menus.Writes.{bands_after, bands_in}
 
 abbrev pub is_menu : Mode → Bool

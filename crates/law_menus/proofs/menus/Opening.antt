@@ -29,13 +29,15 @@ use Rattle.model_world.specs.World.{World}
 use Rattle.model_world.specs.Replay.{step}
 use Rattle.model_world.specs.Whole.{with_device}
 use Rattle.law_text.specs.client.Pointing.{paint, pointer}
-use Rattle.law_text.specs.client.Saying.{AreAnswered, answered, drawn, says, world_left}
+use Rattle.model_clients.specs.client.Saying.{says}
+use Rattle.law_text.specs.client.Saying.{AreAnswered, answered, drawn, world_left}
 use Rattle.law_text.proofs.client.Pointing.{painted}
 use Rattle.law_text.proofs.client.Saying.{all_said, nothing_said, stays, then_said}
-use Rattle.law_text.specs.page.Text.{rgb24}
+use Rattle.model_clients.specs.page.Text.{rgb24}
 use Rattle.law_desk.specs.bands.Bands.{bands}
-use Rattle.law_desk.specs.piloted.Following.{Follows, IsDeskIn, IsEvent, pane_by}
-use Rattle.law_desk.specs.piloted.History.{ShowsBands, ShowsMenu, band_rect, colours}
+use Rattle.model_clients.specs.piloted.Following.{pane_by}
+use Rattle.law_desk.specs.piloted.Following.{Follows, IsDeskIn, IsEvent}
+use Rattle.model_clients.specs.piloted.History.{ShowsBands, ShowsMenu, band_rect, colours}
 use Rattle.law_desk.proofs.piloted.Ordered.{found_here}
 use Rattle.law_desk.specs.ready.Ready.{IsAble, IsReady}
 use Rattle.law_desk.proofs.ready.Kept.{on_display, ready_after}

@@ -9,9 +9,9 @@ use Rattle.model_draw_parts.specs.images.Book.{image_id, tie_of}
 use Rattle.model_draw.specs.draw.World.{World, at_number}
 use Rattle.model_draw.specs.draw.Orders.{border_pixel, manager, on_border, white}
 use Rattle.model_rio.specs.rio.Table.{name_by}
-use Rattle.law_text.specs.page.Text.{box, rgb24}
+use Rattle.model_clients.specs.page.Text.{box, rgb24}
 use Rattle.law_text.specs.page.Page.{IsSheet}
-use Rattle.law_desk.specs.piloted.History.{colours}
+use Rattle.model_clients.specs.piloted.History.{colours}
 
 -- where a menu's window stands, and each of its bands
 abbrev pub menu_box : (x y : ℕ) → Rect

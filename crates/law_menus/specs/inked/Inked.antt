@@ -15,9 +15,9 @@ use Rattle.law_likeness.specs.likeness.Likeness.{AreNumbered}
 use Rattle.law_likeness.specs.whole.Steady.{IsSteady}
 use Rattle.law_others.specs.apart.Apart.{IsApart}
 use Rattle.model_world.specs.Whole.{client}
-use Rattle.law_text.specs.page.Text.{rgb24}
+use Rattle.model_clients.specs.page.Text.{rgb24}
 use Rattle.law_text.specs.page.Page.{IsColour}
-use Rattle.law_desk.specs.piloted.History.{colours}
+use Rattle.model_clients.specs.piloted.History.{colours}
 use Rattle.law_menus.specs.pens.Pens.{pens}
 
 -- the client's connection

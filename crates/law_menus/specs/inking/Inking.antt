@@ -14,10 +14,10 @@ use Rattle.law_likeness.specs.likeness.Likeness.{display_id}
 use Rattle.model_world.specs.World.{World, display_of, opened}
 use Rattle.model_world.specs.Replay.{step}
 use Rattle.law_text.specs.client.Saying.{AreAnswered}
-use Rattle.law_text.specs.page.Text.{dot, everywhere, rgb24}
+use Rattle.model_clients.specs.page.Text.{dot, everywhere, rgb24}
 use Rattle.model_client.specs.desk.Table.{start}
 use Rattle.law_desk.specs.piloted.Following.{IsDeskIn}
-use Rattle.law_desk.specs.piloted.History.{display, opening, opening_replies}
+use Rattle.model_clients.specs.piloted.History.{display, opening, opening_replies}
 use Rattle.law_menus.specs.inked.Inked.{IsInked, connection}
 
 -- An id of the client's, of an image that it made. The display and the root rio's fill are images 0 and 1.

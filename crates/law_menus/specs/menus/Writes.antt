@@ -10,9 +10,9 @@ use Rattle.model_client.specs.declared.desk.Mode.{Mode}
 use Rattle.model_client.specs.declared.desk.Mode.TheVariants.{Drag, Drain, Idle, Menu, Pick, Sweep, Sweeping}
 use Rattle.model_client.specs.desk.Table.{Desk, start}
 use Rattle.model_client.specs.desk.Pilot.{after, written}
-use Rattle.law_text.specs.client.Saying.{says}
+use Rattle.model_clients.specs.client.Saying.{says}
 use Rattle.law_desk.specs.bands.Bands.{bands}
-use Rattle.law_desk.specs.piloted.History.{Write, opening, writes}
+use Rattle.model_clients.specs.piloted.History.{Write, opening, writes}
 use Rattle.law_desk.specs.steered.Steered.{write_of}
 
 -- the draw messages that show the bands of a menu, where the mode is one

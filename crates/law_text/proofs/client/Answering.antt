@@ -27,7 +27,8 @@ use Rattle.model_world.specs.Desktop.{Desktop, stepped}
 use Rattle.model_world.specs.Walking.{attach_answer, ctl_of, last, most_at_once, most_made, open_answer, walk_answer, walked}
 use Rattle.model_world.specs.Whole.{attached, client, commanded, desktop_for, device_commanded, moused, used_by, view_of, window_made, with_device, written_data}
 use Rattle.model_world.specs.Writing.{write_answer}
-use Rattle.law_text.specs.client.Files.{file, open_on, own_file}
+use Rattle.model_clients.specs.client.Files.{file, own_file}
+use Rattle.law_text.specs.client.Files.{open_on}
 use Rattle.law_text.specs.client.Saying.{drawn}
 
 -- ---- attaching

@@ -6,7 +6,8 @@ use Rattle.model_history.specs.event.Legal.{AllowedFrom, IsLegal, IsMessage, Rol
 use Rattle.model_files.specs.wire.Message.{T}
 use Rattle.model_files.specs.wire.Spelling.{SpellsT, message, spelling_of_t}
 use Rattle.model_files.proofs.wire.Requests.{requests_again}
-use Rattle.law_text.specs.client.Saying.{AreMessages, says}
+use Rattle.model_clients.specs.client.Saying.{says}
+use Rattle.law_text.specs.client.Saying.{AreMessages}
 
 -- ---- a message is whole
 

@@ -7,7 +7,7 @@ use Rattle.std.proofs.lemmas.Str.{IsUtf8-from_is_utf8}
 use Rattle.model_files.specs.wire.Message.{Tattach, Topen, Twalk, Twrite, no_fid}
 use Rattle.model_files.specs.wire.Spelling.{IsString, message, sized}
 use Rattle.model_world.specs.Session.{Session}
-use Rattle.law_text.specs.client.Files.{to_data, to_new}
+use Rattle.model_clients.specs.client.Files.{to_data, to_new}
 use Rattle.law_text.specs.client.Saying.{MaySay}
 
 -- the session takes messages of the greatest size

@@ -16,7 +16,7 @@ use Rattle.model_text.proofs.text.Fields.{wide16}
 use Rattle.model_files.proofs.wire.Parts.{field8, field16, field32}
 use Rattle.model_draw_parts.specs.dmsg.Message.{LowB, LowD, LowI, LowL, LowN, LowS, LowY, Writing}
 use Rattle.model_draw_parts.specs.dmsg.Reading.{IsMessage, behind, byte, coordinate as coordinate_at, counted, first_message, long, low_b, low_d, low_i, low_l, low_n, low_s, low_y, name as name_at, numbers, numbers_of, point as point_at, rect as rect_at, short, signed_byte, some_bytes, string_head}
-use Rattle.law_text.specs.client.Messages.{character, coordinate, drawing, font, image, named, point, rect, rows, string}
+use Rattle.model_clients.specs.client.Messages.{character, coordinate, drawing, font, image, named, point, rect, rows, string}
 
 -- what is written is read again, whatever stands behind it, for the values that fit
 record IsRead {A : Type 0} (get : List ℕ → Option (A × List ℕ)) (put : A → List ℕ) (Fits : A → Type 0) : Type 0 where

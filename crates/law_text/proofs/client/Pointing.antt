@@ -14,9 +14,12 @@ use Rattle.model_world.specs.Desktop.{Desktop}
 use Rattle.model_world.specs.Whole.{client, device_commanded, moused, view_of}
 use Rattle.model_world.specs.World.{World}
 use Rattle.model_world.specs.Replay.{step}
-use Rattle.law_text.specs.client.Files.{data_way, file, new_way, open_on, to_data, to_new}
-use Rattle.law_text.specs.client.Saying.{AreAnswered, IsClient, answered, drawn, greeted, says, world_left}
-use Rattle.law_text.specs.client.Pointing.{command, paint, point, point_replies, pointer, to_point, with_connection}
+use Rattle.model_clients.specs.client.Files.{data_way, file, new_way, to_data, to_new}
+use Rattle.law_text.specs.client.Files.{open_on}
+use Rattle.model_clients.specs.client.Saying.{says}
+use Rattle.law_text.specs.client.Saying.{AreAnswered, IsClient, answered, drawn, greeted, world_left}
+use Rattle.model_clients.specs.client.Pointing.{point_replies, to_point}
+use Rattle.law_text.specs.client.Pointing.{command, paint, point, pointer, with_connection}
 use Rattle.law_text.proofs.client.Saying.{nothing_said, said, stays, then_said}
 use Rattle.law_text.proofs.client.May.{may_attach_device, may_open, may_walk_data, may_walk_mousein, may_walk_new, may_walk_wctl, may_write}
 use Rattle.law_text.proofs.client.Walking.{device_data, device_mousein, device_new, device_wctl}

@@ -19,7 +19,8 @@ use Rattle.model_world.specs.Desktop.{Desktop}
 use Rattle.model_world.specs.Whole.{desktop_for}
 use Rattle.model_world.specs.World.{World}
 use Rattle.model_world.specs.Replay.{Turn, replies_from, settled, settled_within, step, waiting_in, world_from}
-use Rattle.law_text.specs.client.Saying.{AreAnswered, IsClient, MaySay, answered, greeted, hello, says, welcome, world_left}
+use Rattle.model_clients.specs.client.Saying.{hello, says, welcome}
+use Rattle.law_text.specs.client.Saying.{AreAnswered, IsClient, MaySay, answered, greeted, world_left}
 
 -- ---- how the message is taken
 

@@ -9,7 +9,7 @@ use Rattle.model_files.specs.tree.Node.{row}
 use Rattle.model_files.specs.tree.Tree.{check_live, files, kinds_in, root_of, walk}
 use Rattle.model_world.specs.Walking.{walked}
 use Rattle.model_world.specs.Whole.{view_of}
-use Rattle.law_text.specs.client.Files.{data_way, file, new_way, own_file, to_data, to_new}
+use Rattle.model_clients.specs.client.Files.{data_way, file, new_way, own_file, to_data, to_new}
 
 -- ---- in the device tree
 

@@ -24,11 +24,11 @@ use Rattle.model_draw.specs.draw.Writing.{string_drawings, write_string}
 use Rattle.model_draw.specs.draw.Act.{act, behind}
 use Rattle.model_client.specs.declared.textwin.Move.{Move}
 use Rattle.model_client.specs.declared.textwin.Move.TheVariants.{Scroll, Put}
-use Rattle.model_client.specs.textwin.Moves.{all_moved, codes_of, moved, put_at, put_codes}
+use Rattle.model_client.specs.textwin.Moves.{all_moved, codes_of, moved, put_codes}
 use Rattle.model_client.specs.textwin.Layout.{place_of}
-use Rattle.law_text.specs.client.Messages.{drawing, string}
-use Rattle.law_text.specs.page.Text as text
-use Rattle.law_text.specs.page.Text.{Shape, below_first, box, cells, last_row, move_bytes, moves_bytes, origin, page_rect, upper, writing}
+use Rattle.model_clients.specs.client.Messages.{drawing, string}
+use Rattle.model_clients.specs.page.Text as text
+use Rattle.model_clients.specs.page.Text.{Shape, below_first, box, cells, last_row, move_bytes, moves_bytes, origin, page_rect, upper, writing}
 use Rattle.law_text.specs.page.Page.{AreApart, IsShape, IsTextFont, Numbers, Shows}
 use Rattle.law_text.specs.page.Device.{ShowsTo}
 use Rattle.law_text.proofs.client.Messages.{IsPoint, IsRect, drawing_first, is_coordinate, string_first}

@@ -3,8 +3,8 @@ use Rattle.std.proofs.Common.{◌≡◌, ◌∙◌, ◌<◌, ℕ, Bool, true, �
 use Rattle.std.proofs.lemmas.Bool.{agree_below, agree_below_at, and_parts, eqb-true, ltb-true}
 use Rattle.model_pixel.specs.Channels.{Colour, channels, expand, mask, pack, promoted}
 use Rattle.model_pixel.specs.Composition.{comp, composed, mul}
-use Rattle.law_text.specs.page.Text.{grey8, rgb24}
-use Rattle.law_text.specs.page.Page.{inked, paper}
+use Rattle.model_clients.specs.page.Text.{grey8, rgb24}
+use Rattle.model_clients.specs.page.Page.{inked, paper}
 
 -- what black becomes on white, through a value of the font
 abbrev drawn_ink : ℕ → ℕ

@@ -6,8 +6,8 @@ use Rattle.r9_geom.specs.declared.Point.{Point}
 use Rattle.r9_geom.specs.declared.Rect.{Rect}
 use Rattle.r9_geom.specs.Geometry.{holds}
 use Rattle.model_draw.specs.draw.Orders.{border_pixel, on_border}
-use Rattle.law_text.specs.page.Text.{Shape, page_rect, rgb24}
-use Rattle.law_text.specs.page.Page.{inked, page, paper, row_of, rows_of, value_at}
+use Rattle.model_clients.specs.page.Text.{Shape, page_rect, rgb24}
+use Rattle.model_clients.specs.page.Page.{inked, page, paper, row_of, rows_of, value_at}
 use Rattle.law_text.proofs.page.Spots.{box_holds, distance_to, held_in_box, inner, inner_is, spot, spot_in}
 
 -- ---- inside the border

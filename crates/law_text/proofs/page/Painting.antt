@@ -9,8 +9,9 @@ use Rattle.model_pixel.specs.Rows.{row_pixel}
 use Rattle.model_forest.specs.World.{Image, World, image_at}
 use Rattle.model_forest.specs.View.{at, is_bare, view}
 use Rattle.model_forest.specs.Draw.{Drawing, after_draw, drawn, in_area, reaches}
-use Rattle.law_text.specs.page.Text.{Shape, dot, everywhere, font_rect, grey8, page_rect, rgb24}
-use Rattle.law_text.specs.page.Page.{AreApart, IsColour, IsSheet, Numbers, Shows, page, paper}
+use Rattle.model_clients.specs.page.Text.{Shape, dot, everywhere, font_rect, grey8, page_rect, rgb24}
+use Rattle.model_clients.specs.page.Page.{page, paper}
+use Rattle.law_text.specs.page.Page.{AreApart, IsColour, IsSheet, Numbers, Shows}
 use Rattle.law_text.proofs.page.Spots.{box_holds, reduced_dot, spot}
 
 -- ---- what images give

@@ -11,8 +11,9 @@ use Rattle.model_pixel.specs.Channels.{expand}
 use Rattle.model_forest.specs.World.{World, image_at}
 use Rattle.model_forest.specs.View.{at, view}
 use Rattle.model_forest.specs.Draw.{Drawing, after_draw, drawn, in_area, reaches}
-use Rattle.law_text.specs.page.Text.{Shape, below_first, last_row, origin, page_rect, rgb24, upper}
-use Rattle.law_text.specs.page.Page.{AreApart, IsShape, Numbers, Shows, inked, page, paper, row_of, rows_of, value_at}
+use Rattle.model_clients.specs.page.Text.{Shape, below_first, last_row, origin, page_rect, rgb24, upper}
+use Rattle.model_clients.specs.page.Page.{inked, page, paper, row_of, rows_of, value_at}
+use Rattle.law_text.specs.page.Page.{AreApart, IsShape, Numbers, Shows}
 use Rattle.law_text.proofs.page.Colours.{IsOpaque, copy, inked_opaque, paper_opaque}
 use Rattle.law_text.proofs.page.Spots.{box_holds, carried_spot, spot}
 use Rattle.law_text.proofs.page.Pages.{page_held, page_inside, row_ended, same_page}

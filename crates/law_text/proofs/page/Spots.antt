@@ -6,7 +6,7 @@ use Rattle.r9_geom.specs.declared.Rect.{Rect}
 use Rattle.r9_geom.specs.Geometry.{carried, distance, holds, natural, reduced}
 use Rattle.r9_geom.proofs.GeometryLemmas.{bounds_of, distance_is, holds_from, natural_is, same_point, same_rect}
 use Rattle.model_draw.specs.draw.Orders.{inside_border}
-use Rattle.law_text.specs.page.Text.{Shape, box, dot, page_rect}
+use Rattle.model_clients.specs.page.Text.{Shape, box, dot, page_rect}
 
 abbrev pub spot : (x y : ℕ) → Point
 spot x y = record { x = pos x; y = pos y }

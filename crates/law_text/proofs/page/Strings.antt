@@ -12,7 +12,7 @@ use Rattle.model_draw_parts.specs.fonts.Font.{Font, advanced, cell, piece, piece
 use Rattle.model_forest.specs.World.{World}
 use Rattle.model_forest.specs.Draw.{Drawing, after_draw}
 use Rattle.model_draw.specs.draw.Writing.{character}
-use Rattle.law_text.specs.page.Text.{Shape, box, cells, page_rect}
+use Rattle.model_clients.specs.page.Text.{Shape, box, cells, page_rect}
 use Rattle.law_text.specs.page.Page.{AreApart, IsShape, IsTextFont, Numbers, Shows, text_cell}
 use Rattle.law_text.proofs.page.Spots.{spot}
 use Rattle.law_text.proofs.page.Painting.{stroke}

@@ -12,8 +12,9 @@ use Rattle.model_pixel.specs.Rows.{raw_at, row_bytes, row_pixel, skip}
 use Rattle.model_forest.specs.World.{World, image_at}
 use Rattle.model_forest.specs.View.{at, view}
 use Rattle.model_forest.specs.Draw.{Drawing, after_draw, drawn, in_area, reaches}
-use Rattle.law_text.specs.page.Text.{Shape, box, cells, font_rect, grey8, page_rect, rgb24}
-use Rattle.law_text.specs.page.Page.{AreApart, IsShape, Numbers, Shows, inked, page, paper, value_at}
+use Rattle.model_clients.specs.page.Text.{Shape, box, cells, font_rect, grey8, page_rect, rgb24}
+use Rattle.model_clients.specs.page.Page.{inked, page, paper, value_at}
+use Rattle.law_text.specs.page.Page.{AreApart, IsShape, Numbers, Shows}
 use Rattle.law_text.proofs.page.Colours.{ink}
 use Rattle.law_text.proofs.page.Spots.{box_holds, carried_spot, held_in_box, spot, spot_in}
 use Rattle.law_text.proofs.page.Pages.{page_held, page_inside, row_ended, rows_longer, rows_same, same_page}

@@ -15,7 +15,7 @@ use Rattle.model_files.specs.wctl.Reading as reading
 use Rattle.model_files.specs.wctl.Reading.{command_of}
 use Rattle.model_files.specs.wctl.Words.{is_newline, line_of, words_of}
 use Rattle.law_text.proofs.client.Numbers.{no_blank, no_newline, signed_decimal_is}
-use Rattle.law_text.specs.page.Text.{Shape, asked, page_rect}
+use Rattle.model_clients.specs.page.Text.{Shape, asked, page_rect}
 use Rattle.law_text.specs.page.Page.{IsShape}
 use Rattle.law_text.proofs.page.Scrolls.{high_few, wide_few}
 

@@ -21,10 +21,11 @@ use Rattle.model_draw.specs.draw.World.{World, new_client}
 use Rattle.model_draw.specs.draw.Making.{farthest, is_near_rect, is_too_large}
 use Rattle.model_draw.specs.draw.Drawing.{write_pixels}
 use Rattle.model_draw.specs.draw.Act.{act, behind}
-use Rattle.law_text.specs.client.Messages.{font, image, named, rows}
-use Rattle.law_text.specs.page.Text as text
-use Rattle.law_text.specs.page.Text.{Shape, black, cells, dot, everywhere, font_rect, grey8, letters, making, page_rect, rgb24, white, window}
-use Rattle.law_text.specs.page.Page.{IsColour, IsShape, IsSheet, page, paper}
+use Rattle.model_clients.specs.client.Messages.{font, image, named, rows}
+use Rattle.model_clients.specs.page.Text as text
+use Rattle.model_clients.specs.page.Text.{Shape, black, cells, dot, everywhere, font_rect, grey8, letters, making, page_rect, rgb24, white, window}
+use Rattle.model_clients.specs.page.Page.{page, paper}
+use Rattle.law_text.specs.page.Page.{IsColour, IsShape, IsSheet}
 use Rattle.law_text.specs.page.Device.{ShowsTo}
 use Rattle.law_text.proofs.client.Messages.{IsRect, font_first, image_first, is_coordinate, named_first, rows_first}
 use Rattle.law_text.proofs.client.Writes.{Leads, leads_message, leads_then, leads_with}

@@ -22,9 +22,10 @@ use Rattle.model_draw.specs.draw.Making.{allocate, farthest, is_near_rect, is_to
 use Rattle.model_draw.specs.draw.Naming.{use_name}
 use Rattle.model_draw.specs.draw.Writing.{is_turned, load_cell, make_font, s_alone, unmasked}
 use Rattle.model_draw.specs.draw.Act.{act, behind}
-use Rattle.law_text.specs.page.Text.{Shape, black, box, cell_rect, cells, dot, everywhere, font_rect, grey8, letters, rgb24, white, window}
-use Rattle.law_text.specs.page.Text as text
-use Rattle.law_text.specs.page.Page.{IsShape, paper, text_cell}
+use Rattle.model_clients.specs.page.Text.{Shape, black, box, cell_rect, cells, dot, everywhere, font_rect, grey8, letters, rgb24, white, window}
+use Rattle.model_clients.specs.page.Text as text
+use Rattle.model_clients.specs.page.Page.{paper}
+use Rattle.law_text.specs.page.Page.{IsShape, text_cell}
 use Rattle.law_text.proofs.client.Messages.{IsRect, character_first, is_coordinate}
 use Rattle.law_text.proofs.client.Writes.{Leads, leads_message, leads_nowhere, leads_then}
 use Rattle.law_text.proofs.page.Strokes.{next_mul}

@@ -31,13 +31,16 @@ use Rattle.model_world.specs.Desktop.{Desktop, stepped}
 use Rattle.model_world.specs.Whole.{used_by, view_of, window_made, with_device}
 use Rattle.model_world.specs.World.{World, display_of}
 use Rattle.model_world.specs.Replay.{step}
-use Rattle.law_text.specs.client.Files.{data_way, file, new_way, open_on, own_file, to_data, to_new}
-use Rattle.law_text.specs.client.Messages.{character, font, image, named, rows}
-use Rattle.law_text.specs.page.Text.{Shape, asked, black, cell, cells, dot, everywhere, font_rect, grey8, letters, making, opening, page_rect, rgb24, white, window, write}
-use Rattle.law_text.specs.page.Page.{IsShape, page, paper, row_of}
+use Rattle.model_clients.specs.client.Files.{data_way, file, new_way, own_file, to_data, to_new}
+use Rattle.law_text.specs.client.Files.{open_on}
+use Rattle.model_clients.specs.client.Messages.{character, font, image, named, rows}
+use Rattle.model_clients.specs.page.Text.{Shape, asked, black, cell, cells, dot, everywhere, font_rect, grey8, letters, making, opening, page_rect, rgb24, white, window, write}
+use Rattle.model_clients.specs.page.Page.{page, paper, row_of}
+use Rattle.law_text.specs.page.Page.{IsShape}
 use Rattle.law_text.proofs.page.Pages.{row_ended}
 use Rattle.law_text.proofs.page.Scrolls.{high_few, wide_few}
-use Rattle.law_text.specs.typed.Typing.{ShowsPage, begun_world, display, numbers, first, opened_replies, opening_replies, typist}
+use Rattle.model_clients.specs.typed.Typing.{display, opened_replies, opening_replies}
+use Rattle.law_text.specs.typed.Typing.{ShowsPage, begun_world, numbers, first, typist}
 use Rattle.law_text.specs.typed.Making.{connection, device}
 use Rattle.law_text.proofs.typed.Made.{IsBlank, all_made, empty_page, font_few, made_device}
 use Rattle.law_text.proofs.typed.Asked.{asks_for_page}
@@ -47,7 +50,8 @@ use Rattle.law_text.proofs.client.Answering.{attached_window, made_window, opene
 use Rattle.law_text.proofs.client.May.{may_open, may_walk_data, may_walk_new}
 use Rattle.law_text.proofs.client.Walking.{window_data, window_new}
 use Rattle.law_text.proofs.client.Saying.{agreed_on_version, all_said, nothing_said, said, stays, then_said}
-use Rattle.law_text.specs.client.Saying.{AreAnswered, IsClient, MaySay, answered, drawn, greeted, hello, says, welcome, world_left}
+use Rattle.model_clients.specs.client.Saying.{hello, says, welcome}
+use Rattle.law_text.specs.client.Saying.{AreAnswered, IsClient, MaySay, answered, drawn, greeted, world_left}
 use Rattle.model_files.specs.wire.Message.{Rattach, Ropen, Rwalk, Rwrite, T, Tattach, Topen, Twalk, no_fid}
 use Rattle.model_files.specs.wire.Spelling.{message, sized}
 use Rattle.std.proofs.lemmas.List.{length-append}

@@ -17,12 +17,16 @@ use Rattle.model_client.specs.textwin.Pieces.{pieces}
 use Rattle.model_client.specs.textwin.Wrap.{Page, blank, characters, with_byte, wrapped}
 use Rattle.model_world.specs.World.{World}
 use Rattle.model_world.specs.Replay.{replay, replies, replies_from, step}
-use Rattle.law_text.specs.client.Saying.{AreAnswered, AreMessages, says}
+use Rattle.model_clients.specs.client.Saying.{says}
+use Rattle.law_text.specs.client.Saying.{AreAnswered, AreMessages}
 use Rattle.law_text.proofs.client.Saying.{all_said, nothing_said}
-use Rattle.law_text.specs.page.Text.{Shape, cells, moves_bytes, opening, write}
-use Rattle.law_text.specs.page.Page.{IsShape, page}
-use Rattle.law_text.specs.typed.Typing.{AllFit, Piece, ShowsAll, ShowsPage, ShowsText, begun_world, display, numbers, opening_replies, text_history, text_messages, typing}
-use Rattle.law_text.specs.typed.Shown.{IsShown, ShowsPageOf, pages, rows_after}
+use Rattle.model_clients.specs.page.Text.{Shape, cells, moves_bytes, opening, write}
+use Rattle.model_clients.specs.page.Page.{page}
+use Rattle.law_text.specs.page.Page.{IsShape}
+use Rattle.model_clients.specs.typed.Typing.{display, opening_replies}
+use Rattle.law_text.specs.typed.Typing.{AllFit, Piece, ShowsAll, ShowsPage, ShowsText, begun_world, numbers, text_history, text_messages, typing}
+use Rattle.model_clients.specs.typed.Shown.{IsShown, ShowsPageOf, rows_after}
+use Rattle.law_text.specs.typed.Shown.{pages}
 use Rattle.law_text.proofs.typed.Texts.{page_viewed, text_legal, text_shown}
 
 -- ---- the rows after so many pieces

@@ -11,8 +11,9 @@ use Rattle.law_text.proofs.page.Painting.{sheet_view}
 use Rattle.model_text.specs.text.Number.{AreBytes}
 use Rattle.model_world.specs.World.{World}
 use Rattle.model_world.specs.Replay.{Turn}
-use Rattle.law_text.specs.page.Text.{Shape, cells, page_rect, rgb24}
-use Rattle.law_text.specs.page.Page.{AreApart, IsShape, Numbers, page}
+use Rattle.model_clients.specs.page.Text.{Shape, cells, page_rect, rgb24}
+use Rattle.model_clients.specs.page.Page.{page}
+use Rattle.law_text.specs.page.Page.{AreApart, IsShape, Numbers}
 use Rattle.law_text.specs.typed.Typing.{AllFit, Piece, ShowsAll, ShowsPage, ShowsText, numbers, text_history, text_messages}
 use Rattle.law_text.proofs.typed.Opening.{opened_text}
 use Rattle.law_text.proofs.typed.Typing.{typed}

@@ -9,12 +9,13 @@ use Rattle.model_draw.specs.draw.World as draw
 use Rattle.model_world.specs.Whole.{client, with_device}
 use Rattle.model_world.specs.World.{World}
 use Rattle.model_world.specs.Replay.{step}
-use Rattle.law_text.specs.client.Saying.{IsClient, answered, drawn, says}
+use Rattle.model_clients.specs.client.Saying.{says}
+use Rattle.law_text.specs.client.Saying.{IsClient, answered, drawn}
 use Rattle.law_text.proofs.client.May.{may_write}
 use Rattle.law_text.proofs.client.Saying.{said, stays}
 use Rattle.law_text.proofs.client.Answering.{wrote_data}
 use Rattle.law_text.proofs.client.Writes.{Leads, leads_written}
-use Rattle.law_text.specs.page.Text.{Shape, cells, moves_bytes, write}
+use Rattle.model_clients.specs.page.Text.{Shape, cells, moves_bytes, write}
 use Rattle.law_text.specs.page.Page.{AreApart, IsShape, Numbers}
 use Rattle.law_text.proofs.page.Acting.{moves_lead}
 use Rattle.law_text.specs.typed.Typing.{ShowsPage, typist}

@@ -1,13 +1,13 @@
 -- A client that has the device tree, and may write what the mouse does, commands to any window, and draw messages (draw(3), rio(4)).
-use Rattle.std.specs.Prelude.{ℕ, List, [], ◌∷◌, codes, map}
+use Rattle.std.specs.Prelude.{ℕ, List, [], ◌∷◌}
 use Rattle.model_files.specs.declared.tree.Kind.TheVariants.{Ctl, Data, Device, DeviceWctl, Mousein}
-use Rattle.model_files.specs.tree.Node.{qid}
 use Rattle.model_draw.specs.draw.World as draw
-use Rattle.model_files.specs.wire.Message.{R, Rattach, Ropen, Rwalk, T, Tattach, Topen, Twalk, Twrite, no_fid}
+use Rattle.model_files.specs.wire.Message.{T, Twrite}
 use Rattle.model_world.specs.Session.{Session, fid_at}
 use Rattle.model_world.specs.Desktop.{Desktop}
 use Rattle.model_world.specs.Whole.{client, with_device}
-use Rattle.law_text.specs.client.Files.{data_way, file, new_way, open_on, to_data, to_new}
+use Rattle.model_clients.specs.client.Files.{file}
+use Rattle.law_text.specs.client.Files.{open_on}
 use Rattle.law_text.specs.client.Saying.{greeted}
 
 -- the device tree is fid 0, `mousein` fid 1, `wctl` fid 2, the ctl of the one connection fid 3 and its data fid 4
@@ -17,34 +17,6 @@ pointer = record greeted {
   connections = 1 ∷ [];
   made = 1;
 }
-
--- what it says once its version is agreed on
-abbrev pub to_point : List T
-to_point =
-    Tattach 1 0 no_fid [] []
-    ∷ Twalk 1 0 1 (codes "mousein" ∷ [])
-    ∷ Topen 1 1 1
-    ∷ Twalk 1 0 2 (codes "wctl" ∷ [])
-    ∷ Topen 1 2 1
-    ∷ Twalk 1 0 3 to_new
-    ∷ Topen 1 3 2
-    ∷ Twalk 1 0 4 to_data
-    ∷ Topen 1 4 2
-    ∷ []
-
--- and how that is answered
-abbrev pub point_replies : List R
-point_replies =
-    Rattach 1 (qid (file 0 Device 0))
-    ∷ Rwalk 1 (map qid (file 0 Mousein 0 ∷ []))
-    ∷ Ropen 1 (qid (file 0 Mousein 0)) 0
-    ∷ Rwalk 1 (map qid (file 0 DeviceWctl 0 ∷ []))
-    ∷ Ropen 1 (qid (file 0 DeviceWctl 0)) 0
-    ∷ Rwalk 1 (map qid (new_way 0))
-    ∷ Ropen 1 (qid (file 0 Ctl 1)) 0
-    ∷ Rwalk 1 (map qid (data_way 0))
-    ∷ Ropen 1 (qid (file 0 Data 1)) 0
-    ∷ []
 
 -- the desktop in a later turn, with a connection of the client's
 abbrev pub with_connection : Desktop → Desktop

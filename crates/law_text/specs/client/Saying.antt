@@ -1,9 +1,8 @@
--- A client: the one session of a server, which has agreed on a version and has no read that waits, and what it says (intro(5)).
-use Rattle.std.specs.Prelude.{ℕ, ◌≡◌, ◌≤◌, ◌==◌, true, false, List, [], ◌∷◌, codes, length, map, None}
-use Rattle.r9_event.specs.declared.event.event.Event.{Event}
-use Rattle.r9_event.specs.declared.event.event.Event.TheVariants.{Msg}
+-- A client: the one session of a server, which has agreed on a version and has no read that waits; and what its messages leave
+-- (intro(5)).
+use Rattle.std.specs.Prelude.{ℕ, ◌≡◌, ◌≤◌, ◌==◌, true, false, List, [], ◌∷◌, length, map, None}
 use Rattle.model_history.specs.event.Legal.{IsMessage}
-use Rattle.model_files.specs.wire.Message.{T, R, Rversion, Tversion, no_tag, tag_of_t}
+use Rattle.model_files.specs.wire.Message.{T, R, no_tag, tag_of_t}
 use Rattle.model_files.specs.wire.Spelling.{SpellsT, spelling_of_t, spelling_of_r}
 use Rattle.model_draw.specs.draw.World as draw
 use Rattle.model_draw.specs.draw.Act.{written}
@@ -13,10 +12,7 @@ use Rattle.model_world.specs.Desktop.{Desktop}
 use Rattle.model_world.specs.Whole.{with_cost}
 use Rattle.model_world.specs.World.{World}
 use Rattle.model_world.specs.Replay.{Turn, replies_from, world_from}
-
--- the client is session 1
-abbrev pub says : T → Event
-says m = Msg 1 (spelling_of_t m) None
+use Rattle.model_clients.specs.client.Saying.{says}
 
 pub record IsClient (world : World) (session : Session) : Type 0 where
   pub alone : world.sessions ≡ (1, session) ∷ []
@@ -50,13 +46,7 @@ drawn k desktop after bytes = with_cost desktop after (messages_cost (written k 
 
 -- ---- the beginning
 
--- what a client says first, how it is answered, and what it then is
-abbrev pub hello : T
-hello = Tversion no_tag 65560 (codes "9P2000")
-
-abbrev pub welcome : R
-welcome = Rversion no_tag 65560 (codes "9P2000")
-
+-- what a client is once its first message is answered
 abbrev pub greeted : Session
 greeted = record fresh { agreed = true }
 

@@ -4,8 +4,8 @@ use Rattle.model_text.specs.text.Map.{lookup}
 use Rattle.model_draw_parts.specs.fonts.Font.{Font}
 use Rattle.model_draw.specs.draw.World.{Client, World, look}
 use Rattle.model_draw.specs.draw.Orders.{image_shown}
-use Rattle.law_text.specs.page.Text as text
-use Rattle.law_text.specs.page.Text.{Shape}
+use Rattle.model_clients.specs.page.Text as text
+use Rattle.model_clients.specs.page.Text.{Shape}
 use Rattle.law_text.specs.page.Page.{IsTextFont, Numbers, Shows}
 
 -- The connection has the ids of the images and the font, and its next drawing is with SoverD.

@@ -7,7 +7,7 @@ use Rattle.model_draw_parts.specs.declared.images.ImageId.{ImageId}
 use Rattle.model_draw.specs.draw.World.{Client, World, s_over_d}
 use Rattle.model_world.specs.Whole.{client}
 use Rattle.model_world.specs.World.{display_of}
-use Rattle.law_text.specs.typed.Typing.{display}
+use Rattle.model_clients.specs.typed.Typing.{display}
 
 -- the client's connection
 abbrev pub connection : ℕ

@@ -1,29 +1,26 @@
--- The client that shows a text in a window, and when the world shows a page of the text (draw(3), rio(4)).
+-- When the world shows a page of the text that a client shows (draw(3), rio(4)).
 use Rattle.std.specs.Prelude.{◌≡◌, ◌≤◌, ◌<◌, ℕ, true, is_some, List, [], ◌∷◌, ◌++◌, length, map, replicate, Some, None, All}
 use Rattle.r9_event.specs.declared.event.event.Event.{Event}
 use Rattle.r9_event.specs.declared.event.event.Event.TheVariants.{Begin}
-use Rattle.r9_event.specs.declared.event.event.Opening.{Opening}
-use Rattle.model_files.specs.wire.Message.{R, Rattach, Ropen, Rwalk, Rwrite, T}
+use Rattle.model_files.specs.wire.Message.{Rwrite, T}
 use Rattle.model_files.specs.wire.Spelling.{spelling_of_r}
 use Rattle.model_client.specs.declared.textwin.Move.{Move}
 use Rattle.model_client.specs.textwin.Moves.{all_moved, put_codes}
 use Rattle.model_rio.specs.rio.Table.{window_of}
 use Rattle.model_files.specs.declared.tree.Kind.TheVariants.{Ctl, Data, Window}
-use Rattle.model_files.specs.tree.Node.{qid}
 use Rattle.model_world.specs.Session.{Session, fid_at, fresh}
 use Rattle.model_world.specs.Desktop.{Desktop, first_desktop}
 use Rattle.model_world.specs.Whole.{client}
 use Rattle.model_world.specs.World.{World, display_of}
 use Rattle.model_world.specs.Replay.{replay, replies, step}
-use Rattle.law_text.specs.client.Files.{data_way, file, new_way, open_on, own_file}
-use Rattle.law_text.specs.client.Saying.{IsClient, says, welcome}
-use Rattle.law_text.specs.page.Text.{Shape, cells, making, moves_bytes, opening, rgb24, write}
+use Rattle.model_clients.specs.client.Files.{file, own_file}
+use Rattle.law_text.specs.client.Files.{open_on}
+use Rattle.model_clients.specs.client.Saying.{says}
+use Rattle.law_text.specs.client.Saying.{IsClient}
+use Rattle.model_clients.specs.page.Text.{Shape, cells, moves_bytes, opening, write}
 use Rattle.law_text.specs.page.Page.{Numbers}
 use Rattle.law_text.specs.page.Device.{ShowsTo}
-
--- the display that records of texts are for
-abbrev pub display : Opening
-display = record { width = 640; height = 480; chan = rgb24 }
+use Rattle.model_clients.specs.typed.Typing.{display, opening_replies}
 
 -- The client has the tree of its window, and the files of its one connection that it opened.
 abbrev pub typist : Session
@@ -55,15 +52,6 @@ first = first_desktop (display_of display)
 
 abbrev pub begun_world : World
 begun_world = record { opening = display; desktop = first; sessions = (1, fresh) ∷ [] }
-
--- how the walks to the connection's files and their opens are answered
-abbrev pub opened_replies : List R
-opened_replies = Rwalk 1 (map qid (new_way 1)) ∷ Ropen 1 (qid (file 1 Ctl 1)) 0 ∷ Rwalk 1 (map qid (data_way 1)) ∷ Ropen 1 (qid (file 1 Data 1)) 0 ∷ []
-
--- how all is answered that comes before the first piece
-abbrev pub opening_replies : Shape → (pixels : List ℕ) → List R
-opening_replies shape pixels =
-    welcome ∷ Rattach 1 (qid (own_file 1 Window)) ∷ opened_replies ++ Rwrite 1 (length (making shape pixels)) ∷ []
 
 -- ---- the pieces
 

@@ -3,8 +3,9 @@ use Rattle.std.proofs.Common.{◌≡◌, ◌≤◌, ◌<◌, ◌+◌, ◌^◌, �
 use Rattle.std.specs.Fmt.{decimal}
 use Rattle.std.specs.List.{flat_map}
 use Rattle.std.proofs.lemmas.Fmt.{length-decimal-le}
-use Rattle.law_text.specs.client.Messages.{drawing, image, named}
-use Rattle.law_desk.specs.bands.Bands.{band, bands, freed, inks}
+use Rattle.model_clients.specs.client.Messages.{drawing, image, named}
+use Rattle.model_clients.specs.bands.Bands.{inks}
+use Rattle.law_desk.specs.bands.Bands.{band, bands, freed}
 
 -- the name of a window's first image
 abbrev pub name : (window : ℕ) → List ℕ

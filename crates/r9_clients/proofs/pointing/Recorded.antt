@@ -5,7 +5,7 @@ use Rattle.model_history.specs.records.Record.{record_of}
 use Rattle.model_files.specs.declared.mouse.Mouse.{Mouse}
 use Rattle.law_text.specs.client.Saying.{AreMessages}
 use Rattle.model_client.specs.desk.Table.{start}
-use Rattle.law_desk.specs.piloted.History.{IsPiloted, opening}
+use Rattle.model_clients.specs.piloted.History.{IsPiloted, opening}
 use Rattle.law_menus.specs.menus.Writes.{desk_history, desk_messages}
 use Rattle.r9_clients.specs.saying.Lines.{IsSaid}
 use Rattle.r9_clients.proofs.saying.Said.{record_is, said_more}

@@ -15,7 +15,8 @@ use Rattle.model_client.specs.desk.Asked.{asked}
 use Rattle.model_client.specs.desk.Spelled.{change, id_words, rect_words, spelled}
 use Rattle.model_client.specs.desk.Pilot.{written}
 use Rattle.law_shown.proofs.shown.Tests.{find-passes}
-use Rattle.law_desk.specs.piloted.Following.{IsEvent, is_over, pane_by}
+use Rattle.model_clients.specs.piloted.Following.{pane_by}
+use Rattle.law_desk.specs.piloted.Following.{IsEvent, is_over}
 use Rattle.law_desk.proofs.piloted.Commands.{box}
 use Rattle.law_desk.proofs.piloted.Events.{text_len}
 use Rattle.law_desk.specs.ready.Ready.{ArePanes, IsReady, IsThere}

@@ -8,7 +8,7 @@ use Rattle.model_files.specs.declared.mouse.Mouse.{Mouse}
 use Rattle.model_client.specs.desk.Table.{Desk, start}
 use Rattle.model_client.specs.desk.Pilot.{after, written}
 use Rattle.law_desk.specs.piloted.Following.{IsEvent}
-use Rattle.law_desk.specs.piloted.History.{Write, writes}
+use Rattle.model_clients.specs.piloted.History.{Write, writes}
 use Rattle.law_desk.specs.ready.Ready.{IsReady}
 use Rattle.law_desk.proofs.ready.Kept.{ready_after, starts}
 use Rattle.law_desk.specs.steered.Steered.{write_of}

@@ -5,8 +5,9 @@ use Rattle.std.specs.Str.{chars, is_utf8}
 use Rattle.std.proofs.lemmas.Str.{IsUtf8-from_is_utf8}
 use Rattle.model_files.specs.wire.Message.{T, Tattach, Topen, Twalk, no_fid}
 use Rattle.model_files.specs.wire.Spelling.{message, sized}
-use Rattle.law_text.specs.client.Files.{to_data, to_new}
-use Rattle.law_text.specs.client.Saying.{MaySay, greeted, hello}
+use Rattle.model_clients.specs.client.Files.{to_data, to_new}
+use Rattle.model_clients.specs.client.Saying.{hello}
+use Rattle.law_text.specs.client.Saying.{MaySay, greeted}
 use Rattle.law_text.proofs.client.May.{may_open, may_walk_data, may_walk_new}
 use Rattle.r9_clients.specs.saying.Lines.{CanSay}
 

@@ -12,7 +12,8 @@ use Rattle.model_files.specs.wire.Spelling.{message, spelling_of_t}
 use Rattle.model_history.specs.event.Legal.{IsMessage}
 use Rattle.model_history.specs.records.Line.{event_line}
 use Rattle.model_history.specs.records.Record.{record_of}
-use Rattle.law_text.specs.client.Saying.{AreMessages, greeted, says}
+use Rattle.model_clients.specs.client.Saying.{says}
+use Rattle.law_text.specs.client.Saying.{AreMessages, greeted}
 use Rattle.law_text.proofs.client.Legal.{whole}
 use Rattle.law_text.proofs.client.May.{may_write}
 use Rattle.r9_clients.specs.saying.Lines.{CanSay, IsSaid, lines_of, opens, write_head}

@@ -1,7 +1,7 @@
 -- The messages that the client says fit into bytes.
 use Rattle.std.proofs.Common.{◌≡◌, ◌≤◌, ◌*◌, ℕ, List, [], length, sym, subst}
 use Rattle.model_files.specs.wire.Message.{Tattach, no_fid}
-use Rattle.law_text.specs.page.Text.{Shape, asked, cells, making}
+use Rattle.model_clients.specs.page.Text.{Shape, asked, cells, making}
 use Rattle.law_text.specs.page.Page.{IsShape}
 use Rattle.law_text.proofs.typed.Opening.{attach_may, making_few}
 use Rattle.r9_clients.specs.saying.Lines.{CanSay}

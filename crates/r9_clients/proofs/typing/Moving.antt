@@ -5,12 +5,12 @@ use Rattle.std.proofs.lemmas.List.{length-map, map-append}
 use Rattle.std.proofs.lemmas.List.Elements.{All-cons, All-nil, filter-append}
 use Rattle.std.proofs.lemmas.Bool.Decides.{nat_tests}
 use Rattle.model_text.specs.text.Number.{two_bytes}
-use Rattle.law_text.specs.client.Messages.{drawing, string}
+use Rattle.model_clients.specs.client.Messages.{drawing, string}
 use Rattle.model_client.specs.declared.textwin.Move.{Move}
 use Rattle.model_client.specs.declared.textwin.Move.TheVariants.{Put, Scroll}
 use Rattle.model_client.specs.textwin.Moves.{codes_of, put_codes}
 use Rattle.model_client.specs.textwin.Wrap.{characters, code_of}
-use Rattle.law_text.specs.page.Text.{Shape, cells, move_bytes, moves_bytes}
+use Rattle.model_clients.specs.page.Text.{Shape, cells, move_bytes, moves_bytes}
 use Rattle.r9_clients.specs.page.Shown.{IsWithin}
 use Rattle.r9_textwin.specs.Window as win
 

@@ -8,7 +8,7 @@ use Rattle.model_client.specs.declared.textwin.Move.{Move}
 use Rattle.model_client.specs.textwin.Moves.{all_moved, put_codes, screen}
 use Rattle.model_client.specs.textwin.Pieces.{pieces}
 use Rattle.model_client.specs.textwin.Wrap.{Page, blank, characters, wrapped}
-use Rattle.law_text.specs.page.Text.{Shape, cells, moves_bytes, opening, write}
+use Rattle.model_clients.specs.page.Text.{Shape, cells, moves_bytes, opening, write}
 use Rattle.law_text.specs.page.Page.{IsShape}
 use Rattle.law_text.specs.typed.Typing.{AllFit, Piece, text_history}
 use Rattle.law_text.specs.typed.Shown.{pages}

@@ -3,7 +3,7 @@ use Rattle.std.specs.Prelude.{pos, List, ℕ}
 use Rattle.r9_geom.specs.declared.Point.{Point}
 use Rattle.r9_geom.specs.declared.Rect.{Rect}
 use Rattle.model_draw_parts.specs.dmsg.Message as dmsg
-use Rattle.law_text.specs.page.Text.{box}
+use Rattle.model_clients.specs.page.Text.{box}
 use Rattle.r9_clients.specs.declared.drawing.fields.Place.{Place}
 use Rattle.r9_clients.specs.declared.drawing.fields.Area.{Area}
 use Rattle.r9_clients.specs.declared.drawing.messages.Writing.{Writing}

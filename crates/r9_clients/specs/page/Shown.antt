@@ -2,7 +2,7 @@
 use Rattle.std.specs.Prelude.{◌<◌, ◌≤◌, ◌+◌, length}
 use Rattle.model_client.specs.declared.textwin.Move.{Move}
 use Rattle.model_client.specs.declared.textwin.Move.TheVariants.{Scroll, Put}
-use Rattle.law_text.specs.page.Text as text
+use Rattle.model_clients.specs.page.Text as text
 use Rattle.r9_clients.specs.declared.page.shape.Shape.{Shape}
 
 abbrev pub shape_of : Shape → text.Shape

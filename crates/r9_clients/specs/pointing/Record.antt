@@ -3,7 +3,7 @@ use Rattle.std.specs.Prelude.{◌≡◌, ℕ, List, Ok}
 use Rattle.r9_event.specs.declared.event.event.Event.{Event}
 use Rattle.model_history.specs.records.Record.{record_of}
 use Rattle.model_files.specs.declared.mouse.Mouse.{Mouse}
-use Rattle.law_desk.specs.piloted.History.{IsPiloted}
+use Rattle.model_clients.specs.piloted.History.{IsPiloted}
 use Rattle.r9_clients.specs.deskfile.Events.{events_of}
 
 pub record IsDeskRecord (bytes lines : List ℕ) : Type 0 where

@@ -7,7 +7,7 @@ use Rattle.model_files.specs.wire.Message.{T}
 use Rattle.model_files.specs.declared.mouse.Mouse.{Mouse}
 use Rattle.model_client.specs.declared.desk.Text.{Text}
 use Rattle.model_client.specs.desk.Table.{Desk}
-use Rattle.law_desk.specs.piloted.History.{IsPiloted, writes}
+use Rattle.model_clients.specs.piloted.History.{IsPiloted, writes}
 use Rattle.law_desk.specs.steered.Steered.{write_of}
 use Rattle.law_menus.specs.menus.Writes.{writes_from}
 

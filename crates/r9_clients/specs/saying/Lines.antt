@@ -5,7 +5,8 @@ use Rattle.model_text.specs.text.Number.{two_bytes, four_bytes, eight_bytes}
 use Rattle.model_files.specs.wire.Message.{T, Topen, Twalk}
 use Rattle.model_files.specs.wire.Spelling.{SpellsT, spelling_of_t}
 use Rattle.model_history.specs.records.Line.{event_line}
-use Rattle.law_text.specs.client.Saying.{AreMessages, says}
+use Rattle.model_clients.specs.client.Saying.{says}
+use Rattle.law_text.specs.client.Saying.{AreMessages}
 
 -- a message that has a spelling of a size that was agreed on
 pub record CanSay (m : T) : Type 0 where

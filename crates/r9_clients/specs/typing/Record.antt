@@ -2,7 +2,7 @@
 use Rattle.std.specs.Prelude.{◌≡◌, ℕ, List, Ok}
 use Rattle.r9_event.specs.declared.event.event.Event.{Event}
 use Rattle.model_history.specs.records.Record.{record_of}
-use Rattle.law_text.specs.typed.Shown.{IsShown}
+use Rattle.model_clients.specs.typed.Shown.{IsShown}
 use Rattle.r9_clients.specs.textfile.Input.{Input, input_of}
 
 pub record IsTextRecord (columns rows : ℕ) (bytes lines : List ℕ) : Type 0 where

@@ -6,9 +6,10 @@ use Rattle.model_history.specs.records.Record.{record_of}
 use Rattle.model_client.specs.textwin.Moves.{put_codes, screen}
 use Rattle.model_client.specs.textwin.Pieces.{pieces}
 use Rattle.model_client.specs.textwin.Wrap.{Page, characters}
-use Rattle.law_text.specs.page.Text.{Shape, moves_bytes, write}
+use Rattle.model_clients.specs.page.Text.{Shape, moves_bytes, write}
 use Rattle.law_text.specs.typed.Typing.{AllFit, Piece}
-use Rattle.law_text.specs.typed.Shown.{IsShown, pages}
+use Rattle.model_clients.specs.typed.Shown.{IsShown}
+use Rattle.law_text.specs.typed.Shown.{pages}
 use Rattle.r9_clients.specs.saying.Lines.{IsSaid}
 
 -- The lines of a text's pieces came behind what was there before. The pieces' moves lead from a page on to the pages after them, and put

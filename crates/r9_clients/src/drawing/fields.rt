@@ -3,7 +3,7 @@
 ghost use Rattle.std.specs.Prelude.{◌≡◌, ◌++◌, pos, OnOk};
 ghost use Rattle.std.specs.List.{flat_map};
 ghost use Rattle.model_text.specs.text.Number.{two_bytes, four_bytes};
-ghost use Rattle.law_text.specs.client.Messages.{coordinate, point, rect};
+ghost use Rattle.model_clients.specs.client.Messages.{coordinate, point, rect};
 ghost use Rattle.r9_clients.specs.drawing.Shown.{point_of, rect_of};
 
 use r9_memory::Memory;

@@ -1,9 +1,9 @@
 //! Draw messages (draw(3)), each whole.
 
 ghost use Rattle.std.specs.Prelude.{◌≡◌, ◌<◌, ◌^◌, length, IfOk};
-ghost use Rattle.law_text.specs.client.Messages.{character, drawing, font, image, named, rows, string};
-ghost use Rattle.law_text.specs.client.Messages as messages;
-ghost use Rattle.law_text.specs.page.Text as text;
+ghost use Rattle.model_clients.specs.client.Messages.{character, drawing, font, image, named, rows, string};
+ghost use Rattle.model_clients.specs.client.Messages as messages;
+ghost use Rattle.model_clients.specs.page.Text as text;
 ghost use Rattle.r9_clients.specs.drawing.Shown.{point_of, rect_of, writing_of};
 
 use crate::drawing::fields::{Area, Place, put_area, put_long, put_place, put_short, put_shorts};
@@ -23,7 +23,7 @@ pub struct Image {
 }
 
 /// Makes an image.
-#[tactic(auto, unfolding(law_text::specs::client::Messages::image))]
+#[tactic(auto, unfolding(model_clients::specs::client::Messages::image))]
 pub fn make_image(alloc: Global, made: Image) -> Result<Bytes, Memory>
     ensures { IfOk result (λ bytes. bytes ≡ image made.id made.chan made.repl (rect_of made.r) (rect_of made.clipr) made.color) }
 {
@@ -85,7 +85,7 @@ pub struct Drawing {
 }
 
 /// Draws.
-#[tactic(auto, unfolding(law_text::specs::client::Messages::drawing))]
+#[tactic(auto, unfolding(model_clients::specs::client::Messages::drawing))]
 pub fn draw(alloc: Global, d: Drawing) -> Result<Bytes, Memory>
     ensures { IfOk result (λ bytes. bytes ≡ drawing d.dst d.src d.mask (rect_of d.r) (point_of d.sp) (point_of d.mp)) }
 {
@@ -101,7 +101,7 @@ pub fn draw(alloc: Global, d: Drawing) -> Result<Bytes, Memory>
 }
 
 /// Makes an image a font of so many characters.
-#[tactic(auto, unfolding(law_text::specs::client::Messages::font))]
+#[tactic(auto, unfolding(model_clients::specs::client::Messages::font))]
 pub fn font(alloc: Global, id: u32, count: u32, ascent: u8) -> Result<Bytes, Memory>
     ensures { IfOk result (λ bytes. bytes ≡ font id count ascent) }
 {
@@ -125,7 +125,7 @@ pub struct Character {
 }
 
 /// Takes a character into a font.
-#[tactic(auto, unfolding(law_text::specs::client::Messages::character))]
+#[tactic(auto, unfolding(model_clients::specs::client::Messages::character))]
 pub fn take_character(alloc: Global, c: Character) -> Result<Bytes, Memory>
     ensures { IfOk result (λ bytes. bytes ≡ character c.font c.src c.index (rect_of c.r) (point_of c.sp) c.width) }
 {
@@ -142,7 +142,7 @@ pub fn take_character(alloc: Global, c: Character) -> Result<Bytes, Memory>
 }
 
 /// Takes an id for the image with a name.
-#[tactic(auto, unfolding(law_text::specs::client::Messages::named))]
+#[tactic(auto, unfolding(model_clients::specs::client::Messages::named))]
 pub fn named(alloc: Global, id: u32, name: &[u8]) -> Result<Bytes, Memory>
     requires { length name.now < 2 ^ 8 }
     ensures { IfOk result (λ bytes. bytes ≡ named id name.now) }
@@ -167,7 +167,7 @@ pub struct Writing {
 }
 
 /// Writes characters by their indices.
-#[tactic(auto, unfolding(law_text::specs::client::Messages::string))]
+#[tactic(auto, unfolding(model_clients::specs::client::Messages::string))]
 pub fn string(alloc: Global, w: Writing, indices: &[u8]) -> Result<Bytes, Memory>
     requires { length indices.now < 2 ^ 16 }
     ensures { IfOk result (λ bytes. bytes ≡ string (writing_of w indices.now)) }
@@ -186,7 +186,7 @@ pub fn string(alloc: Global, w: Writing, indices: &[u8]) -> Result<Bytes, Memory
 }
 
 /// Writes the rows of a rectangle's pixels.
-#[tactic(auto, unfolding(law_text::specs::client::Messages::rows))]
+#[tactic(auto, unfolding(model_clients::specs::client::Messages::rows))]
 pub fn rows(alloc: Global, id: u32, r: Area, pixels: &[u8]) -> Result<Bytes, Memory>
     ensures { IfOk result (λ bytes. bytes ≡ rows id (rect_of r) pixels.now) }
 {

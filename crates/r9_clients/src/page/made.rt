@@ -2,9 +2,9 @@
 
 ghost use Rattle.std.specs.Prelude.{◌≡◌, ◌<◌, ◌++◌, OnOk, IfOk};
 ghost use Rattle.std.specs.List.{flat_map, range_with_len};
-ghost use Rattle.law_text.specs.client.Messages as messages;
-ghost use Rattle.law_text.specs.page.Text as text;
-ghost use Rattle.law_text.specs.page.Text.{cell, cells, font_rect, making};
+ghost use Rattle.model_clients.specs.client.Messages as messages;
+ghost use Rattle.model_clients.specs.page.Text as text;
+ghost use Rattle.model_clients.specs.page.Text.{cell, cells, font_rect, making};
 ghost use Rattle.law_text.specs.page.Page.{IsShape};
 ghost use Rattle.r9_clients.specs.drawing.Shown.{rect_of};
 ghost use Rattle.r9_clients.specs.page.Shown.{shape_of};
@@ -105,7 +105,7 @@ fn push_cells(alloc: Global, shape: Shape, out: &mut Bytes) -> Result<(), Memory
 }
 
 /// The draw messages that make white and black, the font, whose pixels are rows of one byte for each, and the window's image.
-#[tactic(auto, unfolding(law_text::specs::page::Text::making))]
+#[tactic(auto, unfolding(model_clients::specs::page::Text::making))]
 pub fn making(alloc: Global, shape: Shape, pixels: &[u8]) -> Result<Bytes, Memory>
     requires { IsShape (shape_of shape) }
     ensures { IfOk result (λ bytes. bytes ≡ making (shape_of shape) pixels.now) }

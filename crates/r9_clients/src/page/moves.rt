@@ -2,7 +2,7 @@
 
 ghost use Rattle.std.specs.Prelude.{◌≡◌, All, IfOk};
 ghost use Rattle.model_client.specs.declared.textwin.Move.TheVariants.{Scroll, Put};
-ghost use Rattle.law_text.specs.page.Text.{last_row, move_bytes, moves_bytes, page_rect, upper};
+ghost use Rattle.model_clients.specs.page.Text.{last_row, move_bytes, moves_bytes, page_rect, upper};
 ghost use Rattle.law_text.specs.page.Page.{IsShape};
 ghost use Rattle.r9_clients.specs.drawing.Shown.{rect_of};
 ghost use Rattle.r9_clients.specs.page.Shown.{IsWithin, shape_of};
@@ -56,7 +56,7 @@ fn page_area(shape: Shape) -> Area
 }
 
 /// Moves what the window shows up, and whitens the last row.
-#[tactic(auto, unfolding(law_text::specs::page::Text::move_bytes))]
+#[tactic(auto, unfolding(model_clients::specs::page::Text::move_bytes))]
 fn scroll(alloc: Global, shape: Shape) -> Result<Bytes, Memory>
     requires { IsShape (shape_of shape) }
     ensures { IfOk result (λ bytes. bytes ≡ move_bytes (shape_of shape) Scroll) }
@@ -91,7 +91,7 @@ fn scroll(alloc: Global, shape: Shape) -> Result<Bytes, Memory>
 }
 
 /// Writes characters to a row from a column on.
-#[tactic(auto, unfolding(law_text::specs::page::Text::move_bytes))]
+#[tactic(auto, unfolding(model_clients::specs::page::Text::move_bytes))]
 fn put(alloc: Global, shape: Shape, row: u32, column: u32, codes: &[u8]) -> Result<Bytes, Memory>
     requires shape { IsShape (shape_of shape) }
     requires within { IsWithin (shape_of shape) (Put row column codes.now) }

@@ -4,7 +4,8 @@ ghost use Rattle.std.specs.Prelude.{◌≡◌, ◌≤◌, ◌<◌, ◌+◌, ◌*
 ghost use Rattle.std.specs.Fmt.{decimal};
 ghost use Rattle.std.specs.List.{flat_map, range_with_len};
 ghost use Rattle.r9_geom.specs.Geometry.{natural};
-ghost use Rattle.law_desk.specs.bands.Bands.{band, bands, freed, inks};
+ghost use Rattle.model_clients.specs.bands.Bands.{inks};
+ghost use Rattle.law_desk.specs.bands.Bands.{band, bands, freed};
 
 use crate::drawing::{Area, Drawing, ORIGIN, colour, draw, named};
 use model_client::desk::Spot;
@@ -22,7 +23,7 @@ const FIRST_INK: u32 = 2;
 const MENU: u32 = 7;
 
 /// The messages that make white and the colours of the bands from the top.
-#[tactic(auto, unfolding(law_desk::specs::bands::Bands::inks))]
+#[tactic(auto, unfolding(model_clients::specs::bands::Bands::inks))]
 pub fn inks(alloc: Global) -> Result<Bytes, Memory>
     ensures { IfOk result (λ bytes. bytes ≡ inks) }
 {

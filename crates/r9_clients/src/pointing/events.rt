@@ -4,7 +4,7 @@ ghost use Rattle.std.specs.Prelude.{◌≡◌, ◌≤◌, [], ◌∷◌, length,
 ghost use Rattle.model_client.specs.desk.Table.{start};
 ghost use Rattle.model_client.specs.desk.Pilot.{after, written};
 ghost use Rattle.law_desk.specs.piloted.Following.{IsEvent};
-ghost use Rattle.law_desk.specs.piloted.History.{writes};
+ghost use Rattle.model_clients.specs.piloted.History.{writes};
 ghost use Rattle.law_desk.specs.steered.Steered.{write_of};
 ghost use Rattle.law_menus.specs.menus.Writes.{bands_after, writes_for, writes_from};
 ghost use Rattle.r9_clients.specs.saying.Lines.{IsSaid};

@@ -1,8 +1,8 @@
 //! The lines of what the client says before the first event.
 
 ghost use Rattle.std.specs.Prelude.{◌≡◌, [], ◌∷◌, ◌++◌, codes, IfOk, OnOk};
-ghost use Rattle.law_text.specs.client.Files.{to_data, to_new};
-ghost use Rattle.law_desk.specs.piloted.History.{opening};
+ghost use Rattle.model_clients.specs.client.Files.{to_data, to_new};
+ghost use Rattle.model_clients.specs.piloted.History.{opening};
 ghost use Rattle.r9_clients.specs.saying.Lines.{IsSaid, opens};
 
 use crate::pointing::bands::inks;

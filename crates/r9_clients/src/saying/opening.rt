@@ -4,8 +4,8 @@ ghost use Rattle.std.specs.Prelude.{◌≡◌, ◌<◌, ◌^◌, [], ◌∷◌, 
 ghost use Rattle.r9_event.specs.declared.event.event.Event.TheVariants.{Begin};
 ghost use Rattle.model_history.specs.records.Record.{record_of};
 ghost use Rattle.model_files.specs.wire.Message.{Tattach, Twalk, no_fid};
-ghost use Rattle.law_text.specs.client.Files.{to_data, to_new};
-ghost use Rattle.law_text.specs.client.Saying.{hello};
+ghost use Rattle.model_clients.specs.client.Files.{to_data, to_new};
+ghost use Rattle.model_clients.specs.client.Saying.{hello};
 ghost use Rattle.r9_wire.specs.View.{t_of};
 ghost use Rattle.r9_clients.specs.saying.Lines.{CanSay, IsSaid, opens};
 

@@ -2,9 +2,9 @@
 
 ghost use Rattle.std.specs.Prelude.{◌≡◌, ◌*◌, ◌++◌, [], ◌∷◌, length, IfOk, OnOk};
 ghost use Rattle.model_files.specs.wire.Message.{Tattach, no_fid};
-ghost use Rattle.law_text.specs.client.Files.{to_data, to_new};
-ghost use Rattle.law_text.specs.client.Saying.{hello};
-ghost use Rattle.law_text.specs.page.Text.{asked, cells, opening};
+ghost use Rattle.model_clients.specs.client.Files.{to_data, to_new};
+ghost use Rattle.model_clients.specs.client.Saying.{hello};
+ghost use Rattle.model_clients.specs.page.Text.{asked, cells, opening};
 ghost use Rattle.law_text.specs.page.Page.{IsShape};
 ghost use Rattle.r9_clients.specs.page.Shown.{shape_of};
 ghost use Rattle.r9_clients.specs.saying.Lines.{IsSaid, opens};
@@ -19,7 +19,7 @@ use std::alloc::Global;
 pub const DATA: u32 = 2;
 
 /// The name of the attach, which asks for a window.
-#[tactic(auto, unfolding(law_text::specs::page::Text::asked))]
+#[tactic(auto, unfolding(model_clients::specs::page::Text::asked))]
 fn asked(alloc: Global, shape: Shape) -> Result<Bytes, Memory>
     requires { IsShape (shape_of shape) }
     ensures { IfOk result (λ name. name ≡ asked (shape_of shape)) }

@@ -2,7 +2,7 @@
 
 ghost use Rattle.std.specs.Prelude.{◌≤◌, [], ◌∷◌, length, All, OnOk};
 ghost use Rattle.model_client.specs.textwin.Wrap.{blank};
-ghost use Rattle.law_text.specs.page.Text.{moves_bytes, write};
+ghost use Rattle.model_clients.specs.page.Text.{moves_bytes, write};
 ghost use Rattle.law_text.specs.page.Page.{IsShape};
 ghost use Rattle.r9_clients.specs.page.Shown.{IsWithin, shape_of};
 ghost use Rattle.r9_clients.specs.saying.Lines.{IsSaid};

@@ -1,7 +1,7 @@
 //! The record of a text.
 
 ghost use Rattle.std.specs.Prelude.{◌≡◌, ◌≤◌, ◌*◌, ℕ, length, Err, IfOk};
-ghost use Rattle.law_text.specs.page.Text.{cells};
+ghost use Rattle.model_clients.specs.page.Text.{cells};
 ghost use Rattle.law_text.specs.page.Page.{IsShape};
 ghost use Rattle.r9_clients.specs.textfile.Input.{input_of};
 ghost use Rattle.r9_clients.specs.page.Shown.{shape_of};

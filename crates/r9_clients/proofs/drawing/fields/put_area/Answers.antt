@@ -1,5 +1,5 @@
 use Rattle.std.proofs.Common.{pos}
-use Rattle.law_text.specs.client.Messages.{point}
+use Rattle.model_clients.specs.client.Messages.{point}
 use Rattle.r9_clients.proofs.drawing.Joins.{then_added}
 use Rattle.r9_clients.proofs.drawing.fields.put_area.Goals as goal
 

@@ -1,6 +1,6 @@
 use Rattle.std.proofs.Common.{◌≡◌, ◌++◌, ◌-◌}
 use Rattle.std.specs.List.{flat_map, range_with_len}
-use Rattle.law_text.specs.page.Text.{cell, cells}
+use Rattle.model_clients.specs.page.Text.{cell, cells}
 use Rattle.r9_clients.specs.page.Shown.{shape_of}
 use Rattle.r9_clients.proofs.page.made.push_cells.Given as goal
 

@@ -1,6 +1,6 @@
 use Rattle.std.proofs.Common.{◌≡◌, ◌++◌, drop}
 use Rattle.std.specs.List.{flat_map}
-use Rattle.law_text.specs.page.Text.{move_bytes}
+use Rattle.model_clients.specs.page.Text.{move_bytes}
 use Rattle.r9_clients.specs.page.Shown.{shape_of}
 use Rattle.r9_clients.proofs.page.moves.moves_bytes.Given as goal
 

@@ -2,7 +2,7 @@ use Rattle.std.proofs.Common.{◌∙◌, ap, subst, List, map}
 use Rattle.model_client.specs.declared.desk.Mode.{Mode}
 use Rattle.model_client.specs.declared.desk.Text.{Text}
 use Rattle.model_client.specs.desk.Table.{Desk}
-use Rattle.law_desk.specs.piloted.History.{writes}
+use Rattle.model_clients.specs.piloted.History.{writes}
 use Rattle.law_desk.specs.steered.Steered.{write_of}
 use Rattle.law_menus.specs.menus.Writes.{bands_after, writes_for}
 use Rattle.r9_clients.specs.saying.Lines.{IsSaid}

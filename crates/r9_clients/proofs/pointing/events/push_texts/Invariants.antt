@@ -1,4 +1,4 @@
-use Rattle.law_desk.specs.piloted.History.{writes}
+use Rattle.model_clients.specs.piloted.History.{writes}
 use Rattle.law_desk.specs.steered.Steered.{write_of}
 use Rattle.r9_clients.proofs.pointing.Steps.{SaysRest}
 use Rattle.r9_clients.proofs.pointing.events.push_texts.Given as goal

@@ -1,5 +1,5 @@
 use Rattle.std.proofs.Common.{◌++◌, arith}
-use Rattle.law_text.specs.client.Files.{to_data, to_new}
+use Rattle.model_clients.specs.client.Files.{to_data, to_new}
 use Rattle.r9_clients.specs.saying.Lines.{IsSaid, opens}
 use Rattle.r9_clients.proofs.saying.Fits.{to_data_said, to_new_said}
 use Rattle.r9_clients.proofs.saying.Said.{on_ok_then, said_more, said_opens_as}

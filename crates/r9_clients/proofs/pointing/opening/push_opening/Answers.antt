@@ -1,10 +1,11 @@
 use Rattle.std.proofs.Common.{◌++◌, ◌∷◌, [], ◌∙◌, ◌≤◌, ℕ, List, codes, length, refl, arith, sym, subst}
 use Rattle.model_files.specs.wire.Message.{Tattach, Twrite, no_fid}
-use Rattle.law_text.specs.client.Files.{to_data, to_new}
-use Rattle.law_text.specs.client.Saying.{greeted, hello}
+use Rattle.model_clients.specs.client.Files.{to_data, to_new}
+use Rattle.model_clients.specs.client.Saying.{hello}
+use Rattle.law_text.specs.client.Saying.{greeted}
 use Rattle.law_text.proofs.client.May.{may_attach_device}
-use Rattle.law_desk.specs.bands.Bands.{inks}
-use Rattle.law_desk.specs.piloted.History.{opening}
+use Rattle.model_clients.specs.bands.Bands.{inks}
+use Rattle.model_clients.specs.piloted.History.{opening}
 use Rattle.r9_clients.specs.saying.Lines.{IsSaid, opens}
 use Rattle.r9_clients.proofs.saying.Fits.{attach_said}
 use Rattle.r9_clients.proofs.saying.Said.{on_ok_then, said_more, said_write_as}

@@ -1,5 +1,5 @@
 use Rattle.std.proofs.Common.{[], ◌∷◌}
-use Rattle.law_text.specs.client.Saying.{hello}
+use Rattle.model_clients.specs.client.Saying.{hello}
 use Rattle.r9_wire.specs.View.{t_of}
 use Rattle.r9_clients.specs.saying.Lines.{IsSaid}
 use Rattle.r9_clients.proofs.saying.Fits.{hello_said}

@@ -1,7 +1,7 @@
 use Rattle.std.proofs.Common.{[], ◌∷◌, ap}
 use Rattle.model_files.specs.wire.Message.{Tattach, no_fid}
-use Rattle.law_text.specs.client.Saying.{hello}
-use Rattle.law_text.specs.page.Text.{asked}
+use Rattle.model_clients.specs.client.Saying.{hello}
+use Rattle.model_clients.specs.page.Text.{asked}
 use Rattle.r9_clients.specs.page.Shown.{shape_of}
 use Rattle.r9_clients.specs.saying.Lines.{IsSaid}
 use Rattle.r9_clients.proofs.saying.Said.{on_ok_then, said_as, said_more}

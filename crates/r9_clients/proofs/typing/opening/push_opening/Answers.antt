@@ -1,8 +1,8 @@
 use Rattle.std.proofs.Common.{◌∙◌, ◌++◌, [], ◌∷◌}
 use Rattle.model_files.specs.wire.Message.{Tattach, no_fid}
-use Rattle.law_text.specs.client.Files.{to_data, to_new}
-use Rattle.law_text.specs.client.Saying.{hello}
-use Rattle.law_text.specs.page.Text.{asked, making, opening, write}
+use Rattle.model_clients.specs.client.Files.{to_data, to_new}
+use Rattle.model_clients.specs.client.Saying.{hello}
+use Rattle.model_clients.specs.page.Text.{asked, making, opening, write}
 use Rattle.r9_clients.specs.page.Shown.{shape_of}
 use Rattle.r9_clients.specs.saying.Lines.{IsSaid, opens}
 use Rattle.r9_clients.proofs.typing.Fits.{making_short}

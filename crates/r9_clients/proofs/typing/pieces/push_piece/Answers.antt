@@ -1,5 +1,5 @@
 use Rattle.std.proofs.Common.{◌∙◌, [], ◌∷◌}
-use Rattle.law_text.specs.page.Text.{moves_bytes, write}
+use Rattle.model_clients.specs.page.Text.{moves_bytes, write}
 use Rattle.r9_clients.specs.page.Shown.{shape_of}
 use Rattle.r9_clients.specs.saying.Lines.{IsSaid}
 use Rattle.r9_clients.proofs.typing.Fits.{few}

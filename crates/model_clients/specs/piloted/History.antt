@@ -16,9 +16,9 @@ use Rattle.model_draw.specs.draw.Orders.{image_shown}
 use Rattle.model_rio.specs.rio.Table.{numbered}
 use Rattle.model_world.specs.World.{World}
 use Rattle.model_world.specs.Replay.{replay, replies}
-use Rattle.law_text.specs.client.Pointing.{point_replies, to_point}
-use Rattle.law_text.specs.client.Saying.{hello, says, welcome}
-use Rattle.law_text.specs.page.Text.{rgb24}
+use Rattle.model_clients.specs.client.Pointing.{point_replies, to_point}
+use Rattle.model_clients.specs.client.Saying.{hello, says, welcome}
+use Rattle.model_clients.specs.page.Text.{rgb24}
 use Rattle.model_client.specs.declared.desk.Mode.{Mode}
 use Rattle.model_client.specs.declared.desk.Mode.TheVariants.{Drag, Drain, Idle, Menu, Pick, Sweep, Sweeping}
 use Rattle.model_client.specs.declared.desk.Spot.{Spot}
@@ -26,9 +26,9 @@ use Rattle.model_client.specs.declared.desk.Text.{Text}
 use Rattle.model_client.specs.declared.desk.Text.TheVariants.{Mousein, Wctl}
 use Rattle.model_client.specs.desk.Table.{Desk}
 use Rattle.model_client.specs.desk.Pilot.{after_all, pilot}
-use Rattle.law_desk.specs.bands.Bands.{inks}
+use Rattle.model_clients.specs.bands.Bands.{inks}
 use Rattle.r9_event.specs.declared.event.event.Opening.{Opening}
-use Rattle.law_desk.specs.piloted.Following.{HasWindows}
+use Rattle.model_clients.specs.piloted.Following.{HasWindows}
 
 -- the display that records of desks are for
 abbrev pub display : Opening

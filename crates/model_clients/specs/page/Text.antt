@@ -10,8 +10,8 @@ use Rattle.model_draw_parts.specs.dmsg.Message.{Writing}
 use Rattle.model_client.specs.textwin.Layout.{place_of, window_rect}
 use Rattle.model_client.specs.declared.textwin.Move.{Move}
 use Rattle.model_client.specs.declared.textwin.Move.TheVariants.{Scroll, Put}
-use Rattle.law_text.specs.client.Files.{to_new, to_data}
-use Rattle.law_text.specs.client.Messages.{character, drawing, font, image, named, rows, string}
+use Rattle.model_clients.specs.client.Files.{to_new, to_data}
+use Rattle.model_clients.specs.client.Messages.{character, drawing, font, image, named, rows, string}
 
 -- how many characters a window shows in a row, how many rows, and how wide and high each character is
 pub record Shape : Type 0 where

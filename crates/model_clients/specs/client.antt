@@ -1,0 +1,4 @@
+pub mod Messages
+pub mod Files
+pub mod Pointing
+pub mod Saying
