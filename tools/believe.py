@@ -76,7 +76,7 @@ def gather(root: str) -> Belief:
 
 
 def in_turn(uses: dict[str, set[str]], rank: dict[str, int]) -> list[str]:
-    """Names in an order in which each stands after those that it uses, and beside those of its folder; else by rank and name."""
+    """Names in an order in which each stands after those that it uses and beside those of its folder, by rank and name."""
     done: list[str] = []
     waiting = dict(uses)
     while waiting:
@@ -101,7 +101,7 @@ def crate_of(file: str) -> str:
 def files_in_turn(belief: Belief) -> list[str]:
     """The files that have to be read, in reading order: crate by crate, and each after those that it uses."""
     by_file: dict[str, set[str]] = {node.file: set() for node in belief.names}
-    by_crate: dict[str, set[str]] = {crate_of(CALL_FILE): set(), **{crate_of(node.file): set() for node in belief.names}}
+    by_crate: dict[str, set[str]] = {crate_of(file): set() for file in (CALL_FILE, *by_file)}
     for node, others in belief.names.items():
         by_file[node.file] |= {other.file for other in others} - {node.file}
         by_crate[crate_of(node.file)] |= {crate_of(other.file) for other in others}

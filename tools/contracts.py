@@ -12,10 +12,11 @@ A tree is a folder, or a revision of this repository. Five kinds of things are c
     word   a definition in specs/
     lemma  what a public lemma in proofs/ states
 
-White space and comments do not count. A map has a line for each crate that moved: its old name, a tab and its new
-name. If the new crate has parts, the part is the old name from behind its first `_`, or stands behind another tab.
-What is the same but for its place or its name is told as moved, and is not lost. The exit status is 0 if nothing is
-lost or changed, 1 if something is, and 2 if the words are wrong.
+White space and comments do not count. A name that stands for another definition than before does. A map has a line
+for each crate that moved: its old name, a tab and its new name. If the new crate has parts, the part is the old name
+from behind its first `_`, or stands behind another tab. What is the same but for its place or its name is told as
+moved, and is not lost. The exit status is 0 if nothing is lost or changed, 1 if something is, and 2 if the words are
+wrong.
 """
 
 from __future__ import annotations
@@ -151,7 +152,8 @@ class Contents:
             texts = [f"{it.around} {it.text}" for it in read_antt(path).declared if it.name == node.name]
         else:
             texts = shown_to_proofs(read_rt(path).items, node.name)
-        return f"{self.place(node.file)}::{node.name}", self.moved.text(node.file.split("/")[1], normal(" ".join(texts)))
+        text = self.moved.text(node.file.split("/")[1], normal(" ".join(texts)))
+        return f"{self.place(node.file)}::{node.name}", text
 
     def meanings(self, names: Callable[[], dict[str, Node]]) -> tuple[Meaning, ...]:
         """What names stand for; a name that stands for nothing leaves out those that stand beside it."""

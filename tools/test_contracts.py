@@ -11,6 +11,7 @@ import unittest
 
 import contracts
 
+SHELF_FILE = "crates/r9_shelf/src/shelf.rt"
 LIB = "//! A crate.\npub mod shelf;\nmod hidden;\n\npub use hidden::Key;\n"
 SHELF = """//! A shelf.
 ghost use Rattle.m_words.specs.Words.{room};
@@ -57,7 +58,7 @@ pub record Place : Type 0 where
 LEMMAS = "pub room_is : (n : ℕ) → room n ≡ n\nroom_is n = refl\n\nown : ℕ\nown = 1\n"
 TREE = {
     "crates/r9_shelf/src/lib.rt": LIB,
-    "crates/r9_shelf/src/shelf.rt": SHELF,
+    SHELF_FILE: SHELF,
     "crates/r9_shelf/src/hidden.rt": HIDDEN,
     "crates/m_words/src/lib.rt": "//! No code.\n",
     "crates/m_words/specs/Words.antt": WORDS,
@@ -102,35 +103,48 @@ class Comparing(unittest.TestCase):
         self.assertEqual([line.split()[:3] for line in lines[1:]], wanted)
 
     def test_white_space_and_comments_do_not_count(self):
-        name = "crates/r9_shelf/src/shelf.rt"
+        name = SHELF_FILE
         self.assertEqual(self.changed(name, "{\n            result ≡ true\n        }", "{ result ≡ true }")[0], 0)
         self.assertEqual(self.changed(name, "Puts one more.", "Puts another one.")[0], 0)
 
     def test_bodies_and_proofs_do_not_count(self):
-        self.assertEqual(self.changed("crates/r9_shelf/src/shelf.rt", "key.fits('{')", "true")[0], 0)
+        self.assertEqual(self.changed(SHELF_FILE, "key.fits('{')", "true")[0], 0)
         self.assertEqual(self.changed("crates/m_words/proofs/Lemmas.antt", "_is n = refl", "_is n = refl {n}")[0], 0)
 
     def test_a_clause_that_is_lost(self):
-        status, lines = self.changed("crates/r9_shelf/src/shelf.rt", "ensures more { self.new ≡ self.old + 1 }", "")
+        status, lines = self.changed(SHELF_FILE, "ensures more { self.new ≡ self.old + 1 }", "")
         self.assertEqual(status, 1)
         self.assertEqual(lines[0], "changed call r9_shelf::shelf::Shelf::put")
         self.assertEqual(lines[1].strip(), "- ensures more { self.new ≡ self.old + 1 }")
 
     def test_a_clause_that_is_asked_more(self):
         more = "requires key { true ≡ true }\n        requires {"
-        status, lines = self.changed("crates/r9_shelf/src/shelf.rt", "requires {", more)
+        status, lines = self.changed(SHELF_FILE, "requires {", more)
         self.assertEqual((status, lines[1].strip()), (1, "+ requires key { true ≡ true }"))
 
     def test_a_law_a_word_and_a_lemma_that_change(self):
         for name, old, new, first in [
-            ("crates/r9_shelf/src/shelf.rt", "room n ≡ room n", "n ≡ n", "changed law r9_shelf::shelf::room_stays"),
+            (SHELF_FILE, "room n ≡ room n", "n ≡ n", "changed law r9_shelf::shelf::room_stays"),
             ("crates/m_words/specs/Words.antt", "room n = n", "room n = 0", "changed word m_words::Words::room"),
             ("crates/m_words/specs/Words.antt", "pub at", "pub where", "changed word m_words::Words::Place"),
             ("crates/m_words/proofs/Lemmas.antt", "room n ≡ n", "n ≡ n", "changed lemma m_words::Lemmas::room_is"),
-            ("crates/r9_shelf/src/shelf.rt", "items: u32", "items: u64", "changed type r9_shelf::shelf::Shelf"),
+            (SHELF_FILE, "items: u32", "items: u64", "changed type r9_shelf::shelf::Shelf"),
         ]:
             status, lines = self.changed(name, old, new)
             self.assertEqual((status, lines[0]), (1, first))
+
+    def test_a_name_that_stands_for_something_else(self):
+        other = WORDS.replace("room n = n", "room n = 0").replace("pub at", "pub where")
+        more = {**TREE, "crates/m_words/specs/Other.antt": other}
+        use = "use Rattle.m_words.specs.Words.{room};"
+        with tree(more) as old, tree({**more, SHELF_FILE: SHELF.replace(use, use.replace("Words", "Other"))}) as new:
+            status, lines = run(old, new)
+        self.assertEqual((status, lines[0]), (1, "changed call r9_shelf::shelf::Shelf::put"))
+        self.assertEqual(lines[1].strip(), "! room was m_words::Words::room, and is m_words::Other::room")
+        # What stands there is the same, so nothing is changed but its place.
+        same = {**TREE, "crates/m_words/specs/Other.antt": WORDS}
+        with tree(same) as old, tree({**same, SHELF_FILE: SHELF.replace(use, use.replace("Words", "Other"))}) as new:
+            self.assertEqual(run(old, new)[0], 0)
 
     def test_what_is_lost_and_added(self):
         less = {name: text for name, text in TREE.items() if not name.endswith("Words.antt")}
