@@ -168,7 +168,7 @@ def of_sizes():
     last = bytearray(3 * 40 * 33)
     last[-3 * 8 :] = bytes([90]) * 24
     pixels = {0: bytes([10]) * (3 * 40 * 33), 1: bytes([10]) * (3 * 40 * 33), 2: bytes([200]) * (3 * 20 * 70), 4: bytes([200]) * (3 * 20 * 70), 5: bytes(last)}
-    return Case("sizes", frames, b"rio9 1\n" + b"B 1\nE 1\n" + b"B 2\nE 2\n" + b"B 3\n", "k8", pixels)
+    return Case("sizes", frames, b"rio9 1\n" + b"B 1\nE 1\n" + b"B 2\nB 3\nE 2\n", "k8", pixels)
 
 
 def edge_points(size):
@@ -268,6 +268,10 @@ def broken():
     whole = frame(0, (8, 8), cells_of((8, 8)), 10, True)
     yield from (({"frames": whole, "channels": word}, f"no display has the channels {word}") for word in ("k3", "r8g8", "k8k8", "r8g8b8k8", "k8x7"))
     yield {"frames": whole, "channels": "8k"}, "8k is no channels, as x8r8g8b8 is"
+    later = whole + frame(2, (8, 8), cells_of((8, 8)), 11, False)
+    other = "the frames are those of another record: they change the display at entry 2, and in this one:"
+    yield {"frames": later, "record": b"rio9 1\nB 1\nT 1\n"}, f"{other} what waits for session 1 is taken"
+    yield {"frames": later, "record": b"rio9 1\nB 1\n"}, f"{other} no such entry"
 
 
 # The page.
