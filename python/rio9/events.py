@@ -13,6 +13,7 @@ It is outside the proof. Needs: Python 3.9 or later, its standard library alone.
 import re
 import sys
 from dataclasses import dataclass
+from typing import List, Optional, Tuple
 
 from rio9 import formats
 
@@ -31,16 +32,16 @@ class Mouse:
     buttons: int
     msec: int
 
-    def text(self):
+    def text(self) -> bytes:
         """The event as `mousein` takes it."""
         return b"m%11d %11d %11d %11d " % (self.x, self.y, self.buttons, self.msec)
 
-    def point(self):
+    def point(self) -> Tuple[int, int]:
         """Where the mouse is."""
         return self.x, self.y
 
 
-def read_event(text):
+def read_event(text: bytes) -> Optional[Mouse]:
     """The event that a text tells, of a point of the usual display, or None."""
     fields = [text[at : at + FIELD_BYTES] for at in range(1, EVENT_BYTES, FIELD_BYTES)]
     if len(text) != EVENT_BYTES or text[:1] != b"m" or not all(map(FIELD.fullmatch, fields)):
@@ -50,19 +51,20 @@ def read_event(text):
     return Mouse(*numbers) if all(0 <= number <= high for number, high in zip(numbers, most)) else None
 
 
-def event_of(number, words, msec):
+def event_of(number: int, words: List[str], msec: int) -> bytes:
     """The event of a line's words."""
     if len(words) != 3 or not all(formats.NUMBER.fullmatch(word.encode()) for word in words):
         raise formats.BadText(number, "a column, a row and buttons are wanted")
-    text = Mouse(*map(int, words), msec).text()
+    column, row, buttons = map(int, words)
+    text = Mouse(column, row, buttons, msec).text()
     if read_event(text) is None:
         raise formats.BadText(number, "columns are at most 639, rows 479, and buttons 31")
     return text
 
 
-def events_of(text):
+def events_of(text: str) -> bytes:
     """The events of a text, as bytes."""
-    found = []
+    found: List[bytes] = []
     for number, line in enumerate(text.split("\n"), 1):
         words = line.split("#")[0].split()
         if words:
@@ -70,7 +72,8 @@ def events_of(text):
     return b"".join(found)
 
 
-def main(words):
+def main(words: List[str]) -> int:
+    """The command `rio9d events`."""
     formats.Words(prog="rio9d events", description=__doc__.split("\n")[0]).parse_args(words)
     try:
         sys.stdout.buffer.write(events_of(sys.stdin.buffer.read().decode("utf-8", "backslashreplace")))

@@ -7,7 +7,7 @@ import argparse
 import re
 import sys
 from dataclasses import dataclass
-from typing import List, Optional, Tuple
+from typing import Callable, Iterable, List, NoReturn, Optional, Set, Tuple
 
 # The header that is written, and those that are read: the second kind tells the number of the first entry.
 HEADER, HEADERS = b"rio9 1", re.compile(rb"rio9 1|rio9 2 ([1-9][0-9]{0,18})")
@@ -23,25 +23,25 @@ USUAL_SIZE, USUAL_CHANNELS = (640, 480), "x8r8g8b8"
 NUMBER, MARK = re.compile(rb"0|[1-9][0-9]{0,9}"), re.compile(rb"!(?:0|[1-9][0-9]{0,9})")
 HEX_DIGITS = re.compile(rb"(?:[0-9a-f]{2})+")
 
-BEGIN, MESSAGE, TAKE, END, STOP = "BMTEX"
+BEGIN, MESSAGE, TAKE, END, STOP = "B", "M", "T", "E", "X"
 
 
 class BadText(Exception):
     """A text that is none of its kind. It tells the line, the word where one is at fault, and why."""
 
-    def __init__(self, line, why, place=None, word=None):
+    def __init__(self, line: int, why: object, place: Optional[int] = None, word: Optional[str] = None) -> None:
         shown = "" if word is None else f" `{word if len(word) <= 40 else word[:37] + '...'}`"
         super().__init__(f"line {line}: {why}" if place is None else f"line {line}, word {place}{shown}: {why}")
         self.line = line
 
 
-def stop(name, why):
+def stop(name: str, why: object) -> NoReturn:
     """Ends a tool that was given wrong words or files."""
     sys.stderr.write(f"{name}: {why}\n")
     sys.exit(2)
 
 
-def why_not(error):
+def why_not(error: OSError) -> str:
     """What an OSError tells, in one line."""
     return f"{error.strerror}: {error.filename}" if error.filename else str(error.strerror or error)
 
@@ -49,14 +49,14 @@ def why_not(error):
 class Words(argparse.ArgumentParser):
     """A reader of a tool's words, whose complaints are one line."""
 
-    def error(self, message):
+    def error(self, message: str) -> NoReturn:
         stop(self.prog, f"{message} (--help tells the words)")
 
 
-def at_least(least):
+def at_least(least: int) -> Callable[[str], int]:
     """What reads an option's number, from this one on and of at most 12 digits."""
 
-    def number_of(text):
+    def number_of(text: str) -> int:
         if not re.fullmatch(r"0|[1-9][0-9]{0,11}", text) or int(text) < least:
             raise argparse.ArgumentTypeError(f"no number from {least} on: {text}")
         return int(text)
@@ -85,7 +85,7 @@ class Replies:
 class BadEvent(ValueError):
     """An event that cannot come next. `part` is what of it is at fault: event, session, message or mark."""
 
-    def __init__(self, part, why):
+    def __init__(self, part: str, why: str) -> None:
         super().__init__(why)
         self.part = part
 
@@ -93,10 +93,11 @@ class BadEvent(ValueError):
 class Roll:
     """Which sessions have begun and which live: with the event itself that decides whether it may come next."""
 
-    def __init__(self):
-        self.begun, self.live, self.stopped = 0, set(), False
+    def __init__(self) -> None:
+        self.begun, self.stopped = 0, False
+        self.live: Set[int] = set()
 
-    def enter(self, event):
+    def enter(self, event: Event) -> None:
         """Takes the next event of a record, or raises BadEvent."""
         if self.stopped:
             raise BadEvent("event", "nothing follows a stop")
@@ -112,7 +113,7 @@ class Roll:
         elif event.kind == END:
             self.live.remove(event.session)
 
-    def check_session(self, kind, session):
+    def check_session(self, kind: str, session: int) -> None:
         if not 1 <= session <= LAST_SESSION:
             raise BadEvent("session", f"a session is a number from 1 to {LAST_SESSION}")
         if kind == BEGIN and session != self.begun + 1:
@@ -125,7 +126,7 @@ class Roll:
             raise BadEvent("session", f"session {session} has ended")
 
 
-def check_message(event):
+def check_message(event: Event) -> None:
     """Raises BadEvent where no record can have a message or its mark."""
     size, told = len(event.message), int.from_bytes(event.message[:4], "little")
     if not LEAST_MESSAGE <= size <= MOST_OF_A_MESSAGE:
@@ -136,12 +137,12 @@ def check_message(event):
         raise BadEvent("mark", f"a mark is at most {LAST_MARK}")
 
 
-def is_record(text):
+def is_record(text: bytes) -> bool:
     """Whether a text begins as a record does."""
     return text.startswith(b"rio9 ")
 
 
-def first_number(header):
+def first_number(header: bytes) -> Optional[int]:
     """The number of the first entry behind a header, or None where a line is no header."""
     found = HEADERS.fullmatch(header)
     if not found:
@@ -150,7 +151,7 @@ def first_number(header):
     return number if number < NUMBER_LIMIT else None
 
 
-def read_record(text):
+def read_record(text: bytes) -> List[Event]:
     """The events of a record."""
     if len(text) >= BYTES_OF_NO_RECORD:
         raise BadText(1, f"a record has fewer than {BYTES_OF_NO_RECORD} bytes, and this one {len(text)}")
@@ -162,7 +163,8 @@ def read_record(text):
         raise BadText(1, f"the first entry here is the one of number {first}: what came before it stands elsewhere")
     if lines.pop() != b"":
         raise BadText(len(lines) + 1, "the last newline is missing")
-    roll, events = Roll(), []
+    roll = Roll()
+    events: List[Event] = []
     for number, line in enumerate(lines[1:], 2):
         events.append(read_event(number, line))
         try:
@@ -176,32 +178,32 @@ def read_record(text):
 class LineWords:
     """The words of a line, each with one blank before the next; each is taken as what it has to be."""
 
-    def __init__(self, number, line):
+    def __init__(self, number: int, line: bytes) -> None:
         self.number, self.words, self.place = number, line.split(b" "), 0
 
-    def take(self, form, wanted):
+    def take(self, form: "re.Pattern[bytes]", wanted: str) -> bytes:
         word = self.words[self.place] if self.place < len(self.words) else b""
         self.place += 1
         if not form.fullmatch(word):
             raise BadText(self.number, f"{wanted} is wanted", self.place, word.decode(errors="backslashreplace"))
         return word
 
-    def take_number(self, wanted="a number without sign and leading zeros"):
+    def take_number(self, wanted: str = "a number without sign and leading zeros") -> int:
         return int(self.take(NUMBER, wanted))
 
-    def take_bytes(self):
+    def take_bytes(self) -> bytes:
         return bytes.fromhex(self.take(HEX_DIGITS, "an even number of lower-case hex digits").decode())
 
-    def is_over(self):
+    def is_over(self) -> bool:
         return self.place >= len(self.words)
 
-    def end(self):
+    def end(self) -> None:
         if not self.is_over():
             extra = self.words[self.place].decode(errors="backslashreplace")
             raise BadText(self.number, "the line goes on", self.place + 1, extra)
 
 
-def read_event(number, line):
+def read_event(number: int, line: bytes) -> Event:
     """The event of a line, looked at alone."""
     words = LineWords(number, line)
     kind = words.take(re.compile(rb"[BMTEX]"), "B, M, T, E or X").decode()
@@ -216,12 +218,12 @@ def read_event(number, line):
     return Event(kind, session, message, mark)
 
 
-def write_record(events):
+def write_record(events: Iterable[Event]) -> bytes:
     """The record of some events."""
     return b"".join(line + b"\n" for line in [HEADER] + [event_line(event) for event in events])
 
 
-def event_line(event):
+def event_line(event: Event) -> bytes:
     words = [event.kind]
     if event.kind != STOP:
         words.append(str(event.session))
@@ -232,9 +234,10 @@ def event_line(event):
     return " ".join(words).encode()
 
 
-def read_replies(text):
+def read_replies(text: bytes) -> Replies:
     """The replies of a run's output, and the image file behind the line `S n` where it has one."""
-    messages, at, number = [], 0, 0
+    messages: List[Tuple[int, bytes]] = []
+    at, number = 0, 0
     while at < len(text):
         end = text.find(b"\n", at)
         line, number = text[at : end if end >= 0 else len(text)], number + 1
@@ -258,7 +261,7 @@ CHANNEL_KINDS = {"r": 0, "g": 1, "b": 2, "k": 3, "a": 4, "x": 6}
 CHANNEL_LETTERS = {kind: letter for letter, kind in CHANNEL_KINDS.items()}
 
 
-def channels(word):
+def channels(word: int) -> Optional[List[Tuple[str, int]]]:
     """The channels of a descriptor, the highest first, each with its letter and bits; None where it has no text."""
     found = []
     for byte in word.to_bytes(4, "big").lstrip(b"\0"):
@@ -268,13 +271,13 @@ def channels(word):
     return found or None
 
 
-def channels_text(word):
+def channels_text(word: int) -> Optional[str]:
     """The text that names a descriptor, as x8r8g8b8; None where it has none."""
     found = channels(word)
     return None if found is None else "".join(f"{letter}{bits}" for letter, bits in found)
 
 
-def channels_word(text):
+def channels_word(text: str) -> int:
     """The descriptor that a text names; ValueError where it names none."""
     if not re.fullmatch(r"([rgbkax][1-8]){1,4}", text):
         raise ValueError(f"no channels: {text}")
@@ -284,19 +287,19 @@ def channels_word(text):
     return word
 
 
-def channels_option(text):
+def channels_option(text: str) -> int:
     """The descriptor that an option names."""
     try:
         return channels_word(text)
     except ValueError as error:
-        raise argparse.ArgumentTypeError(error) from None
+        raise argparse.ArgumentTypeError(str(error)) from None
 
 
-def depth(word):
+def depth(word: int) -> int:
     """The bits of a pixel of a descriptor that has a text."""
-    return sum(bits for _, bits in channels(word))
+    return sum(bits for _, bits in channels(word) or [])
 
 
-def row_bytes(bits, left, right):
+def row_bytes(bits: int, left: int, right: int) -> int:
     """The bytes of a row from column left to column right, counted from the byte in which it begins."""
     return -(-right * bits // 8) - left * bits // 8

@@ -21,6 +21,7 @@ import re
 import struct
 import sys
 import zlib
+from typing import Dict, List, Optional, Sequence, Tuple
 
 from rio9 import formats, record
 
@@ -28,11 +29,15 @@ HEADER_BYTES = 60
 HEADER = re.compile(rb" *([rgbkax][1-8]){1,4}( +-?[0-9]+){4} ")
 
 
+# Red, green, blue and alpha.
+Colour = Tuple[int, int, int, int]
+
+
 class NoPicture(Exception):
     """The input has no such picture. It tells why."""
 
 
-def chosen_read(replies, number):
+def chosen_read(replies: formats.Replies, number: Optional[int]) -> bytes:
     """The data of the Rread of this number, counted from 1, or of the last one where it is None."""
     found = [record.read_message(message) for _, message in replies.messages]
     reads = [data for message, _, data in filter(None, found) if message.name == "Rread"]
@@ -42,12 +47,12 @@ def chosen_read(replies, number):
     return reads[at - 1]
 
 
-def is_image_file(data):
+def is_image_file(data: bytes) -> bool:
     """Whether bytes begin as an image file does: five fields of 11 characters, each with a blank behind it."""
     return HEADER.fullmatch(data[:HEADER_BYTES]) is not None and all(data[at] == 32 for at in range(11, HEADER_BYTES, 12))
 
 
-def read_image_file(data):
+def read_image_file(data: bytes) -> Tuple[int, int, int, int, bytes]:
     """Channels, left and right edge, height and rows of an image file."""
     if len(data) < HEADER_BYTES or not is_image_file(data):
         raise NoPicture("no image file")
@@ -56,12 +61,12 @@ def read_image_file(data):
     return formats.channels_word(fields[0]), left, right, lower - upper, data[HEADER_BYTES:]
 
 
-def read_output(data):
+def read_output(data: bytes) -> formats.Replies:
     """The replies and the image file of a run's output; an image file alone is the output of a run without replies."""
     return formats.Replies([], data) if is_image_file(data) else formats.read_replies(data)
 
 
-def raw_pixels(row, bits, left, right):
+def raw_pixels(row: bytes, bits: int, left: int, right: int) -> List[int]:
     """The pixels of a row of a rectangle, as numbers."""
     if bits >= 8:
         size = bits // 8
@@ -71,12 +76,12 @@ def raw_pixels(row, bits, left, right):
     return [whole >> last - begin - at & (1 << bits) - 1 for at in range(0, bits * (right - left), bits)]
 
 
-def widened(value, bits):
+def widened(value: int, bits: int) -> int:
     """A channel of some bits as one of 8, its bits repeated from the top."""
     return int((f"{value:0{bits}b}" * 8)[:8], 2)
 
 
-def colour(pixel, channels):
+def colour(pixel: int, channels: Sequence[Tuple[str, int]]) -> Colour:
     """Red, green, blue and alpha of a pixel."""
     found = {}
     for letter, bits in reversed(channels):
@@ -87,22 +92,23 @@ def colour(pixel, channels):
     return red, green, blue, found.get("a", 255)
 
 
-def divided(colours):
+def divided(colours: Colour) -> Colour:
     """Red, green and blue that are not multiplied by alpha, and alpha."""
-    *parts, alpha = colours
-    red, green, blue = (min(255, (part * 255 + alpha // 2) // alpha) if alpha else 0 for part in parts)
+    alpha = colours[3]
+    red, green, blue = (min(255, (part * 255 + alpha // 2) // alpha) if alpha else 0 for part in colours[:3])
     return red, green, blue, alpha
 
 
-def colours(word, left, right, height, rows):
+def colours(word: int, left: int, right: int, height: int, rows: bytes) -> List[List[Colour]]:
     """The pixels of rows, row by row: the red, green, blue and alpha of each."""
-    channels, bits = formats.channels(word), formats.depth(word)
+    channels, bits = formats.channels(word) or [], formats.depth(word)
     row_bytes, width = formats.row_bytes(bits, left, right), right - left
     if bits > 8 and bits % 8 or bits < 8 and 8 % bits:
         raise NoPicture(f"pixels of {bits} bits")
     if width <= 0 or height <= 0 or len(rows) != row_bytes * height:
         raise NoPicture(f"{len(rows)} bytes for {width}x{height}, which takes {row_bytes * height}")
-    seen, found = {}, []
+    seen: Dict[int, Colour] = {}
+    found: List[List[Colour]] = []
     for at in range(0, len(rows), row_bytes):
         pixels = raw_pixels(rows[at : at + row_bytes], bits, left, right)
         for pixel in set(pixels) - seen.keys():
@@ -111,14 +117,16 @@ def colours(word, left, right, height, rows):
     return found
 
 
-def png_chunk(kind, data):
+def png_chunk(kind: bytes, data: bytes) -> bytes:
+    """A part of a PNG file."""
     return struct.pack(">I", len(data)) + kind + data + struct.pack(">I", zlib.crc32(kind + data))
 
 
-def picture(word, left, right, height, rows, scale=1):
+def picture(word: int, left: int, right: int, height: int, rows: bytes, scale: int = 1) -> bytes:
     """The PNG file of rows of pixels, each of them so many by so many."""
-    has_alpha = any(letter == "a" for letter, _ in formats.channels(word))
-    parts, lines = 4 if has_alpha else 3, []
+    has_alpha = any(letter == "a" for letter, _ in formats.channels(word) or [])
+    parts = 4 if has_alpha else 3
+    lines: List[bytes] = []
     for row in colours(word, left, right, height, rows):
         lines += scale * [b"\0" + b"".join(scale * bytes(pixel[:parts]) for pixel in row)]
     size = scale * (right - left), scale * height
@@ -127,30 +135,34 @@ def picture(word, left, right, height, rows, scale=1):
     return b"\x89PNG\r\n\x1a\n" + b"".join(png_chunk(kind, data) for kind, data in chunks)
 
 
-def size_of(text):
+def size_of(text: str) -> Tuple[int, int]:
+    """A size, as an option."""
     if not re.fullmatch(r"[1-9][0-9]{0,4}x[1-9][0-9]{0,4}", text):
         raise argparse.ArgumentTypeError(f"no size, as 128x96: {text}")
-    return tuple(map(int, text.split("x")))
+    width, height = text.split("x")
+    return int(width), int(height)
 
 
-def scale_of(text):
+def scale_of(text: str) -> int:
+    """A scale, as an option."""
     if not re.fullmatch(r"[1-9]|1[0-6]", text):
         raise argparse.ArgumentTypeError(f"no scale from 1 to 16: {text}")
     return int(text)
 
 
-def chosen_picture(replies, options):
+def chosen_picture(replies: formats.Replies, options: argparse.Namespace) -> bytes:
     """The PNG file that the options choose."""
     if options.size is not None:
         width, height = options.size
         return picture(options.chan, 0, width, height, chosen_read(replies, options.read), options.scale)
     if replies.screen is None:
-        raise NoPicture("no line `S n`, and no --size of an Rread")
+        raise NoPicture("the output has no display, which is the line `S n`: run replay with --screen, or say --size and --chan of an Rread")
     return picture(*read_image_file(replies.screen), options.scale)
 
 
-def main(words):
-    parser = formats.Words(prog="rio9d picture", description=__doc__.split("\n")[0])
+def main(words: List[str]) -> int:
+    """The command `rio9d picture`."""
+    parser = formats.Words(prog="rio9d picture", description=__doc__, formatter_class=argparse.RawDescriptionHelpFormatter)
     parser.add_argument("out", help="the PNG file")
     parser.add_argument("--size", type=size_of, metavar="WxH", help="width and height of what an Rread has")
     parser.add_argument("--chan", type=formats.channels_option, metavar="C", help="its channels")

@@ -85,7 +85,7 @@ class RunningDesktop(Desktop):
             image.save(self.kept / f"{golden.stem}-{kind}.png")
 
 
-@pytest.hookimpl(hookwrapper=True)
+@pytest.hookimpl(hookwrapper=True)  # type: ignore[misc]
 def pytest_runtest_makereport(item: pytest.Item) -> Generator[None, None, None]:
     """Notes whether a test has failed, and tells where its record is kept."""
     outcome = yield

@@ -42,10 +42,14 @@ import json
 import re
 import sys
 from dataclasses import dataclass
-from typing import Callable, Optional
+from typing import Any, Callable, Dict, Iterable, List, Optional, Sequence, Tuple
 
 from rio9 import formats
 from rio9.formats import BEGIN, END, MESSAGE, STOP, TAKE, BadEvent, BadText, Event
+
+# The values of fields by name, and a draw connection: its session and its number.
+Values = Dict[str, Any]
+Connection = Tuple[int, str]
 
 # Bytes to values: what fields take theirs from.
 
@@ -57,20 +61,20 @@ class NotWhole(Exception):
 class Cursor:
     """A place in bytes."""
 
-    def __init__(self, data):
+    def __init__(self, data: bytes) -> None:
         self.data, self.at = data, 0
 
-    def take(self, count):
+    def take(self, count: int) -> bytes:
         """The next bytes."""
         if self.left() < count:
             raise NotWhole
         self.at += count
         return self.data[self.at - count : self.at]
 
-    def number(self, size, signed=False):
+    def number(self, size: int, signed: bool = False) -> int:
         return int.from_bytes(self.take(size), "little", signed=signed)
 
-    def left(self):
+    def left(self) -> int:
         return len(self.data) - self.at
 
 
@@ -81,46 +85,48 @@ class Cursor:
 class Form:
     """How a value stands in bytes (take, put) and in a word (say, hear). What is no value raises ValueError."""
 
-    take: Callable
-    put: Callable
-    say: Callable
-    hear: Callable
+    take: Callable[[Cursor], Any]
+    put: Optional[Callable[[Any], bytes]]
+    say: Callable[[Any], str]
+    hear: Optional[Callable[[str], Any]]
 
 
-def number(size, signed=False, hexadecimal=False, words=None):
+def number(
+    size: int, signed: bool = False, hexadecimal: bool = False, words: Optional[Dict[int, str]] = None
+) -> Form:
     """A number of some bytes; `words` names some of its values."""
-    words = words or {}
-    values = {word: value for value, word in words.items()}
+    names = words or {}
+    values = {word: value for value, word in names.items()}
     digits = f"0x{{:0{2 * size}x}}" if hexadecimal else "{}"
 
-    def hear(word):
+    def hear(word: str) -> int:
         return values[word] if word in values else hear_number(word)
 
     return Form(
         take=lambda cursor: cursor.number(size, signed),
         put=lambda value: number_bytes(value, size, signed),
-        say=lambda value: words.get(value) or digits.format(value),
+        say=lambda value: names.get(value) or digits.format(value),
         hear=hear,
     )
 
 
-def hear_number(word):
+def hear_number(word: str) -> int:
     if not re.fullmatch(r"-?(0x[0-9a-f]{1,16}|0|[1-9][0-9]{0,19})", word):
         raise ValueError("a number is wanted")
     return int(word, 0)
 
 
-def number_bytes(value, size, signed=False):
+def number_bytes(value: int, size: int, signed: bool = False) -> bytes:
     try:
         return value.to_bytes(size, "little", signed=signed)
     except OverflowError:
         raise ValueError(f"{value} does not fit in {size} bytes") from None
 
 
-def numbers(count):
+def numbers(count: int) -> Form:
     """As many signed numbers of four bytes, with commas between: a point or a rectangle."""
 
-    def hear(word):
+    def hear(word: str) -> Tuple[int, ...]:
         values = tuple(hear_number(part) for part in word.split(","))
         if len(values) != count:
             raise ValueError(f"{count} numbers with commas between are wanted")
@@ -134,16 +140,16 @@ def numbers(count):
     )
 
 
-def text(size, errors="strict"):
+def text(size: int, errors: str = "strict") -> Form:
     """A text behind its length of `size` bytes. In 9P it is UTF-8; the errors of a draw name go through as they are."""
 
-    def take(cursor):
+    def take(cursor: Cursor) -> str:
         try:
             return cursor.take(cursor.number(size)).decode("utf-8", errors)
         except UnicodeDecodeError:
             raise NotWhole from None
 
-    def put(value):
+    def put(value: str) -> bytes:
         try:
             data = value.encode("utf-8", errors)
         except UnicodeEncodeError:
@@ -158,39 +164,40 @@ def text(size, errors="strict"):
 PLAIN_WORD = re.compile(r"[A-Za-z0-9._/+:-]+")
 
 
-def say_text(value):
+def say_text(value: str) -> str:
     if PLAIN_WORD.fullmatch(value):
         return value
     printable = re.sub(r"[\n\t]", "", value).isprintable()
     return json.dumps(value, ensure_ascii=not printable)
 
 
-def hear_text(word):
+def hear_text(word: str) -> str:
     try:
-        return json.loads(word) if word.startswith('"') else word
+        return str(json.loads(word)) if word.startswith('"') else word
     except ValueError:
         raise ValueError("a text in quotation marks is written as in JSON") from None
 
 
-def say_qid(value):
+def say_qid(value: Tuple[int, int]) -> str:
     return f"{'directory' if value[0] == 0x80 else 'file' if value[0] == 0 else value[0]}:{value[1]}"
 
 
-def take_qid(cursor):
+def take_qid(cursor: Cursor) -> Tuple[int, int]:
     kind, _version, path = cursor.number(1), cursor.number(4), cursor.number(8)
     return kind, path
 
 
-def say_channels(word):
+def say_channels(word: int) -> str:
     return formats.channels_text(word) or f"0x{word:08x}"
 
 
-def hear_channels(word):
+def hear_channels(word: str) -> int:
     return hear_number(word) if word[0].isdigit() else formats.channels_word(word)
 
 
 OPERATORS = ["Clear", "DoutS", "SoutD", "DxorS", "DinS", "D", "DatopS", "DoverS", "SinD", "SatopD", "S", "SoverD"]
 NOTAG, NOFID = 0xFFFF, 0xFFFFFFFF
+NO_IMAGE = -1
 
 BYTE, SHORT, LONG, HUGE = number(1), number(2), number(4), number(8)
 SIGNED_BYTE = number(1, signed=True)
@@ -218,15 +225,18 @@ class Field:
     most: int = 0xFFFF
 
 
-def shown(fields):
+Fields = Sequence[Field]
+
+
+def shown(fields: Fields) -> List[Field]:
     """The fields that stand in words: all but those that count a list."""
     counts = {field.count for field in fields}
     return [field for field in fields if field.name not in counts]
 
 
-def take_fields(fields, cursor):
+def take_fields(fields: Fields, cursor: Cursor) -> Values:
     """The values of fields, by name."""
-    values = {}
+    values: Values = {}
     for field in fields:
         if field.count is None:
             values[field.name] = field.form.take(cursor)
@@ -237,17 +247,18 @@ def take_fields(fields, cursor):
     return values
 
 
-def put_fields(fields, values):
+def put_fields(fields: Fields, values: Values) -> bytes:
     """The bytes of fields."""
     values = dict(values)
     for field in fields:
         if field.count is not None:
             values[field.count] = len(values[field.name])
     lists = [values[field.name] if field.count else [values[field.name]] for field in fields]
-    return b"".join(field.form.put(value) for field, members in zip(fields, lists) for value in members)
+    pairs = [(field.form.put, value) for field, members in zip(fields, lists) for value in members]
+    return b"".join(put(value) for put, value in pairs if put is not None)
 
 
-def say_fields(fields, values):
+def say_fields(fields: Fields, values: Values) -> List[str]:
     """The words of fields; a list's members come last."""
     words, members = [], []
     for field in shown(fields):
@@ -262,14 +273,16 @@ def say_fields(fields, values):
 class BadWord(ValueError):
     """A word of a readable line that is at fault, and why."""
 
-    def __init__(self, word, why):
+    def __init__(self, word: "Word", why: object) -> None:
         super().__init__(why)
         self.word = word
 
 
-def hear_fields(fields, name, words):
+def hear_fields(fields: Fields, name: "Word", words: Sequence["Word"]) -> Values:
     """The values that words give to the fields of what `name` names."""
-    given, members, values = {}, [word for word in words if word.key is None], {}
+    given: Dict[str, Word] = {}
+    members = [word for word in words if word.key is None]
+    values: Values = {}
     for word in words:
         if word.key in given:
             raise BadWord(word, f"{word.key} stands twice")
@@ -291,10 +304,10 @@ def hear_fields(fields, name, words):
     return values
 
 
-def hear_word(form, word):
+def hear_word(form: Form, word: "Word") -> Any:
     """The value of a word, which fits its field."""
     try:
-        value = form.hear(word.value)
+        value = form.hear(word.value) if form.hear else None
         if form.put is not None:
             form.put(value)
         return value
@@ -311,7 +324,7 @@ class Message:
 
     name: str
     kind: int
-    fields: tuple
+    fields: Tuple[Field, ...]
     data: int = 0
 
 
@@ -373,13 +386,13 @@ STAT = (
 MARK = Field("mark", SHORT, None)
 
 
-def line_fields(message):
+def line_fields(message: Message) -> Fields:
     """The fields of a message's line: its own, its tag, and the mark where memory runs out."""
     tag = Field("tag", TAG, NOTAG if message.name in ("Tversion", "Rversion") else 1)
     return (tag, *message.fields, MARK)
 
 
-def read_message(data):
+def read_message(data: bytes) -> Optional[Tuple[Message, Values, bytes]]:
     """The message that bytes spell, the values of its line, and its data; None where they spell none."""
     cursor = Cursor(data)
     try:
@@ -394,12 +407,12 @@ def read_message(data):
     return (message, {"tag": tag, "mark": None, **values}, payload) if cursor.left() == 0 else None
 
 
-def write_message(message, values, payload):
+def write_message(message: Message, values: Values, payload: bytes) -> bytes:
     """The bytes of a message."""
     body = put_fields(message.fields, values)
     if message.data:
         body += number_bytes(len(payload), message.data) + payload
-    return number_bytes(7 + len(body), 4) + bytes([message.kind]) + TAG.put(values["tag"]) + body
+    return number_bytes(7 + len(body), 4) + bytes([message.kind]) + number_bytes(values["tag"], 2) + body
 
 
 # The messages of the draw device (draw(3)).
@@ -416,7 +429,7 @@ STRING_FIELDS = (
 INDICES = Field("indices", SHORT, count="n")
 ID = Field("id", LONG)
 
-LETTERS = {
+LETTERS: Dict[str, Tuple[Field, ...]] = {
     # Makes an image, or a window on a screen.
     "b": (
         ID,
@@ -497,9 +510,10 @@ class Word:
     value: str
 
 
-def words_of(line):
+def words_of(line: str) -> List[Word]:
     """The words of a line, without the comment."""
-    words, rest = [], line.strip()
+    rest = line.strip()
+    words: List[Word] = []
     while rest and not rest.startswith("#"):
         found = WORD.match(rest)
         if not found:
@@ -515,9 +529,9 @@ class Block:
     """A line that is not indented, the bytes that stand beneath it, and where these begin."""
 
     line: int
-    words: list
+    words: List[Word]
     payload: bytes = b""
-    first: Optional[tuple] = None
+    first: Optional[Tuple[int, Word]] = None
 
 
 @dataclass
@@ -525,12 +539,13 @@ class Heard:
     """The event of a block, and the words of it that may be at fault: by the part of the event that they tell."""
 
     event: Event
-    parts: dict
+    parts: Dict[str, Any]
 
 
-def write(readable):
+def write(readable: str) -> bytes:
     """The record of readable lines. Of several mistakes it tells the first."""
-    blocks, mistakes = [], []
+    blocks: List[Block] = []
+    mistakes: List[BadText] = []
     for line, content in enumerate(readable.split("\n"), 1):
         try:
             words = words_of(content)
@@ -549,9 +564,10 @@ def write(readable):
     return formats.write_record(events)
 
 
-def events_of(blocks):
+def events_of(blocks: Iterable[Block]) -> List[Event]:
     """The events of blocks, which together are a record."""
-    roll, events, size = formats.Roll(), [], len(formats.HEADER) + 1
+    roll, size = formats.Roll(), len(formats.HEADER) + 1
+    events: List[Event] = []
     for block in blocks:
         events.append(event_of(block, roll))
         size += len(formats.event_line(events[-1])) + 1
@@ -560,12 +576,12 @@ def events_of(blocks):
     return events
 
 
-def bad_text(line, error):
+def bad_text(line: int, error: BadWord) -> BadText:
     """The mistake of a word of a line."""
     return BadText(line, error, error.word.place, error.word.shown)
 
 
-def add_payload(blocks, line, words):
+def add_payload(blocks: List[Block], line: int, words: List[Word]) -> None:
     """Adds the bytes of an indented line to the message above it."""
     if not blocks:
         raise BadWord(words[0], "an indented line belongs to the message above it")
@@ -573,7 +589,7 @@ def add_payload(blocks, line, words):
     blocks[-1].first = blocks[-1].first or (line, words[0])
 
 
-def payload_of(words):
+def payload_of(words: List[Word]) -> bytes:
     """The bytes of an indented line."""
     first, rest = words[0], words[1:]
     if first.key is None and first.value in LETTERS:
@@ -595,23 +611,23 @@ def payload_of(words):
 MOUSE_FIELDS = (Field("point", POINT), Field("buttons", BYTE), Field("msec", LONG))
 
 
-def mouse_text(event):
+def mouse_text(event: Values) -> bytes:
     """The bytes of an event: a letter and four numbers, each 11 wide and a blank."""
     return ("m" + "".join(f"{n:11} " for n in (*event["point"], event["buttons"], event["msec"]))).encode()
 
 
-def mouse_line(payload):
+def mouse_line(payload: bytes) -> Optional[str]:
     """The line of bytes that are an event of the mouse, and of no others."""
     try:
         x, y, buttons, msec = (int(payload[at : at + 11]) for at in (1, 13, 25, 37))
         event = {"point": (x, y), "buttons": buttons, "msec": msec}
-        POINT.put(event["point"]), BYTE.put(buttons), LONG.put(msec)
+        put_fields(MOUSE_FIELDS, event)
     except (ValueError, NotWhole):
         return None
     return " ".join([INDENT + "mouse", *say_fields(MOUSE_FIELDS, event)]) if mouse_text(event) == payload else None
 
 
-def hex_bytes(words):
+def hex_bytes(words: Sequence[Word]) -> bytes:
     """The bytes of words of hex digits, which may be cut anywhere."""
     for word in words:
         if not re.fullmatch(r"[0-9a-f]+", word.value):
@@ -622,7 +638,7 @@ def hex_bytes(words):
     return bytes.fromhex(digits)
 
 
-def event_of(block, roll):
+def event_of(block: Block, roll: formats.Roll) -> Event:
     """The event of a block, which may come next."""
     try:
         heard = hear_event(block.words, block.payload)
@@ -638,7 +654,8 @@ def event_of(block, roll):
     return heard.event
 
 
-def hear_event(words, payload):
+def hear_event(words: List[Word], payload: bytes) -> Heard:
+    """The event that words tell, with the bytes that stand beneath them."""
     first, rest = words[0], words[2:]
     values = [word.value for word in words if word.key is None]
     if values == ["stop"] and len(words) == 1:
@@ -648,7 +665,7 @@ def hear_event(words, payload):
     if len(words) < 2 or first.key is not None or not first.value[0].isdigit():
         raise BadWord(first, "no event: session N, N Tmessage, N hex, N take, N end or stop is wanted")
     session, name = hear_word(LONG, first), words[1]
-    parts = {"session": first, "message": name}
+    parts: Dict[str, Any] = {"session": first, "message": name}
     if name.shown in ("take", "end"):
         for word in rest:
             raise BadWord(word, "the line goes on")
@@ -677,10 +694,10 @@ BYTES_ON_A_LINE = 64
 class File:
     """What a fid is believed to be: the names from its attach on, and whether it is open."""
 
-    names: tuple
+    names: Tuple[str, ...]
     is_open: bool = False
 
-    def connection(self):
+    def connection(self) -> Optional[str]:
         """The number of the draw connection whose data this is; None where it is no open data file."""
         if self.is_open and len(self.names) >= 2 and self.names[-1] == "data":
             return self.names[-2]
@@ -690,14 +707,14 @@ class File:
 class Explainer:
     """What is believed of the sessions."""
 
-    def __init__(self, display):
+    def __init__(self, display: int) -> None:
         self.display = display  # the channels of the display
-        self.files = {}  # by session, files by fid
-        self.images = {}  # channels by connection and image id; a connection is its session and number
-        self.named = {}  # channels of named images
+        self.files: Dict[int, Dict[int, File]] = {}  # by session, files by fid
+        self.images: Dict[Tuple[Connection, int], Optional[int]] = {}  # channels by connection and image id
+        self.named: Dict[str, Optional[int]] = {}  # channels of named images
 
 
-def explain(text, display=formats.channels_word("x8r8g8b8")):
+def explain(text: bytes, display: int = formats.channels_word(formats.USUAL_CHANNELS)) -> str:
     """The readable lines of a record, or of a run's output."""
     if formats.is_record(text):
         explainer = Explainer(display)
@@ -707,7 +724,7 @@ def explain(text, display=formats.channels_word("x8r8g8b8")):
     return "".join(line + "\n" for line in lines)
 
 
-def explain_event(explainer, event):
+def explain_event(explainer: Explainer, event: Event) -> List[str]:
     if event.kind == BEGIN:
         return [f"session {event.session}"]
     if event.kind == STOP:
@@ -727,14 +744,14 @@ def explain_event(explainer, event):
     return [line, *draw_lines(explainer, (event.session, connection), payload)]
 
 
-def message_line(session, message, fields):
+def message_line(session: int, message: Message, fields: Values) -> str:
     return " ".join([str(session), message.name, *say_fields(line_fields(message), fields)])
 
 
-def follow(explainer, session, name, fields):
+def follow(explainer: Explainer, session: int, name: str, fields: Values) -> Optional[File]:
     """Keeps what a message does to its session's fids where it succeeds. Gives the file of the message's fid."""
     files = explainer.files.setdefault(session, {})
-    fid = fields.get("fid")
+    fid = fields.get("fid", NOFID)
     file = files.get(fid)
     if name == "Tversion":
         files.clear()
@@ -751,13 +768,13 @@ def follow(explainer, session, name, fields):
     return file
 
 
-def walked(names, steps):
+def walked(names: Tuple[str, ...], steps: Iterable[str]) -> Tuple[str, ...]:
     for step in steps:
         names = names[:-1] if step == ".." else (*names, step)
     return names
 
 
-def payload_lines(payload, bytes_on_a_line):
+def payload_lines(payload: bytes, bytes_on_a_line: int) -> List[str]:
     """The lines of bytes that are no draw messages."""
     if not payload:
         return []
@@ -773,13 +790,14 @@ def payload_lines(payload, bytes_on_a_line):
     return hex_lines(payload, bytes_on_a_line)
 
 
-def hex_lines(data, bytes_on_a_line):
+def hex_lines(data: bytes, bytes_on_a_line: int) -> List[str]:
     return [f"{INDENT}hex {data[at : at + bytes_on_a_line].hex()}" for at in range(0, len(data), bytes_on_a_line)]
 
 
-def draw_lines(explainer, connection, payload):
+def draw_lines(explainer: Explainer, connection: Connection, payload: bytes) -> List[str]:
     """The lines of draw messages; what begins no whole one is shown in hex to its end."""
-    lines, cursor = [], Cursor(payload)
+    lines: List[str] = []
+    cursor = Cursor(payload)
     while cursor.left():
         begin = cursor.at
         letter = chr(cursor.number(1))
@@ -794,14 +812,14 @@ def draw_lines(explainer, connection, payload):
     return lines
 
 
-def channels_of(explainer, connection, image):
+def channels_of(explainer: Explainer, connection: Connection, image: int) -> Optional[int]:
     """The channels of a connection's image, None where they are not known. Image 0 is the display."""
     return explainer.display if image == 0 else explainer.images.get((connection, image))
 
 
-def keep_image(explainer, connection, letter, fields):
+def keep_image(explainer: Explainer, connection: Connection, letter: str, fields: Values) -> None:
     """Keeps what a draw message tells of the channels of images."""
-    image, images = (connection, fields.get("id")), explainer.images
+    image, images = (connection, fields.get("id", NO_IMAGE)), explainer.images
     if letter == "b":
         images.setdefault(image, fields["chan"])
     elif letter == "N" and fields["in"]:
@@ -815,7 +833,7 @@ def keep_image(explainer, connection, letter, fields):
         images.pop(image, None)
 
 
-def take_rows(cursor, r, channels):
+def take_rows(cursor: Cursor, r: Tuple[int, int, int, int], channels: Optional[int]) -> List[str]:
     """The rows behind a `y`, each on a line; all that is left where they cannot be cut."""
     left, upper, right, lower = r
     row = 0
@@ -826,7 +844,7 @@ def take_rows(cursor, r, channels):
     return hex_lines(cursor.take(row * (lower - upper)), row)
 
 
-def explain_replies(replies):
+def explain_replies(replies: formats.Replies) -> List[str]:
     lines = []
     for session, data in replies.messages:
         found = read_message(data)
@@ -841,7 +859,7 @@ def explain_replies(replies):
     return lines
 
 
-def stat_lines(payload):
+def stat_lines(payload: bytes) -> List[str]:
     """The lines of stats (stat(5)), if the bytes are a stat or a list of them."""
     lines, cursor = [], Cursor(payload)
     try:
@@ -855,14 +873,14 @@ def stat_lines(payload):
     return lines
 
 
-def write_main(words):
+def write_main(words: List[str]) -> int:
     """The command `rio9d write`."""
     parser = formats.Words(prog="rio9d write", description=__doc__, formatter_class=argparse.RawDescriptionHelpFormatter)
     parser.parse_args(words)
     return turn("rio9d write", lambda data: write(readable_text(data)))
 
 
-def turn(name, made_of, path=None):
+def turn(name: str, made_of: Callable[[bytes], bytes], path: Optional[str] = None) -> int:
     """Writes what is made of a file, or of standard input, to standard output, and gives the status."""
     try:
         if path is None:
@@ -880,7 +898,7 @@ def turn(name, made_of, path=None):
     return 0
 
 
-def readable_text(data):
+def readable_text(data: bytes) -> str:
     try:
         return data.decode()
     except UnicodeDecodeError as error:

@@ -17,8 +17,10 @@ file), are left out. A reply stands behind the message that it answers, or, wher
 message that let it be answered.
 """
 
+import argparse
 import struct
 import sys
+from typing import Dict, Iterable, List, Set, Tuple
 
 from rio9 import formats
 
@@ -33,11 +35,11 @@ FIN, SYN, PUSH, ACK = 1, 2, 8, 16
 PCAP_HEADER = struct.pack("<IHHiIII", 0xA1B2C3D4, 2, 4, 0, 0, 262144, 101)
 
 
-def checksum(data):
+def checksum(data: bytes) -> int:
     """The internet checksum of some bytes."""
     if len(data) % 2:
         data += b"\0"
-    total = sum(struct.unpack(f">{len(data) // 2}H", data))
+    total: int = sum(struct.unpack(f">{len(data) // 2}H", data))
     while total > 0xFFFF:
         total = (total & 0xFFFF) + (total >> 16)
     return 0xFFFF - total
@@ -46,24 +48,25 @@ def checksum(data):
 class Capture:
     """Packets in the order of their time, a millisecond apart."""
 
-    def __init__(self):
+    def __init__(self) -> None:
         self.packets = [PCAP_HEADER]
         self.time = 0
 
-    def add(self, packet):
+    def add(self, packet: bytes) -> None:
         """Adds an IP packet."""
         seconds, thousandths = divmod(self.time, 1000)
         self.packets.append(struct.pack("<IIII", seconds, thousandths * 1000, len(packet), len(packet)) + packet)
         self.time += 1
 
-    def bytes(self):
+    def whole(self) -> bytes:
+        """The file of the capture."""
         return b"".join(self.packets)
 
 
 class Connection:
     """One session's TCP connection. A client and a server each count the bytes that they have sent."""
 
-    def __init__(self, capture, session):
+    def __init__(self, capture: Capture, session: int) -> None:
         self.capture = capture
         self.port = FIRST_CLIENT_PORT + session % 20000
         self.sent = {True: 1000, False: 5000}
@@ -71,49 +74,54 @@ class Connection:
         self.segment(False, SYN | ACK, b"", 1)
         self.segment(True, ACK)
 
-    def segment(self, from_client, flags, data=b"", counts=0):
+    def segment(self, from_client: bool, flags: int, data: bytes = b"", counts: int = 0) -> None:
         """Sends one segment; `counts` is what it adds to the sender's sequence beside its data."""
         source, target = (CLIENT, SERVER) if from_client else (SERVER, CLIENT)
         ports = (self.port, PORT_9P) if from_client else (PORT_9P, self.port)
         acknowledged = self.sent[not from_client] if flags & ACK else 0
 
-        def header(check):
+        def header(check: int) -> bytes:
             return struct.pack(">HHIIBBHHH", *ports, self.sent[from_client], acknowledged, 0x50, flags, 65535, check, 0)
 
         pseudo = source + target + struct.pack(">BBH", 0, 6, 20 + len(data))
         tcp = header(checksum(pseudo + header(0) + data)) + data
 
-        def address(check):
+        def address(check: int) -> bytes:
             return struct.pack(">BBHHHBBH", 0x45, 0, 20 + len(tcp), 0, 0x4000, 64, 6, check) + source + target
 
         self.capture.add(address(checksum(address(0))) + tcp)
         self.sent[from_client] += len(data) + counts
 
-    def message(self, from_client, data):
+    def message(self, from_client: bool, data: bytes) -> None:
+        """Sends a message, in as many segments as it takes."""
         for at in range(0, len(data), MOST_OF_A_SEGMENT):
             self.segment(from_client, PUSH | ACK, data[at : at + MOST_OF_A_SEGMENT])
 
-    def end(self):
+    def end(self) -> None:
+        """Ends the connection."""
         self.segment(True, FIN | ACK, b"", 1)
         self.segment(False, FIN | ACK, b"", 1)
         self.segment(True, ACK)
 
 
-def tag_of(message):
+def tag_of(message: bytes) -> int:
+    """The tag of a message."""
     return int.from_bytes(message[5:7], "little")
 
 
-def write_capture(record, replies):
+def write_capture(record: Iterable[formats.Event], replies: formats.Replies) -> Tuple[bytes, List[int]]:
     """The capture of a record and its replies, and how many messages of each direction it has."""
-    capture, connections, asked = Capture(), {}, set()
+    capture = Capture()
+    connections: Dict[int, Connection] = {}
+    asked: Set[Tuple[int, int]] = set()
     left, counts = list(reversed(replies.messages)), [0, 0]
 
-    def connection(session):
+    def connection(session: int) -> Connection:
         if session not in connections:
             connections[session] = Connection(capture, session)
         return connections[session]
 
-    def answer(all_of_them):
+    def answer(all_of_them: bool) -> None:
         while left and (all_of_them or (left[-1][0], tag_of(left[-1][1])) in asked):
             session, reply = left.pop()
             asked.discard((session, tag_of(reply)))
@@ -132,19 +140,23 @@ def write_capture(record, replies):
     answer(True)
     for session in list(connections):
         connections.pop(session).end()
-    return capture.bytes(), counts
+    return capture.whole(), counts
 
 
-def main(words):
-    if len(words) != 3:
-        formats.stop("rio9d wireshark", "the names of a record, of its replies and of the capture are wanted")
+def main(words: List[str]) -> int:
+    """The command `rio9d wireshark`."""
+    parser = formats.Words(prog="rio9d wireshark", description=__doc__, formatter_class=argparse.RawDescriptionHelpFormatter)
+    parser.add_argument("record", metavar="RECORD", help="the record")
+    parser.add_argument("replies", metavar="REPLIES", help="what `rio9d replay` of it printed")
+    parser.add_argument("out", metavar="OUT.pcap", help="the capture that is written")
+    options = parser.parse_args(words)
     try:
-        with open(words[0], "rb") as file:
+        with open(options.record, "rb") as file:
             record = file.read()
-        with open(words[1], "rb") as file:
+        with open(options.replies, "rb") as file:
             replies = file.read()
         capture, counts = write_capture(formats.read_record(record), formats.read_replies(replies))
-        with open(words[2], "wb") as file:
+        with open(options.out, "wb") as file:
             file.write(capture)
     except formats.BadText as error:
         sys.stderr.write(f"rio9d wireshark: {error}\n")
