@@ -3,13 +3,15 @@
 
     tools/clients/run.py [--program PATH] [--run NAME].. [--shapes N] [--translated] [--cache FOLDER] [--out FOLDER] [--list]
 
-It starts `serve` of the program at the loopback, once for each run. Each run makes the same calls of libdraw on a window of the server
-and on one of Plan 9's own draw device, in one process, and compares all pixels; README.md beside this file says of what it is made.
-With --translated each client reaches the server through `rio9d translate`. N shapes are made by chance where a run has some, 500 where
-nothing is said. CACHE takes what apt fetches, OUT the pictures and lines of each run.
+It starts `serve` of the program at the loopback, once for each run. Each run makes the same calls of libdraw on a
+window of the server and on one of Plan 9's own draw device, in one process, and compares all pixels; README.md beside
+this file says of what it is made. With --translated each client reaches the server through `rio9d translate`. N shapes
+are made by chance where a run has some, 500 where nothing is said. CACHE takes what apt fetches, OUT the pictures and
+lines of each run.
 
-Each row is printed; UNEXPECTED stands behind one that is otherwise, and status 1 tells that there was one, 2 that a word is wrong.
-It is outside the proof. Needs: Debian 12 or what is near it with apt's archives, gcc, x86-64 or arm64; Python 3.9 or later.
+Each row is printed; UNEXPECTED stands behind one that is otherwise, and status 1 tells that there was one, 2 that a
+word is wrong. It is outside the proof. Needs: Debian 12 or what is near it with apt's archives, gcc, x86-64 or arm64;
+Python 3.9 or later.
 """
 
 import argparse
@@ -29,7 +31,7 @@ from served import Server, Wrong  # noqa: E402
 
 PROGRAM = os.path.join(TOP, "crates", "rio9", "out", "rio9")
 RIO9D = os.path.join(TOP, "python", "rio9d")
-SECONDS = 900  # that a run may take
+SECONDS = 3600  # that a run may take
 WORKERS, CONNS = 16, 400
 WINDOW = "10,10,210,160"
 PLAN9, FRONT = "drawterm", "drawterm-9front"
@@ -42,8 +44,8 @@ CHANNELS = ("k1", "k2", "k4", "k8", "x1r5g5b5", "r5g6b5", "r8g8b8", "b8g8r8", "x
 
 @dataclass(frozen=True)
 class Run:
-    """A run: which sources, the words of the server and of the client, how many such clients at once, and rows of which another thing
-    is expected."""
+    """A run: which sources, the words of the server and of the client, how many such clients at once, and rows of which
+    another thing is expected."""
 
     name: str
     flavor: str = PLAN9
@@ -214,7 +216,8 @@ def do(run: Run, options: argparse.Namespace, judge: Table) -> None:
 def main(words: List[str]) -> int:
     """Does what the words say, and gives the status."""
     room = os.path.join(tempfile.gettempdir(), "rio9-clients")
-    parser = formats.Words(prog="clients/run.py", description=__doc__, formatter_class=argparse.RawDescriptionHelpFormatter)
+    form = argparse.RawDescriptionHelpFormatter
+    parser = formats.Words(prog="clients/run.py", description=__doc__, formatter_class=form)
     parser.add_argument("--program", default=PROGRAM, metavar="PATH")
     parser.add_argument("--run", action="append", default=[], metavar="NAME")
     parser.add_argument("--shapes", type=formats.at_least(1), default=500, metavar="N")
