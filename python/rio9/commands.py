@@ -40,6 +40,7 @@ COMMANDS: Dict[str, Command] = {
     "events": Command("rio9.events", "makes the events that `rio9 desk` reads"),
     "term": Command("rio9.term.command", "runs a program in a window", extra="term"),
     "live": Command("rio9.live.command", "serves a page that shows a desktop and drives it", "live_main", "live"),
+    "save": Command("rio9.live.save", "makes a page of a record that plays by itself"),
     "repaint": Command("rio9.live.repaint", "paints the desk again, beneath the windows", "repaint_main"),
     "translate": Command("rio9.translate.command", "stands between a client and a server, and translates what the profile leaves out"),
     "unpack": Command("rio9.translate.unpack", "writes compressed images and subfonts of Plan 9 as plain ones"),

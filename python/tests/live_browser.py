@@ -15,7 +15,9 @@ BROWSER = "chromium"
 SECONDS = 60
 WORDS = [
     "--headless", "--no-sandbox", "--disable-gpu", "--disable-dev-shm-usage", "--no-first-run", "--hide-scrollbars",
-    "--mute-audio", "--disable-background-networking", "--disable-component-update", "--remote-debugging-port=0",
+    "--mute-audio", "--disable-renderer-backgrounding", "--disable-backgrounding-occluded-windows",
+    "--disable-background-timer-throttling", "--disable-background-networking", "--disable-component-update",
+    "--remote-debugging-port=0",
 ]  # fmt: skip
 BUTTONS = {"left": 1, "right": 2, "middle": 4}
 

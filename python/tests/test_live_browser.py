@@ -9,6 +9,7 @@ import random
 import tempfile
 import time
 import unittest
+from datetime import datetime, timezone
 
 from live_support import SECONDS, Brush, Canvas, Served, pixels_of, until
 from needs import found_program
@@ -24,9 +25,13 @@ if found_program() is None:
     raise unittest.SkipTest("there is no built rio9: name one by RIO9_PROGRAM")
 
 from rio9 import formats  # noqa: E402
+from rio9.live import save  # noqa: E402
+from rio9.side import Side  # noqa: E402
 
 from test_live_parts import saved_in  # noqa: E402
 
+EXAMPLES = pathlib.Path(__file__).resolve().parent.parent.parent / "examples"
+START = datetime(2026, 1, 2, 3, 4, 5, tzinfo=timezone.utc)
 ACTS = 200
 BUTTONS = {"left": 1, "middle": 2, "right": 4}
 NAMED = {
@@ -309,6 +314,22 @@ class Saved(InBrowser):
             await played.value("part.entry.value = 0, part.entry.dispatchEvent(new Event('input'))")
             self.assertIn("0:00.0", await played.value("part.number.textContent"))
             self.assertEqual(played.wrong, [])
+
+    async def test_record(self):
+        with tempfile.TemporaryDirectory() as room:
+            kept, path = pathlib.Path(room) / "input.record", pathlib.Path(room) / "page.html"
+            kept.write_bytes((EXAMPLES / "input.record").read_bytes())
+            entries = kept.read_bytes().count(b"\n") - 1
+            Side((320, 240), "x8r8g8b8", START, entries, [(1, 0), (entries // 2, 1000)]).save(str(kept))
+            self.assertEqual(save.main([str(kept), str(path)]), 0)
+            found, frames = saved_in(path.read_text(encoding="utf-8"))
+            canvas = Canvas(found["channels"]).take(frames)
+            begun = time.monotonic()
+            played = await self.browser.page(path.as_uri())
+            await played.until("player.viewer && player.timer === null && player.entry === player.last()")
+            self.assertGreater(time.monotonic() - begun, 1.0)
+            word = formats.channels_word(found["channels"])
+            self.assertEqual(await played.pixels(), pixels_of(word, 0, canvas.width, canvas.height, canvas.rows))
 
     async def test_times_that_do_not_fit(self):
         page = await self.open()

@@ -19,9 +19,11 @@ import tempfile
 import threading
 import time
 import unittest
+from unittest import mock
 
 from rio9 import client
 from rio9.live.screen import Point, Screen, form_of
+from rio9.live.traffic import Unknown
 from live_support import SECONDS, Brush, Canvas, Served, until
 from needs import found_program
 from test_live_parts import saved_in
@@ -166,6 +168,14 @@ class Doors(unittest.IsolatedAsyncioTestCase):
                 with self.assertRaises(aiohttp.WSServerHandshakeError):
                     await live.page(token="wrong")
 
+    async def test_end(self):
+        with Served() as served:
+            async with running(served) as live:
+                page = await live.page()
+                await until(lambda: page.frames)
+                await live.server.close()
+                await until(lambda: page.socket.closed and not live.hub.viewers)
+
     async def test_many_pages(self):
         with Served() as served:
             async with running(served) as live:
@@ -264,6 +274,24 @@ class Frames(unittest.IsolatedAsyncioTestCase):
                     await page.until_same(served)
                 served.write("hwsize", b"64x64")
                 await until(lambda: page.canvas.width == 64)
+                await page.until_same(served)
+
+    async def test_unknown_traffic(self):
+        with Served() as served, served.session("new -r 0 0 320 200") as (session, root):
+            brush = Brush(session, root)
+            with mock.patch("rio9.live.watcher.Traffic", side_effect=Unknown("nothing is known")):
+                async with running(served) as live:
+                    page = await live.page()
+                    for colour in range(3):
+                        brush.fill((10, 10, 300, 190), colour)
+                        await page.until_same(served)
+                    self.assertIs(page.last("state")["knows"], False)
+            async with running(served) as live:
+                page = await live.page()
+                await page.until_same(served)
+                live.hub.watcher.traffic.close()
+                await until(lambda: live.hub.watcher.traffic is None)
+                brush.fill((10, 10, 300, 190), 5)
                 await page.until_same(served)
 
     async def test_slow_page(self):

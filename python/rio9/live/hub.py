@@ -126,6 +126,8 @@ class Hub:
 
     def told(self, why: str) -> None:
         """The server has gone, and why; or it is there again."""
+        if why == self.why:
+            return
         self.why = why
         for viewer in self.viewers:
             viewer.tell({"kind": "server", "why": why})

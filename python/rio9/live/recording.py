@@ -10,7 +10,7 @@ from typing import Dict, List, Set, Tuple
 from rio9.live.screen import Point, Screen
 
 PLAYER = Path(__file__).resolve().parent.parent / "player.html"
-MOST_BYTES = 64 << 20
+MOST_BYTES, MOST_FRAMES = 64 << 20, 1 << 30  # of a recording as it is kept, and as a browser has it
 LEVEL = 6
 
 
@@ -25,6 +25,7 @@ class Recording:
         self.channels, self.most = channels, most
         self.packer = zlib.compressobj(LEVEL)
         self.packed = bytearray()
+        self.unpacked = 0
         self.times: List[Tuple[int, int]] = []
         self.lock = threading.Lock()
 
@@ -41,7 +42,7 @@ class Recording:
     @property
     def is_full(self) -> bool:
         """Whether nothing more is kept."""
-        return self.size >= self.most
+        return self.size >= self.most or self.unpacked >= MOST_FRAMES
 
     def state(self) -> Dict[str, object]:
         """What pages are told of it."""
@@ -50,9 +51,10 @@ class Recording:
     def add(self, frame: bytes, time: int) -> None:
         """Keeps a frame, whose number is `next_number`."""
         if self.is_full:
-            raise Full(f"the recording is full at {self.most >> 20} MB: save it, or record anew")
+            raise Full("the recording is full: save it, or record anew")
         with self.lock:
             self.times.append((len(self.times), time))
+            self.unpacked += len(frame)
             self.packed += self.packer.compress(frame)
 
     def next_number(self) -> int:

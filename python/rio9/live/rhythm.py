@@ -51,8 +51,8 @@ class Rhythm:
 
     def act(self, now: float, is_seen: bool) -> None:
         """Takes that we sent something, which itself may change the picture or not; others may change it in answer."""
-        self.apart = SHORT
         if is_seen or not self.knows:
+            self.apart = SHORT
             self.stir(now)
 
     def stir(self, now: float) -> None:

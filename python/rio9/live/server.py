@@ -187,7 +187,7 @@ class Server:
     async def close(self) -> None:
         """Ends all WebSockets."""
         for socket in list(self.sockets):
-            await socket.close(code=WSCloseCode.GOING_AWAY, message=b"rio9d live has ended")
+            await socket.close()
 
 
 def in_loop(take: Callable[[str], None]) -> Callable[[str], None]:

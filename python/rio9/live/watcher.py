@@ -121,7 +121,7 @@ class Watcher(threading.Thread):
             try:
                 if self.session is None:
                     self.connect()
-                    self.listener.told("")
+                self.listener.told("")
                 self.attend()
             except (client.Failure, BadScreen, OSError) as error:
                 self.listener.told(advice(self.address, error))
