@@ -9,6 +9,8 @@ import unittest
 
 from needs import python_with
 
+PYTHON = pathlib.Path(__file__).resolve().parent.parent
+
 
 def missing(*libraries):
     """Which of some libraries this Python lacks."""

@@ -13,7 +13,10 @@ import sys
 import tempfile
 import unittest
 
-from rio9 import font, fonts
+from needs import needs_program
+
+from rio9 import client, font, fonts
+from rio9.server import Server, ServerWords
 
 PYTHON = pathlib.Path(__file__).resolve().parent.parent
 DEBIAN = pathlib.Path("/usr/share/fonts/X11/misc")
@@ -374,6 +377,52 @@ class Command(unittest.TestCase):
             (".gz", "font"),
         ):
             self.assertEqual(fonts.name_of(path), name)
+
+
+@needs_program
+class BeforeAServer(unittest.TestCase):
+    """A server draws strings in a subfont that is loaded as libdraw loads one (cachechars(2), subfont(2))."""
+
+    INK, MASK, FONT = 2, 3, 4
+    BOX = (0, 0, 40, 20)
+
+    def test_a_string(self):
+        data = fonts.font_files(fonts.read_face(BDF), "small")["small.0000"]
+        read = Subfont(data)
+        with Server(ServerWords(size=self.BOX[2:], workers=1)) as server, client.connect(server.address) as session:
+            ctl = session.file(session.root, "draw/new", client.READWRITE)
+            self.connection = session.file(session.root, f"draw/{int(ctl.read(client.CTL_BYTES)[:11])}/data", client.READWRITE)
+            self.load(read)
+            indices = [ord(one) for one in "AjA"]
+            head = struct.pack("<cIII2i4i2iH", b"s", 0, self.INK, self.FONT, 5, 10, *self.BOX, 0, 0, len(indices))
+            self.draw(head + struct.pack("<3H", *indices))
+            self.draw(struct.pack("<cI4i", b"r", 0, *self.BOX))
+            rows = session.read(self.connection.fid)
+        inked = {(at % 40, at // 40) for at in range(800) if rows[4 * at : 4 * at + 3] == b"\1\2\3"}
+        wanted, x = set(), 5
+        for code in indices:
+            wanted |= {(x + at, 10 + down) for at, down in ink_of(GLYPHS[code])}
+            x += GLYPHS[code].advance
+        self.assertEqual(inked, wanted)
+
+    def draw(self, message):
+        self.connection.client.write(self.connection.fid, message)
+
+    def load(self, read):
+        """Loads the image of a subfont, makes it a font, and gives it each character."""
+        for number, chan, box, colour in (
+            (self.INK, 0x68081828, (0, 0, 1, 1), 0x030201FF),
+            (self.MASK, 0x31, (0, 0, read.wide, read.high), 0),
+            (self.FONT, 0x31, (0, 0, read.wide, read.high), 0),
+        ):
+            is_one = box[2:] == (1, 1)
+            clip = (-(1 << 28), -(1 << 28), 1 << 28, 1 << 28) if is_one else box
+            self.draw(struct.pack("<cIIBIB4i4iI", b"b", number, 0, 0, chan, is_one, *box, *clip, colour))
+        self.draw(struct.pack("<cI4i", b"y", self.MASK, 0, 0, read.wide, read.high) + b"".join(read.rows))
+        self.draw(struct.pack("<cIIB", b"i", self.FONT, read.count, read.ascent))
+        for index, ((x, top, bottom, left, width), (end, *_)) in enumerate(zip(read.chars, read.chars[1:])):
+            places = (x, top, end, bottom, x, top, left, width)
+            self.draw(struct.pack("<cIIH4i2ibB", b"l", self.FONT, self.MASK, index, *places))
 
 
 class OfDebian(unittest.TestCase):

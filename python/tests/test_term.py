@@ -141,10 +141,18 @@ else:
             running = Running(
                 self.address, *FONT, "--at", "4,4", "--columns", str(columns), "--rows", str(lines), *words
             )
+            self.addCleanup(self.finish, running)
             end = time.monotonic() + SECONDS
             while running.thread.is_alive() and not self.desktop.numbers() and time.monotonic() < end:
                 time.sleep(0.02)
             return running
+
+        def finish(self, running):
+            """Deletes the window of a terminal that still runs, and waits until it has ended."""
+            with contextlib.suppress(client.Failure):
+                for number in self.desktop.numbers():
+                    self.desktop.write("wctl", f"delete -id {number}".encode())
+            running.ended()
 
         def points(self, columns=COLUMNS, lines=LINES):
             """The points of the inside of the window of so many cells, as the screen has them."""
@@ -154,7 +162,7 @@ else:
             rows = [data[60 + 4 * wide * y :][: 4 * wide] for y in range(upper, lower)]
             return [[int.from_bytes(row[4 * x : 4 * x + 3], "little") for x in range(left, right)] for row in rows]
 
-        def wait_until(self, wanted, read, text=""):
+        def wait_until(self, wanted, read):
             """Waits until something is as it is wanted."""
             end = time.monotonic() + SECONDS
             while (found := read()) != wanted and time.monotonic() < end:
@@ -230,10 +238,10 @@ else:
             self.desktop.drag(at(1, 4), at(1, 2))
             self.assertEqual(self.wait_until(b"ree", lambda: self.desktop.read("snarf")), b"ree")
             self.desktop.click(*at(5, 5), button=2)
+            self.shows(self.rows("one two", "three", "ree"), self.cursor(2, 3))
             self.desktop.type("\n")
             self.shows(self.rows("one two", "three", "ree", "<ree>"))
             self.desktop.type("x")
-            self.desktop.write("wctl", b"delete -id 1")
 
         def test_a_program_gets_the_mouse_and_the_wheel(self):
             first = "stty raw -echo; printf '\\033[?1000h\\033[?1006h'; head -c 18 | cat -v"
@@ -361,8 +369,11 @@ else:
                     time.sleep(0.02)
                 running.send_signal(signal.SIGINT)
                 self.assertEqual((running.communicate()[1], running.returncode), (b"", 130))
-                with self.assertRaises(ProcessLookupError):
-                    os.kill(int(path.read_text()), 0)
+                child = pathlib.Path("/proc", path.read_text().strip())
+                end = time.monotonic() + SECONDS
+                while child.exists() and time.monotonic() < end:
+                    time.sleep(0.02)
+                self.assertFalse(child.exists())
 
     class Parts(unittest.TestCase):
         def test_the_environment_of_a_program(self):
@@ -373,7 +384,9 @@ else:
             self.assertNotIn("LC_ALL", environment({"LC_ALL": "C"}, "linux"))
 
         def test_a_program_that_takes_nothing(self):
-            child = Child(["sleep", "100"], 10, 5)
+            child = Child(["sh", "-c", "stty raw -echo; echo raw; exec sleep 100"], 10, 5)
+            while not (child.read() or b"").startswith(b"raw"):
+                time.sleep(0.01)
             child.send("x" * 100_000)
             self.assertTrue(child.unsent)
             child.flush()
@@ -397,6 +410,11 @@ else:
                     window.mouse_of(data)
             with self.assertRaises(client.Broken):
                 window.place_of(b"          1 " * 12, 6, 10)
+            ctl = b"".join(
+                field.rjust(11) + b" " for field in (b"1", b"1", b"k8", b"0", b"0", b"0", b"9999", b"2", *[b"0"] * 4)
+            )
+            with self.assertRaisesRegex(client.Broken, "9999 by 2 points"):
+                window.place_of(ctl, 6, 10)
             ctl = b"".join(
                 field.rjust(11) + b" " for field in (b"1", b"1", b"k8", b"0", b"0", b"0", b"20", b"20", *[b"0"] * 4)
             )

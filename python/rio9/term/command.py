@@ -26,6 +26,7 @@ import sys
 from typing import Callable, List, Tuple
 
 from rio9 import client, fonts, formats
+from rio9.desktop import Desktop
 from rio9.term import glyphs, window
 from rio9.term.cells import Cells
 from rio9.term.child import TERMINAL, Child, NoCommand
@@ -35,7 +36,6 @@ ADDRESS = ("127.0.0.1", 5640)
 COLUMNS, LINES = 80, 24
 MOST_COLUMNS, MOST_LINES = 500, 200
 PLACE = (16, 16)
-MOST_SIDE = 2048
 
 
 def count_of(least: int, most: int) -> Callable[[str], int]:
@@ -94,7 +94,7 @@ def split(words: List[str]) -> Tuple[List[str], List[str]]:
     return words[:at], words[at + 1 :]
 
 
-def size_of(options: argparse.Namespace, shape: glyphs.Glyphs, display: List[int]) -> Tuple[int, int]:
+def size_of(options: argparse.Namespace, shape: glyphs.Glyphs, display: Tuple[int, int]) -> Tuple[int, int]:
     """How many columns and rows the window has: what the words say, or what the display has room for."""
     edge = 2 * (window.BORDER + window.MARGIN)
     room = [
@@ -108,30 +108,29 @@ def rectangle(options: argparse.Namespace, shape: glyphs.Glyphs, columns: int, l
     """The words of a window's rectangle that has room for so many cells."""
     edge = 2 * (window.BORDER + window.MARGIN)
     wide, high = columns * shape.width + edge, lines * shape.height + edge
-    if max(wide, high) > MOST_SIDE:
+    if max(wide, high) > window.MOST_SIDE:
         raise client.Failure(
-            f"{columns} by {lines} cells take {wide} by {high} points, and a window has at most {MOST_SIDE}: name fewer"
+            f"{columns} by {lines} cells take {wide} by {high} points: "
+            f"name fewer, so that a window of at most {window.MOST_SIDE} has room for them"
         )
     x, y = options.at
     return f"-r {x} {y} {x + wide} {y + high}"
 
 
 def run(options: argparse.Namespace, command: List[str]) -> int:
-    """Runs the command in a window, and gives its status; 0 if the window goes before it."""
+    """Runs the command in a window, and gives its status."""
     shape = glyphs.load(options.font)
     with client.Client(options.address, options.seconds) as session:
         session.version()
-        columns, lines = size_of(options, shape, window.display_size(session))
+        columns, lines = size_of(options, shape, Desktop.of(session, session.attach()).size())
         pane = window.Window(session, rectangle(options, shape, columns, lines))
-        child, has_ended = Child(command, columns, lines, options.term), False
+        pane.label(command[0])
+        child = Child(command, columns, lines, options.term)
         try:
-            pane.label(command[0])
-            has_ended = Terminal(pane, shape, child, Cells(columns, lines)).run(options.hold)
-        except window.Closed:
-            pass
+            Terminal(pane, shape, child, Cells(columns, lines)).run(options.hold)
         finally:
             status = child.end()
-        return status if has_ended else 0
+        return status
 
 
 def main(words: List[str]) -> int:
@@ -142,6 +141,8 @@ def main(words: List[str]) -> int:
         formats.stop("rio9d term", "a command is wanted behind --, as -- vim notes.txt")
     try:
         return run(options, command)
+    except window.Closed:
+        return 0
     except client.Failure as error:
         sys.stderr.write(f"rio9d term: {error}\n")
         return 1

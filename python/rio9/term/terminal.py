@@ -39,17 +39,16 @@ class Terminal:
         window.draw(self.painter.begin())
         self.settle()
 
-    def run(self, holds: bool) -> bool:
-        """Attends to all of it until the program has gone, or, if the window is held, until that has. Tells whether
-        the program has gone by itself."""
+    def run(self, holds: bool) -> None:
+        """Attends to all of it until the program has gone, or, if the window is held, until that has."""
         try:
             while not self.is_over or holds or self.waits_since is not None:
                 self.attend()
         except Closed:
-            return self.is_over
+            if not self.is_over:
+                raise
         finally:
             self.selector.close()
-        return True
 
     def attend(self) -> None:
         """Waits for something, and does what it asks for."""

@@ -16,7 +16,7 @@ MOUSE_BYTES = 49
 KEY_READS, KEY_BYTES = 8, 64  # so many reads of `cons` wait at once: each gives one key
 BORDER, MARGIN = 4, 2  # the window manager's border, and the points between it and the cells
 LEAST_COLUMNS, LEAST_LINES = 2, 1
-MOST_LABEL = 256
+MOST_SIDE, MOST_LABEL = 2048, 256
 TRIES = 5
 GONE = "window deleted"
 STALE = ("named image no longer valid", "unknown id for draw image")
@@ -68,6 +68,8 @@ def place_of(ctl: bytes, wide: int, high: int) -> paint.Place:
         word = formats.channels_word(channels)
     except ValueError as error:
         raise client.Broken(f"what came of the window is wrong: {error}") from None
+    if not (0 < right - left <= MOST_SIDE and 0 < bottom - top <= MOST_SIDE):
+        raise client.Broken(f"what came of the window is wrong: it has {right - left} by {bottom - top} points")
     return paint.Place(word, inside, inside[0] + MARGIN, inside[1] + MARGIN, columns, lines)
 
 
@@ -77,6 +79,16 @@ class Window:
     def __init__(self, session: client.Client, options: str):
         self.session = session
         self.root = session.attach(f"new {options}")
+        try:
+            self.open_files()
+        except client.Refused as error:
+            raise lasting(error) from None
+        self.writes: Deque[int] = deque()
+        self.has_image, self.is_stale = False, False
+
+    def open_files(self) -> None:
+        """Opens the files that are read and written all the time, and asks for keys and the mouse."""
+        session = self.session
         self.ctl = session.file(self.root, "draw/new", client.READWRITE)
         number = numbers(self.ctl.read(CTL_BYTES), 0, 1)[0]
         self.data = session.file(self.root, f"draw/{number}/data", client.READWRITE)
@@ -85,8 +97,6 @@ class Window:
         self.cons, self.mouse = session.file(self.root, "cons"), session.file(self.root, "mouse")
         self.key_reads: Deque[int] = deque(self.ask_key() for _ in range(KEY_READS))
         self.mouse_read = self.ask_mouse()
-        self.writes: Deque[int] = deque()
-        self.has_image, self.is_stale = False, False
 
     def ask_key(self) -> int:
         """Asks for a key."""
@@ -191,12 +201,3 @@ class Window:
     def label(self, text: str) -> None:
         """Gives the window a label."""
         self.write("label", text.encode("utf-8", "replace")[:MOST_LABEL])
-
-
-def display_size(session: client.Client) -> List[int]:
-    """The width and the height of the display."""
-    root = session.attach()
-    with session.file(root, "hwsize") as file:
-        found = numbers(bytes(file.read_all()), 0, 2)
-    session.clunk(root)
-    return found
