@@ -19,11 +19,13 @@ import tempfile
 import threading
 import time
 import unittest
+from datetime import datetime, timezone
 from unittest import mock
 
 from rio9 import client
 from rio9.live.screen import Point, Screen, form_of
 from rio9.live.traffic import Unknown
+from rio9.side import Side
 from live_support import SECONDS, Brush, Canvas, Served, until
 from needs import found_program
 from test_live_parts import saved_in
@@ -623,11 +625,6 @@ class Server_that_goes(unittest.IsolatedAsyncioTestCase):
 class Words(unittest.TestCase):
     """The commands."""
 
-    def run_words(self, *words):
-        return subprocess.run(
-            [sys.executable, str(PYTHON / "rio9d"), *words], capture_output=True, timeout=60, text=True
-        )
-
     def told(self, main, *words):
         """The status of a command, and the line that it tells."""
         err = io.StringIO()
@@ -694,6 +691,27 @@ class Words(unittest.TestCase):
                 self.told(repaint.repaint_main, "127.0.0.1:%d" % served.port, "--colour", "336699"), (0, "")
             )
             self.assertEqual(served.pixels()[2], b"\x33\x66\x99" * (320 * 200))
+
+    def test_page_of_the_package(self):
+        """The words of README's section run as they stand there, but for the server's port."""
+        text = (PYTHON / "README.md").read_text(encoding="utf-8").split("## The live page")[1].split("\n## ")[0]
+        live, save = re.findall(r"```sh\npython/rio9d (.*?)\n```", text)
+        with tempfile.TemporaryDirectory() as room, Served() as served:
+            words = live.replace("5640", str(served.port)).split()
+            process = subprocess.Popen(
+                [sys.executable, str(PYTHON / "rio9d"), *words], stdout=subprocess.PIPE, text=True
+            )
+            self.assertIn("to drive it", process.stdout.readline())
+            process.send_signal(signal.SIGINT)
+            process.communicate(timeout=SECONDS)
+            kept = pathlib.Path(room) / "session.record"
+            kept.write_bytes((PYTHON.parent / "examples" / "input.record").read_bytes())
+            Side((320, 240), "x8r8g8b8", datetime.now(timezone.utc), 9, [(1, 0)]).save(str(kept))
+            ended = subprocess.run(
+                [sys.executable, str(PYTHON / "rio9d"), *save.split()], cwd=room, capture_output=True
+            )
+            self.assertEqual((ended.returncode, ended.stderr), (0, b""))
+            saved_in((pathlib.Path(room) / "session.html").read_text(encoding="utf-8"))
 
     def test_signals(self):
         for number in (signal.SIGTERM, signal.SIGINT):

@@ -3,6 +3,7 @@
 import subprocess
 import sys
 import zlib
+from pathlib import Path
 from typing import IO, List, Optional, Tuple
 
 from rio9 import formats, program, side
@@ -78,7 +79,7 @@ def save(record: str, page: str, size: Optional[Tuple[int, int]], chan: Optional
         raise program.Failure(why_no_record(record), code)
     if code != program.DONE:
         return program.status_of(code)
-    title = record if beside is None else f"{record}, {beside.start.astimezone():%Y-%m-%d %H:%M}"
+    title = Path(record).name + (f", {beside.start.astimezone():%Y-%m-%d %H:%M}" if beside else "")
     text = saved_page(title, channels, times_of(beside, entries_of(record)), frames)
     with open(page, "w", encoding="utf-8") as file:
         file.write(text)
