@@ -19,6 +19,14 @@ class Wrong(Exception):
     """A server does not do what it is to do. It tells what."""
 
 
+class Silent(Wrong):
+    """A server does not listen. It tells what, and the status with which the server ended, None where it had not."""
+
+    def __init__(self, why, status):
+        super().__init__(why)
+        self.status = status
+
+
 @dataclass
 class Stream:
     """What one client sent and got, as bytes or as a mapped file. `is_plain` tells that it sent whole messages, ended its
@@ -38,18 +46,20 @@ def is_listening(port):
 class Server:
     """A running `serve`, which writes its record and its lines on err to files of a folder."""
 
-    def __init__(self, program, room, workers, conns, words=()):
+    def __init__(self, program, room, workers, conns, words=(), **more):
+        """Starts it, as a process with what else subprocess.Popen may be told."""
         with socket.create_server(("127.0.0.1", 0)) as taken:
             self.port = taken.getsockname()[1]
         self.program, self.room, self.record = program, room, os.path.join(room, "record")
         command = [program, "serve", *words, "--listen", f"127.0.0.1:{self.port}", "--workers", str(workers), "--conns", str(conns)]
         with open(self.record, "wb") as out, open(os.path.join(room, "err"), "wb") as err:
-            self.process = subprocess.Popen(command, stdin=subprocess.DEVNULL, stdout=out, stderr=err)
+            self.process = subprocess.Popen(command, stdin=subprocess.DEVNULL, stdout=out, stderr=err, **more)
         end = time.monotonic() + LISTENS
         while not is_listening(self.port):
             if self.process.poll() is not None or time.monotonic() > end:
+                status = self.process.poll()
                 self.kill()
-                raise Wrong(f"{program} does not listen: status {self.process.returncode}, {self.lines()[:1]}")
+                raise Silent(f"{program} does not listen: status {status}, {self.lines()[:1]}", status)
             time.sleep(0.005)
 
     def __enter__(self):

@@ -2,6 +2,9 @@
 #![tactic(auto)]
 
 mod ends;
+mod muster;
+mod pace;
+mod progress;
 mod reading;
 mod room;
 mod serves;
@@ -9,5 +12,6 @@ mod session;
 mod writing;
 
 pub use ends::{Attended, ReadEnd, WriteEnd};
+pub(crate) use muster::Muster;
 pub use serves::Serves;
 pub use session::attend;

@@ -5,10 +5,12 @@ mod doors;
 mod lines;
 mod report;
 mod room;
+mod threads;
 mod worker;
 mod workers;
 
 pub use doors::listen_all;
 pub use lines::Unplain;
 pub use report::Report;
+pub use threads::has_threads;
 pub use workers::{told_of_history, work_all};

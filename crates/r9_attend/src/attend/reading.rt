@@ -11,6 +11,7 @@ ghost use Rattle.r9_attend.specs.attend.Sessions.{Reads, EndsAt, IsRead, IsReady
 ghost use Rattle.r9_attend.specs.attend.Steps.{IsSent, IsFilled, IsTold, HasRead};
 
 use crate::attend::ends::ReadEnd;
+use crate::attend::pace::{Pace, most_replied};
 use crate::attend::room::{Room, ask, end_session};
 use crate::attend::serves::Serves;
 use r9_event::event::{Answer, Ask};
@@ -23,9 +24,6 @@ use std::sync::Wait;
 
 /// The greatest size of a session's first message.
 const FIRST_LIMIT: u32 = 65_560;
-
-/// After so many messages the writer is woken, though others are at hand.
-const TOGETHER: u32 = 32;
 
 /// Sends a message, and answers how many bytes the next may have.
 fn send<T: Serves, R: Wait>(
@@ -78,17 +76,8 @@ fn are_bytes(bytes: &[u8])
     ensures { AreBytes bytes.now }
 {}
 
-/// Wakes the writer after so many messages more, though others are at hand, and counts on: so it writes while this goes on.
-fn ring_at_times<T: Serves, R: Wait>(room: &Room<'_, '_, T, R>, pass: &Pass<T>, sent: u32) -> u32 {
-    if sent < TOGETHER {
-        return sent + 1;
-    }
-    room.lock.ring(pass, room.session);
-    1
-}
-
-/// Sends the messages that come from the source, in order, until an end. The writer is woken once nothing more is at hand and at times
-/// before, not for each message: so replies to messages that come together go out together.
+/// Sends the messages that come from the source, in order, until an end, if the writer has come. The writer is woken once nothing more
+/// is at hand and at times before, not for each message: so replies to messages that come together go out together.
 fn read_on<T: Serves, S: Source, R: Wait>(
     room: &Room<'_, '_, T, R>,
     pass: &mut Pass<T>,
@@ -104,15 +93,19 @@ fn read_on<T: Serves, S: Source, R: Wait>(
     ensures read { (bytes : List ℕ) × Reads (S.left input.old) bytes (S.left input.new) × EndsAt result (S.left input.old) bytes × ((history : List Entry) → IsOwn (is_msg room.now.session) pass.new.seen (made_since pass.old pass.new) history → IsRead T.server room.now.session result bytes (events_of history)) }
 {
     let mut framer = Framer::new(room.alloc, FIRST_LIMIT);
-    let mut sent = 0;
+    if !room.both.is_whole(room.rt) {
+        return ReadEnd::Memory;
+    }
+    let mut pace = Pace::new();
     for _ in room.rt.forever() {
         match framer.next() {
             Ok(Next::Frame(frame)) => {
                 are_bytes(frame.as_slice());
+                let most = most_replied(frame.as_slice(), FIRST_LIMIT);
                 match send(room, pass, frame) {
                     Ok(msize) => {
                         framer.set_limit(msize);
-                        sent = ring_at_times(room, pass, sent);
+                        pace = pace.after(room, pass, most);
                     }
                     Err(end) => return end,
                 }

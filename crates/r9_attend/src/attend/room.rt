@@ -5,19 +5,24 @@ ghost use Rattle.model_history.specs.event.Journal.{events_of};
 ghost use Rattle.r9_attend.specs.attend.Sessions.{HasEnded};
 ghost use Rattle.r9_attend.specs.attend.Passes.{GoesOn, made_since, Turned, NotTurned};
 
+use crate::attend::muster::Muster;
+use crate::attend::progress::Progress;
 use crate::attend::serves::Serves;
 use r9_event::event::{Answer, Ask};
 use r9_lock::{Pass, Shared, Spent};
 use std::alloc::Global;
 use std::sync::Wait;
 
-/// The handle, the allocator, the lock and the session, which two closures may share.
+/// What two closures share: the handle, the allocator, the lock, the session, where they come together, and for how many entries all
+/// replies to the session were put.
 #[derive(Drop)]
 pub(crate) struct Room<'a, 'b, T: Serves, R> {
     pub(crate) rt: &'a R,
     pub(crate) alloc: Global,
     pub(crate) lock: &'b Shared<T>,
     pub(crate) session: u32,
+    pub(crate) both: Muster,
+    pub(crate) put: Progress,
 }
 
 /// Asks in a turn. Where there are no more turns the word of the lock is answered.

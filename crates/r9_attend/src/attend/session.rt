@@ -9,6 +9,8 @@ ghost use Rattle.r9_attend.specs.attend.Sessions.{Reads, EndsAt, IsRead, IsExact
 ghost use Rattle.r9_attend.specs.attend.Steps.{IsTold, IsSpent, NotBegun, IsBegun, HasBegun, HasRead, HasWritten};
 
 use crate::attend::ends::{Attended, ReadEnd, WriteEnd};
+use crate::attend::muster::Muster;
+use crate::attend::progress::Progress;
 use crate::attend::reading::read_in;
 use crate::attend::room::{Room, ask};
 use crate::attend::serves::Serves;
@@ -39,7 +41,8 @@ fn begin<T: Serves, R: Wait>(
     }
 }
 
-/// The reader and the writer. The two closures capture the room, a pass and an end each.
+/// The reader and, in a thread of its own, the writer. The two closures capture the room, a pass and an end each. Where no thread can
+/// be had neither reads nor writes, and both end for want of memory.
 fn both_in<T: Serves + Send, S: Source + Send, O: Sink + Send, R: Threads + Wait + Sync>(
     rt: &R,
     room: &Room<'_, '_, T, R>,
@@ -53,14 +56,15 @@ fn both_in<T: Serves + Send, S: Source + Send, O: Sink + Send, R: Threads + Wait
     ensures reader { HasRead S.left S.faults T.server room.now.session result.0 reader.old reader.new input.old input.new }
     ensures writer { HasWritten O.held O.unflushed O.faults T.server room.now.session result.1 writer.old writer.new output.old output.new }
 {
-    join_mut(
+    let (written, read) = join_mut(
         rt,
+        &mut || write_in(room, writer, output),
         &mut || -> ReadEnd
             requires { IsReady room.now.lock.now.id room.now.session reader.now }
             ensures { HasRead S.left S.faults T.server room.entry.now.session result reader.entry.now reader.exit.now input.entry.now input.exit.now }
         { read_in(room, reader, input) },
-        &mut || write_in(room, writer, output),
-    )
+    );
+    (read, written)
 }
 
 /// Begins a session, and attends to it: a reader sends its messages, and a writer gives it its replies. Both ends are told.
@@ -115,6 +119,8 @@ pub fn attend<T: Serves + Send, S: Source + Send, O: Sink + Send, R: Threads + W
         alloc,
         lock: shared,
         session,
+        both: Muster::new(2),
+        put: Progress::new(),
     };
     let (read, written) = both_in(rt, &room, reader, writer, input, output);
     Attended {

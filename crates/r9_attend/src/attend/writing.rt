@@ -55,7 +55,7 @@ fn put<O: Sink>(output: &mut O, piece: &[u8]) -> Option<WriteEnd>
     }
 }
 
-/// Puts what waits into the sink, again and again, until an end.
+/// Puts what waits into the sink, again and again, until an end, if the reader has come. The reader is told how far all was put.
 fn write_on<T: Serves, O: Sink, R: Wait>(
     room: &Room<'_, '_, T, R>,
     pass: &mut Pass<T>,
@@ -70,26 +70,33 @@ fn write_on<T: Serves, O: Sink, R: Wait>(
     ensures flushed { result ≡ WriteEnd.Done → (O.unflushed output.new ≡ false) ⊎ (output.new ≡ output.old) }
     ensures written { (history : List Entry) → IsOwn (is_take room.now.session) pass.new.seen (made_since pass.old pass.new) history → IsWritten T.server room.now.session result (O.held output.old) (O.held output.new) (events_of history) }
 {
+    if !room.both.is_whole(room.rt) {
+        return WriteEnd::Memory;
+    }
     for _ in room.rt.forever() {
         match look(room, pass) {
             Ok(Some(bytes)) => match put(output, bytes.as_slice()) {
-                None => {}
+                None => room.put.tell(pass.seen()),
                 Some(end) => return end,
             },
-            Ok(None) => room.lock.wait(room.rt, pass, room.session),
+            Ok(None) => {
+                room.put.tell(pass.seen());
+                room.lock.wait(room.rt, pass, room.session);
+            }
             Err(end) => return end,
         }
     }
     unreachable!()
 }
 
-/// Ends the session, if it lives, and drops what still waits for it, since no more of it can go out.
+/// Ends the session, if it lives, and drops what still waits for it, since no more of it can go out. The reader has to wait no more.
 fn give_up<T: Serves, R: Wait>(room: &Room<'_, '_, T, R>, pass: &mut Pass<T>)
     requires { pass.old.lock ≡ room.now.lock.now.id }
     ensures { HasGivenUp T.server room.now.session pass.old pass.new }
 {
     end_session(room, pass);
     let _ = look(room, pass);
+    room.put.end();
 }
 
 /// Writes to an end, and gives the session up where no more of it can go out.
@@ -110,6 +117,9 @@ pub(crate) fn write_in<T: Serves, O: Sink, R: Wait>(
             give_up(room, pass);
             WriteEnd::Memory
         }
-        end => end,
+        end => {
+            room.put.end();
+            end
+        }
     }
 }

@@ -39,7 +39,7 @@ fn serve_next<T: Serves + Send, D: Door, R: Threads + Wait + Sync>(
 }
 
 /// Attends to so many sessions of a door, one after the other, or to fewer where none comes, the door fails or there is no
-/// memory.
+/// memory: to none where not all workers have come.
 pub(crate) fn serve<T: Serves + Send, D: Door, R: Threads + Wait + Sync>(
     room: &Room<'_, '_, T, R>,
     worker: u32,
@@ -52,6 +52,9 @@ pub(crate) fn serve<T: Serves + Send, D: Door, R: Threads + Wait + Sync>(
     ensures { Worked (told_doors D.ended D.over D.faults (told_ends D.In.left D.In.faults D.Out.held D.Out.unflushed D.Out.faults)) T.server share worker (place door.old reader.old writer.old) (place door.new reader.new writer.new) result }
 {
     let mut report = Report::new(room.alloc);
+    if !room.all.is_whole(room.rt) {
+        return report.short();
+    }
     for _ in 0..share {
         match serve_next(room, reader, writer, door) {
             Ok(Some(ends)) => report = report.with(ends),

@@ -11,7 +11,7 @@ ghost use Rattle.r9_attend.specs.workers.Steps.{Half, CanWork};
 ghost use Rattle.std.specs.Thread.{IsSync, IsSend};
 ghost use Rattle.r9_attend.specs.declared.workers.report.Report.{Report};
 
-use crate::attend::Serves;
+use crate::attend::{Muster, Serves};
 use crate::workers::report::Report;
 use crate::workers::room::Room;
 use crate::workers::worker::serve;
@@ -115,7 +115,8 @@ fn both_halves<T: Serves + Send, D: Door + Send, R: Threads + Wait + Sync>(
 }
 
 /// Lets the workers 1 to `workers` attend to so many sessions, each to its share of them at its door, one after the other, and
-/// all beside each other. The first of the workers, as many as the rest of `sessions` by `workers`, have one session more.
+/// all beside each other. The first of the workers, as many as the rest of `sessions` by `workers`, have one session more. Where no
+/// thread can be had for one of them, none attends to any.
 pub fn work_all<T: Serves + Send, D: Door + Send, R: Threads + Wait + Sync>(
     rt: &R,
     alloc: Global,
@@ -137,6 +138,7 @@ pub fn work_all<T: Serves + Send, D: Door + Send, R: Threads + Wait + Sync>(
         lock,
         sessions,
         workers,
+        all: Muster::new(workers),
     };
     work_from(&room, 1, pass, &mut doors[..workers as usize]).in_order()
 }

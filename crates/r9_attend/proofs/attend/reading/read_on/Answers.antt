@@ -12,6 +12,11 @@ not_at_end found none e = let both : None ≡ Some ReadFault = sym none ∙ e in
 pub loop-init : goal.loop-init
 loop-init g c = record { reading = reading_first g.T.Serves.server g.T.Serves.lawful c.args.room.now.session c.args.pass.now c.new-framer.result (g.S.Source.left c.args.input.now) c.new-framer.ensures; steady = refl }
 
+pub returns-then-not-is_whole-clause-read : goal.returns-then-not-is_whole-clause-read
+returns-then-not-is_whole-clause-read g c =
+    let r = reading_first g.T.Serves.server g.T.Serves.lawful c.args.room.now.session c.args.pass.now c.new-framer.result (g.S.Source.left c.args.input.now) c.new-framer.ensures in
+    (r.bytes, r.reads, tt, short_read g.T.Serves.server g.T.Serves.lawful c.args.room.now.session c.args.pass.now c.args.pass.now c.new-framer.result (g.S.Source.left c.args.input.now) (g.S.Source.left c.args.input.now) r)
+
 pub loop-preserved-in-Ok : goal.loop-preserved-in-Ok
 loop-preserved-in-Ok g c = record {
   reading = reading_sent g.T.Serves.server g.T.Serves.lawful c.args.room.now.session c.args.pass.now c.loop.pass c.loop.framer (g.S.Source.left c.args.input.now) (g.S.Source.left c.loop.input) c.loop.invariant.reading
