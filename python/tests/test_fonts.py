@@ -391,7 +391,8 @@ class BeforeAServer(unittest.TestCase):
         read = Subfont(data)
         with Server(ServerWords(size=self.BOX[2:], workers=1)) as server, client.connect(server.address) as session:
             ctl = session.file(session.root, "draw/new", client.READWRITE)
-            self.connection = session.file(session.root, f"draw/{int(ctl.read(client.CTL_BYTES)[:11])}/data", client.READWRITE)
+            number = int(ctl.read(client.CTL_BYTES)[:11])
+            self.connection = session.file(session.root, f"draw/{number}/data", client.READWRITE)
             self.load(read)
             indices = [ord(one) for one in "AjA"]
             head = struct.pack("<cIII2i4i2iH", b"s", 0, self.INK, self.FONT, 5, 10, *self.BOX, 0, 0, len(indices))
