@@ -110,6 +110,8 @@ class Shown(InBrowser):
                 "Runtime.evaluate", expression="part.zoom.value = 3; part.zoom.dispatchEvent(new Event('change'))"
             )
             self.assertEqual(await page.value("part.picture.getBoundingClientRect().width"), 960)
+            places = await page.value("[part.picture.getBoundingClientRect()].map(r => [r.left % 1, r.top % 1])[0]")
+            self.assertEqual(places, [0, 0])
         self.assertEqual(page.wrong, [])
 
     async def test_sizes(self):
@@ -310,7 +312,7 @@ class Saved(InBrowser):
             took, length = time.monotonic() - begun, found["times"][-1][1] / 1000
             self.assertGreater(took, 0.8 * length)
             self.assertEqual(await played.pixels(), wanted)
-            self.assertIn(f"of 0:0{length:.1f}"[:-2], await played.value("part.number.textContent"))
+            self.assertIn(f" of 0:0{int(10 * length) / 10:.1f}", await played.value("part.number.textContent"))
             await played.value("part.entry.value = 0, part.entry.dispatchEvent(new Event('input'))")
             self.assertIn("0:00.0", await played.value("part.number.textContent"))
             self.assertEqual(played.wrong, [])
