@@ -11,6 +11,7 @@ import contextlib
 import io
 import os
 import pathlib
+import re
 import signal
 import subprocess
 import sys
@@ -37,7 +38,7 @@ else:
     from rio9 import client, font, formats, picture
     from rio9.desktop import Desktop
     from rio9.server import Server, ServerWords
-    from rio9.term import command, paint, window
+    from rio9.term import command, glyphs, paint, window
     from rio9.term.child import Child, NoCommand, environment
 
     PYTHON = pathlib.Path(__file__).resolve().parent.parent
@@ -150,9 +151,13 @@ else:
         def finish(self, running):
             """Deletes the window of a terminal that still runs, and waits until it has ended."""
             with contextlib.suppress(client.Failure):
-                for number in self.desktop.numbers():
-                    self.desktop.write("wctl", f"delete -id {number}".encode())
+                self.finish_windows()
             running.ended()
+
+        def finish_windows(self):
+            """Deletes all windows."""
+            for number in self.desktop.numbers():
+                self.desktop.write("wctl", f"delete -id {number}".encode())
 
         def points(self, columns=COLUMNS, lines=LINES):
             """The points of the inside of the window of so many cells, as the screen has them."""
@@ -255,6 +260,35 @@ else:
                 time.sleep(0.05)
             self.desktop.click(12, 12, button=4)
             self.shows(self.rows("^[[A^[[A^[[A"))
+
+        def test_the_wheel_looks_back(self):
+            script = "seq 20; read line; echo $line"
+            self.start("--hold", "--", "sh", "-c", script)
+            last = self.rows(*map(str, range(13, 21)))
+            self.shows(last, self.cursor(8, 0))
+            self.desktop.click(12, 12, button=4)
+            self.shows(self.rows(*map(str, range(10, 19))))
+            self.desktop.click(12, 12, button=5)
+            self.shows(last, self.cursor(8, 0))
+            self.desktop.click(12, 12, button=4)
+            self.desktop.click(12, 12, button=4)
+            self.shows(self.rows(*map(str, range(7, 16))))
+            self.desktop.type("x")
+            self.shows([*last[:8], "x"], self.cursor(8, 1))
+
+        def test_the_words_of_the_packages_page(self):
+            text = (PYTHON / "README.md").read_text(encoding="utf-8").split("## A terminal")[1].split("\n## ")[0]
+            lines = [line for block in re.findall(r"```sh\n(.*?)```", text, re.DOTALL) for line in block.splitlines()]
+            self.assertEqual(len(lines), 2)
+            for line in lines:
+                words = line.replace("127.0.0.1:5640", self.address).replace("vim notes.txt", "cat").split()
+                self.assertEqual(words.pop(0), "python/rio9d")
+                if "9x15" in words and not os.path.exists(glyphs.found("9x15")):
+                    continue
+                running = subprocess.Popen([sys.executable, str(PYTHON / "rio9d"), *words], stderr=subprocess.PIPE)
+                windows = self.wait_until(1, lambda: len(self.desktop.numbers()))
+                self.finish_windows()
+                self.assertEqual((windows, running.communicate(timeout=SECONDS)[1], running.returncode), (1, b"", 0))
 
         def test_a_title_is_the_windows_label(self):
             self.start("--hold", "--", "printf", "\\033]2;a title\\007done")

@@ -175,6 +175,46 @@ else:
             self.feed("\x1b[?1;2004l")
             self.assertFalse(self.cells.is_on(CURSOR_KEYS) or self.cells.is_on(BRACKETED_PASTE))
 
+    class Past(Cases):
+        def test_rows_that_scrolled_out_are_looked_back_at(self):
+            self.begin(columns=8, lines=3)
+            self.feed("\r\n".join(map(str, range(8))))
+            self.assertEqual(self.rows(), ["5", "6", "7"])
+            self.cells.look_back(2)
+            self.assertEqual(self.rows(), ["3", "4", "5"])
+            self.feed("\r\n8\r\n9")
+            self.assertEqual(self.rows(), ["3", "4", "5"])
+            self.cells.look_back(100)
+            self.assertEqual(self.rows(), ["0", "1", "2"])
+            self.cells.resize(5, 8)
+            self.assertEqual(self.rows(), ["0", "1", "2", "3", "4"])
+            self.cells.look_back(-100)
+            self.assertEqual(self.rows(), ["7", "8", "9", "", ""])
+
+        def test_the_second_screen_and_parts_of_the_first_have_no_past(self):
+            self.begin(columns=8, lines=3)
+            self.feed("one\x1b[?1049h" + "\n" * 9)
+            self.cells.look_back(5)
+            self.assertEqual((self.cells.back, len(self.cells.past)), (0, 0))
+            self.feed("\x1b[?1049l\x1b[2;3r" + "\n" * 9 + "\x1b[r\x1b[T")
+            self.assertEqual(len(self.cells.past), 0)
+            self.feed("\n" * 9)
+            self.cells.look_back(5)
+            self.assertEqual(self.cells.back, 5)
+            self.feed("\x1b[?1049h\x1b[?1049l")
+            self.assertEqual(self.cells.back, 0)
+            self.cells.look_back(5)
+            self.feed("\x1b[3J")
+            self.assertEqual((self.cells.back, len(self.cells.past)), (0, 0))
+
+        def test_the_past_has_an_end(self):
+            self.begin(columns=8, lines=3)
+            self.feed("x\r\n\n\n\n")
+            self.cells.look_back(1)
+            self.feed("\n" * 5000)
+            self.cells.look_back(5000)
+            self.assertEqual((len(self.cells.past), self.cells.back, len(self.rows())), (2000, 2000, 3))
+
     class Characters(Cases):
         def test_wide_ones_have_an_empty_cell_behind_them(self):
             self.begin(columns=5)

@@ -11,10 +11,10 @@ import copy
 import inspect
 import re
 import unicodedata
-from collections import defaultdict
+from collections import defaultdict, deque
 from dataclasses import dataclass
 from functools import lru_cache
-from typing import Any, Callable, Dict, List, Optional, Set, Tuple
+from typing import Any, Callable, Deque, Dict, List, Optional, Set, Tuple
 
 import pyte
 from pyte import charsets, modes
@@ -25,7 +25,8 @@ CURSOR_KEYS, BRACKETED_PASTE = 1 << PRIVATE, 2004 << PRIVATE
 MOUSE_PRESSES, MOUSE_DRAGS, MOUSE_MOVES, MOUSE_SGR = (number << PRIVATE for number in (1000, 1002, 1003, 1006))
 SECOND_SCREEN = {47, 1047, 1049}
 COLUMNS_132 = 3
-MOST_MOVES, MOST_PENS, MOST_SAVED, MOST_HELD = 8, 256, 16, 4096
+ALL_AND_PAST = 3
+MOST_MOVES, MOST_PENS, MOST_SAVED, MOST_HELD, MOST_PAST = 8, 256, 16, 4096, 2000
 NOTHING = "\0"  # what does nothing, and keeps what stands before and behind it apart
 PLAIN = re.compile("[ -~]+")
 
@@ -78,9 +79,11 @@ class Cells(pyte.Screen):  # type: ignore[misc]
         self.moves: List[Move] = []
         self.answers: List[str] = []
         self.pens: Dict[Any, Pen] = {}
-        self.first: Optional[
-            Tuple[Any, Any]
-        ] = None  # the rows and the cursor of the first screen while the second one shows
+        # The rows and the cursor of the first screen while the second one shows.
+        self.first: Optional[Tuple[Any, Any]] = None
+        # The rows that have scrolled out of the first screen, and how many of them are looked back at.
+        self.past: Deque[Any] = deque(maxlen=MOST_PAST)
+        self.back = 0
         super().__init__(columns, lines)
 
     # Writing.
@@ -162,15 +165,29 @@ class Cells(pyte.Screen):  # type: ignore[misc]
         high = bottom + 1 - top
         count = max(-high, min(count, high))
         rows = [self.buffer.pop(y, None) for y in range(top, bottom + 1)]
+        if top == 0 and self.first is None:
+            self.keep(rows[: max(count, 0)])
         for at, row in enumerate(rows):
             if row is not None and 0 <= at - count < high:
                 self.buffer[top + at - count] = row
         self.dirty.update(range(top, bottom + 1))
+        if self.back:
+            return
         last = self.moves[-1] if self.moves else None
         if last and (last.top, last.bottom) == (top, bottom):
             last.count += count
         elif len(self.moves) < MOST_MOVES:
             self.moves.append(Move(top, bottom, count))
+
+    def keep(self, rows: List[Any]) -> None:
+        """Keeps rows that go at the upper edge. What is looked back at stays in its place."""
+        self.past.extend(self.buffer.default_factory() if row is None else row for row in rows)
+        if self.back:
+            self.back = min(self.back + len(rows), len(self.past))
+
+    def look_back(self, count: int) -> None:
+        """Looks back by so many rows more, or fewer if it is below 0."""
+        self.back = max(0, min(self.back + count, len(self.past) if self.first is None else 0))
 
     def edges(self) -> Tuple[int, int]:
         """The first and the last row of those that scroll."""
@@ -228,9 +245,12 @@ class Cells(pyte.Screen):  # type: ignore[misc]
             super().erase_in_line(how)
 
     def erase_in_display(self, how: int = 0, private: bool = False) -> None:
-        """Erases from the cursor on (0), up to it (1), or all (2, 3)."""
+        """Erases from the cursor on (0), up to it (1), or all (2), also of the past (3)."""
         if how in (0, 1, 2, 3):
             super().erase_in_display(how)
+        if how == ALL_AND_PAST:
+            self.past.clear()
+            self.back = 0
 
     def cursor_to_line(self, line: int = 1) -> None:
         """Moves the cursor to a row."""
@@ -274,7 +294,7 @@ class Cells(pyte.Screen):  # type: ignore[misc]
     def show_second(self) -> None:
         """Shows an empty second screen, and keeps the first one."""
         if self.first is None:
-            self.first = self.buffer, copy.copy(self.cursor)
+            self.first, self.back = (self.buffer, copy.copy(self.cursor)), 0
             self.buffer = defaultdict(self.buffer.default_factory)
             self.dirty.update(range(self.lines))
 
@@ -316,8 +336,8 @@ class Cells(pyte.Screen):  # type: ignore[misc]
     # Reading.
 
     def row(self, y: int) -> List[Any]:
-        """The cells of a row."""
-        line = self.buffer[y]
+        """The cells of a row that is looked at."""
+        line = self.past[len(self.past) - self.back + y] if y < self.back else self.buffer[y - self.back]
         return [line[x] for x in range(self.columns)]
 
     def text(self, begin: Tuple[int, int], end: Tuple[int, int]) -> str:

@@ -130,11 +130,16 @@ class Terminal:
         if self.cells.title != self.title:
             self.title = self.cells.title
             self.window.label(self.title)
-        cursor = self.cells.cursor
-        place = None if cursor.hidden or self.is_over else (cursor.y, min(cursor.x, self.cells.columns - 1))
-        messages = self.painter.frame(self.cells, place, self.selection)
+        messages = self.painter.frame(self.cells, self.cursor(), self.selection)
         if messages:
             self.window.draw(messages)
+
+    def cursor(self) -> Optional[Point]:
+        """Where the cursor is seen."""
+        cursor = self.cells.cursor
+        y = cursor.y + self.cells.back
+        is_seen = not cursor.hidden and not self.is_over and y < self.cells.lines
+        return (y, min(cursor.x, self.cells.columns - 1)) if is_seen else None
 
     def is_due(self) -> bool:
         """Whether a frame is to be drawn now."""
@@ -146,9 +151,12 @@ class Terminal:
     # Keys and the mouse.
 
     def type(self, text: str) -> None:
-        """Gives keys to the program."""
+        """Gives keys to the program, and looks at its last rows again."""
         if self.is_over:
             return
+        if self.cells.back:
+            self.cells.back = 0
+            self.changed()
         self.child.send("".join(keys.of_key(key, self.cells.is_on(CURSOR_KEYS)) for key in text))
 
     def point(self, event: Mouse) -> None:
@@ -163,7 +171,7 @@ class Terminal:
             self.select(event.buttons, before, (y, x))
 
     def select(self, buttons: int, before: int, point: Point) -> None:
-        """Selects by the first button, puts in by the second one, and scrolls a second screen by the wheel."""
+        """Selects by the first button, puts in by the second one, and looks back by the wheel."""
         pressed = buttons & ~before
         if pressed & SELECT:
             self.anchor, self.selection = point, None
@@ -175,9 +183,18 @@ class Terminal:
         if pressed & PASTE:
             text = self.window.read("snarf").decode("utf-8", "replace")
             self.child.send(keys.of_paste(text, self.cells.is_on(BRACKETED_PASTE)))
-        for button, key in ((keys.WHEEL_UP, UP), (keys.WHEEL_DOWN, DOWN)):
-            if pressed & button and self.cells.first is not None:
-                self.type(key * ROWS_OF_A_WHEEL)
+        for button, key, count in ((keys.WHEEL_UP, UP, ROWS_OF_A_WHEEL), (keys.WHEEL_DOWN, DOWN, -ROWS_OF_A_WHEEL)):
+            if pressed & button:
+                self.turn(key, count)
+
+    def turn(self, key: str, count: int) -> None:
+        """Looks back by the wheel. A second screen has no rows that went, so its program gets keys instead."""
+        if self.cells.first is not None:
+            self.type(key * ROWS_OF_A_WHEEL)
+        else:
+            self.cells.look_back(count)
+            self.selection = None
+            self.changed()
 
     def drag(self, point: Point, is_down: bool) -> None:
         """Selects up to a point, and snarfs what is selected when the button goes up."""
