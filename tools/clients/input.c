@@ -216,7 +216,11 @@ void deleted(void)
 {
     Dimage *i;
     Point size = rio9.d->image->r.max;
+    Waiting *r = reader(open("/root/cons", OREAD), 100);
     int k = wr("/root/wctl", "delete");
+    waitfor(r, 2000);
+    row("a read of cons that waits as the window goes", "%s", r->done ? r->e : "goes on");
+    row("a read of mouse after it", "%s", open("/root/mouse", OREAD) < 0 ? er() : "ok");
     use(&rio9);
     draw(rio9.w, rio9.w->r, rio9.d->black, nil, ZP);
     k = flushimage(rio9.d, 1);

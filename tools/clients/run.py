@@ -69,6 +69,7 @@ def runs(shapes: int) -> List[Run]:
     """All runs."""
     every = ("parts=pictures,input,bare,deleted",)
     apart = ("10,10,210,160", "220,40,420,190")
+    small = ("10,10,130,110",)
     over = ("10,10,210,160", "60,50,260,200", "110,90,310,240")
     return [
         Run("drawterm", words=every),
@@ -78,8 +79,8 @@ def runs(shapes: int) -> List[Run]:
         Run("two", windows=apart),
         Run("covered", windows=over),
         *display_runs(),
-        Run("shapes", words=("parts=shapes", f"count={shapes}")),
-        Run("shapes-9front", FRONT, words=("parts=shapes,constant", f"count={shapes}", "seed=2")),
+        Run("shapes", words=("parts=shapes", f"count={shapes}"), windows=small),
+        Run("shapes-9front", FRONT, words=("parts=shapes,constant", f"count={shapes}", "seed=2"), windows=small),
         Run("times", words=("parts=times",)),
         Run("times-9front", FRONT, words=("parts=times",)),
         Run("others"),
@@ -88,7 +89,7 @@ def runs(shapes: int) -> List[Run]:
 
 # Rows of a grey display of which another thing is expected: a pixel through a grey mask is rounded otherwise, by one step, and on a
 # few greys a colour looks like the white that it is not drawn on.
-FEW_GREYS = {"draw: mask k8": "same within 1", "allocimage CMAP8": "bad channel descriptor"}
+FEW_GREYS = {"draw: mask k8": "same within 1", "allocimage CMAP8": "same picture"}
 CHANNEL_ROWS: Dict[str, Dict[str, str]] = {
     "k1": FEW_GREYS,
     "k2": FEW_GREYS,

@@ -3,9 +3,7 @@
 from dataclasses import dataclass
 from typing import Dict
 
-from rio9 import record
-
-NAME = "cursor"
+NAME, OWNER = "cursor", b"rio9"
 CURSOR = 63  # the kind in its qid's path, which no file of the server has
 WHOLE = 72  # the bytes of a cursor: an offset, and two pictures of 16 by 16 points
 MODE = 0x180
@@ -40,6 +38,6 @@ def qid_of(serial: int) -> bytes:
 
 def stat_of(serial: int) -> bytes:
     """A cursor's stat."""
-    names = b"".join(record.STRING.put(name) for name in (NAME, "rio9", "rio9", "rio9"))
+    names = b"".join(len(name).to_bytes(2, "little") + name for name in (NAME.encode(), OWNER, OWNER, OWNER))
     body = bytes(2 + 4) + qid_of(serial) + MODE.to_bytes(4, "little") + bytes(4 + 4 + 8) + names
     return len(body).to_bytes(2, "little") + body

@@ -20,7 +20,9 @@ ALPHA = 4  # the kind of a channel
 WHITE = 0xFFFFFFFF
 EVERYWHERE = (-(2**29), -(2**29), 2**29, 2**29)
 FIRST_ID = 0xF0F00000  # of the images that the translator makes; it goes up from there
-MOST_OF_AN_R, MOST_REACH = 65536, 16384
+MOST_OF_AN_R = 65536
+# What is larger is passed on: half axes, thickness, the sides of an image that shapes are drawn on, and what a brush goes over.
+MOST_REACH, MOST_SIDE, MOST_BRUSHED = 4096, 8192, 10**6
 HEADS_OF_A_BAND = 51 + 21 + 47 + 5  # `b`, the head of `y`, an operator and `d`, `f`
 IN_USE = "image id in use"
 
@@ -322,7 +324,9 @@ class Work:
         """The image that is drawn on and the source."""
         target = await self.image(dst)
         source = await self.image(src)
-        return None if target is None or source is None else (target, source)
+        if target is None or source is None or max(target.r[2] - target.r[0], target.r[3] - target.r[1]) > MOST_SIDE:
+            return None
+        return target, source
 
     async def line(self, message: bytes) -> Optional[int]:
         """`L`."""
@@ -350,6 +354,8 @@ class Work:
         if images is None or max(a, b, thick) > MOST_REACH:
             return None
         form = Ellipse(a, b, thick if message[:1] == b"e" else -1)
+        if form.is_brushed() and (a + b) * thick > MOST_BRUSHED:
+            return None
         clip, operator = clip_of(images[0]), self.operator()
         begin, turn = numbers[7:9]
         if begin < 0:  # the highest bit tells that there are angles
@@ -493,7 +499,8 @@ def make_image(number: int, channels: int, repeats: bool, r: Rectangle, colour: 
 def draw_message(target: Target, mask: int, r: Rectangle, shift: Point) -> bytes:
     """The message `d`: `shift` leads from a point to that of the source; the mask's (0, 0) lies at the rectangle's
     corner."""
-    return b"d" + struct.pack("<3I8i", target.dst, target.src, mask, *r, r[0] + shift[0], r[1] + shift[1], 0, 0)
+    at = (r[0] + shift[0]) % 2**32, (r[1] + shift[1]) % 2**32  # as numbers of four bytes go round
+    return b"d" + struct.pack("<3I4i2I2i", target.dst, target.src, mask, *r, *at, 0, 0)
 
 
 Step = Callable[[Work, bytes], Awaitable[Optional[int]]]

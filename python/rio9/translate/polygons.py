@@ -5,6 +5,7 @@ A polygon is scanned by rows and, where it is to have no gaps, by columns too. C
 behind the point.
 """
 
+from collections import deque
 from dataclasses import dataclass
 from typing import Iterator, List, Tuple
 
@@ -73,7 +74,8 @@ class Scan:
     def runs(self, edges: List[Edge]) -> Iterator[Tuple[int, int, int]]:
         """The runs of points: the line, and the first and the last place behind it."""
         axis, half = self.axis, 1 << (self.bits - 1)
-        waiting = sorted((edge for edge in edges if edge.aim(axis, self.bits)), key=lambda edge: edge.start[axis])
+        aimed = [edge for edge in edges if edge.aim(axis, self.bits)]
+        waiting = deque(sorted(aimed, key=lambda edge: edge.start[axis]))
         if not waiting:
             return
         line = (max(waiting[0].start[axis], self.clip[axis] << self.bits) + half) >> self.bits
@@ -84,7 +86,7 @@ class Scan:
             for edge in met:
                 edge.go_on()
             while waiting and waiting[0].start[axis] < place:
-                edge = waiting.pop(0)
+                edge = waiting.popleft()
                 if edge.end[axis] >= place:
                     edge.enter(axis, place)
                     met.append(edge)
