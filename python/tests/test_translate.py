@@ -3,6 +3,8 @@
 
 import pathlib
 import re
+import signal
+import socket
 import subprocess
 import sys
 import tempfile
@@ -237,11 +239,52 @@ class Sessions(unittest.TestCase):
         with self.assertRaisesRegex(client.Refused, "file does not exist"):
             self.session.file(self.root, "draw/cursor")
 
+    def test_the_largest_writes_and_reads(self):
+        rows = bytes(range(250)) * 256
+        self.write(draw_bytes("b id=1 screenid=0 refresh=0 chan=x8r8g8b8 repl=0 r=0,0,250,64 clipr=0,0,250,64 color=0"))
+        self.write(draw_bytes("y id=1 r=0,0,250,64") + rows)
+        self.assertEqual(self.pixels("0,0,250,64"), rows)
+
     def test_a_read_that_waits_goes_on_beside_drawing(self):
         with self.session.file(self.root, "mouse") as mouse:
             tag = self.session.ask_read(mouse.fid, count=49)
             self.write(draw_bytes(IMAGE.format(1, "k8", "0xffffffff"), RED) + LINE)
             self.assertTrue(self.session.flush(tag))
+
+    def test_the_end_of_a_window_is_told(self):
+        with self.assertRaisesRegex(client.Refused, "window deleted"):
+            with self.session.file(self.root, "wctl", client.WRITE) as file:
+                file.write(b"delete")
+            self.session.file(self.root, "cursor")
+
+
+class Words(unittest.TestCase):
+    def run_words(self, *words):
+        """The status and the line on standard error of a run that does not go on."""
+        run = subprocess.run([sys.executable, RIO9D, "translate", *words], capture_output=True, text=True, timeout=SECONDS)
+        self.assertEqual((run.stdout, run.stderr.count("\n")), ("", 1), run.stderr)
+        return run.returncode, run.stderr
+
+    def test_bad_words(self):
+        self.assertEqual(self.run_words("127.0.0.1:0")[0], 2)
+        self.assertEqual(self.run_words("127.0.0.1:0", "127.0.0.1:65536")[0], 2)
+
+    def test_an_address_that_is_taken(self):
+        with socket.create_server(("127.0.0.1", 0)) as taken:
+            status, line = self.run_words(f"127.0.0.1:{taken.getsockname()[1]}", "127.0.0.1:1")
+        self.assertEqual(status, 1)
+        self.assertIn("Address already in use", line)
+
+    def test_a_signal_ends_it_without_a_complaint(self):
+        with socket.create_server(("127.0.0.1", 0)) as server_socket:
+            words = [sys.executable, RIO9D, "translate", "127.0.0.1:0", f"127.0.0.1:{server_socket.getsockname()[1]}"]
+            with subprocess.Popen(words, stdout=subprocess.PIPE, stderr=subprocess.PIPE, text=True) as process:
+                port = int(process.stdout.readline().rsplit(":", 1)[1])
+                with socket.create_connection(("127.0.0.1", port)) as held:
+                    held.sendall(b"\x13")
+                    server_socket.accept()[0].close()
+                    process.send_signal(signal.SIGINT)
+                    self.assertEqual((process.wait(SECONDS), process.stderr.read()), (0, ""))
 
 
 if __name__ == "__main__":

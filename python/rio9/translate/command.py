@@ -11,9 +11,11 @@ whole desktop, as at the server itself.
 
 import argparse
 import asyncio
+import os
 import re
+import signal
 import sys
-from typing import List, Tuple
+from typing import List, Set, Tuple
 
 from rio9 import formats
 from rio9.translate.cursors import Cursors
@@ -37,24 +39,55 @@ def complain(why: str) -> None:
     sys.stderr.write(f"rio9d translate: {why}\n")
 
 
-async def serve(listen: Address, server: Address) -> None:
-    """Listens, and translates for each client that comes."""
-    cursors = Cursors({})
+def why(error: OSError) -> str:
+    """What an OSError tells, in few words."""
+    return os.strerror(error.errno) if error.errno else str(error)
 
-    async def translate(reader: asyncio.StreamReader, writer: asyncio.StreamWriter) -> None:
+
+class Door:
+    """Translates for each client that comes, until `end`."""
+
+    def __init__(self, server: Address) -> None:
+        self.server, self.cursors = server, Cursors({})
+        self.live: "Set[asyncio.Future[None]]" = set()
+
+    async def come(self, reader: asyncio.StreamReader, writer: asyncio.StreamWriter) -> None:
+        """Translates for a client."""
+        task = asyncio.ensure_future(self.translate(reader, writer))
+        self.live.add(task)
+        await asyncio.wait((task,))
+        self.live.discard(task)
+
+    async def translate(self, reader: asyncio.StreamReader, writer: asyncio.StreamWriter) -> None:
+        """Connects to the server, and translates until one side ends."""
         try:
-            server_reader, server_writer = await asyncio.open_connection(*server)
+            server_reader, server_writer = await asyncio.open_connection(*self.server)
         except OSError as error:
-            complain(f"the server at {server[0]}:{server[1]} cannot be reached: {formats.why_not(error)}")
+            complain(f"the server at {self.server[0]}:{self.server[1]} cannot be reached: {why(error)}")
             writer.close()
             return
-        await Session(reader, writer, server_reader, server_writer, cursors).run()
+        fault = await Session(reader, writer, server_reader, server_writer, self.cursors).run()
+        if fault is not None:
+            complain(f"a session ended by a fault of the translator: {type(fault).__name__}: {fault}")
 
-    door = await asyncio.start_server(translate, *listen)
-    host, port = door.sockets[0].getsockname()[:2]
+    async def end(self) -> None:
+        """Ends the sessions."""
+        for task in self.live:
+            task.cancel()
+        await asyncio.gather(*self.live, return_exceptions=True)
+
+
+async def serve(listen: Address, server: Address) -> None:
+    """Listens, and translates, until a signal ends it."""
+    loop, stop, door = asyncio.get_running_loop(), asyncio.Event(), Door(server)
+    for number in (signal.SIGINT, signal.SIGTERM):
+        loop.add_signal_handler(number, stop.set)
+    listener = await asyncio.start_server(door.come, *listen)
+    host, port = listener.sockets[0].getsockname()[:2]
     print(f"listening {host}:{port}", flush=True)
-    async with door:
-        await door.serve_forever()
+    await stop.wait()
+    listener.close()
+    await door.end()
 
 
 def main(words: List[str]) -> int:
@@ -67,6 +100,6 @@ def main(words: List[str]) -> int:
     try:
         asyncio.run(serve(options.listen, options.server))
     except OSError as error:
-        complain(f"cannot listen at {options.listen[0]}:{options.listen[1]}: {formats.why_not(error)}")
+        complain(f"cannot listen at {options.listen[0]}:{options.listen[1]}: {why(error)}")
         return 1
     return 0

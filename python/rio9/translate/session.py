@@ -60,6 +60,9 @@ class Gone(Exception):
     """The server ended the session."""
 
 
+USUAL_ENDS = (Gone, ConnectionError, asyncio.CancelledError)
+
+
 @dataclass
 class Session:
     """A session between a client and the server."""
@@ -76,8 +79,8 @@ class Session:
     flushes: Dict[int, int] = field(default_factory=dict)  # by the tag of a flush the tag that it takes back
     is_over: bool = False
 
-    async def run(self) -> None:
-        """Passes messages on until one side ends."""
+    async def run(self) -> Optional[BaseException]:
+        """Passes messages on until one side ends. It gives what went wrong here, if something did."""
         answers = asyncio.ensure_future(self.from_server())
         asked = asyncio.ensure_future(self.from_client())
         try:
@@ -88,9 +91,10 @@ class Session:
         finally:
             for task in (answers, asked):
                 task.cancel()
-            await asyncio.gather(answers, asked, return_exceptions=True)
+            ends = await asyncio.gather(answers, asked, return_exceptions=True)
             self.client.close()
             self.server.close()
+        return next((end for end in ends if end is not None and not isinstance(end, USUAL_ENDS)), None)
 
     # The streams.
 
@@ -217,16 +221,10 @@ class Session:
         """Walks to a file `cursor`, whose fid stands for the folder before it on the server; False if there is none."""
         folder, before = node, values["names"][:-1]
         if before:
-            own = next(fid for fid in range(OWN_FID, 0, -1) if fid not in self.fids)
             try:
-                steps = {"fid": values["fid"], "newfid": own, "n": len(before), "names": before}
-                _, answer, _ = await self.ask_own("Twalk", steps)
+                folder = await self.look(values["fid"], before)
             except Refused:
                 return False
-            if len(answer["qids"]) < len(before):
-                return False
-            await self.ask_own("Tclunk", {"fid": own})
-            folder = Node.of(answer["qids"][-1])
         if folder.kind not in HAVE_A_CURSOR:
             return False
         shorter = record.write_message(BY_NAME["Twalk"], {**values, "n": len(before), "names": before}, b"")
@@ -240,6 +238,15 @@ class Session:
         await self.raw(BY_NAME["Rwalk"].kind, values["tag"], body)
         return True
 
+    async def look(self, fid: int, names: List[str]) -> Node:
+        """What a walk from a fid would lead to, or Refused."""
+        own = next(number for number in range(OWN_FID, 0, -1) if number not in self.fids)
+        _, answer, _ = await self.ask_own("Twalk", {"fid": fid, "newfid": own, "n": len(names), "names": names})
+        if len(answer["qids"]) < len(names):
+            raise Refused("file does not exist")
+        await self.ask_own("Tclunk", {"fid": own})
+        return Node.of(answer["qids"][-1])
+
     async def raw(self, kind: int, tag: int, body: bytes) -> None:
         """Answers the client by the bytes of a message's body."""
         self.client.write(struct.pack("<IBH", HEAD + len(body), kind, tag) + body)
@@ -249,7 +256,10 @@ class Session:
         """Topen."""
         node = self.fids.get(values["fid"])
         if node is not None and node.kind == cursors.CURSOR:
-            await self.open_cursor(node, values)
+            try:
+                await self.open_cursor(node, values)
+            except Refused as error:
+                await self.tell("Rerror", values["tag"], {"ename": str(error)})
             return
         name, answer, _ = await self.ask(message)
         if name != "Ropen" or node is None:
@@ -260,12 +270,14 @@ class Session:
             self.connections.setdefault(node.connection, Connection(node.connection))
 
     async def open_cursor(self, node: Node, values: Values) -> None:
-        """Opens a cursor."""
+        """Opens a cursor, or raises Refused. A file beside it tells whether its window is there."""
         mode = values["mode"] & ~TRUNCATE
-        if node.mode is not None or mode not in (READ, WRITE, READWRITE):
-            refusal = "fid is open" if node.mode is not None else "permission denied"
-            await self.tell("Rerror", values["tag"], {"ename": refusal})
-            return
+        if node.mode is not None:
+            raise Refused("fid is open")
+        if node.serial:
+            await self.look(values["fid"], ["winid"])
+        if mode not in (READ, WRITE, READWRITE):
+            raise Refused("permission denied")
         node.mode = mode
         await self.raw(BY_NAME["Ropen"].kind, values["tag"], cursors.qid_of(node.serial) + bytes(4))
 
