@@ -141,7 +141,7 @@ class Relay:
                     self.move(*self.links[number])
                 elif number == self.listener.fileno():
                     self.accept()
-                elif end is None:
+                elif end is None and number in (process, self.woken):
                     end = time.monotonic() + (0 if number == process else GRACE)
                     self.end_clients(number)
         self.close()

@@ -11,8 +11,11 @@ import contextlib
 import io
 import os
 import pathlib
+import random
 import re
+import select
 import signal
+import socket
 import subprocess
 import sys
 import tempfile
@@ -56,8 +59,8 @@ else:
         "cd nowhere",
     ]
 
-    # The rows that are to be there behind KEYS, of which the first one has scrolled away, and the cells that have another
-    # look: row, first column, text, colour, paper, and whether it is bold or has a line beneath.
+    # The rows that are to be there behind KEYS, of which the first one has scrolled away, and the cells that have
+    # another look: row, first column, text, colour, paper, and whether it is bold or has a line beneath.
     ROWS = [
         "hello, world",
         "$ printf '\\033[31mred \\033[1;34mblue\\033[m \\033[",
@@ -126,6 +129,42 @@ else:
         def ended(self):
             self.thread.join(SECONDS)
             return self.status
+
+    class Spoiled(threading.Thread):
+        """Passes one client on to a server, and makes one byte of what comes back another one."""
+
+        MOST = 1500  # bytes that come back before that one, at most
+
+        def __init__(self, server, chance):
+            super().__init__(daemon=True)
+            self.server, self.chance = server, chance
+            self.listener = socket.create_server(("127.0.0.1", 0))
+            self.address = self.listener.getsockname()
+
+        def __enter__(self):
+            self.start()
+            return self
+
+        def __exit__(self, *_):
+            self.listener.shutdown(socket.SHUT_RDWR)
+            self.listener.close()
+            self.join(SECONDS)
+
+        def run(self):
+            left = self.chance.randrange(self.MOST)
+            with contextlib.suppress(OSError):
+                client_side, server_side = self.listener.accept()[0], socket.create_connection(self.server)
+                with client_side, server_side:
+                    while True:
+                        for one in select.select([client_side, server_side], [], [])[0]:
+                            data = bytearray(one.recv(1 << 16))
+                            if not data:
+                                return
+                            if one is server_side:
+                                if 0 <= left < len(data):
+                                    data[left] ^= self.chance.randrange(1, 256)
+                                left -= len(data)
+                            (client_side if one is server_side else server_side).sendall(data)
 
     class Cases(unittest.TestCase):
         size = (320, 200)
@@ -367,6 +406,15 @@ else:
                 self.assertEqual(running.ended(), status, words)
                 self.assertIn(told, running.err.getvalue())
                 self.assertEqual(running.err.getvalue().count("\n"), 1)
+
+        def test_a_server_that_answers_junk(self):
+            for seed in range(10):
+                with Spoiled(self.server.address, random.Random(seed)) as spoiled:
+                    words = ("--seconds", "1", *FONT, "--", "sh", "-c", "seq 5")
+                    running = Running("{}:{}".format(*spoiled.address), *words)
+                    self.assertIn(running.ended(), (0, 1), seed)
+                    self.assertLessEqual(running.err.getvalue().count("\n"), 1, running.err.getvalue())
+                self.assertEqual(self.wait_until([], self.desktop.numbers), [])
 
         def test_no_server(self):
             running = Running("127.0.0.1:1", "--", "true")

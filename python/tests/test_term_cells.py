@@ -103,8 +103,9 @@ else:
 
         def test_sequences_that_are_left_out_print_nothing(self):
             for text in (
-                *("\x1b]0;title\x07", "\x1b]2;title\x1b\\", "\x1b]10;?\x07", "\x1bP+q544e\x1b\\", "\x1b_Gx\x1b\\", "\x1bkname\x1b\\"),
-                *("\x1b[>4;2m", "\x1b[>c", "\x1b[?2026$p", "\x1b[!p", "\x1b[2 q", "\x1b[4:3m", "\x1b[=1c", "\x1b]R", "\x1b]P1234567"),
+                *("\x1b]0;title\x07", "\x1b]2;title\x1b\\", "\x1b]10;?\x07", "\x1b]R", "\x1b]P1234567"),
+                *("\x1bP+q544e\x1b\\", "\x1b_Gx\x1b\\", "\x1b[>4;2m", "\x1b[>c", "\x1b[?2026$p", "\x1b[!p", "\x1b[2 q"),
+                *("\x1b[4:3m", "\x1b[=1c", "\x1bkname\x1b\\"),
                 *("\x1b%G", "\x1b=", "\x1b>", "\x1b[?1049h", "\x1b[?3h", "\x1b[22;0;0t", "\x9b", "\x1b[58:2::1:2:3m"),
             ):
                 self.begin()

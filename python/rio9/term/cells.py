@@ -30,9 +30,9 @@ MOST_MOVES, MOST_PENS, MOST_SAVED, MOST_HELD, MOST_PAST = 8, 256, 16, 4096, 2000
 NOTHING = "\0"  # what does nothing, and keeps what stands before and behind it apart
 PLAIN = re.compile("[ -~]+")
 
-# Control sequences that pyte would take for others, or print: commands of the operating system (all but titles), strings
-# of a device, and those with a private mark other than `?`, with bytes between, with colons, or cut by a character that
-# is not of ASCII.
+# Control sequences that pyte would take for others, or print: commands of the operating system (all but titles), those
+# that carry a string, and those with a private mark other than `?`, with bytes between, with colons, or cut by a
+# character that is not of ASCII.
 OTHERS = re.compile(
     r"\x1b(?:\]R|\]P[0-9a-fA-F]{7}|\](?P<kind>[0-9]*);?(?P<text>[^\x07\x1b]{0,4096})(?:\x07|\x1b\\)"
     r"|[PX^_k][^\x1b]{0,4096}\x1b\\|[\]PX^_k]"
