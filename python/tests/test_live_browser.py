@@ -333,6 +333,23 @@ class Saved(InBrowser):
             word = formats.channels_word(found["channels"])
             self.assertEqual(await played.pixels(), pixels_of(word, 0, canvas.width, canvas.height, canvas.rows))
 
+    async def test_buttons(self):
+        page = await self.open()
+        await page.until("part.recorded.textContent.includes('recorded: ')")
+        with tempfile.TemporaryDirectory() as room:
+            await page.call("Browser.setDownloadBehavior", behavior="allow", downloadPath=room)
+            await page.value("part.save.click()")
+            await until(lambda: list(pathlib.Path(room).glob("rio9-*.html")))
+            path = next(pathlib.Path(room).glob("rio9-*.html"))
+            self.assertTrue(saved_in(path.read_text(encoding="utf-8"))[1].startswith(b"F 0 "))
+        kept = self.live.hub.recording
+        await page.value("part.anew.click()")
+        await until(lambda: self.live.hub.recording is not kept and self.live.hub.recording.times)
+        await page.value("part.help.click()")
+        self.assertTrue(await page.value("part.words.open"))
+        await page.value("part.wordsClose.click()")
+        self.assertEqual(page.wrong, [])
+
     async def test_times_that_do_not_fit(self):
         page = await self.open()
         await until(lambda: self.live.hub.recording.times)

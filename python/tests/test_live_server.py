@@ -23,7 +23,7 @@ from datetime import datetime, timezone
 from unittest import mock
 
 from rio9 import client
-from rio9.live.screen import Point, Screen, form_of
+from rio9.live.screen import BadScreen, Point, Screen, form_of
 from rio9.live.traffic import Unknown
 from rio9.side import Side
 from live_support import SECONDS, Brush, Canvas, Served, until
@@ -301,12 +301,13 @@ class Frames(unittest.IsolatedAsyncioTestCase):
             brush = Brush(session, root)
             async with running(served) as live:
                 slow, page = await live.page(), await live.page()
-                slow.is_slow = True
+                await slow.until_same(served)
+                slow.is_slow, before = True, len(slow.frames)
                 for colour in range(40):
                     brush.fill((10, 10, 300, 190), colour)
                     await asyncio.sleep(0.03)
                 await page.until_same(served)
-                self.assertLessEqual(len(slow.frames), 3)
+                self.assertEqual(len(slow.frames), before + 2)
                 slow.is_slow = False
                 await slow.send(kind="shown", frame=slow.canvas.entry)
                 await slow.until_same(served)
@@ -621,6 +622,18 @@ class Server_that_goes(unittest.IsolatedAsyncioTestCase):
                     await until(lambda: page.last("server") and not page.last("server")["why"])
                     await page.until_same(served)
 
+    async def test_gives_junk(self):
+        with Served() as served:
+            async with running(served) as live:
+                page = await live.page()
+                await page.until_same(served)
+                with mock.patch.object(live.hub.watcher.session, "answer", return_value=({}, b"junk")):
+                    served.write("wctl", b"new -r 5 5 50 50")
+                    await until(lambda: page.last("server")["why"])
+                self.assertIn("gives no display", page.last("server")["why"])
+                await until(lambda: not page.last("server")["why"])
+                await page.until_same(served)
+
 
 class Words(unittest.TestCase):
     """The commands."""
@@ -657,6 +670,13 @@ class Words(unittest.TestCase):
             for main in (command.live_main, repaint.repaint_main):
                 self.assertEqual(self.told(main, "127.0.0.1:%d" % junk.address[1])[0], 1)
             junk.listener.close()
+
+    def test_no_display(self):
+        with Served() as served, mock.patch("rio9.live.acts.form_of", side_effect=BadScreen("it has no header")):
+            for main in (command.live_main, repaint.repaint_main):
+                status, line = self.told(main, "127.0.0.1:%d" % served.port)
+                self.assertEqual(status, 1)
+                self.assertIn("gives no display: it has no header", line)
 
     def test_busy(self):
         with Served(workers=1) as served, served.session():

@@ -20,7 +20,7 @@ from rio9.server import address_text
 HOSTS = re.compile(r"(127\.[0-9.]+|localhost|\[::1\])(:[0-9]{1,5})?")
 TOKEN_BYTES = 18
 MOST_VIEWERS = 32
-HEARTBEAT = 30.0
+HEARTBEAT, FAREWELL = 30.0, 2.0  # seconds: between two signs of life, and for the last words of a page
 POLICY = (
     "default-src 'none'; script-src 'nonce-NONCE'; style-src 'nonce-NONCE'; "
     "connect-src 'self'; img-src data:; frame-ancestors 'none'"
@@ -111,7 +111,9 @@ class Server:
             return refusal(403, "This page is not one of rio9d live", "Open the address that rio9d live printed.")
         if len(self.hub.viewers) >= MOST_VIEWERS:
             return refusal(503, f"{MOST_VIEWERS} pages watch already", "Close one of them.")
-        socket = web.WebSocketResponse(heartbeat=HEARTBEAT, max_msg_size=requests.MOST_BYTES, compress=False)
+        socket = web.WebSocketResponse(
+            timeout=FAREWELL, heartbeat=HEARTBEAT, max_msg_size=requests.MOST_BYTES, compress=False
+        )
         await socket.prepare(request)
         viewer = Viewer(bool(self.may_drive(request)))
         self.sockets.add(socket)
@@ -216,7 +218,7 @@ async def serve(server: Server, place: Address, begun: Callable[[Address], None]
     await runner.setup()
     tasks = [asyncio.create_task(server.hub.record()), asyncio.create_task(server.hub.tell_states())]
     try:
-        site = web.TCPSite(runner, place[0], place[1], shutdown_timeout=1.0)
+        site = web.TCPSite(runner, place[0], place[1])
         try:
             await site.start()
         except OSError as error:

@@ -101,13 +101,15 @@ class Watcher(threading.Thread):
 
     def connect(self) -> None:
         """Begins a session, or raises why there is none."""
-        self.session = session = Session(self.address, self.cost, self.seconds)
+        session = Session(self.address, self.cost, self.seconds)
         try:
-            self.traffic = Traffic(session.socket.getpeername()[:2], session.socket.getsockname()[:2])
-        except Unknown:
-            self.traffic = None
+            form = session.form()
+        except BaseException:
+            session.close()
+            raise
+        self.session, self.traffic = session, traffic_of(session)
         self.rhythm = Rhythm(knows=self.traffic is not None)
-        self.show(session.form())
+        self.show(form)
 
     def show(self, form: Form) -> None:
         """Begins with a display of this form."""
@@ -200,6 +202,14 @@ class Watcher(threading.Thread):
             self.traffic.close()
             self.traffic, self.rhythm = None, Rhythm(knows=False)
             return Came.NOTHING
+
+
+def traffic_of(session: Session) -> Optional[Traffic]:
+    """What tells of others that send to the server of a session, or None."""
+    try:
+        return Traffic(session.socket.getpeername()[:2], session.socket.getsockname()[:2])
+    except (Unknown, OSError):
+        return None
 
 
 def advice(address: client.Address, error: Exception) -> str:
