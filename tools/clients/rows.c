@@ -123,6 +123,8 @@ static int shown(int i)
     int row = bytesperline(w->r, w->depth), bits = 0xff;
     if (gchan == XRGB32 || gchan == XBGR32)
         return i % 4 == 3 ? 0 : bits;
+    if (gchan == RGB15)
+        return i % 2 == 1 ? 0x7f : bits;
     if (i % row == 0)
         bits &= 0xff >> (w->r.min.x * w->depth & 7);
     if (i % row == row - 1)
