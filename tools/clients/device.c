@@ -1,6 +1,6 @@
 /*
- * The screen of drawterm's own draw device: an image in memory, of the size and the channels that the words say. NINE means the
- * sources of drawterm-9front.
+ * The screen of drawterm's own draw device: an image in memory, of the size and the channels that the words say. NINE
+ * means the sources of drawterm-9front.
  */
 #include "u.h"
 #include "lib.h"

@@ -139,8 +139,8 @@ static void fonts(int n)
     for (i = 0; i < nelem(name); i++) {
         snprint(p, sizeof p, "%s.font", name[i]);
         fd = made(p);
-        n = snprint(h, sizeof h, "%d %d\n0x0000 0x00FF %s.0000\n", atoi(sh + 12) - 4 * (i == 3), atoi(sh + 24) - (i == 4),
-            sub[i]);
+        n = snprint(h, sizeof h, "%d %d\n0x0000 0x00FF %s.0000\n", atoi(sh + 12) - 4 * (i == 3),
+            atoi(sh + 24) - (i == 4), sub[i]);
         write(fd, h, n);
         close(fd);
     }

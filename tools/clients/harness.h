@@ -1,7 +1,7 @@
 /*
  * What the parts of the program share. A row is a name and what was seen; tools/clients/run.py compares it with
- * tools/clients/expected.txt. A side is one of the two draw devices that the same calls are made on: rio9, reached by the
- * mount driver, and Plan 9's own, in this process.
+ * tools/clients/expected.txt. A side is one of the two draw devices that the same calls are made on: rio9, reached by
+ * the mount driver, and Plan 9's own, in this process.
  */
 #include "u.h"
 #include "lib.h"
@@ -20,14 +20,14 @@ typedef struct Waiting Waiting;
 
 struct Side {
     char *name;
-    char *dev;       /* the folder that has the file tree with draw/ */
-    char *win;       /* the folder of the window's files */
-    char *winname;   /* the file that has the name of the window's image, or = and the name */
+    char *dev; /* the folder that has the file tree with draw/ */
+    char *win; /* the folder of the window's files */
+    char *winname; /* the file that has the name of the window's image, or = and the name */
     Display *d;
-    Dimage *w;       /* the window */
+    Dimage *w; /* the window */
     Screen *s;
     Font *f;
-    uchar *px;       /* the pixels read back */
+    uchar *px; /* the pixels read back */
     int npx;
     int refusals;
     char err[ERRMAX];

@@ -54,7 +54,8 @@ static void mouse(int m)
     click(100, 80, 0);
     click(100, 80, 1);
     r = event(m, 3000);
-    row("readmouse: a press (read of 61)", "%ld %.1s %s", r->k, r->b, strstr(r->b, " 1           9") ? "button 1" : "other");
+    row("readmouse: a press (read of 61)", "%ld %.1s %s", r->k, r->b,
+        strstr(r->b, " 1           9") ? "button 1" : "other");
     click(110, 85, 1);
     click(110, 85, 0);
     r = event(m, 3000);
@@ -144,8 +145,8 @@ static void output(void)
 
 static void otherfiles(void)
 {
-    static char *files[] = {"kbd", "kbmap", "mousectl", "wdir", "refresh", "time", "plumb", "text", "winid", "screen",
-        "window"};
+    static char *files[] = {
+        "kbd", "kbmap", "mousectl", "wdir", "refresh", "time", "plumb", "text", "winid", "screen", "window"};
     char b[200], t[300];
     int i, fd;
     t[0] = 0;

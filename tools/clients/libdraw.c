@@ -1,8 +1,9 @@
 /*
  * What of libdraw's client half Debian's sources lack, written after graphics(2), draw(2), window(2), allocimage(2),
- * string(2), cachechars(2), subfont(2) and draw(3), with the messages in the order in which libdraw sends them: 8,000 bytes of
- * buffer, one write for each flush, one cache of 64 and 5 slots for the characters of a font, which grows, and 'i' and 'l' at the
- * first use of a character. alloc.c, chan.c, rectclip.c and what else is in drawterm's libdraw is the real one.
+ * string(2), cachechars(2), subfont(2) and draw(3), with the messages in the order in which libdraw sends them: 8,000
+ * bytes of buffer, one write for each flush, one cache of 64 and 5 slots for the characters of a font, which grows, and
+ * 'i' and 'l' at the first use of a character. alloc.c, chan.c, rectclip.c and what else is in drawterm's libdraw is
+ * the real one.
  */
 #include <u.h>
 #include <libc.h>
@@ -657,7 +658,8 @@ int unloadimage(Image *i, Rectangle r, uchar *data, int ndata)
     return ndata;
 }
 
-/* the head of an image file, as the old or the new format has it: its channels, 0 if they are none, and its rectangle */
+/* the head of an image file, as the old or the new format has it: its channels, 0 if they are none, and its rectangle
+ */
 static ulong header(int fd, char *hdr, Rectangle *r)
 {
     int n;

@@ -1,7 +1,7 @@
 /*
- * program ADDRESS FOLDER WORD..: the calls of libdraw on a window of a rio9 server, and on one of Plan 9's own draw device in this
- * process. It prints a line for each row: its name, and what was seen. The address is as in dial(2); the folder takes files. Words:
- *   parts=P,P..      pictures, input, deleted, bare, times, shapes, and constant beside shapes
+ * program ADDRESS FOLDER WORD..: the calls of libdraw on a window of a rio9 server, and on one of Plan 9's own draw
+ * device in this process. It prints a line for each row: its name, and what was seen. The address is as in dial(2); the
+ * folder takes files. Words: parts=P,P..      pictures, input, deleted, bare, times, shapes, and constant beside shapes
  *   window=X,Y,X,Y   the window's rectangle on both sides
  *   size=W,H chan=C  the display that the server has, and the device is to have
  *   deep=N           the window stands in a rio in a window, so many deep

@@ -1,6 +1,6 @@
 /*
- * Lines, ellipses, arcs and polygons made by chance, each drawn on both sides and compared. What has been drawn stays beneath the
- * next one. A seed makes the same ones again.
+ * Lines, ellipses, arcs and polygons made by chance, each drawn on both sides and compared. What has been drawn stays
+ * beneath the next one. A seed makes the same ones again.
  */
 #include "harness.h"
 
@@ -143,7 +143,8 @@ static void tell(int i, Shape *s, char *v)
 {
     char name[60];
     snprint(name, sizeof name, "shape %d", i);
-    row(name, "%s; %c op %d target %d source %d, %d points from %d,%d %d,%d, %dx%d thick %d ends %x %x angles %d %d; %s", v,
+    row(name,
+        "%s; %c op %d target %d source %d, %d points from %d,%d %d,%d, %dx%d thick %d ends %x %x angles %d %d; %s", v,
         s->kind, s->op, s->target, s->source, s->n, s->p[0].x, s->p[0].y, s->p[1].x, s->p[1].y, s->a, s->b, s->thick,
         s->end0, s->end1, s->alpha, s->phi, rio9.err);
 }

@@ -2,7 +2,8 @@
 #include "harness.h"
 
 static char fox[] = "The quick brown fox jumps";
-static char latin[] = "The quick brown fox, jumps: 0123456789 {}[]~ \303\244\303\266\303\274\303\237\302\251\302\261\303\277";
+static char latin[] =
+    "The quick brown fox, jumps: 0123456789 {}[]~ \303\244\303\266\303\274\303\237\302\251\302\261\303\277";
 
 void drawtext(Side *s)
 {

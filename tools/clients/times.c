@@ -1,6 +1,7 @@
 /*
- * What programs do most, on both sides in turn: rio9 through the mount driver and TCP, the device in this process. Each time is
- * of one act, in microseconds: the fewest of some rounds, each of many acts and a read of one pixel, which waits for them.
+ * What programs do most, on both sides in turn: rio9 through the mount driver and TCP, the device in this process. Each
+ * time is of one act, in microseconds: the fewest of some rounds, each of many acts and a read of one pixel, which
+ * waits for them.
  */
 #include "harness.h"
 
