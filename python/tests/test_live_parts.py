@@ -344,6 +344,20 @@ class Asked(unittest.TestCase):
             with self.subTest(data[:60]), self.assertRaises(requests.BadRequest):
                 requests.read_request(data)
 
+    def test_by_chance(self):
+        chance = random.Random(3)
+        values = [None, True, -1, 0, 1, 7, 2**70, 0.5, "", "a", "\0", "\ud800", [], {}, "x" * 5000]
+        for _ in range(3000):
+            names = chance.sample(["x", "y", "buttons", "text", "width", "height", "frame", "is"], chance.randrange(9))
+            message = {
+                "kind": chance.choice([*requests.KINDS, "no", 3]),
+                **{name: chance.choice(values) for name in names},
+            }
+            try:
+                self.assertIsNotNone(requests.read_request(json.dumps(message)))
+            except requests.BadRequest as error:
+                self.assertTrue(str(error))
+
 
 class Queues(unittest.TestCase):
     def test_moves(self):

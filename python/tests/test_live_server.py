@@ -7,6 +7,7 @@ import asyncio
 import contextlib
 import io
 import json
+import logging
 import os
 import pathlib
 import random
@@ -39,7 +40,7 @@ if found_program() is None:
 
 from rio9.live import command, repaint  # noqa: E402
 from rio9.live.hub import Hub  # noqa: E402
-from rio9.live.server import Server, serve  # noqa: E402
+from rio9.live.server import OneLine, Server, is_ours, serve  # noqa: E402
 
 PYTHON = pathlib.Path(__file__).resolve().parent.parent
 LARGE = (1024, 768)
@@ -732,6 +733,43 @@ class Words(unittest.TestCase):
             )
             self.assertEqual((ended.returncode, ended.stderr), (0, b""))
             saved_in((pathlib.Path(room) / "session.html").read_text(encoding="utf-8"))
+
+    def test_junk(self):
+        """What is no HTTP is refused without a word; a fault within is told in a line."""
+        pieces = [b"junk\r\n\r\n", b"GET / HTTP/1.1\r\nHost: x\0\r\n\r\n", os.urandom(3000), b"\x16\x03\x01\x02\0"]
+        pieces += [
+            b"GET /?" + b"a" * 20000 + b" HTTP/1.1\r\n\r\n",
+            b"GET /?token=%ff HTTP/1.1\r\nHost: localhost\r\n\r\n",
+        ]
+        with Served() as served:
+            words = [
+                sys.executable,
+                str(PYTHON / "rio9d"),
+                "live",
+                "127.0.0.1:%d" % served.port,
+                "--listen",
+                "localhost:0",
+            ]
+            process = subprocess.Popen(words, stdout=subprocess.PIPE, stderr=subprocess.PIPE, text=True)
+            port = int(re.search(r":(\d+)/\?token", process.stdout.readline())[1])
+            for piece in pieces:
+                with contextlib.suppress(ConnectionError), socket.create_connection(
+                    ("127.0.0.1", port), SECONDS
+                ) as sent:
+                    sent.sendall(piece)
+                    self.assertRegex(sent.recv(100), rb"^HTTP/1.[01] 40[03] |^$")
+            process.terminate()
+            self.assertEqual((process.communicate(timeout=SECONDS)[1], process.returncode), ("", 0))
+
+    def test_lines(self):
+        try:
+            raise ValueError("a\nb")
+        except ValueError:
+            made = logging.LogRecord("aiohttp", logging.ERROR, "", 0, "what %s", ("was",), sys.exc_info())
+        self.assertEqual(OneLine().format(made), "rio9d live: what was: ValueError: a b")
+        self.assertTrue(is_ours(made))
+        made.exc_info = None
+        self.assertEqual(OneLine().format(made), "rio9d live: what was")
 
     def test_signals(self):
         for number in (signal.SIGTERM, signal.SIGINT):

@@ -11,7 +11,7 @@ from rio9.live.acts import Cost
 from rio9.live.hub import Hub
 from rio9.live.screen import BadScreen
 from rio9.live.repaint import parser_of, tell
-from rio9.live.server import HOSTS, NoPlace, Server, serve
+from rio9.live.server import HOSTS, NoPlace, Server, log_in_lines, serve
 from rio9.live.watcher import advice
 from rio9.server import address_text
 
@@ -54,6 +54,7 @@ def live_main(words: List[str]) -> int:
         "--keep", type=kept_of, default=64, metavar="MB", help="how much of the recording for Save is kept; else 64"
     )
     options = parser.parse_args(words)
+    log_in_lines()
     try:
         return asyncio.run(attend(options))
     except (client.Failure, BadScreen) as error:

@@ -2,12 +2,14 @@
 
 import asyncio
 import hmac
+import logging
 import re
 import secrets
 import time
 from typing import Awaitable, Callable, Optional, Set
 
 from aiohttp import WSCloseCode, WSMsgType, web
+from aiohttp.http_exceptions import HttpProcessingError
 
 from rio9.live import pages, requests
 from rio9.client import Address
@@ -19,7 +21,7 @@ from rio9.server import address_text
 
 HOSTS = re.compile(r"(127\.[0-9.]+|localhost|\[::1\])(:[0-9]{1,5})?")
 TOKEN_BYTES = 18
-MOST_VIEWERS = 32
+MOST_VIEWERS, MOST_LINE = 32, 300
 HEARTBEAT, FAREWELL = 30.0, 2.0  # seconds: between two signs of life, and for the last words of a page
 POLICY = (
     "default-src 'none'; script-src 'nonce-NONCE'; style-src 'nonce-NONCE'; "
@@ -206,6 +208,31 @@ def in_loop(take: Callable[[str], None]) -> Callable[[str], None]:
 def refusal(status: int, what: str, then: str) -> web.Response:
     """A page that tells what is wrong and what to do."""
     return web.Response(text=pages.refusal_page(what, then), status=status, content_type="text/html", headers=HEADERS)
+
+
+class OneLine(logging.Formatter):
+    """Tells what went wrong within the server in a line."""
+
+    def format(self, record: logging.LogRecord) -> str:
+        """The line."""
+        error = record.exc_info[1] if record.exc_info else None
+        text = f"{record.getMessage()}: {type(error).__name__}: {error}" if error else record.getMessage()
+        return f"rio9d live: {' '.join(text.split())[:MOST_LINE]}"
+
+
+def is_ours(record: logging.LogRecord) -> bool:
+    """Whether what is logged is a fault of ours: not that what came was no HTTP, which is refused."""
+    return not (record.exc_info and isinstance(record.exc_info[1], HttpProcessingError))
+
+
+def log_in_lines() -> None:
+    """Lets the libraries log in lines on standard error."""
+    handler = logging.StreamHandler()
+    handler.setFormatter(OneLine())
+    handler.addFilter(is_ours)
+    for name in ("aiohttp", "asyncio"):
+        logging.getLogger(name).handlers = [handler]
+        logging.getLogger(name).propagate = False
 
 
 class NoPlace(Exception):
