@@ -53,7 +53,9 @@ class Package(unittest.TestCase):
         environment.pop("RIO9_PROGRAM", None)
         words = [str(there / "usr/bin/rio9d"), "replay", "--size", "64x48", str(ROOT / "examples/first.record")]
         told = run(*words, env=environment)
-        self.assertEqual((told.returncode, told.stdout), (0, (ROOT / "examples/first.replies").read_text()), told.stderr)
+        self.assertEqual(
+            (told.returncode, told.stdout), (0, (ROOT / "examples/first.replies").read_text()), told.stderr
+        )
         entries = next(modules.glob("rio9-*.dist-info/entry_points.txt")).read_text()
         self.assertIn("[pytest11]\nrio9 = rio9.pytest_plugin", entries)
 

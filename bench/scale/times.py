@@ -14,7 +14,6 @@ import argparse
 import os
 import resource
 import select
-import socket
 import statistics
 import subprocess
 import sys
@@ -99,7 +98,11 @@ def tell_memory(program, count=20):
                     file.read_all()
             used = statistics.median(one.memory("Private_") for one in desktops)
             resident = statistics.median(one.memory("Rss:") for one in desktops)
-            told = [f"private {idle / KIB:.0f} KiB", f"{used / KIB:.0f} KiB once its screen was read", f"resident {resident / KIB:.0f} KiB"]
+            told = [
+                f"private {idle / KIB:.0f} KiB",
+                f"{used / KIB:.0f} KiB once its screen was read",
+                f"resident {resident / KIB:.0f} KiB",
+            ]
             print(f"memory: {size}, workers {workers}: {', '.join(told)}; {int(GIB // used)} in 1 GiB", flush=True)
             for one in desktops:
                 one.end()
@@ -162,7 +165,15 @@ def cost_of_questions(address, process):
 def tell_launcher(program):
     """What the launcher's relay adds to a question that waits for its answer, and what the launcher holds."""
     alone = Desktop(program)
-    command = [sys.executable, os.path.join(ROOT, "python", "rio9d"), "serve", "--program", program, "--listen", "127.0.0.1:0"]
+    command = [
+        sys.executable,
+        os.path.join(ROOT, "python", "rio9d"),
+        "serve",
+        "--program",
+        program,
+        "--listen",
+        "127.0.0.1:0",
+    ]
     launcher = subprocess.Popen(command, stdout=subprocess.PIPE, stderr=subprocess.DEVNULL)
     address = client.address_of(launcher.stdout.readline().split()[1].decode())
     starts = 1000 * worked(launcher.pid)
@@ -188,13 +199,19 @@ def counts_of(text):
 def main(words):
     parser = formats.Words(prog="times.py", description=__doc__, formatter_class=argparse.RawDescriptionHelpFormatter)
     parser.add_argument("program", help="the program")
-    parser.add_argument("--servers", type=counts_of, default=counts_of("1,10,100,1000"), metavar="N,N", help="how many servers")
-    parser.add_argument("--seconds", type=formats.at_least(1), default=3, metavar="S", help="how long messages are counted")
+    parser.add_argument(
+        "--servers", type=counts_of, default=counts_of("1,10,100,1000"), metavar="N,N", help="how many servers"
+    )
+    parser.add_argument(
+        "--seconds", type=formats.at_least(1), default=3, metavar="S", help="how long messages are counted"
+    )
     options = parser.parse_args(words)
     if not os.access(options.program, os.X_OK):
         formats.stop("times.py", f"{options.program} is no program")
     soft, hard = resource.getrlimit(resource.RLIMIT_NOFILE)
-    resource.setrlimit(resource.RLIMIT_NOFILE, (min(hard, max(soft, FILES_OF_A_SERVER * max(options.servers) + 100)), hard))
+    resource.setrlimit(
+        resource.RLIMIT_NOFILE, (min(hard, max(soft, FILES_OF_A_SERVER * max(options.servers) + 100)), hard)
+    )
     tell_starts(options.program)
     tell_memory(options.program)
     tell_launcher(options.program)

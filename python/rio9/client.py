@@ -4,7 +4,8 @@
         with session.file(session.root, "wctl", WRITE) as file:
             file.write(b"new -r 16 16 176 128")
 
-`rio9d client` has its commands (rio9.client_commands). It is outside the proof: it shares nothing with the proved program.
+`rio9d client` has its commands (rio9.client_commands). It is outside the proof: it shares nothing with the proved
+program.
 """
 
 import argparse
@@ -75,7 +76,8 @@ class Client:
     """A session. Messages may be asked without waiting for their answers, which are then taken by their tags."""
 
     def __init__(self, address: Address, seconds: Optional[float] = None) -> None:
-        """Connects to a host and a port. An answer may take so many seconds, or as long as it likes where it is None."""
+        """Connects to a host and a port. An answer may take so many seconds, or as long as it likes where it is
+        None."""
         self.seconds, self.patience, self.msize = seconds, seconds, MSIZE
         self.held = bytearray()
         self.asked: Dict[int, int] = {}
@@ -120,8 +122,8 @@ class Client:
         return tag
 
     def answer(self, tag: int, seconds: Any = USUAL) -> Tuple[Values, bytes]:
-        """The values of the reply to a tag, and its data. It may take so many seconds, or as long as it likes where they are
-        None; what the session allows where nothing is said."""
+        """The values of the reply to a tag, and its data. It may take so many seconds, or as long as it likes where
+        they are None; what the session allows where nothing is said."""
         seconds = self.seconds if seconds is USUAL else seconds
         end = None if seconds is None else time.monotonic() + seconds
         while tag not in self.answers:
@@ -207,10 +209,9 @@ class Client:
         names = list(names)
         return self.bind(newfid, "Twalk", lambda new: {"fid": fid, "newfid": new, "names": names}, len(names))
 
-    def bind(
-        self, fid: Optional[int], name: str, fields: Callable[[int], Values], steps: Optional[int] = None
-    ) -> int:
-        """Sends a message that binds a fid, the lowest that is free where none is given; a walk has to come all its steps."""
+    def bind(self, fid: Optional[int], name: str, fields: Callable[[int], Values], steps: Optional[int] = None) -> int:
+        """Sends a message that binds a fid, the lowest that is free where none is given; a walk has to come all its
+        steps."""
         new = next(fid for fid in range(NOFID) if fid not in self.fids) if fid is None else fid
         values, _ = self.call(name, **fields(new))
         if steps is not None and values["n"] < steps:
@@ -313,7 +314,8 @@ NO_SERVER = "is it a server of 9P2000 that listens there?"
 
 
 def connect(address: Address, name: str = "", seconds: Optional[float] = SECONDS) -> Client:
-    """A session that has attached to the tree of this name: the device tree's where it is empty, a new window's by `new`."""
+    """A session that has attached to the tree of this name: the device tree's where it is empty, a new window's by
+    `new`."""
     session = Client(address, seconds)
     try:
         session.version()

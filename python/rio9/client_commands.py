@@ -1,4 +1,4 @@
-"""A client of a rio9 server: 9P2000 (intro(5)) over TCP, as commands and as a module.
+"""The commands of a client (rio9.client), each of which asks a server.
 
     rio9d client 127.0.0.1:5640 new -r 16 16 176 128
     rio9d client 127.0.0.1:5640 draw 'n id=1 name=window.1.1' 'O op=Clear' \\
@@ -8,14 +8,15 @@
     rio9d client 127.0.0.1:5640 cat wsys/1/cons
     rio9d client 127.0.0.1:5640 screen screen.png
 
-The words are [--attach NAME] [--seconds S] HOST:PORT COMMAND WORD.. with one of these commands. Each is a session of its own,
-which attaches to the device tree, or to what --attach names, and ends before the command does.
+The words are [--attach NAME] [--seconds S] HOST:PORT COMMAND WORD.. with one of these commands. Each is a session of
+its own, which attaches to the device tree, or to what --attach names, and ends before the command does.
 
     ls [-l] [PATH]              the names in a directory; with -l the stats (stat(5))
     stat [PATH]                 the stat of a file
     cat [--reads N] [--count N] PATH
-                                what reads give, up to the first that gives nothing or to N of them, each of at most so many
-                                bytes. Of cons, mouse, wctl and refresh, whose reads wait, it makes one where nothing is said
+                                what reads give, up to the first that gives nothing or to N of them, each of at most
+                                so many bytes. Of cons, mouse, wctl and refresh, whose reads wait, it makes one where
+                                nothing is said
     write PATH [TEXT..]         writes the text, words with a blank between, or standard input where there is none
     screen FILE.png [--window N] [--scale N]
                                 the screen, or the image of a window, as a picture
@@ -24,14 +25,15 @@ which attaches to the device tree, or to what --attach names, and ends before th
     type TEXT..                 keys: the text, in which \\n, \\b, \\t, \\\\ and \\uXXXX stand for what they do in JSON
     click X Y [X2 Y2] [--button N]
                                 presses a button of the mouse and lets go, where four numbers stand after dragging it
-    draw [LINE..]               draw messages on a new connection, one in each word, or in each line of standard input, spelled
-                                as `rio9d write` takes them. Where the last one is `r` the bytes that it asks for are printed
+    draw [LINE..]               draw messages on a new connection, one in each word, or in each line of standard
+                                input, spelled as `rio9d write` takes them. Where the last one is `r` the bytes that it
+                                asks for are printed
 
-S is how long an answer may take: 10 seconds where nothing is said, and no limit for `cat` of a file whose reads wait. A server
-with as many clients as workers answers a further one only when another ends.
+S is how long an answer may take: 10 seconds where nothing is said, and no limit for `cat` of a file whose reads wait.
+A server with as many clients as workers answers a further one only when another ends.
 
-Status 1 where the server refuses or does not answer, 2 where a word or a file is wrong; one line tells why. It is outside the
-proof. Needs: Python 3.9 or later, its standard library alone.
+Status 1 where the server refuses or does not answer, 2 where a word or a file is wrong; one line tells why. It is
+outside the proof. Needs: Python 3.9 or later, its standard library alone.
 """
 
 import argparse

@@ -13,8 +13,8 @@ INTERRUPTED = 130
 
 @dataclass(frozen=True)
 class Command:
-    """A command: a module's function, which takes the words behind the command and gives the status; what it does, in one line; and
-    the extra of the package that has the libraries it needs."""
+    """A command: a module's function, which takes the words behind the command and gives the status; what it does, in
+    one line; and the extra of the package that has the libraries it needs."""
 
     module: str
     summary: str
@@ -36,13 +36,17 @@ COMMANDS: Dict[str, Command] = {
     "write": Command("rio9.record", "writes a record of readable lines", "write_main"),
     "explain": Command("rio9.replays", "tells a record or reply lines in words", "explain_main"),
     "picture": Command("rio9.picture", "makes a PNG file of what a run printed"),
-    "font": Command("rio9.fonts", "makes fonts of Plan 9 of BDF, PCF and PSF fonts, and the font that `rio9 text` reads"),
+    "font": Command(
+        "rio9.fonts", "makes fonts of Plan 9 of BDF, PCF and PSF fonts, and the font that `rio9 text` reads"
+    ),
     "events": Command("rio9.events", "makes the events that `rio9 desk` reads"),
     "term": Command("rio9.term.command", "runs a program in a window", extra="term"),
     "live": Command("rio9.live.command", "serves a page that shows a desktop and drives it", "live_main", "live"),
     "save": Command("rio9.live.save", "makes a page of a record that plays by itself"),
     "repaint": Command("rio9.live.repaint", "paints the desk again, beneath the windows", "repaint_main"),
-    "translate": Command("rio9.translate.command", "stands between a client and a server, and translates what the profile leaves out"),
+    "translate": Command(
+        "rio9.translate.command", "stands between a client and a server, and translates what the profile leaves out"
+    ),
     "unpack": Command("rio9.translate.unpack", "writes compressed images and subfonts of Plan 9 as plain ones"),
     "wireshark": Command("rio9.wireshark", "makes a capture of a record and its replies"),
 }

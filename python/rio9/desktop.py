@@ -5,9 +5,9 @@
     desktop.wait_for(text="hello")
     desktop.screen().save("screen.png")
 
-It has one session of its own at the device tree, begun with the first thing that is done. Each look at the display or at a window
-is asked of the server and stands in its record; `wait_for` looks again after 10 milliseconds, then less often, up to ten times a
-second. A picture needs Pillow; nothing else does.
+It has one session of its own at the device tree, begun with the first thing that is done. Each look at the display or
+at a window is asked of the server and stands in its record; `wait_for` looks again after 10 milliseconds, then less
+often, up to ten times a second. A picture needs Pillow; nothing else does.
 """
 
 import re
@@ -29,6 +29,7 @@ FIELD = 12
 
 Point = Tuple[int, int]
 Colour = Tuple[int, int, int]
+
 
 class NotSeen(AssertionError):
     """What was waited for did not come. It tells what was there instead."""
@@ -121,7 +122,8 @@ class Desktop:
         self.mouse([((x, y), 0)])
 
     def click(self, x: int, y: int, button: int = 1) -> None:
-        """Presses a button at a point, and lets it go: 1 is the left one, 2 the middle one, 3 the right one, 4 and 5 the wheel."""
+        """Presses a button at a point, and lets it go: 1 is the left one, 2 the middle one, 3 the right one, 4 and 5
+        the wheel."""
         self.drag((x, y), (x, y), button)
 
     def drag(self, begin: Point, end: Point, button: int = 1) -> None:
@@ -184,7 +186,9 @@ class Desktop:
         self.session.write(self.drawing.fid, b"r" + DISPLAY.to_bytes(4, "little") + fields)
         rows = self.session.read(self.drawing.fid)
         left, upper, right, lower = rectangle
-        return [[pixel[:3] for pixel in row] for row in picture.colours(self.channels, left, right, lower - upper, rows)]
+        return [
+            [pixel[:3] for pixel in row] for row in picture.colours(self.channels, left, right, lower - upper, rows)
+        ]
 
     def open_drawing(self) -> None:
         """Opens a draw connection, by which pixels are read."""
@@ -208,8 +212,8 @@ class Desktop:
         pixel: Optional[Tuple[int, int, Colour]] = None,
         seconds: float = SECONDS,
     ) -> Optional[int]:
-        """Waits until all of this is there: a window of a label or number; a text, in that window or in any; a pixel, as its
-        place and its red, green and blue. Gives the window's number where one or a text is asked for."""
+        """Waits until all of this is there: a window of a label or number; a text, in that window or in any; a pixel,
+        as its place and its red, green and blue. Gives the window's number where one or a text is asked for."""
         end, pause = time.monotonic() + seconds, FIRST_PAUSE
         wanted = None if pixel is None else Pixel(pixel[:2], pixel[2])
         while True:
@@ -235,7 +239,8 @@ class Desktop:
         """What is there in place of what was waited for."""
         windows = self.windows()
         if window is not None:
-            yield f"no window {window!r} was there, of {windows}" if self.found(window, None) is False else f"window {window!r} is there"
+            is_there = self.found(window, None) is not False
+            yield f"window {window!r} was there" if is_there else f"no window {window!r} was there, of {windows}"
         if text is not None:
             yield f"no text {text!r} was there, of { {number: self.text(number)[-200:] for number in windows} }"
         if pixel is not None:

@@ -2,9 +2,9 @@
 
     rio9d events < examples/desk.txt > events
 
-A line has the column and the row of a point of the display and the buttons that are down there, as their sum: 1 the left one, 2
-the middle one, 4 the right one, 0 none. What stands behind `#` and empty lines are not looked at. Events are spelled as mouse(3)
-tells, 49 bytes each; the times are 20 milliseconds apart.
+A line has the column and the row of a point of the display and the buttons that are down there, as their sum: 1 the
+left one, 2 the middle one, 4 the right one, 0 none. What stands behind `#` and empty lines are not looked at. Events
+are spelled as mouse(3) tells, 49 bytes each; the times are 20 milliseconds apart.
 
 Status 1 where a line is no event, 2 where a word is wrong; one line tells why.
 It is outside the proof. Needs: Python 3.9 or later, its standard library alone.

@@ -49,7 +49,9 @@ def chosen_read(replies: formats.Replies, number: Optional[int]) -> bytes:
 
 def is_image_file(data: bytes) -> bool:
     """Whether bytes begin as an image file does: five fields of 11 characters, each with a blank behind it."""
-    return HEADER.fullmatch(data[:HEADER_BYTES]) is not None and all(data[at] == 32 for at in range(11, HEADER_BYTES, 12))
+    return HEADER.fullmatch(data[:HEADER_BYTES]) is not None and all(
+        data[at] == 32 for at in range(11, HEADER_BYTES, 12)
+    )
 
 
 def read_image_file(data: bytes) -> Tuple[int, int, int, int, bytes]:
@@ -156,13 +158,15 @@ def chosen_picture(replies: formats.Replies, options: argparse.Namespace) -> byt
         width, height = options.size
         return picture(options.chan, 0, width, height, chosen_read(replies, options.read), options.scale)
     if replies.screen is None:
-        raise NoPicture("the output has no display, which is the line `S n`: run replay with --screen, or say --size and --chan of an Rread")
+        raise NoPicture("the output has no display: run replay with --screen, or say --size and --chan of an Rread")
     return picture(*read_image_file(replies.screen), options.scale)
 
 
 def main(words: List[str]) -> int:
     """The command `rio9d picture`."""
-    parser = formats.Words(prog="rio9d picture", description=__doc__, formatter_class=argparse.RawDescriptionHelpFormatter)
+    parser = formats.Words(
+        prog="rio9d picture", description=__doc__, formatter_class=argparse.RawDescriptionHelpFormatter
+    )
     parser.add_argument("out", help="the PNG file")
     parser.add_argument("--size", type=size_of, metavar="WxH", help="width and height of what an Rread has")
     parser.add_argument("--chan", type=formats.channels_option, metavar="C", help="its channels")

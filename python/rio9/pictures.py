@@ -59,7 +59,8 @@ def image_of(data: bytes) -> "Image.Image":
 
 
 def difference_of(golden: Path, actual: "Image.Image", mask: Sequence[Rectangle]) -> Optional[Difference]:
-    """How a picture differs from the golden one in a file, outside of the rectangles of a mask; None where it does not."""
+    """How a picture differs from the golden one in a file, outside of the rectangles of a mask; None where it does
+    not."""
     from PIL import Image, ImageChops, ImageDraw
 
     with Image.open(golden) as opened:

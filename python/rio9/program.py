@@ -1,4 +1,5 @@
-"""Finds the program rio9, and checks the words that it takes: where the program only says `usage`, the word at fault is named."""
+"""Finds the program rio9, and checks the words that it takes: where the program only says `usage`, the word at fault
+is named."""
 
 import os
 import re
@@ -45,7 +46,8 @@ def places() -> Iterator[Path]:
 
 
 def find(told: Optional[str] = None) -> str:
-    """The program: the one that is told, by a word or by RIO9_PROGRAM, or else the first beside the launcher or on PATH."""
+    """The program: the one that is told, by a word or by RIO9_PROGRAM, or else the first beside the launcher or on
+    PATH."""
     told = told or os.environ.get(TOLD_BY)
     if told:
         if not is_program(Path(told)):

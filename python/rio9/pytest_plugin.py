@@ -6,9 +6,10 @@
         rio9_server.wait_for(window="notes", text="hello")
         rio9_server.expect_screen("greeting.png", mask=[(0, 0, 16, 16)])
 
-Golden pictures stand beside the test's file; `--rio9-update` writes them anew. When a test fails its record is kept, with the file
-beside it, in a folder of its name below rio9-failed; so are the golden picture, the actual one and one of their difference. The
-server is another one with `@pytest.mark.rio9(size=(320, 240), channels="r5g6b5", workers=4)`.
+Golden pictures stand beside the test's file; `--rio9-update` writes them anew. When a test fails its record is kept,
+with the file beside it, in a folder of its name below rio9-failed; so are the golden picture, the actual one and one
+of their difference. The server is another one with `@pytest.mark.rio9(size=(320, 240), channels="r5g6b5",
+workers=4)`.
 """
 
 import contextlib
@@ -38,7 +39,9 @@ def pytest_addoption(parser: pytest.Parser) -> None:
     """The options that the fixture adds."""
     group = parser.getgroup("rio9")
     group.addoption(UPDATE, action="store_true", help="write golden pictures of rio9 anew")
-    group.addoption(FOLDER, default=FAILED_FOLDER, metavar="DIR", help="where records and pictures of failed tests are kept")
+    group.addoption(
+        FOLDER, default=FAILED_FOLDER, metavar="DIR", help="where records and pictures of failed tests are kept"
+    )
 
 
 def pytest_configure(config: pytest.Config) -> None:
@@ -59,7 +62,8 @@ class RunningDesktop(Desktop):
         return self.server.address
 
     def client(self, name: str = "", seconds: Optional[float] = SECONDS) -> Client:
-        """A further session, which has attached to the tree of this name: the device tree's, or a new window's by `new`."""
+        """A further session, which has attached to the tree of this name: the device tree's, or a new window's by
+        `new`."""
         return connect(self.server.address, name, seconds)
 
     def expect_screen(self, name: str, mask: Sequence[Rectangle] = ()) -> None:
@@ -94,7 +98,9 @@ def pytest_runtest_makereport(item: pytest.Item) -> Generator[None, None, None]:
         item.stash[HAS_FAILED] = True
         if report.when == "call":
             kept = folder_of(item) / RECORD
-            report.sections.append(("rio9", f"The record is kept: rio9d replay {kept} --screen | rio9d picture last.png"))
+            report.sections.append(
+                ("rio9", f"The record is kept: rio9d replay {kept} --screen | rio9d picture last.png")
+            )
 
 
 def folder_of(item: pytest.Item) -> Path:
@@ -142,4 +148,3 @@ def rio9_server(request: pytest.FixtureRequest) -> Generator[RunningDesktop, Non
                     folder.rmdir()  # which is refused if something is kept there
     finally:
         shutil.rmtree(room, ignore_errors=True)
-

@@ -6,8 +6,8 @@
 
 What explain gives for a record is what write takes, and write gives the same record back, byte for byte.
 Explained replies are for reading alone. Both refuse what is no record, as the program does, and tell the line and
-the word at fault: status 1. Wrong options are status 2. This tool is outside the proof: it shares nothing with the program,
-and nothing in it is proved. Needs: Python 3.9 or later, its standard library.
+the word at fault: status 1. Wrong options are status 2. This tool is outside the proof: it shares nothing with the
+program, and nothing in it is proved. Needs: Python 3.9 or later, its standard library.
 
 The readable lines. A word that begins with `#` begins a comment.
 
@@ -25,10 +25,10 @@ The readable lines. A word that begins with `#` begins a comment.
     1 end                                           session 1 ends
     stop                                            memory runs out for good
 
-Fields have the names of docs/FORMATS.md. What may be left out: a tag that is 1, or NOTAG in Tversion; afid NOFID; uname ""; a mark. Text of other
-characters than letters, digits and ._/+:- stands in quotation marks, as in JSON. A number may be hex, with 0x.
-A rectangle is its left, upper, right and lower edge; a point x and y; channels are as x8r8g8b8 (image(6));
-an operator is its name in draw(2) or its number.
+Fields have the names of docs/FORMATS.md. What may be left out: a tag that is 1, or NOTAG in Tversion; afid NOFID;
+uname ""; a mark. Text of other characters than letters, digits and ._/+:- stands in quotation marks, as in JSON. A
+number may be hex, with 0x. A rectangle is its left, upper, right and lower edge; a point x and y; channels are as
+x8r8g8b8 (image(6)); an operator is its name in draw(2) or its number.
 
 A write's bytes do not tell what they are for. Explain follows the walks and opens of a session, believing each
 that can succeed, and shows the writes to a file named `data` as draw messages up to the first bytes that are
@@ -86,14 +86,12 @@ class Form:
     """How a value stands in bytes (take, put) and in a word (say, hear). What is no value raises ValueError."""
 
     take: Callable[[Cursor], Any]
-    put: Optional[Callable[[Any], bytes]]
+    put: Callable[[Any], bytes]
     say: Callable[[Any], str]
-    hear: Optional[Callable[[str], Any]]
+    hear: Callable[[str], Any]
 
 
-def number(
-    size: int, signed: bool = False, hexadecimal: bool = False, words: Optional[Dict[int, str]] = None
-) -> Form:
+def number(size: int, signed: bool = False, hexadecimal: bool = False, words: Optional[Dict[int, str]] = None) -> Form:
     """A number of some bytes; `words` names some of its values."""
     names = words or {}
     values = {word: value for value, word in names.items()}
@@ -183,8 +181,13 @@ def say_qid(value: Tuple[int, int]) -> str:
 
 
 def take_qid(cursor: Cursor) -> Tuple[int, int]:
-    kind, _version, path = cursor.number(1), cursor.number(4), cursor.number(8)
+    kind, _, path = cursor.number(1), cursor.number(4), cursor.number(8)
     return kind, path
+
+
+def only_read(_value: object) -> Any:
+    """Of what is read and never written."""
+    raise ValueError("a qid is read, and not written")
 
 
 def say_channels(word: int) -> str:
@@ -208,7 +211,7 @@ OPERATOR = number(1, words=dict(enumerate(OPERATORS)))
 CHANNELS = Form(LONG.take, LONG.put, say_channels, hear_channels)
 POINT, RECTANGLE = numbers(2), numbers(4)
 STRING, NAME, LONG_TEXT = text(2), text(1, "surrogateescape"), text(4)
-QID = Form(take_qid, None, say_qid, None)
+QID = Form(take_qid, only_read, say_qid, only_read)
 
 REQUIRED = object()
 
@@ -254,8 +257,7 @@ def put_fields(fields: Fields, values: Values) -> bytes:
         if field.count is not None:
             values[field.count] = len(values[field.name])
     lists = [values[field.name] if field.count else [values[field.name]] for field in fields]
-    pairs = [(field.form.put, value) for field, members in zip(fields, lists) for value in members]
-    return b"".join(put(value) for put, value in pairs if put is not None)
+    return b"".join(field.form.put(value) for field, members in zip(fields, lists) for value in members)
 
 
 def say_fields(fields: Fields, values: Values) -> List[str]:
@@ -307,9 +309,8 @@ def hear_fields(fields: Fields, name: "Word", words: Sequence["Word"]) -> Values
 def hear_word(form: Form, word: "Word") -> Any:
     """The value of a word, which fits its field."""
     try:
-        value = form.hear(word.value) if form.hear else None
-        if form.put is not None:
-            form.put(value)
+        value = form.hear(word.value)
+        form.put(value)
         return value
     except ValueError as error:
         raise BadWord(word, error) from None
@@ -855,7 +856,9 @@ def explain_replies(replies: formats.Replies) -> List[str]:
         lines.append(message_line(session, message, fields))
         lines += stat_lines(payload) or payload_lines(payload, BYTES_ON_A_LINE)
     if replies.screen is not None:
-        lines.append(f"screen of {len(replies.screen)} bytes: {' '.join(replies.screen[:60].decode(errors='replace').split())}")
+        lines.append(
+            f"screen of {len(replies.screen)} bytes: {' '.join(replies.screen[:60].decode(errors='replace').split())}"
+        )
     return lines
 
 
@@ -875,7 +878,9 @@ def stat_lines(payload: bytes) -> List[str]:
 
 def write_main(words: List[str]) -> int:
     """The command `rio9d write`."""
-    parser = formats.Words(prog="rio9d write", description=__doc__, formatter_class=argparse.RawDescriptionHelpFormatter)
+    parser = formats.Words(
+        prog="rio9d write", description=__doc__, formatter_class=argparse.RawDescriptionHelpFormatter
+    )
     parser.parse_args(words)
     return turn("rio9d write", lambda data: write(readable_text(data)))
 

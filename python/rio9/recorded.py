@@ -1,4 +1,5 @@
-"""What is done to the record that a server wrote: what its end added is taken off, and its entries are told the times of."""
+"""What is done to the record that a server wrote: what its end added is taken off, and its entries are told the times
+of."""
 
 import os
 import zlib
@@ -73,8 +74,8 @@ def signatures_of(file: Iterable[bytes]) -> Dict[int, Signature]:
 
 
 def links_of(sessions: Dict[int, Signature], links: Sequence[Signature]) -> Dict[int, int]:
-    """The link of each session: the one of its number, or where workers took clients in another order the first that is left of
-    those with its signature."""
+    """The link of each session: the one of its number, or where workers took clients in another order the first that
+    is left of those with its signature."""
     found: Dict[int, int] = {}
     same: DefaultDict[Signature, List[int]] = defaultdict(list)
     for number, signature in enumerate(links, 1):
@@ -89,7 +90,8 @@ def links_of(sessions: Dict[int, Signature], links: Sequence[Signature]) -> Dict
 
 
 def seconds_of(record: str, marks: Sequence[Mark], links: Sequence[Signature]) -> Tuple[int, List[Tuple[int, int]]]:
-    """How many entries a record has, and those that came first in a second, each with its milliseconds after the start."""
+    """How many entries a record has, and those that came first in a second, each with its milliseconds after the
+    start."""
     with open(record, "rb") as file:
         by_session = links_of(signatures_of(file), links)
     left: DefaultDict[int, List[Mark]] = defaultdict(list)

@@ -1,8 +1,9 @@
 """Passes the connections of clients on to a server, so that each can be told of, timed, and ended in order.
 
-The server has no word that ends it and tells nobody of its clients. The relay owns the socket at which clients connect. It passes
-what comes on to the server's own port on the loopback, and back, and holds nothing back: where one side does not read, nothing
-more is read from the other. As many clients as the server has workers are passed on at a time; further ones wait here.
+The server has no word that ends it and tells nobody of its clients. The relay owns the socket at which clients
+connect. It passes what comes on to the server's own port on the loopback, and back, and holds nothing back: where one
+side does not read, nothing more is read from the other. As many clients as the server has workers are passed on at a
+time; further ones wait here.
 """
 
 import contextlib
@@ -24,7 +25,8 @@ IN, OUT = select.EPOLLIN, select.EPOLLOUT
 
 @dataclass
 class Count:
-    """Counts the messages of a stream: how many are whole, and a check sum of their heads, by which a session is known again."""
+    """Counts the messages of a stream: how many are whole, and a check sum of their heads, by which a session is
+    known again."""
 
     whole: int = 0
     check: int = 0
@@ -52,7 +54,8 @@ class Count:
 
 @dataclass
 class Way:
-    """One direction of a link: where its bytes come from and go to, those that wait, and whether its source has ended."""
+    """One direction of a link: where its bytes come from and go to, those that wait, and whether its source has
+    ended."""
 
     source: socket.socket
     target: socket.socket
@@ -80,7 +83,8 @@ class Link:
 
 @dataclass(frozen=True)
 class Mark:
-    """The first bytes that came in a second: how many milliseconds after the start, on which link, behind how many bytes of it."""
+    """The first bytes that came in a second: how many milliseconds after the start, on which link, behind how many
+    bytes of it."""
 
     milliseconds: int
     link: int
@@ -107,7 +111,8 @@ def peer_of(address: object) -> str:
 
 
 class Relay:
-    """Passes clients on. `run` does so in the thread that calls it, until `stop` is called, or the server's process ends."""
+    """Passes clients on. `run` does so in the thread that calls it, until `stop` is called, or the server's process
+    ends."""
 
     def __init__(self, listener: socket.socket, server: Tuple[str, int], workers: int, tell: Teller) -> None:
         self.listener, self.server, self.workers, self.tell = listener, server, workers, tell
@@ -147,7 +152,8 @@ class Relay:
         self.close()
 
     def end_clients(self, number: int) -> None:
-        """Takes no further clients, and ends the side of each that is there: the server answers what came before, and ends too."""
+        """Takes no further clients, and ends the side of each that is there: the server answers what came before, and
+        ends too."""
         self.is_ending = True
         self.epoll.unregister(number)
         self.epoll.unregister(self.listener.fileno())
@@ -227,7 +233,8 @@ class Relay:
         link.count.take(data)
 
     def send(self, link: Link, way: Way, data: bytes) -> None:
-        """Writes what waits and what is new, as much as its target takes; the source is read again when all is written."""
+        """Writes what waits and what is new, as much as its target takes; the source is read again when all is
+        written."""
         whole = way.waiting + data if way.waiting else data
         way.passed += len(data)
         try:

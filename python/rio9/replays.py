@@ -1,13 +1,14 @@
-"""Runs records: `rio9d replay`, `mirror`, `alone` and `explain`, with the display that the file beside the record tells.
+"""Runs records: `rio9d replay`, `mirror`, `alone` and `explain`, with the display that the file beside the record
+tells.
 
     rio9d replay session.record --screen | rio9d picture screen.png
     rio9d mirror session.record > session.frames
     rio9d alone session.record --conn 2
     rio9d explain session.record
 
-Size and channels are those of RECORD.json, which `rio9d serve` writes. A record without it is refused unless --size or --chan is
-said; the other one is then rio9's usual one, 640x480 and x8r8g8b8. What comes on standard output, and the statuses, are those of
-rio9; for a text that is no record, the line and the word at fault are told.
+Size and channels are those of RECORD.json, which `rio9d serve` writes. A record without it is refused unless --size
+or --chan is said; the other one is then rio9's usual one, 640x480 and x8r8g8b8. What comes on standard output, and
+the statuses, are those of rio9; for a text that is no record, the line and the word at fault are told.
 """
 
 import argparse
@@ -45,7 +46,9 @@ def parser_of(command: str) -> program.Words:
     found.add_argument("record", metavar="FILE", help="the record")
     found.add_argument("--size", type=read_by(program.size), metavar="WxH", help="the display's size")
     found.add_argument("--chan", type=read_by(program.channels), metavar="C", help="its channels")
-    found.add_argument("--program", metavar="FILE", help=f"the program rio9; else ${program.TOLD_BY}, or beside rio9d, or on PATH")
+    found.add_argument(
+        "--program", metavar="FILE", help=f"the program rio9; else ${program.TOLD_BY}, or beside rio9d, or on PATH"
+    )
     return found
 
 

@@ -2,10 +2,11 @@
 
     rio9d serve --listen 127.0.0.1:0 --record session.record
 
-`listening HOST:PORT` on standard output tells that clients can connect. Each client is told of on standard error, as a line or as
-JSON. The record is whole when the command has ended, by a signal or because as many clients as --conns have come; beside it
-stands RECORD.json with the display's size and channels, the start, and the time of each second's first entry. A socket that
-systemd passes is taken in place of --listen. The statuses are those of rio9 serve, and 127 where the program is not found.
+`listening HOST:PORT` on standard output tells that clients can connect. Each client is told of on standard error, as
+a line or as JSON. The record is whole when the command has ended, by a signal or because as many clients as --conns
+have come; beside it stands RECORD.json with the display's size and channels, the start, and the time of each second's
+first entry. A socket that systemd passes is taken in place of --listen. The statuses are those of rio9 serve, and 127
+where the program is not found.
 """
 
 import argparse
@@ -64,16 +65,37 @@ def read_by(reader: Callable[[str], object]) -> Callable[[str], object]:
 def parser() -> program.Words:
     """A reader of the command's words."""
     found = program.Words(
-        prog="rio9d serve", description=__doc__, formatter_class=argparse.RawDescriptionHelpFormatter, allow_abbrev=False
+        prog="rio9d serve",
+        description=__doc__,
+        formatter_class=argparse.RawDescriptionHelpFormatter,
+        allow_abbrev=False,
     )
     add = found.add_argument
-    add("--size", type=read_by(program.size), default=formats.USUAL_SIZE, metavar="WxH", help="the display's size; 640x480")
-    add("--chan", type=read_by(program.channels), default=formats.USUAL_CHANNELS, metavar="C", help="its channels; x8r8g8b8")
+    add(
+        "--size",
+        type=read_by(program.size),
+        default=formats.USUAL_SIZE,
+        metavar="WxH",
+        help="the display's size; 640x480",
+    )
+    add(
+        "--chan",
+        type=read_by(program.channels),
+        default=formats.USUAL_CHANNELS,
+        metavar="C",
+        help="its channels; x8r8g8b8",
+    )
     most = program.MOST_WORKERS
     workers = read_by(lambda text: program.number(text, program.MOST_WORKERS))
     add("--workers", type=workers, default=most, metavar="K", help=f"how many clients at a time; {most}")
     connections = read_by(lambda text: program.number(text, program.MOST_CONNECTIONS))
-    add("--conns", type=connections, default=program.MOST_CONNECTIONS, metavar="N", help="how many clients in all; 100000")
+    add(
+        "--conns",
+        type=connections,
+        default=program.MOST_CONNECTIONS,
+        metavar="N",
+        help="how many clients in all; 100000",
+    )
     listen = f"where; port 0 is one that is free; {LISTEN}"
     add("--listen", type=read_by(address_or_free), default=address_or_free(LISTEN), metavar="HOST:PORT", help=listen)
     add("--record", metavar="FILE", help="the file of the record, which must not be there; none is kept without it")
@@ -85,7 +107,9 @@ def parser() -> program.Words:
 def check_record(path: Optional[str]) -> None:
     """Refuses a record that is there: it would be lost."""
     if path is not None and os.path.exists(path) and os.path.getsize(path) > 0:
-        raise program.Failure(f"{path} is there already: name another file by --record, or remove it", program.WRITE_FAULT)
+        raise program.Failure(
+            f"{path} is there already: name another file by --record, or remove it", program.WRITE_FAULT
+        )
 
 
 def serve(words: ServerWords, log: Log) -> int:

@@ -3,9 +3,9 @@
     with Server(ServerWords(record="session.record")) as server:
         print(server.address)
 
-The server listens on the loopback at a port that the system chooses, and a relay passes its clients on (rio9.relay). At the end the
-relay ends the side of each client. Then the program is kept from opening files, so that each worker ends with its next client;
-these few are made here, and what they add to the record is taken off again.
+The server listens on the loopback at a port that the system chooses, and a relay passes its clients on (rio9.relay).
+At the end the relay ends the side of each client. Then the program is kept from opening files, so that each worker
+ends with its next client; these few are made here, and what they add to the record is taken off again.
 """
 
 import contextlib
@@ -36,8 +36,8 @@ LOOPBACK = "127.0.0.1"
 
 @dataclass(frozen=True)
 class ServerWords:
-    """What a server is started with. `listen` is where clients connect, at port 0 for one that the system chooses; no record is
-    kept where none is named."""
+    """What a server is started with. `listen` is where clients connect, at port 0 for one that the system chooses; no
+    record is kept where none is named."""
 
     binary: Optional[str] = None
     size: Tuple[int, int] = (640, 480)
@@ -87,7 +87,9 @@ def address_text(address: Tuple[str, int]) -> str:
 class Server:
     """A server that runs. It is ready when it has been made: clients can connect at `address`."""
 
-    def __init__(self, words: ServerWords, tell: Teller = say_nothing, listener: Optional[socket.socket] = None) -> None:
+    def __init__(
+        self, words: ServerWords, tell: Teller = say_nothing, listener: Optional[socket.socket] = None
+    ) -> None:
         self.words, self.tell = words, tell
         self.thread: Optional[threading.Thread] = None
         self.is_whole = False
@@ -109,7 +111,14 @@ class Server:
     def start(self, path: str) -> "subprocess.Popen[bytes]":
         """Starts the program, and waits until it listens."""
         command = [path, "serve", *program.display_words(self.words.size, self.words.channels)]
-        command += ["--listen", f"{LOOPBACK}:0", "--workers", str(self.words.workers), "--conns", str(self.words.connections)]
+        command += [
+            "--listen",
+            f"{LOOPBACK}:0",
+            "--workers",
+            str(self.words.workers),
+            "--conns",
+            str(self.words.connections),
+        ]
         try:
             with open(self.words.record or os.devnull, "wb") as out:
                 process = subprocess.Popen(
@@ -197,7 +206,8 @@ class Server:
         return found is None or int(found[1]) <= self.relay.begun
 
     def use_up(self) -> None:
-        """Lets each worker end: the program may open no further file, so a worker that is given a client takes no other one."""
+        """Lets each worker end: the program may open no further file, so a worker that is given a client takes no
+        other one."""
         limit = (ONLY_STANDARD_FILES, ONLY_STANDARD_FILES)
         end = time.monotonic() + ENDS
         with contextlib.suppress(ProcessLookupError):

@@ -1,7 +1,7 @@
 """The file beside a record, NAME.json for a record NAME: what the record does not tell of itself.
 
-It has the display's size and channels, when the server began, and for each second in which something came from a client the number
-of its first entry and the time of that.
+It has the display's size and channels, when the server began, and for each second in which something came from a
+client the number of its first entry and the time of that.
 """
 
 import bisect
@@ -24,8 +24,9 @@ class BadSide(Exception):
 
 @dataclass
 class Side:
-    """What stands beside a record. `seconds` has an entry's number, counted from 1, and its milliseconds after the start, both
-    ascending. `entries` is how many the record has, or None while it is being written or where its server was ended by force."""
+    """What stands beside a record. `seconds` has an entry's number, counted from 1, and its milliseconds after the
+    start, both ascending. `entries` is how many the record has, or None while it is being written or where its server
+    was ended by force."""
 
     size: Tuple[int, int]
     channels: str

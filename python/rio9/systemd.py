@@ -15,10 +15,14 @@ def given_listener() -> Optional[socket.socket]:
     if os.environ.get("LISTEN_PID") != str(os.getpid()):
         return None
     if os.environ.get("LISTEN_FDS") != "1":
-        raise program.Failure("one socket is wanted of systemd, and it gave several: write one ListenStream", program.USAGE)
+        raise program.Failure(
+            "one socket is wanted of systemd, and it gave several: write one ListenStream", program.USAGE
+        )
     given = socket.socket(fileno=FIRST_SOCKET)
     if given.type != socket.SOCK_STREAM or not given.getsockopt(socket.SOL_SOCKET, socket.SO_ACCEPTCONN):
-        raise program.Failure("the socket of systemd takes no connections: write ListenStream and Accept=no", program.USAGE)
+        raise program.Failure(
+            "the socket of systemd takes no connections: write ListenStream and Accept=no", program.USAGE
+        )
     os.set_inheritable(FIRST_SOCKET, False)
     return given
 

@@ -145,7 +145,9 @@ def write_capture(record: Iterable[formats.Event], replies: formats.Replies) -> 
 
 def main(words: List[str]) -> int:
     """The command `rio9d wireshark`."""
-    parser = formats.Words(prog="rio9d wireshark", description=__doc__, formatter_class=argparse.RawDescriptionHelpFormatter)
+    parser = formats.Words(
+        prog="rio9d wireshark", description=__doc__, formatter_class=argparse.RawDescriptionHelpFormatter
+    )
     parser.add_argument("record", metavar="RECORD", help="the record")
     parser.add_argument("replies", metavar="REPLIES", help="what `rio9d replay` of it printed")
     parser.add_argument("out", metavar="OUT.pcap", help="the capture that is written")

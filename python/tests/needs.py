@@ -1,4 +1,5 @@
-"""What tests need that may not be there: the program rio9, and libraries, which another Python of the machine may have."""
+"""What tests need that may not be there: the program rio9, and libraries, which another Python of the machine may
+have."""
 
 import functools
 import shutil

@@ -1,4 +1,5 @@
-"""Tests of rio9.client: what it sends and takes, byte for byte as the examples spell it, and its commands before a small server."""
+"""Tests of rio9.client: what it sends and takes, byte for byte as the examples spell it, and its commands before a
+small server."""
 
 import contextlib
 import io
@@ -56,7 +57,8 @@ class Server(threading.Thread):
 
 
 class Spelled(Server):
-    """Answers what an example's record has, message by message, by what its replies have, cut into pieces of some bytes."""
+    """Answers what an example's record has, message by message, by what its replies have, cut into pieces of some
+    bytes."""
 
     def __init__(self, example, pieces):
         super().__init__()
@@ -90,7 +92,8 @@ DIRECTORIES = {"": ["draw", "wsys"], "wsys": ["1"]}
 
 
 class Files(Server):
-    """A tree of files. Reads of `cons`, `wctl` and `mouse` take what stands for them in a list, and wait where nothing does."""
+    """A tree of files. Reads of `cons`, `wctl` and `mouse` take what stands for them in a list, and wait where
+    nothing does."""
 
     def __init__(self):
         super().__init__()
@@ -106,7 +109,9 @@ class Files(Server):
             found, values, payload = record.read_message(message)
             answer = getattr(self, found.name)(fids, values, payload)
             if answer is not None:
-                connection.sendall(answer if isinstance(answer, bytes) else reply(found.kind + 1, values["tag"], *answer))
+                connection.sendall(
+                    answer if isinstance(answer, bytes) else reply(found.kind + 1, values["tag"], *answer)
+                )
 
     def known(self, path):
         return path in self.files or path in self.waiting or path in self.places or path in DIRECTORIES
@@ -167,7 +172,13 @@ class Files(Server):
 def stat_bytes(name, is_directory):
     qid = bytes([0x80 if is_directory else 0]) + bytes(12)
     mode = client.DIRECTORY | 0o555 if is_directory else 0o600
-    body = bytes(6) + qid + mode.to_bytes(4, "little") + bytes(16) + b"".join(map(record.STRING.put, (name, "r", "r", "r")))
+    body = (
+        bytes(6)
+        + qid
+        + mode.to_bytes(4, "little")
+        + bytes(16)
+        + b"".join(map(record.STRING.put, (name, "r", "r", "r")))
+    )
     return counted(body, 2)
 
 
@@ -264,7 +275,10 @@ class Commands(unittest.TestCase):
             (["ls"], b"draw\nwsys\n"),
             (["ls", "wsys/"], b"1\n"),
             (["ls", "label"], b"label\n"),
-            (["stat", "/wsys"], b"type=0 dev=0 qid=directory:0 mode=0x8000016d atime=0 mtime=0 length=0 name=wsys uid=r gid=r muid=r\n"),
+            (
+                ["stat", "/wsys"],
+                b"type=0 dev=0 qid=directory:0 mode=0x8000016d atime=0 mtime=0 length=0 name=wsys uid=r gid=r muid=r\n",
+            ),
             (["cat", "label"], b"a label"),
             (["cat", "--count", "2", "--reads", "2", "label"], b"a la"),
             (["cat", "cons"], b"one\n"),
@@ -299,7 +313,9 @@ class Commands(unittest.TestCase):
         ):
             with self.subTest(words), Files() as server:
                 self.assertEqual(command(server, "click", *words), (0, b"", ""))
-                self.assertEqual([data[:37] for _, _, data in server.written], [MOUSE.format(*event).encode() for event in events])
+                self.assertEqual(
+                    [data[:37] for _, _, data in server.written], [MOUSE.format(*event).encode() for event in events]
+                )
                 self.assertEqual({len(data) for _, _, data in server.written}, {49})
 
     def test_screen(self):

@@ -14,7 +14,7 @@ from test_picture import pixels_of
 
 PYTHON = pathlib.Path(__file__).resolve().parent.parent
 
-USES = '''
+USES = """
 import pytest
 
 
@@ -37,9 +37,9 @@ def test_desktop(rio9_server):
 def test_other_display(rio9_server):
     assert rio9_server.size() == rio9_server.screen().size == (320, 240)
     assert rio9_server.screen().getpixel((5, 5)) == rio9_server.pixel(5, 5)
-'''
+"""
 
-FAILS = '''
+FAILS = """
 import pytest
 from rio9 import client, desktop
 
@@ -61,9 +61,9 @@ def test_wrong_words(rio9_server):
 @pytest.mark.rio9(colour="red")
 def test_wrong_mark(rio9_server):
     pass
-'''
+"""
 
-MANY = '''
+MANY = """
 import pytest
 
 
@@ -71,7 +71,7 @@ import pytest
 def test_one(rio9_server, number):
     rio9_server.new_window((16, 16, 176, 128))
     rio9_server.wait_for(window=1)
-'''
+"""
 
 
 @needs_program
@@ -85,8 +85,18 @@ class Fixture(unittest.TestCase):
     def run_tests(self, text, *words, program=PROGRAM):
         """Status and output of pytest for some tests."""
         (self.room / "test_it.py").write_text(text)
-        command = [python_with("pytest", "PIL"), "-m", "pytest", "-p", "rio9.pytest_plugin", "-p", "no:cacheprovider", "-rs"]
-        environment = {**os.environ, "PYTHONPATH": str(PYTHON), "RIO9_PROGRAM": program, "PYTHONDONTWRITEBYTECODE": "1"}
+        command = [
+            python_with("pytest", "PIL"),
+            "-m",
+            "pytest",
+            "-p",
+            "rio9.pytest_plugin",
+            "-p",
+            "no:cacheprovider",
+            "-rs",
+        ]
+        path = os.pathsep.join([str(PYTHON), os.environ.get("PYTHONPATH", "")])
+        environment = {**os.environ, "PYTHONPATH": path, "RIO9_PROGRAM": program, "PYTHONDONTWRITEBYTECODE": "1"}
         run = subprocess.run([*command, *words], cwd=self.room, env=environment, capture_output=True)
         return run.returncode, run.stdout.decode()
 
@@ -136,7 +146,8 @@ class Fixture(unittest.TestCase):
         self.assertIn("is no program that can be run", told)
 
     def test_many(self):
-        """Each test has its server at a port of its own, also beside others; the time is told, and bounded loosely here."""
+        """Each test has its server at a port of its own, also beside others; the time is told, and bounded loosely
+        here."""
         begin = time.monotonic()
         status, told = self.run_tests(MANY)
         self.assertEqual(status, 0, told)

@@ -1,4 +1,5 @@
-"""Runs the blocks of python/README.md: the launcher, the client, the records and the fixture, one after the other on one server."""
+"""Runs the blocks of python/README.md: the launcher, the client, the records and the fixture, one after the other on
+one server."""
 
 import os
 import pathlib
@@ -31,7 +32,9 @@ class Blocks(unittest.TestCase):
         self.addCleanup(folder.cleanup)
         self.room = pathlib.Path(folder.name)
         (self.room / "python").symlink_to(PYTHON)
-        self.environment = {**os.environ, "PYTHONPATH": str(PYTHON), "RIO9_PROGRAM": PROGRAM or "", "PYTHONDONTWRITEBYTECODE": "1"}
+        path = os.pathsep.join([str(PYTHON), os.environ.get("PYTHONPATH", "")])
+        told = {"PYTHONPATH": path, "RIO9_PROGRAM": PROGRAM or "", "PYTHONDONTWRITEBYTECODE": "1"}
+        self.environment = {**os.environ, **told}
 
     def run_block(self, *command, text):
         """What a block prints."""
@@ -70,29 +73,56 @@ class Blocks(unittest.TestCase):
         self.assertTrue((self.room / "session.frames").read_bytes().startswith(b"F 0 300\nZ 640 480\n"))
         record = str(self.room / "session.record")
         self.assertEqual(side.load(record).entries, pathlib.Path(record).read_bytes().count(b"\n") - 1)
-        names = re.findall(r"^\| `(\w+)`(?:, `(\w+)`)? \|", README.split("\n## A server\n")[1].split("\n## ")[0], re.MULTILINE)
-        self.assertEqual({name for pair in names for name in pair if name}, set(side.json.loads(side.load(record).text())))
+        names = re.findall(
+            r"^\| `(\w+)`(?:, `(\w+)`)? \|", README.split("\n## A server\n")[1].split("\n## ")[0], re.MULTILINE
+        )
+        self.assertEqual(
+            {name for pair in names for name in pair if name}, set(side.json.loads(side.load(record).text()))
+        )
 
     @needs_program
     @needs_libraries("pytest", "PIL")
     def test_fixture(self):
         (self.room / "test_greeting.py").write_text(block("Tests of graphics clients", "python"))
-        command = [python_with("pytest", "PIL"), "-m", "pytest", "-q", "-p", "rio9.pytest_plugin", "-p", "no:cacheprovider", "test_greeting.py"]
+        command = [
+            python_with("pytest", "PIL"),
+            "-m",
+            "pytest",
+            "-q",
+            "-p",
+            "rio9.pytest_plugin",
+            "-p",
+            "no:cacheprovider",
+            "test_greeting.py",
+        ]
         for words in (["--rio9-update"], []):
-            run = subprocess.run([*command, *words], cwd=self.room, env=self.environment, capture_output=True, timeout=SECONDS)
+            run = subprocess.run(
+                [*command, *words], cwd=self.room, env=self.environment, capture_output=True, timeout=SECONDS
+            )
             self.assertEqual(run.returncode, 0, run.stdout.decode())
 
     @needs_libraries("setuptools", "wheel", "pip")
     def test_installation(self):
-        """What pip installs has the modules, their files and the command; a copy is installed, since a build leaves files."""
+        """What pip installs has the modules, their files and the command; a copy is installed, since a build leaves
+        files."""
         self.assertIn("pip install ./python", block("A server", "sh", 0) + README)
-        copy = "cp -r python/ copy && cd copy && exec \"$0\" -m pip install --quiet --no-index --no-deps --no-build-isolation --target ../there ."
+        copy = 'cp -r python/ copy && cd copy && exec "$0" -m pip install --quiet --no-index --no-deps --no-build-isolation --target ../there .'
         run = subprocess.run(
-            ["sh", "-ec", copy, python_with("setuptools", "wheel", "pip")], cwd=self.room, capture_output=True, timeout=SECONDS
+            ["sh", "-ec", copy, python_with("setuptools", "wheel", "pip")],
+            cwd=self.room,
+            capture_output=True,
+            timeout=SECONDS,
         )
         self.assertEqual(run.returncode, 0, run.stderr)
         there = self.room / "there"
-        for name in ("rio9/player.html", "rio9/font.txt", "rio9/py.typed", "rio9/live/live.html", "rio9/term/window.py", "bin/rio9d"):
+        for name in (
+            "rio9/player.html",
+            "rio9/font.txt",
+            "rio9/py.typed",
+            "rio9/live/live.html",
+            "rio9/term/window.py",
+            "bin/rio9d",
+        ):
             self.assertTrue((there / name).exists(), name)
 
 

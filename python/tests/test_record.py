@@ -39,12 +39,13 @@ LINES = [
     ("1 Tread tag=4 fid=0 offset=65 count=143", "M 1 170000007404000000000041000000000000008f000000"),
     ("1 Twrite fid=2 offset=0", "M 1 1700000076010002000000000000000000000000000000"),
     ("1 Twrite fid=2 offset=0 mark=65535", "M 1 1700000076010002000000000000000000000000000000 !65535"),
-    ('1 Twrite fid=9 offset=1\n    text "a\\n\\"é"',
-     "M 1 1c00000076010009000000010000000000000005000000610a22c3a9"),
+    ('1 Twrite fid=9 offset=1\n    text "a\\n\\"é"', "M 1 1c00000076010009000000010000000000000005000000610a22c3a9"),
     ("1 Twrite fid=9 offset=1\n    hex 00ff", "M 1 190000007601000900000001000000000000000200000000ff"),
-    ("1 Twrite fid=1 offset=0\n    mouse point=-3,12 buttons=1 msec=100",
-     "M 1 4800000076010001000000000000000000000031000000"
-     + b"m         -3          12           1         100 ".hex()),
+    (
+        "1 Twrite fid=1 offset=0\n    mouse point=-3,12 buttons=1 msec=100",
+        "M 1 4800000076010001000000000000000000000031000000"
+        + b"m         -3          12           1         100 ".hex(),
+    ),
     ("1 Tclunk tag=8 fid=0", "M 1 0b00000078080000000000"),
     ("1 Tremove fid=1", "M 1 0b0000007a010001000000"),
     ("1 Tstat fid=1", "M 1 0b0000007c010001000000"),
@@ -55,20 +56,28 @@ LINES = [
 
 # Draw messages, and their bytes.
 DRAW = [
-    ("b id=5 screenid=1 refresh=2 chan=x8r8g8b8 repl=0 r=0,0,64,48 clipr=-1,-2,3,4 color=0x11223344",
-     "62 05000000 01000000 02 28180868 00 00000000000000004000000030000000 fffffffffeffffff0300000004000000 44332211"),
-    ("b id=5 screenid=0 refresh=0 chan=0x00000058 repl=1 r=0,0,1,1 clipr=0,0,1,1 color=0xffffff00",
-     "62 05000000 00000000 00 58000000 01 00000000000000000100000001000000 00000000000000000100000001000000 00ffffff"),
+    (
+        "b id=5 screenid=1 refresh=2 chan=x8r8g8b8 repl=0 r=0,0,64,48 clipr=-1,-2,3,4 color=0x11223344",
+        "62 05000000 01000000 02 28180868 00 00000000000000004000000030000000 fffffffffeffffff0300000004000000 44332211",
+    ),
+    (
+        "b id=5 screenid=0 refresh=0 chan=0x00000058 repl=1 r=0,0,1,1 clipr=0,0,1,1 color=0xffffff00",
+        "62 05000000 00000000 00 58000000 01 00000000000000000100000001000000 00000000000000000100000001000000 00ffffff",
+    ),
     ("A id=1 imageid=2 fillid=3 public=1", "41 01000000 02000000 03000000 01"),
     ("c dstid=2 repl=1 clipr=0,0,1,2", "63 02000000 01 00000000000000000100000002000000"),
-    ("d dstid=0 srcid=5 maskid=1 dstr=0,0,10,11 srcp=-1,2 maskp=3,4",
-     "64 00000000 05000000 01000000 00000000000000000a0000000b000000 ffffffff02000000 0300000004000000"),
+    (
+        "d dstid=0 srcid=5 maskid=1 dstr=0,0,10,11 srcp=-1,2 maskp=3,4",
+        "64 00000000 05000000 01000000 00000000000000000a0000000b000000 ffffffff02000000 0300000004000000",
+    ),
     ("D debug=1", "44 01"),
     ("f id=258", "66 02010000"),
     ("F id=4", "46 04000000"),
     ("i id=6 n=128 ascent=7", "69 06000000 80000000 07"),
-    ("l cacheid=6 srcid=3 index=258 r=1,5,4,6 sp=38,10 left=-2 width=4",
-     "6c 06000000 03000000 0201 01000000050000000400000006000000 260000000a000000 fe 04"),
+    (
+        "l cacheid=6 srcid=3 index=258 r=1,5,4,6 sp=38,10 left=-2 width=4",
+        "6c 06000000 03000000 0201 01000000050000000400000006000000 260000000a000000 fe 04",
+    ),
     ("N id=9 in=1 name=pic", "4e 09000000 01 03 706963"),
     ('N id=9 in=0 name="p\\udcff"', "4e 09000000 00 02 70ff"),
     ("n id=2 name=window.1.1", "6e 02000000 0a 77696e646f772e312e31"),
@@ -77,17 +86,23 @@ DRAW = [
     ("O op=SoverD", "4f 0b"),
     ("O op=12", "4f 0c"),
     ("r id=0 r=9,9,10,10", "72 00000000 09000000090000000a0000000a000000"),
-    ("s dstid=0 srcid=1 fontid=7 p=10,20 clipr=0,0,64,48 sp=1,2 0 258",
-     "73 00000000 01000000 07000000 0a00000014000000 00000000000000004000000030000000 0100000002000000 0200 0000 0201"),
-    ("x dstid=0 srcid=1 fontid=7 p=10,20 clipr=0,0,64,48 sp=1,2 bgid=3 bgp=4,5 6",
-     "78 00000000 01000000 07000000 0a00000014000000 00000000000000004000000030000000 0100000002000000 0100"
-     "03000000 0400000005000000 0600"),
+    (
+        "s dstid=0 srcid=1 fontid=7 p=10,20 clipr=0,0,64,48 sp=1,2 0 258",
+        "73 00000000 01000000 07000000 0a00000014000000 00000000000000004000000030000000 0100000002000000 0200 0000 0201",
+    ),
+    (
+        "x dstid=0 srcid=1 fontid=7 p=10,20 clipr=0,0,64,48 sp=1,2 bgid=3 bgp=4,5 6",
+        "78 00000000 01000000 07000000 0a00000014000000 00000000000000004000000030000000 0100000002000000 0100"
+        "03000000 0400000005000000 0600",
+    ),
     ("S id=2 chan=k8", "53 02000000 38000000"),
     ("t top=1 10 11", "74 01 0200 0a000000 0b000000"),
     ("t top=0", "74 00 0000"),
     ("v", "76"),
-    ("y id=0 r=0,0,2,2\n    hex 0102030405060708\n    hex 1112131415161718",
-     "79 00000000 00000000000000000200000002000000 0102030405060708 1112131415161718"),
+    (
+        "y id=0 r=0,0,2,2\n    hex 0102030405060708\n    hex 1112131415161718",
+        "79 00000000 00000000000000000200000002000000 0102030405060708 1112131415161718",
+    ),
     ("y id=5 r=3,0,11,2\n    hex 1fe0\n    hex 0000", "79 05000000 03000000000000000b00000002000000 1fe0 0000"),
     ("y id=77 r=0,0,2,2\n    hex 0102", "79 4d000000 00000000000000000200000002000000 0102"),
     ("v\n    hex 4c00", "76 4c00"),
@@ -112,8 +127,10 @@ LOOSE = [
     ("\n# a comment\n\n", ""),
     ('1 Tattach aname="" uname="" fid=0x0', '1 Tattach fid=0 aname=""\n'),
     ("1 Topen mode=2 fid=0   # another", "1 Topen fid=0 mode=readwrite\n"),
-    ('1 Twrite fid=9 offset=0\n\thex f f0001\n\n  # between\n\ttext "a" b',
-     "1 Twrite fid=9 offset=0\n    hex ff00016162\n"),
+    (
+        '1 Twrite fid=9 offset=0\n\thex f f0001\n\n  # between\n\ttext "a" b',
+        "1 Twrite fid=9 offset=0\n    hex ff00016162\n",
+    ),
     ("1 hex 07000000 7f 0100", "1 hex 070000007f0100\n"),
 ]
 
@@ -237,9 +254,7 @@ def write_of(draw):
     """The bytes of a Twrite, tag 1, of fid 2 at offset 0."""
     data = bytes.fromhex(draw)
     size, count = 23 + len(data), len(data)
-    return (
-        size.to_bytes(4, "little") + bytes.fromhex("76010002000000" + 8 * "00") + count.to_bytes(4, "little") + data
-    )
+    return size.to_bytes(4, "little") + bytes.fromhex("76010002000000" + 8 * "00") + count.to_bytes(4, "little") + data
 
 
 def fault(line, word):
@@ -324,8 +339,11 @@ class Files(unittest.TestCase):
         rows = "    y id=6 r=0,0,1,2\n    hex 0102\n    v"
         self.shows("1 Twrite fid=2 offset=0\n" + made + rows, "    v")
         self.shows("1 Twrite fid=2 offset=0\n" + rows, "    hex 010276")
-        self.shows(f"1 Twrite fid=2 offset=0\n{made}    N id=6 in=1 name=a\n    n id=7 name=a\n"
-                   + rows.replace("id=6", "id=7"), "    v")
+        self.shows(
+            f"1 Twrite fid=2 offset=0\n{made}    N id=6 in=1 name=a\n    n id=7 name=a\n"
+            + rows.replace("id=6", "id=7"),
+            "    v",
+        )
         self.shows(f"1 Twrite fid=2 offset=0\n{made}    f id=6\n" + rows, "    hex 010276")
 
     def test_rows_of_the_display(self):

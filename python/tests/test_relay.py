@@ -49,7 +49,9 @@ class Running:
         self.process, self.ended = os.pipe()
         listener = socket.create_server(("127.0.0.1", 0))
         self.address = listener.getsockname()
-        self.relay = relay.Relay(listener, self.echo.address, workers, lambda event, told: self.told.append((event, told)))
+        self.relay = relay.Relay(
+            listener, self.echo.address, workers, lambda event, told: self.told.append((event, told))
+        )
         self.thread = threading.Thread(target=self.relay.run, args=(self.process,), daemon=True)
         self.thread.start()
 
@@ -98,7 +100,9 @@ class Relays(unittest.TestCase):
             sender = threading.Thread(target=client.sendall, args=(data,))
             sender.start()
             time.sleep(0.2)
-            self.assertLessEqual(sum(len(way.waiting) for link in running.relay.live for way in link.ways()), 2 * relay.PIECE)
+            self.assertLessEqual(
+                sum(len(way.waiting) for link in running.relay.live for way in link.ways()), 2 * relay.PIECE
+            )
             self.assertEqual(take(client, len(data)), data)
             sender.join(SECONDS)
 

@@ -30,7 +30,16 @@ class Launched:
 
     def __init__(self, room, *words):
         self.record, self.errors = f"{room}/a.record", open(f"{room}/err", "w+b")
-        command = [sys.executable, str(PYTHON / "rio9d"), "serve", "--listen", "127.0.0.1:0", "--record", self.record, *words]
+        command = [
+            sys.executable,
+            str(PYTHON / "rio9d"),
+            "serve",
+            "--listen",
+            "127.0.0.1:0",
+            "--record",
+            self.record,
+            *words,
+        ]
         self.process = subprocess.Popen(command, stdout=subprocess.PIPE, stderr=self.errors)
         told = re.fullmatch(rb"listening 127\.0\.0\.1:([0-9]+)\n", self.process.stdout.readline())
         assert told, self.lines()
@@ -62,7 +71,9 @@ def session_at(address, name=""):
 
 def ended(command, *words):
     """Status, output and lines on err of a command."""
-    run = subprocess.run([sys.executable, str(PYTHON / "rio9d"), command, *words], capture_output=True, stdin=subprocess.DEVNULL)
+    run = subprocess.run(
+        [sys.executable, str(PYTHON / "rio9d"), command, *words], capture_output=True, stdin=subprocess.DEVNULL
+    )
     return run.returncode, run.stdout, run.stderr.decode()
 
 
@@ -74,8 +85,8 @@ class Serves(unittest.TestCase):
         self.room = folder.name
 
     def test_a_signal_ends_it_in_order(self):
-        """Its record is whole and gives each client just what it got, also where one waits for an answer and one is in the middle
-        of a message."""
+        """Its record is whole and gives each client just what it got, also where one waits for an answer and one is
+        in the middle of a message."""
         for number in (signal.SIGTERM, signal.SIGINT):
             room = tempfile.mkdtemp(dir=self.room)
             with self.subTest(number), Launched(room, "--size", "320x240") as launched:
@@ -157,7 +168,11 @@ class Serves(unittest.TestCase):
             command = [sys.executable, "-c", script, str(listener.fileno()), str(PYTHON / "rio9d"), "serve"]
             environment = {**os.environ, "NOTIFY_SOCKET": f"{self.room}/notify"}
             run = subprocess.Popen(
-                command, pass_fds=[listener.fileno()], stdout=subprocess.PIPE, stderr=subprocess.DEVNULL, env=environment
+                command,
+                pass_fds=[listener.fileno()],
+                stdout=subprocess.PIPE,
+                stderr=subprocess.DEVNULL,
+                env=environment,
             )
             try:
                 port = listener.getsockname()[1]
@@ -266,7 +281,9 @@ class Programs(unittest.TestCase):
             path.chmod(0o755)
             self.assertEqual(program.find(str(path)), str(path.resolve()))
             nowhere = {program.TOLD_BY: "", "PATH": str(EXAMPLES)}
-            with mock.patch.dict(os.environ, nowhere), mock.patch.object(program, "places", lambda: [EXAMPLES / "rio9"]):
+            with mock.patch.dict(os.environ, nowhere), mock.patch.object(
+                program, "places", lambda: [EXAMPLES / "rio9"]
+            ):
                 with self.assertRaisesRegex(program.Failure, "on PATH"):
                     program.find()
                 with mock.patch.dict(os.environ, {"PATH": room}):

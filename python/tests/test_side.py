@@ -1,4 +1,5 @@
-"""Tests of rio9.side and rio9.recorded: the file beside a record, and what is done to the record that a server wrote."""
+"""Tests of rio9.side and rio9.recorded: the file beside a record, and what is done to the record that a server
+wrote."""
 
 import pathlib
 import tempfile
@@ -115,7 +116,9 @@ class Recorded(unittest.TestCase):
     def test_seconds(self):
         head = [bytes.fromhex(text)[:7] for text in (SHORT, LONGER)]
         links = [Signature(2, zlib.crc32(head[1], zlib.crc32(head[0]))), Signature(1, zlib.crc32(head[1]))]
-        record = record_of("B 1", f"M 1 {SHORT}", "T 1", "B 2", f"M 2 {LONGER}", f"M 1 {LONGER} !3", "T 1", "E 1", "E 2")
+        record = record_of(
+            "B 1", f"M 1 {SHORT}", "T 1", "B 2", f"M 2 {LONGER}", f"M 1 {LONGER} !3", "T 1", "E 1", "E 2"
+        )
         marks = [Mark(50, 1, 0), Mark(1500, 2, 0), Mark(2100, 1, 7), Mark(3000, 3, 0)]
         with tempfile.TemporaryDirectory() as room:
             path = pathlib.Path(room, "record")

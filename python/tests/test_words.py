@@ -1,4 +1,5 @@
-"""Tests that each command tells in one line what is wrong with its words, its files or its input, and ends with a status."""
+"""Tests that each command tells in one line what is wrong with its words, its files or its input, and ends with a
+status."""
 
 import pathlib
 import subprocess
