@@ -1,19 +1,21 @@
 #!/usr/bin/env python3
-"""Meets `rio9 serve` of 16 workers with clients that ask and do not read, and with ones that vanish, and watches its memory.
+"""Meets `rio9 serve` of 16 workers with clients that ask and do not read, and with ones that vanish, and watches its
+memory.
 
     bench/serve/greedy.py [--program PATH] [--seconds S] [--viewers N]
 
-Wants Linux, Python 3 and the built program (--program names another one). First 16 clients at once read the screen 100 times each; the
-server is idle when they have gone. Then 16 clients at once send reads of the screen, each as many as its connection takes within S
-seconds, 4 where nothing is said, and read none of the answers. Half of them close their connections then, and half reset them. A second
-time 8 such clients stand beside 8 that read all that they are answered. Last N viewers, 2,000 where nothing is said, come to another
-server one after the other: each asks for the screen 100 times, and its connection is reset before it has read more than a byte.
+Wants Linux, Python 3 and the built program (--program names another one). First 16 clients at once read the screen
+100 times each; the server is idle when they have gone. Then 16 clients at once send reads of the screen, each as many
+as its connection takes within S seconds, 4 where nothing is said, and read none of the answers. Half of them close
+their connections then, and half reset them. A second time 8 such clients stand beside 8 that read all that they are
+answered. Last N viewers, 2,000 where nothing is said, come to another server one after the other: each asks for the
+screen 100 times, and its connection is reset before it has read more than a byte.
 
-While the greedy clients stand, the server may have at most 1 MiB and one largest reply for each of them more than when it was idle; a
-second after they went at most 1 MiB more in all; and while the viewers after the first quarter of them come at most 1 MiB more than
-before. A server has to end with status 0. Each session that reads on has to get just the bytes that the program's `replay` of the
-written record gives it, and no line tells of it; each greedy one a front of them. Status 1 tells that something is otherwise, 2 that a
-word or a file is wrong.
+While the greedy clients stand, the server may have at most 1 MiB and one largest reply for each of them more than
+when it was idle; a second after they went at most 1 MiB more in all; and while the viewers after the first quarter of
+them come at most 1 MiB more than before. A server has to end with status 0. Each session that reads on has to get
+just the bytes that the program's `replay` of the written record gives it, and no line tells of it; each greedy one a
+front of them. Status 1 tells that something is otherwise, 2 that a word or a file is wrong.
 """
 
 import sys
@@ -42,7 +44,7 @@ def asking(port):
 
 
 def most_memory(server, seconds, limit, work=lambda: None):
-    """The most memory of a server within some seconds, in which some work is done again and again. Ends it where it runs away."""
+    """The most memory of a server while some work is done again and again. Ends the server where it runs away."""
     end, most = time.monotonic() + seconds, 0
     while time.monotonic() < end:
         most = max(most, server.memory())
@@ -68,7 +70,7 @@ def pushing(talkers):
 
 
 def stand(server, options, greedy, idle):
-    """Clients that do not read stand for some seconds, and then go. Prints what memory the server had, and tells what is wrong."""
+    """Clients that do not read stand for some seconds, and then go. Gives them, and the server's memory with its bar."""
     talkers = [asking(server.port) for _ in range(greedy)]
     bar = idle + greedy * FOR_EACH
     most = most_memory(server, options.seconds, RUNAWAY * bar, pushing(talkers))
@@ -125,7 +127,9 @@ def vanished(server, options, idle):
     quarter = max(1, len(seen) // 4)
     first, rest = max(seen[:quarter]), max(seen[quarter:], default=0)
     print(f"{len(seen)} viewers: {first / 1e6:.1f} MB while the first quarter came, {rest / 1e6:.1f} MB then")
-    return [f"while {len(seen)} viewers came memory grew from {first / 1e6:.1f} to {rest / 1e6:.1f} MB"] if rest > first + LEFT else []
+    if rest <= first + LEFT:
+        return []
+    return [f"while {len(seen)} viewers came memory grew from {first / 1e6:.1f} to {rest / 1e6:.1f} MB"]
 
 
 def check_record(options, server, streams):

@@ -21,7 +21,7 @@ NUMBERS = itertools.count()
 
 
 def hello():
-    """Agrees on a size that no other client asks for, by which its session is found in the record, attaches, and opens the screen."""
+    """Agrees on a size that no other client asks for, by which its session is found, attaches, and opens the screen."""
     first = said("Tversion", tag=NOTAG, msize=MOST - next(NUMBERS), version="9P2000")
     attach = said("Tattach", fid=TOP, afid=NOFID, uname="u", aname="")
     return b"".join([first, attach, *opened(SCREEN, 0, "screen")])
@@ -35,8 +35,9 @@ def reads(number, count=MOST - READ_HEAD):
 def messages(data):
     """How many whole messages bytes begin with."""
     at = found = 0
-    while at + SIZE_BYTES <= len(data) and at + (size := int.from_bytes(data[at : at + SIZE_BYTES], "little")) <= len(data):
-        at, found = at + size, found + 1
+    while at + SIZE_BYTES <= len(data):
+        at += int.from_bytes(data[at : at + SIZE_BYTES], "little")
+        found += at <= len(data)
     return found
 
 

@@ -10,7 +10,7 @@ ghost use Rattle.r9_service.specs.service.Runs.{Came, NotOpened, Ran, TellsNone}
 use crate::recorder::{Keeps, Recorder, Running, Runs, told_of_recorder};
 use crate::service::outcome::Service;
 use r9_attend::attend::Serves;
-use r9_attend::workers::{Report, listen_all, told_of_history, work_all};
+use r9_attend::workers::{Report, has_threads, listen_all, told_of_history, work_all};
 use r9_lock::{Pass, Refused, Shared};
 use r9_outside::outside::{Door, Sink};
 use std::alloc::Global;
@@ -27,6 +27,17 @@ pub(crate) fn no_sessions(alloc: Global) -> Report
         memory: false,
         spent: None,
         sessions: Some(Vec::new(alloc)),
+    }
+}
+
+/// The report where nobody was served for want of memory.
+fn short(alloc: Global) -> Report
+    ensures none { TellsNone result }
+    ensures short { (result.door_fault ≡ None) × (result.memory ≡ true) }
+{
+    Report {
+        memory: true,
+        ..no_sessions(alloc)
     }
 }
 
@@ -62,7 +73,8 @@ fn work<T: Serves + Send, D: Door + Send, R: Threads + Wait + Sync>(
     }
 }
 
-/// Lets workers serve over a recorder's hall, in which nothing has happened, and gives the recorder back.
+/// Lets workers serve over a recorder's hall, in which nothing has happened, and gives the recorder back. Each worker has a thread, and
+/// one more while it attends to a session: where so many cannot be had no door is opened.
 pub(crate) fn serve_over<
     'a,
     R: Threads + Wait + Sync,
@@ -86,14 +98,15 @@ pub(crate) fn serve_over<
     ensures ran { (history : List Entry) × Records H.first H.stands O.held O.faults J.loan result history
         × Ran (told_doors D.ended D.over D.faults (told_ends D.In.left D.In.faults D.Out.held D.Out.unflushed D.Out.faults)) (served J.opening) (share_of service.now.sessions service.now.workers) service.now.workers doors.old doors.new history report.new }
 {
+    if !has_threads(rt, 2 * service.workers - 1) {
+        *report = short(alloc);
+        return recorder;
+    }
     let running: Running<'a, H, O, J> = Running::new(recorder);
     let (lock, mut pass) = match Shared::start(alloc, running, 2 * service.workers) {
         Ok(started) => started,
         Err(refused) => {
-            *report = Report {
-                memory: true,
-                ..no_sessions(alloc)
-            };
+            *report = short(alloc);
             let Refused { value } = refused;
             let Running { recorder, of: _ } = value;
             return recorder;

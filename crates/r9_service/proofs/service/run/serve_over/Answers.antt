@@ -8,15 +8,25 @@ use Rattle.r9_service.specs.recorder.Recording.{Records}
 use Rattle.r9_service.proofs.service.Ran.{no_lock_ran, all_ran}
 use Rattle.r9_service.proofs.service.run.serve_over.Goals as goal
 
+pub returns-then-not-has_threads-clause-ran : goal.returns-then-not-has_threads-clause-ran
+returns-then-not-has_threads-clause-ran g c =
+    let doors = told_doors g.D.Door.ended g.D.Door.over g.D.Door.faults (told_ends g.D.In.Source.left g.D.In.Source.faults g.D.Out.Sink.held g.D.Out.Sink.unflushed g.D.Out.Sink.faults) in
+    let service = c.args.service.now in
+    let is = c.short.ensures in (
+      [],
+      c.requires.recorder,
+      no_lock_ran doors (served g.J.Runs.opening) (share_of service.sessions service.workers) service.workers c.args.doors.now _ is.none is.short.0 is.short.1,
+    )
+
 pub returns-in-Err-clause-ran : goal.returns-in-Err-clause-ran
 returns-in-Err-clause-ran g c =
     let doors = told_doors g.D.Door.ended g.D.Door.over g.D.Door.faults (told_ends g.D.In.Source.left g.D.In.Source.faults g.D.Out.Sink.held g.D.Out.Sink.unflushed g.D.Out.Sink.faults) in
     let service = c.args.service.now in
-    let none = c.no_sessions.ensures.none in
+    let is = c.short-in-Err.ensures in
     let same = ap (λ r. r.recorder) c.in-Err.ensures.refused ∙ c.new-running.ensures in (
       [],
       subst (λ r. Records g.H.Keeps.first g.H.Keeps.stands g.O.Sink.held g.O.Sink.faults g.J.Runs.loan r []) (sym same) c.requires.recorder,
-      no_lock_ran doors (served g.J.Runs.opening) (share_of service.sessions service.workers) service.workers c.args.doors.now _ (record { spent = none.spent; sessions = none.sessions }) c.no_sessions.ensures.fine.0 refl,
+      no_lock_ran doors (served g.J.Runs.opening) (share_of service.sessions service.workers) service.workers c.args.doors.now _ is.none is.short.0 is.short.1,
     )
 
 pub returns-clause-ran : goal.returns-clause-ran
