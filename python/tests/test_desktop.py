@@ -44,16 +44,16 @@ class Desktops(unittest.TestCase):
         desktop.drag((100, 100), (110, 120), 2)
 
     def test_what_the_mouse_does(self):
-        """Events come to the window as they were given: moved, pressed, dragged and let go."""
+        """Events come to the window as they were given; a move that it has not read gives way to what follows."""
         window = self.desktop.new_window((16, 16, 176, 128))
         self.desktop.click(40, 40)
         with client.connect(self.server.address, str(window)) as session, session.file(session.root, "mouse") as file:
             tag = session.ask_read(file.fid, count=49)
             self.desktop.drag((50, 60), (70, 80), 3)
             found = [session.answer(tag)[1]]
-            found += [session.read(file.fid, count=49) for _ in range(4)]
+            found += [session.read(file.fid, count=49) for _ in range(3)]
         events = [list(map(int, event[1:37].split())) for event in found]
-        self.assertEqual(events, [[40, 40, 1], [40, 40, 0], [50, 60, 4], [70, 80, 4], [70, 80, 0]])
+        self.assertEqual(events, [[40, 40, 1], [40, 40, 0], [50, 60, 4], [70, 80, 0]])
 
     def test_what_is_refused(self):
         for work, told in (
