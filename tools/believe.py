@@ -76,7 +76,7 @@ def gather(root: str) -> Belief:
 
 
 def in_turn(uses: dict[str, set[str]], rank: dict[str, int]) -> list[str]:
-    """Names in an order in which each stands after those that it uses and beside those of its folder, by rank and name."""
+    """Names so that each stands after those that it uses and, if it can, beside those of its folder; else by rank."""
     done: list[str] = []
     waiting = dict(uses)
     while waiting:
@@ -230,11 +230,11 @@ def page(root: str) -> str:
 def intro(definitions: int, files: int, lines: int) -> str:
     return f"""# What has to be believed
 
-The contract of [`{CALL}`](../{CALL_FILE}) is proved. Definitions tell what it means, and no proof tells whether they
-say what was meant. So they have to be read and believed: all that the contract names, and all that those name in
-turn. Nothing else of this repository has to be. Crates and files stand in reading order: each after those that it
-uses. This page is made by `tools/believe.py`, and `.ci/run` holds it to the sources. `tools/believe.py --why NAME`
-tells through what the contract comes to a definition.
+The contract of [`{CALL}`](../{CALL_FILE}) is proved. Definitions tell what it means, and no
+proof tells whether they say what was meant. So they have to be read and believed: all that the contract names, and all
+that those name in turn. No other definition has to be; what is trusted besides, the [README](../README.md) says. Crates
+and files stand in reading order: each after those that it uses. This page is made by `tools/believe.py`, and `.ci/run`
+holds it to the sources. `tools/believe.py --why NAME` tells through what the contract comes to a definition.
 
 | What | How much |
 |---|---|
