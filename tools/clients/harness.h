@@ -46,6 +46,7 @@ struct Words {
     Point size;
     int deep;
     int count;
+    int from;
     ulong seed;
     char *parts;
 };
@@ -92,6 +93,7 @@ extern Point at(Side *, int, int);
 extern int begin(Side *);
 extern char *compared(void);
 extern void readback(Side *);
+extern void keep(char *);
 extern void rows(Row *);
 extern int has(char *);
 /* files.c */

@@ -6,6 +6,7 @@
  *   size=W,H chan=C  the display that the server has, and the device is to have
  *   deep=N           the window stands in a rio in a window, so many deep
  *   count=N seed=N   how many shapes, and of which chance
+ *   from=N           only those from the Nth on are drawn, counted from 0
  */
 #include "harness.h"
 
@@ -65,6 +66,8 @@ static void read1(char *word)
         words.deep = atoi(v);
     else if (v = value(word, "count"))
         words.count = atoi(v);
+    else if (v = value(word, "from"))
+        words.from = atoi(v);
     else if (v = value(word, "seed"))
         words.seed = strtoul(v, nil, 10);
 }

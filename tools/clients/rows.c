@@ -157,7 +157,7 @@ char *compared(void)
 }
 
 /* a row's pictures as image files, for who wants to look at them */
-static void keep(char *name)
+void keep(char *name)
 {
     Side *sides[] = {&rio9, &device};
     char p[300], h[61], *q;

@@ -143,6 +143,7 @@ static void tell(int i, Shape *s, char *v)
 {
     char name[60];
     snprint(name, sizeof name, "shape %d", i);
+    keep(name);
     row(name,
         "%s; %c op %d target %d source %d, %d points from %d,%d %d,%d, %dx%d thick %d ends %x %x angles %d %d; %s", v,
         s->kind, s->op, s->target, s->source, s->n, s->p[0].x, s->p[0].y, s->p[1].x, s->p[1].y, s->a, s->b, s->thick,
@@ -173,6 +174,8 @@ void shapes(void)
     make(&device);
     for (i = 0; i < words.count; i++) {
         s = made();
+        if (i < words.from)
+            continue;
         use(&rio9);
         drawn(&rio9, &s);
         readback(&rio9);

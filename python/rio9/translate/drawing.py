@@ -21,7 +21,7 @@ WHITE = 0xFFFFFFFF
 EVERYWHERE = (-(2**29), -(2**29), 2**29, 2**29)
 FIRST_ID = 0xF0F00000  # of the images that the translator makes; it goes up from there
 MOST_OF_AN_R = 65536
-# What is larger is passed on: half axes, thickness, the sides of an image that shapes are drawn on, and what a brush goes over.
+# What is larger is passed on: half axes, thickness, the sides of an image that is drawn on, and what a brush goes over.
 MOST_REACH, MOST_SIDE, MOST_BRUSHED = 4096, 8192, 10**6
 HEADS_OF_A_BAND = 51 + 21 + 47 + 5  # `b`, the head of `y`, an operator and `d`, `f`
 IN_USE = "image id in use"
@@ -63,14 +63,15 @@ class Image:
 @dataclass
 class Connection:
     """What is known of a connection of the draw device: the operator of the next drawing, None where only the server
-    knows it; images; ids whose image others may change; ids of images that the client thinks have a map of colours; the
-    id that `ctl` describes; pixels that were read for the client and that it has not taken; and the translator's own
-    image of one white point."""
+    knows it; images; ids whose image others may change, and those of windows; ids of images that the client thinks have
+    a map of colours; the id that `ctl` describes; pixels that were read for the client and that it has not taken; and
+    the translator's own image of one white point."""
 
     number: int
     operator: Optional[int] = SOVERD
     images: Dict[int, Image] = field(default_factory=dict)
     shared: Set[int] = field(default_factory=lambda: {0})
+    windows: Set[int] = field(default_factory=set)
     mapped: Set[int] = field(default_factory=set)
     described: int = 0
     held: Optional[bytes] = None
@@ -192,6 +193,7 @@ class Work:
         number, screen, _, channels, repeats = struct.unpack_from("<IIBIB", message, 1)
         await self.give_way(number)
         self.connection.shared.discard(number)
+        (self.connection.windows.add if screen else self.connection.windows.discard)(number)
         self.connection.images[number] = Image(channels, bool(repeats), rectangle(message, 15), rectangle(message, 31))
         if channels != CMAP8 or screen:
             await self.add(message)
@@ -328,6 +330,11 @@ class Work:
             return None
         return target, source
 
+    def scanned(self, number: int, image: Image) -> Rectangle:
+        """To where lines are worked out: what Plan 9's device does at the clip rectangle of a window, it does also
+        beside the window."""
+        return near(image) if number in self.connection.windows else clip_of(image)
+
     async def line(self, message: bytes) -> Optional[int]:
         """`L`."""
         dst, *numbers, src, x, y = struct.unpack_from("<I7iI2i", message, 1)
@@ -338,8 +345,8 @@ class Work:
             return None
         stroke = shapes.Stroke(numbers[4], numbers[5], numbers[6])
         ends = (numbers[0], numbers[1]), (numbers[2], numbers[3])
-        drawn = shapes.line(ends, stroke, (x, y), bounds(images[1]), clip_of(images[0]))
-        await self.draw(Target(dst, src, images[1].has_alpha()), [drawn])
+        drawn = shapes.line(ends, stroke, (x, y), bounds(images[1]), self.scanned(dst, images[0]))
+        await self.draw(target_of(dst, src, images), [drawn])
         return len(message)
 
     async def ellipse(self, message: bytes) -> Optional[int]:
@@ -363,7 +370,7 @@ class Work:
             drawn = shapes.arc(center, form, at, shapes.Angles(begin, turn), clip, operator)
         else:
             drawn = shapes.ellipse(center, form, at, clip, operator)
-        await self.draw(Target(dst, src, images[1].has_alpha()), [drawn])
+        await self.draw(target_of(dst, src, images), [drawn])
         return len(message)
 
     async def polygon(self, message: bytes) -> Optional[int]:
@@ -377,11 +384,11 @@ class Work:
         if images is None or radius > MOST_REACH:
             return None
         points, stop = await self.points(self.at + len(message), count + 1)
-        clip, target = clip_of(images[0]), Target(dst, src, images[1].has_alpha())
+        target = target_of(dst, src, images)
         if message[:1] == b"P":
-            await self.draw(target, [shapes.polygon(points, begin, (x, y), clip)])
+            await self.draw(target, [shapes.polygon(points, begin, (x, y), near(images[0]))])
         else:
-            stroke = shapes.Stroke(begin, end, radius)
+            stroke, clip = shapes.Stroke(begin, end, radius), self.scanned(dst, images[0])
             await self.draw(target, shapes.lines(points, stroke, (x, y), bounds(images[1]), clip))
         return stop - self.at
 
@@ -412,6 +419,7 @@ class Work:
         again = b"" if operator == SOVERD else bytes((ord("O"), operator))
         is_begun, is_idempotent = False, operator in IDEMPOTENT and not target.has_alpha
         for shape in drawn:
+            shape = shapes.Shape(shape.pieces, shapes.common(shape.clip, target.clip))
             for part in masks.parts_of(shape, bool(operator & KEEPS_AROUND), is_idempotent):
                 await self.draw_part(target, part, again if is_begun else b"", again)
                 is_begun = True
@@ -462,11 +470,17 @@ class Work:
 
 @dataclass(frozen=True)
 class Target:
-    """The ids of what is drawn on and of the source, and whether that has alpha."""
+    """The ids of what is drawn on and of the source, whether that has alpha, and where can be drawn."""
 
     dst: int
     src: int
     has_alpha: bool
+    clip: Rectangle
+
+
+def target_of(dst: int, src: int, images: Tuple[Image, Image]) -> Target:
+    """What is drawn on, and the source."""
+    return Target(dst, src, images[1].has_alpha(), clip_of(images[0]))
 
 
 def word(message: bytes, at: int) -> int:
@@ -483,6 +497,12 @@ def rectangle(message: bytes, at: int) -> Rectangle:
 def clip_of(image: Image) -> Rectangle:
     """Where an image can be drawn on."""
     return shapes.common(image.r, image.clip)
+
+
+def near(image: Image) -> Rectangle:
+    """The clip rectangle of an image, as far as it is not far from it."""
+    left, upper, right, lower = image.r
+    return shapes.common(image.clip, (left - MOST_SIDE, upper - MOST_SIDE, right + MOST_SIDE, lower + MOST_SIDE))
 
 
 def bounds(image: Image) -> shapes.Source:
