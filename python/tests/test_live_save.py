@@ -96,6 +96,9 @@ class Command(unittest.TestCase):
         status, told = self.run_words(self.record, self.page, "--size", "9x9")
         self.assertEqual(status, 2)
         self.assertIn("line 2, word 2 `2`", told)
+        self.record.write_bytes(b"rio9 2 7\n")
+        status, told = self.run_words(self.record, self.page, "--size", "9x9")
+        self.assertEqual((status, told), (10, "rio9d save: rio9: late record: first entry 7\n"))
 
 
 if __name__ == "__main__":

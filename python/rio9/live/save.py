@@ -2,6 +2,7 @@
 
 import subprocess
 import sys
+import tempfile
 import zlib
 from pathlib import Path
 from typing import IO, List, Optional, Tuple
@@ -48,10 +49,10 @@ def packed(frames: IO[bytes]) -> bytes:
     return bytes(made) + packer.flush()
 
 
-def mirrored(path: str, words: List[str], rio9: str) -> Tuple[int, bytes]:
-    """The status of `mirror` of a record, and its frames, compressed."""
-    with open(path, "rb") as given:
-        running = subprocess.Popen([rio9, "mirror", *words], stdin=given, stdout=subprocess.PIPE)
+def mirrored(path: str, words: List[str], rio9: str) -> bytes:
+    """The frames of `mirror` of a record, compressed."""
+    with open(path, "rb") as given, tempfile.TemporaryFile() as told:
+        running = subprocess.Popen([rio9, "mirror", *words], stdin=given, stdout=subprocess.PIPE, stderr=told)
         assert running.stdout is not None
         try:
             found = packed(running.stdout)
@@ -61,7 +62,13 @@ def mirrored(path: str, words: List[str], rio9: str) -> Tuple[int, bytes]:
         finally:
             running.stdout.close()
             code = running.wait()
-    return code, found
+        told.seek(0)
+        why = told.read(PIECE).decode(errors="replace").strip()
+    if code == program.BAD_RECORD:
+        raise program.Failure(why_no_record(path), code)
+    if code != program.DONE:
+        raise program.Failure(why or f"rio9 ended by {program.why_status(code)}", program.status_of(code))
+    return found
 
 
 def entries_of(path: str) -> int:
@@ -70,20 +77,15 @@ def entries_of(path: str) -> int:
         return max(sum(piece.count(b"\n") for piece in iter(lambda: file.read(PIECE), b"")) - 1, 0)
 
 
-def save(record: str, page: str, size: Optional[Tuple[int, int]], chan: Optional[str], told: Optional[str]) -> int:
-    """Writes the page of a record, and gives the status of rio9."""
+def save(record: str, page: str, size: Optional[Tuple[int, int]], chan: Optional[str], told: Optional[str]) -> None:
+    """Writes the page of a record."""
     beside = side.load(record)
     display, channels = display_of(record, size, chan)
-    code, frames = mirrored(record, program.display_words(display, channels), program.find(told))
-    if code == program.BAD_RECORD:
-        raise program.Failure(why_no_record(record), code)
-    if code != program.DONE:
-        return program.status_of(code)
+    frames = mirrored(record, program.display_words(display, channels), program.find(told))
     title = Path(record).name + (f", {beside.start.astimezone():%Y-%m-%d %H:%M}" if beside else "")
     text = saved_page(title, channels, times_of(beside, entries_of(record)), frames)
     with open(page, "w", encoding="utf-8") as file:
         file.write(text)
-    return program.DONE
 
 
 def main(words: List[str]) -> int:
@@ -93,10 +95,11 @@ def main(words: List[str]) -> int:
     parser.add_argument("page", metavar="PAGE.html", help="the page that is written")
     options = parser.parse_args(words)
     try:
-        return save(options.record, options.page, options.size, options.chan, options.program)
+        save(options.record, options.page, options.size, options.chan, options.program)
     except (program.Failure, side.BadSide, TooLong) as failure:
         sys.stderr.write(f"rio9d save: {failure}\n")
         return int(getattr(failure, "status", program.USAGE))
     except OSError as error:
         sys.stderr.write(f"rio9d save: {formats.why_not(error)}\n")
         return program.READ_FAULT
+    return program.DONE
