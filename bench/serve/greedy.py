@@ -12,10 +12,11 @@ answered. Last N viewers, 2,000 where nothing is said, come to another server on
 screen 100 times, and its connection is reset before it has read more than a byte.
 
 While the greedy clients stand, the server may have at most 1 MiB and one largest reply for each of them more than
-when it was idle; a second after they went at most 1 MiB more in all; and while the viewers after the first quarter of
-them come at most 1 MiB more than before. A server has to end with status 0. Each session that reads on has to get
-just the bytes that the program's `replay` of the written record gives it, and no line tells of it; each greedy one a
-front of them. Status 1 tells that something is otherwise, 2 that a word or a file is wrong.
+when it was idle; a second after they went at most 4 MiB more in all; and while the viewers after the first quarter of
+them come at most 4 MiB more than before: some of the record may wait to be written, and an allocator keeps something.
+A server has to end with status 0. Each session that reads on has to get just the bytes that the program's `replay` of
+the written record gives it, and no line tells of it; each greedy one a front of them. Status 1 tells that something is
+otherwise, 2 that a word or a file is wrong.
 """
 
 import sys
@@ -29,7 +30,7 @@ WORKERS = 16
 SHARE = 4  # sessions of each worker
 MIB = 1 << 20
 FOR_EACH = MIB + MOST  # what one greedy client may take
-LEFT = MIB  # what all of them may leave
+LEFT = 4 * MIB  # what all of them may leave
 RUNAWAY = 4  # a server with more than so many times what it may have is ended at once
 BLOCK = 1000  # reads that are sent at once
 VIEWS = 100
