@@ -1,5 +1,9 @@
 pub mod Placed
 pub mod Replaced
+pub mod Growing
+pub mod Coming
+pub mod Leaving
+pub mod Stacked
 pub mod Painting
 pub mod Messages
 pub mod Orders

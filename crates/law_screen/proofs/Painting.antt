@@ -16,11 +16,13 @@ use Rattle.model_forest.specs.World.{World as Images, deepest, image_at}
 use Rattle.model_forest.specs.View.{inward, top_window, view, view_within}
 use Rattle.model_forest.specs.Paint.{paint, paint_within}
 use Rattle.model_forest.proofs.Views.{All-top_window, holds-carried, holds-top_window, painted_over-at}
-use Rattle.model_draw.specs.imgfile.ImageFile.{rows_len}
+use Rattle.model_draw.specs.imgfile.ImageFile.{image_file, rows_len}
+use Rattle.model_draw.specs.draw.Files.{screen_file}
+use Rattle.model_draw.specs.draw.Orders.{image_shown, picture_of}
 use Rattle.model_draw.specs.draw.World.{World, at_number, client_of, look, with_client}
 use Rattle.model_draw.specs.draw.Drawing.{most_read, read_pixels}
 use Rattle.law_shown.proofs.shown.Tests.{refuse_ok, same_Ok, second_false, then_ok}
-use Rattle.law_screen.specs.Painted.{IsPainted, ReadsPainting}
+use Rattle.law_screen.specs.Painted.{IsPainted, ReadsPainting, file_shown}
 use Rattle.law_screen.proofs.Placed.{ArePlaced, IsPlaced}
 
 -- the point of the topmost window that is seen at a point is one of its own
@@ -91,11 +93,20 @@ module _ (r : Rect) (depth : ℕ) (one other : Point → ℕ) (agree : (p : Poin
 -- ---- what is read
 
 pub device_read : (device : World) → ArePlaced device.images → ReadsPainting device
-unfolding read_pixels
-device_read device placed = record { rows = λ client id i r next looked e. read client id i r next looked e }
+unfolding read_pixels screen_file picture_of
+device_read device placed = record {
+  rows = λ client id i r next looked e. read client id i r next looked e;
+  screen = file 0;
+  picture = λ window. file (image_shown device window);
+}
   where
     painted : IsPainted device.images
     painted = images_painted device.images placed
+
+    file : (i : ℕ) → (let image = at_number device i in image_file image.chan image.r (rows_of image.r (channels.depth image.chan) (paint device.images i))) ≡ file_shown device i
+    file i =
+        let image = at_number device i in
+        ap (image_file image.chan image.r) (rows_same image.r (channels.depth image.chan) (paint device.images i) (view device.images i) (λ p here. sym (painted.shown i p here)))
 
     some : (x y : Bool) → (x || not y) ≡ false → y ≡ true
     some x true none = refl

@@ -182,7 +182,7 @@ origin_placed w i min corner placed =
 -- ---- images that come and go
 
 -- placed, and none of image n's
-abbrev Beside : World → (n i : ℕ) → Window → Type 0
+abbrev pub Beside : World → (n i : ℕ) → Window → Type 0
 Beside w n i v = IsPlaced w i v × ((v.image == n) ≡ false)
 
 -- a window in a list is no image that stands nowhere
@@ -209,7 +209,7 @@ slot_placed w v n slot stays others own i =
     by true is = subst (λ (k : ℕ). All (Beside w n k) (image_at new k).windows) (sym (eqb-true i n is)) here
     by false is = subst (λ (o : Option Image). All (Beside w n i) (unwrap_or o no_image).windows) (sym (changed-other v n i slot is)) (others i is)
 
-all_beside : (w : World) (n i : ℕ) → parent_of w n ≡ None → ArePlaced w → All (Beside w n i) (image_at w i).windows
+pub all_beside : (w : World) (n i : ℕ) → parent_of w n ≡ None → ArePlaced w → All (Beside w n i) (image_at w i).windows
 all_beside w n i nowhere placed = All-weaker (IsPlaced w i) (Beside w n i) (λ v is. beside w n i v nowhere is) (image_at w i).windows (placed i)
 
 -- an image that stands nowhere changes
@@ -218,7 +218,7 @@ ground_placed w n x nowhere windows placed =
     slot_placed w w n (Some x) (λ i. remains_same w w i refl) (λ i other. all_beside w n i nowhere placed) (subst (λ (ws : List Window). All (Beside w n n) ws) (sym windows) (all_beside w n n nowhere placed))
 
 -- there is no image
-none_nowhere : (w : World) (n : ℕ) → w n ≡ None → parent_of w n ≡ None
+pub none_nowhere : (w : World) (n : ℕ) → w n ≡ None → parent_of w n ≡ None
 none_nowhere w n free = ap (λ (o : Option Image). option_map (λ (s : Standing). s.parent) (unwrap_or o no_image).standing) free
 
 -- one comes, with nothing on it
