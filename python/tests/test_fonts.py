@@ -4,6 +4,7 @@ them."""
 import contextlib
 import gzip
 import io
+import itertools
 import os
 import pathlib
 import shutil
@@ -12,6 +13,7 @@ import subprocess
 import sys
 import tempfile
 import unittest
+from dataclasses import dataclass
 
 from needs import needs_program
 
@@ -91,58 +93,61 @@ BROKEN_BDF = [
 ]
 
 
-def pcf(is_high_first=True, pad=2, unit=0, is_compressed=True, swap=False, registry=b"ISO10646", encoding=b"1"):
-    """A PCF file of the glyphs above. Numbers and bits are stored as the words say; `swap` stores bits the other
-    way."""
-    order = ">" if is_high_first else "<"
-    is_high_bit = is_high_first != swap
-    kind = (4 if is_high_first else 0) | (8 if is_high_bit else 0) | pad | unit << 4
-    strings = b"CHARSET_REGISTRY\0" + registry + b"\0CHARSET_ENCODING\0" + encoding + b"\0"
-    value = 17
-    name, one = value + len(registry) + 1, value + len(registry) + 18
-    words = (
-        struct.pack(order + "iiBiiBi", 2, 0, 1, value, name, 1, one)
-        + b"\0\0"
-        + struct.pack(order + "i", len(strings))
-        + strings
-    )
-    metrics, rows, offsets = b"", b"", []
-    for glyph in GLYPHS.values():
+@dataclass
+class Stored:
+    """How a PCF file stores its numbers and its bits: which byte of a number and which bit of a byte comes first,
+    the bytes that a row is filled up to and those that are swapped together, as powers of two, and whether metrics
+    have a byte each."""
+
+    is_high_byte: bool = True
+    is_high_bit: bool = True
+    pad: int = 2
+    unit: int = 0
+    is_compressed: bool = True
+
+    @property
+    def form(self):
+        return 4 * self.is_high_byte | 8 * self.is_high_bit | self.pad | self.unit << 4
+
+    def pack(self, form, *values):
+        return struct.pack((">" if self.is_high_byte else "<") + form, *values)
+
+    def row(self, byte):
+        """A row of one byte, filled up, as the file stores it."""
+        row, unit = bytes([byte]) + bytes((1 << self.pad) - 1), 1 << self.unit
+        if not self.is_high_bit:
+            row = bytes(int(f"{one:08b}"[::-1], 2) for one in row)
+        if self.is_high_bit != self.is_high_byte:
+            row = b"".join(row[at : at + unit][::-1] for at in range(0, len(row), unit))
+        return row
+
+    def metrics(self, glyph):
+        """The metrics of a glyph."""
         numbers = (glyph.left, glyph.left + glyph.wide, glyph.advance, glyph.top, len(glyph.rows) - glyph.top)
-        metrics += (
-            bytes(number + 0x80 for number in numbers) if is_compressed else struct.pack(order + "5hH", *numbers, 0)
-        )
+        return bytes(number + 0x80 for number in numbers) if self.is_compressed else self.pack("5hH", *numbers, 0)
+
+
+def pcf(stored=Stored(), registry=b"ISO10646", encoding=b"1"):
+    """A PCF file of the glyphs above."""
+    pack, count = stored.pack, len(GLYPHS)
+    strings = b"CHARSET_REGISTRY\0" + registry + b"\0CHARSET_ENCODING\0" + encoding + b"\0"
+    places = (0, strings.index(registry), strings.index(b"CHARSET_E"), len(strings) - len(encoding) - 1)
+    words = pack("iiBiiBi", 2, places[0], 1, places[1], places[2], 1, places[3])
+    rows, offsets = b"", []
+    for glyph in GLYPHS.values():
         offsets.append(len(rows))
-        rows += b"".join(
-            stored(row << 8 - glyph.wide, 1 << pad, 1 << unit, is_high_bit, is_high_first) for row in glyph.rows
-        )
-    count = struct.pack(order + ("h" if is_compressed else "i"), len(GLYPHS))
-    sizes = [len(rows) if at == pad else 0 for at in range(4)]
-    bitmaps = struct.pack(order + "i3i4i", len(GLYPHS), *offsets, *sizes) + rows
-    indices = [0xFFFF] * 107
-    for index, code in enumerate(GLYPHS):
-        indices[code] = index
-    encodings = struct.pack(order + "5H", 0, 106, 0, 0, 0) + struct.pack(order + "107H", *indices)
-    heights = struct.pack(order + "8Bii", 0, 0, 0, 0, 0, 0, 0, 0, 4, 1)
-    return pcf_file(
-        [
-            (1, kind, words),
-            (2, kind, heights),
-            (4, kind | 0x100 * is_compressed, count + metrics),
-            (8, kind, bitmaps),
-            (32, kind, encodings),
-        ]
-    )
-
-
-def stored(byte, pad, unit, is_high_bit, is_high_byte):
-    """A row of one byte, filled up to full pads, as a file stores it."""
-    row = bytes([byte]) + bytes(pad - 1)
-    if not is_high_bit:
-        row = bytes(int(f"{one:08b}"[::-1], 2) for one in row)
-    if is_high_bit != is_high_byte:
-        row = b"".join(row[at : at + unit][::-1] for at in range(0, pad, unit))
-    return row
+        rows += b"".join(stored.row(row << 8 - glyph.wide) for row in glyph.rows)
+    sizes = [len(rows) * (at == stored.pad) for at in range(4)]
+    indices = [list(GLYPHS).index(code) if code in GLYPHS else 0xFFFF for code in range(107)]
+    metrics = pack("h" if stored.is_compressed else "i", count) + b"".join(map(stored.metrics, GLYPHS.values()))
+    tables = [
+        (1, stored.form, words + b"\0\0" + pack("i", len(strings)) + strings),
+        (2, stored.form, pack("8Bii", *[0] * 8, 4, 1)),
+        (4, stored.form | 0x100 * stored.is_compressed, metrics),
+        (8, stored.form, pack("i3i4i", count, *offsets, *sizes) + rows),
+        (32, stored.form, pack("5H", 0, 106, 0, 0, 0) + pack("107H", *indices)),
+    ]
+    return pcf_file(tables)
 
 
 def pcf_file(tables):
@@ -218,14 +223,12 @@ class Reading(unittest.TestCase):
                 fonts.read_face(BDF.replace(old, new, 1))
 
     def test_pcf_fonts_however_they_are_stored(self):
-        for is_high_first in (True, False):
-            for swap in (True, False):
-                for pad in range(4):
-                    for unit in range(min(pad, 2) + 1):
-                        for is_compressed in (True, False):
-                            data = pcf(is_high_first, pad, unit, is_compressed, swap)
-                            with self.subTest((is_high_first, swap, pad, unit, is_compressed)):
-                                self.assertEqual(fonts.read_face(data), fonts.Face(4, 1, GLYPHS))
+        units = [(pad, unit) for pad in range(4) for unit in range(min(pad, 2) + 1)]
+        for is_high_byte, is_high_bit, is_compressed in itertools.product((True, False), repeat=3):
+            for pad, unit in units:
+                stored = Stored(is_high_byte, is_high_bit, pad, unit, is_compressed)
+                with self.subTest(stored):
+                    self.assertEqual(fonts.read_face(pcf(stored)), fonts.Face(4, 1, GLYPHS))
 
     def test_a_pcf_font_that_is_cut_or_changed_is_refused_or_read(self):
         whole = pcf()
