@@ -10,6 +10,7 @@ use Rattle.r9_geom.specs.Geometry.{is_empty, is_inside}
 use Rattle.model_text.specs.text.Outcome.{Outcome, refuse_if}
 use Rattle.model_pixel.specs.Channels.{is_descriptor}
 use Rattle.model_forest.specs.Stack.{after_lower, after_raise}
+use Rattle.model_forest.specs.World as forest
 use Rattle.model_forest.specs.World.{IsLive, World as Images, parent_of}
 use Rattle.model_forest.proofs.Changes.{live-standing}
 use Rattle.model_draw_parts.specs.dmsg.Message.{Message, Writing, LowB, UpA, LowC, LowD, UpD, LowF, UpF, LowI, LowL, UpN, LowN, LowO, UpO, LowR, LowS, UpS, LowT, LowV, LowX, LowY}
@@ -36,8 +37,8 @@ use Rattle.law_shown.proofs.lasting.Messages.{named_there}
 use Rattle.law_likeness.specs.whole.Steady.{IsSteady}
 use Rattle.law_likeness.proofs.making.Fresh.{fresh_next}
 use Rattle.law_likeness.proofs.whole.Messages.{act_steady, ground_apart, ground_lives}
-use Rattle.law_likeness.specs.making.Standing.{IsWhole}
-use Rattle.law_likeness.proofs.making.Standing.{parent_lives}
+use Rattle.law_likeness.specs.making.Standing.{IsStanding, IsWhole}
+use Rattle.law_likeness.proofs.making.Standing.{fill_used, parent_lives}
 use Rattle.law_likeness.proofs.whole.Freeing.{free_id_whole, free_screen_whole, leave_whole}
 use Rattle.law_others.specs.orders.Leading.{Uses, begins, chooses, ends, reads, rests, writes}
 use Rattle.law_screen.proofs.Growing.{NobodyOn}
@@ -61,7 +62,15 @@ nobody_on w steady i stands =
     not_both (is_some (w.images (next_image w))) live (ap is_some (next_free w steady))
 
 pub device_trees : (w : World) → HasStacks w → AreTrees w.images
-device_trees w is = stacked_trees w.images (λ i p stands. parent_lives w is.steady.whole.standing i p (live-standing w.images i p stands) stands) is.stacked
+device_trees w is = stacked_trees w.images live is.stacked
+  where
+    standing : IsStanding w
+    standing = is.steady.whole.standing
+
+    live : (i p : ℕ) → parent_of w.images i ≡ Some p → IsLive w.images p × IsLive w.images (forest.fill_of w.images i)
+    live i p stands =
+        let there = live-standing w.images i p stands in
+        (parent_lives w standing i p there stands, standing.live _ (fill_used w standing i p there stands))
 
 -- ---- things that go
 

@@ -6,7 +6,7 @@ use Rattle.std.proofs.lemmas.List.Sums.{sum_by-cons}
 use Rattle.r9_geom.specs.declared.Point.{Point}
 use Rattle.r9_geom.specs.declared.Rect.{Rect}
 use Rattle.model_forest.specs.declared.Window.{Window}
-use Rattle.model_forest.specs.World.{IsLive, World, image_at, parent_of}
+use Rattle.model_forest.specs.World.{IsLive, World, fill_of, image_at, parent_of}
 use Rattle.model_forest.specs.Draw.{Drawing, after_draw, after_fill, after_load, with_canvas}
 use Rattle.model_forest.specs.Stack.{after_lower, after_raise}
 use Rattle.model_forest.specs.Steps.{after_origin, after_set}
@@ -60,9 +60,10 @@ listed_times (v ∷ ws) n here = by (v.image == n) refl here (listed_times ws n)
         let one = more rest in
         omega (arith, all, one)
 
-pub stacked_trees : (images : World) → ((i p : ℕ) → parent_of images i ≡ Some p → IsLive images p) → AreStacked images → AreTrees images
-stacked_trees images lives is = record {
-  lives = lives;
+pub stacked_trees : (images : World) → ((i p : ℕ) → parent_of images i ≡ Some p → IsLive images p × IsLive images (fill_of images i)) → AreStacked images → AreTrees images
+stacked_trees images live is = record {
+  lives = λ i p stands. (live i p stands).0;
+  fills = λ i p stands. (live i p stands).1;
   listed = λ i p stands.
       let some = listed_times (image_at images p).windows i (is.grown.listed i p stands) in
       let most = is.grown.once p i in
