@@ -610,9 +610,10 @@ class Server_that_goes(unittest.IsolatedAsyncioTestCase):
             async with running(served) as live:
                 page = await live.page()
                 await page.until_same(served)
+                await asyncio.sleep(1)
                 served.process.kill()
                 served.process.wait()
-                await until(lambda: page.last("server")["why"])
+                await until(lambda: page.last("server")["why"], 3)
                 self.assertIn("rio9d serve", page.last("server")["why"])
                 await page.send(kind="keys", text="a")
                 await until(lambda: page.last("told"))

@@ -1,5 +1,6 @@
 """A session with a server that counts what it costs the server's record, and what is written in it for viewers."""
 
+import select
 import time
 from dataclasses import dataclass
 from typing import Any, Callable, List, Optional, Protocol, Tuple
@@ -58,6 +59,11 @@ class Session(client.Client):
         )
         self.cost.add(name, size)
         return super().ask(name, payload, **fields)
+
+    def check(self) -> None:
+        """Raises if the server has ended the session: while nothing is asked, nothing comes."""
+        if self.held or select.select([self.socket], [], [], 0)[0]:
+            raise client.Broken("the server ended the session")
 
     def form(self) -> Form:
         """The display's channels and size."""

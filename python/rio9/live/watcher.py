@@ -172,6 +172,7 @@ class Watcher(threading.Thread):
         self.looked = now = time.monotonic()
         look = self.rhythm.look(now, self.came())
         if look is Look.NOTHING:
+            self.session.check()
             return
         form = self.screen.form
         pieces = pieces_of(form, self.session.most)
