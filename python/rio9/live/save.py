@@ -8,7 +8,7 @@ from pathlib import Path
 from typing import IO, List, Optional, Tuple
 
 from rio9 import formats, program, side
-from rio9.live.recording import LEVEL, MOST_FRAMES, saved_page
+from rio9.live.recording import MOST_FRAMES, saved_page
 from rio9.replays import display_of, parser_of, why_no_record
 
 PIECE = 1 << 20
@@ -38,7 +38,7 @@ def times_of(beside: Optional[side.Side], entries: int) -> Times:
 
 def packed(frames: IO[bytes]) -> bytes:
     """Frames, compressed."""
-    packer, made, count = zlib.compressobj(LEVEL), bytearray(), 0
+    packer, made, count = zlib.compressobj(zlib.Z_BEST_COMPRESSION), bytearray(), 0
     for piece in iter(lambda: frames.read(PIECE), b""):
         count += len(piece)
         if count > MOST_FRAMES:
