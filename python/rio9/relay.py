@@ -189,8 +189,8 @@ class Relay:
             try:
                 server = socket.create_connection(self.server, GRACE)
             except OSError:
-                client.close()
                 self.tell("refused", {"peer": peer})
+                client.close()
                 continue
             self.begin(client, server, peer)
 

@@ -27,7 +27,7 @@ from rio9.relay import Relay, Teller
 
 STARTS = 10.0  # seconds until a server that was started listens
 ENDS = 10.0  # seconds until one that is ended is gone
-PAUSE = 0.002
+PAUSE, PAUSE_OF_A_CLIENT = 0.002, 0.1
 LISTENS = "0A"
 ONLY_STANDARD_FILES = 3
 BACKLOG = 128
@@ -212,10 +212,13 @@ class Server:
         end = time.monotonic() + ENDS
         with contextlib.suppress(ProcessLookupError):
             resource.prlimit(self.process.pid, resource.RLIMIT_NOFILE, limit)
+        made = 0
         while self.process.poll() is None and time.monotonic() < end:
-            with contextlib.suppress(OSError), socket.create_connection((LOOPBACK, self.port), 1):
+            with contextlib.suppress(OSError), socket.create_connection((LOOPBACK, self.port), PAUSE_OF_A_CLIENT):
                 pass
-            time.sleep(PAUSE)
+            made += 1
+            if made >= self.words.workers:  # each has had its last client, and the program is about to be gone
+                time.sleep(PAUSE)
         if self.process.poll() is None:
             self.tell("forced", {"seconds": ENDS})
             self.process.send_signal(signal.SIGKILL)

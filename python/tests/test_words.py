@@ -1,11 +1,17 @@
 """Tests that each command tells in one line what is wrong with its words, its files or its input, and ends with a
 status."""
 
+import contextlib
+import io
 import pathlib
 import subprocess
 import sys
 import tempfile
 import unittest
+from unittest import mock
+
+import rio9
+from rio9 import commands
 
 PYTHON = pathlib.Path(__file__).resolve().parent.parent
 EXAMPLES = PYTHON.parent / "examples"
@@ -53,6 +59,41 @@ class Lines(unittest.TestCase):
                     line = ended.stderr.decode()
                     self.assertEqual((ended.returncode, ended.stdout, line.count("\n")), (status, b"", 1), line)
                     self.assertTrue(line.startswith(f"rio9d {command}: ") and told in line, line)
+
+
+class Commands(unittest.TestCase):
+    """The commands in this process, with one that ends in other ways than by itself."""
+
+    def ended(self, words, error=None):
+        """Status, output and lines on err."""
+        command = mock.Mock(side_effect=error, return_value=0)
+        out, err = io.StringIO(), io.StringIO()
+        with mock.patch.object(commands.Command, "load", lambda _: command):
+            with contextlib.redirect_stdout(out), contextlib.redirect_stderr(err):
+                status = commands.main(words)
+        return status, out.getvalue(), err.getvalue() if not err.closed else ""
+
+    def test_ends(self):
+        self.assertEqual(self.ended(["font", "a"]), (0, "", ""))
+        self.assertEqual(self.ended(["font"], KeyboardInterrupt()), (130, "", ""))
+        self.assertEqual(self.ended(["font"], BrokenPipeError()), (1, "", ""))
+        self.assertEqual(self.ended(["--version"])[:2], (0, f"rio9d {rio9.__version__}\n"))
+        self.assertIn("  font ", self.ended(["-h"])[1])
+
+    def test_missing_libraries(self):
+        lacks = ModuleNotFoundError("no aiohttp", name="aiohttp.web")
+        told = "rio9d live: the library aiohttp is missing: apt install python3-aiohttp, or pip install 'rio9[live]'\n"
+        self.assertEqual(self.ended(["live"], lacks), (2, "", told))
+        with self.assertRaises(ModuleNotFoundError):
+            self.ended(["live"], ModuleNotFoundError("no such module", name="nothing"))
+
+    def test_each_is_there(self):
+        for name, command in commands.COMMANDS.items():
+            with self.subTest(name):
+                try:
+                    self.assertTrue(callable(command.load()))
+                except ModuleNotFoundError as error:
+                    self.assertIn(error.name.split(".")[0], commands.LIBRARIES)
 
 
 class Words(unittest.TestCase):
