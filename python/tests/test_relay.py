@@ -1,5 +1,6 @@
 """Tests of rio9.relay before a small server that sends back what comes."""
 
+import itertools
 import os
 import socket
 import threading
@@ -12,13 +13,12 @@ SECONDS = 10
 
 
 class Echo(threading.Thread):
-    """Sends each connection's bytes back, and ends it when it ends. It counts those that are there at a time."""
+    """Sends each connection's bytes back, and ends it when it ends."""
 
     def __init__(self):
         super().__init__(daemon=True)
         self.listener = socket.create_server(("127.0.0.1", 0))
         self.address = self.listener.getsockname()
-        self.now, self.most = 0, 0
         self.start()
 
     def run(self):
@@ -30,15 +30,12 @@ class Echo(threading.Thread):
             threading.Thread(target=self.attend, args=(connection,), daemon=True).start()
 
     def attend(self, connection):
-        self.now += 1
-        self.most = max(self.most, self.now)
         with connection:
             while data := connection.recv(1 << 16):
                 if data == b"reset":
                     connection.setsockopt(socket.SOL_SOCKET, socket.SO_LINGER, b"\1\0\0\0\0\0\0\0")
                     break
                 connection.sendall(data)
-        self.now -= 1
 
 
 class Running:
@@ -114,8 +111,9 @@ class Relays(unittest.TestCase):
             for client in clients:
                 self.assertEqual(client.recv(1), b"x")
                 client.close()
-            self.assertLessEqual(running.echo.most, 2)
             self.assertEqual(running.events().count("waits"), 3)
+        there = [{"begins": 1, "ends": -1}.get(event, 0) for event in running.events()]
+        self.assertEqual(max(itertools.accumulate(there)), 2)
 
     def test_clients_and_servers_that_break_off(self):
         with Running() as running:
