@@ -65,6 +65,13 @@ def display_runs() -> Iterator[Run]:
         yield Run(channels, serve=("--chan", channels), words=("parts=pictures", f"chan={channels}"), other=CHANNEL_ROWS.get(channels, {}))
 
 
+def shape_runs(shapes: int, windows: Tuple[str, ...]) -> Iterator[Run]:
+    """Runs with shapes by chance on displays of other channels, of sources of one colour without alpha."""
+    for seed, channels in enumerate(("k1", "k8", "r5g6b5", "a8r8g8b8"), 3):
+        words = ("parts=shapes,constant", f"count={shapes}", f"seed={seed}", f"chan={channels}")
+        yield Run(f"shapes-{channels}", serve=("--chan", channels), words=words, windows=windows)
+
+
 def runs(shapes: int) -> List[Run]:
     """All runs."""
     every = ("parts=pictures,input,bare,deleted",)
@@ -81,6 +88,7 @@ def runs(shapes: int) -> List[Run]:
         *display_runs(),
         Run("shapes", words=("parts=shapes", f"count={shapes}"), windows=small),
         Run("shapes-9front", FRONT, words=("parts=shapes,constant", f"count={shapes}", "seed=2"), windows=small),
+        *shape_runs(shapes, small),
         Run("times", words=("parts=times",)),
         Run("times-9front", FRONT, words=("parts=times",)),
         Run("others"),
