@@ -263,6 +263,23 @@ else:
             self.desktop.write("wctl", b"delete -id 1")
             self.assertEqual((running.ended(), running.err.getvalue()), (0, ""))
 
+        def test_a_window_that_is_moved_and_resized_while_much_is_drawn(self):
+            more = 'printf "\\033[3$((i % 8))m%d \\033[48;5;%dm%c" $i $((i % 256)) $((i % 10)); i=$((i + 1))'
+            last = "printf '\\033[m\\033[2J\\033[H'; echo abcdefghijkl; echo 0123456789"
+            script = f"i=0; while [ ! -e $0 ]; do {more}; done; {last}"
+            with tempfile.TemporaryDirectory() as room:
+                stop = pathlib.Path(room, "stop")
+                running = self.start("--hold", "--", "sh", "-c", script, str(stop))
+                for number in range(40):
+                    side = number % 5
+                    self.desktop.write("wctl", f"resize -r {side} 4 {side + 200 + number} 90 -id 1".encode())
+                    self.desktop.write("wctl", f"move -minx {9 - side} -miny 8 -id 1".encode())
+                self.desktop.write("wctl", b"resize -r 4 4 304 106 -id 1")
+                stop.touch()
+                self.shows(["abcdefghijkl", "0123456789"])
+            self.desktop.write("wctl", b"delete -id 1")
+            self.assertEqual((running.ended(), running.err.getvalue()), (0, ""))
+
         def cursor(self, row, column, text=" "):
             return [(row, column, text, PAPER, INK, "")]
 

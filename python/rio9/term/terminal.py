@@ -26,7 +26,7 @@ class Terminal:
 
     def __init__(self, window: Window, glyphs: Glyphs, child: Child, cells: Cells):
         self.window, self.child, self.cells = window, child, cells
-        self.painter, self.stream = Painter(glyphs), Stream(cells)
+        self.glyphs, self.stream = glyphs, Stream(cells)
         self.selector = selectors.DefaultSelector()
         self.selector.register(window.session.socket, selectors.EVENT_READ)
         self.selector.register(child.master, selectors.EVENT_READ)
@@ -36,7 +36,7 @@ class Terminal:
         self.anchor: Optional[Point] = None
         self.selection: Optional[Tuple[Point, Point]] = None
         self.title = ""
-        window.draw(self.painter.begin())
+        self.begin()
         self.settle()
 
     def run(self, holds: bool) -> None:
@@ -109,9 +109,17 @@ class Terminal:
 
     # The window.
 
+    def begin(self) -> None:
+        """Makes what is drawn with."""
+        self.painter = Painter(self.glyphs)
+        self.window.draw(self.painter.begin())
+
     def settle(self) -> None:
         """Takes the window's image, and gives the program the size that it has room for."""
-        place = self.window.settle(self.painter.glyphs.width, self.painter.glyphs.height)
+        has_lost = self.window.finish()
+        if has_lost:
+            self.begin()
+        place = self.window.settle(self.glyphs.width, self.glyphs.height)
         self.window.draw(self.painter.settle(place))
         if (place.columns, place.lines) != (self.cells.columns, self.cells.lines):
             self.cells.resize(place.lines, place.columns)
@@ -163,8 +171,8 @@ class Terminal:
         """Does what an event of the mouse asks for."""
         place, before, self.buttons = self.painter.place, self.buttons, event.buttons
         assert place is not None
-        x = min(max((event.x - place.x) // self.painter.glyphs.width, 0), self.cells.columns - 1)
-        y = min(max((event.y - place.y) // self.painter.glyphs.height, 0), self.cells.lines - 1)
+        x = min(max((event.x - place.x) // self.glyphs.width, 0), self.cells.columns - 1)
+        y = min(max((event.y - place.y) // self.glyphs.height, 0), self.cells.lines - 1)
         if keys.wants_mouse(self.cells) and not self.is_over:
             self.child.send(keys.of_mouse(self.cells, x, y, event.buttons, before))
         else:

@@ -17,9 +17,8 @@ KEY_READS, KEY_BYTES = 8, 64  # so many reads of `cons` wait at once: each gives
 BORDER, MARGIN = 4, 2  # the window manager's border, and the points between it and the cells
 LEAST_COLUMNS, LEAST_LINES = 2, 1
 MOST_SIDE, MOST_LABEL = 2048, 256
-TRIES = 5
 GONE = "window deleted"
-STALE = ("named image no longer valid", "unknown id for draw image")
+STALE = ("named image no longer valid", "unknown id for draw image", "no image with that name")  # of an image that went
 
 
 class Closed(Exception):
@@ -83,15 +82,19 @@ class Window:
             self.open_files()
         except client.Refused as error:
             raise lasting(error) from None
+
+    def open_drawing(self) -> None:
+        """Begins a draw connection, on which there is no image yet."""
+        self.ctl = self.session.file(self.root, "draw/new", client.READWRITE)
+        number = numbers(self.ctl.read(CTL_BYTES), 0, 1)[0]
+        self.data = self.session.file(self.root, f"draw/{number}/data", client.READWRITE)
         self.writes: Deque[int] = deque()
-        self.has_image, self.is_stale = False, False
+        self.has_image, self.is_stale, self.has_lost = False, False, False
 
     def open_files(self) -> None:
         """Opens the files that are read and written all the time, and asks for keys and the mouse."""
         session = self.session
-        self.ctl = session.file(self.root, "draw/new", client.READWRITE)
-        number = numbers(self.ctl.read(CTL_BYTES), 0, 1)[0]
-        self.data = session.file(self.root, f"draw/{number}/data", client.READWRITE)
+        self.open_drawing()
         self.raw = session.file(self.root, "consctl", client.WRITE)
         self.raw.write(b"rawon")
         self.cons, self.mouse = session.file(self.root, "cons"), session.file(self.root, "mouse")
@@ -148,37 +151,51 @@ class Window:
         return bool(self.writes)
 
     def check(self, tag: int) -> None:
-        """Takes the answer to a write of draw messages. That an image has gone is told by `is_stale`."""
+        """Takes the answer to a write of draw messages. That an image has gone is told by `is_stale`, and by `has_lost`
+        that messages behind those that drew on it were not done."""
         try:
             self.session.answer(tag)
         except client.Refused as error:
             if str(error) not in STALE:
                 raise lasting(error) from None
-            self.is_stale = True
+            self.is_stale = self.has_lost = True
 
     def draw(self, messages: Sequence[bytes]) -> None:
         """Sends draw messages; `is_drawing` tells when they are done."""
         for piece in client.writes_of(messages, self.session.msize - client.WRITE_HEAD):
             self.writes.append(self.session.ask("Twrite", piece, fid=self.data.fid, offset=0))
 
-    def settle(self, wide: int, high: int) -> paint.Place:
-        """Takes the window's present image, and gives where cells of a size stand in it."""
+    def finish(self) -> bool:
+        """Waits until all that was drawn is answered. If some of it was not done it begins another draw connection, and
+        tells so."""
         while self.is_drawing():
             self.check(self.writes.popleft())
-        for _ in range(TRIES):
+        has_lost = self.has_lost
+        if has_lost:
+            self.session.clunk(self.data.fid)
+            self.session.clunk(self.ctl.fid)
+            self.open_drawing()
+        return has_lost
+
+    def settle(self, wide: int, high: int) -> paint.Place:
+        """Takes the window's present image, and gives where cells of a size stand in it."""
+        end = time.monotonic() + (self.session.seconds or client.SECONDS)
+        while True:
             name = self.read("winname")
             try:
-                if self.has_image:
-                    self.session.write(self.data.fid, paint.free(paint.WINDOW))
-                    self.has_image = False
-                self.session.write(self.data.fid, paint.by_name(paint.WINDOW, name))
-                break
+                return place_of(self.take_image(name), wide, high)
             except client.Refused as error:
-                refusal = error
-        else:
-            raise refusal
+                if str(error) not in STALE or time.monotonic() > end:
+                    raise lasting(error) from None
+
+    def take_image(self, name: bytes) -> bytes:
+        """Makes an id for the image of a name, and gives what `ctl` says of it."""
+        if self.has_image:
+            self.session.write(self.data.fid, paint.free(paint.WINDOW))
+            self.has_image = False
+        self.session.write(self.data.fid, paint.by_name(paint.WINDOW, name))
         self.has_image, self.is_stale = True, False
-        return place_of(bytes(self.session.read(self.ctl.fid, 0, CTL_BYTES)), wide, high)
+        return self.session.read(self.ctl.fid, 0, CTL_BYTES)
 
     # Files that answer at once.
 
