@@ -31,6 +31,7 @@ FIXED = {"A": 14, "b": 51, "c": 22, "d": 45, "D": 2, "f": 5, "F": 5, "i": 10, "l
 FIXED.update({"r": 21, "S": 9, "v": 1})
 # The bytes before what is counted, the place and the bytes of the count, and the bytes of each.
 COUNTED = {"N": (7, 6, 1, 1), "n": (6, 5, 1, 1), "s": (47, 45, 2, 2), "x": (59, 45, 2, 2), "t": (4, 2, 2, 4)}
+PASS = frozenset("AdDFilOsStvx")
 HEADS = {"y": 21, "Y": 21, "L": 45, "e": 45, "E": 45, "p": 31, "P": 31}
 
 
@@ -119,6 +120,9 @@ class Work:
             self.connection.images.pop(image, None)
         try:
             while self.at < len(self.data):
+                await self.pass_on()
+                if self.at == len(self.data):
+                    break
                 step = await self.step(chr(self.data[self.at]))
                 if step is None:
                     await self.add(self.data[self.at :])
@@ -128,6 +132,22 @@ class Work:
         except Refused:
             self.connection.forget()
             raise
+
+    async def pass_on(self) -> None:
+        """Takes messages that pass as they are, as many as come. Drawing brings the operator back to SoverD."""
+        begin = self.at
+        while self.at < len(self.data):
+            letter = chr(self.data[self.at])
+            length = self.length(letter) if letter in PASS else None
+            if length is None or self.at + length > len(self.data):
+                break
+            if letter in "dsx":
+                self.connection.operator = SOVERD
+            elif letter == "O":
+                self.connection.operator = self.data[self.at + 1]
+            self.at += length
+        if self.at > begin:
+            await self.add(self.data[begin : self.at])
 
     async def step(self, letter: str) -> Optional[int]:
         """Does the next message, and gives its bytes; None where what is left passes as it is."""
@@ -139,11 +159,7 @@ class Work:
         message = self.data[self.at : self.at + length]
         if letter in SHAPES:
             return await SHAPES[letter](self, message)
-        special = SPECIAL.get(letter)
-        if special is not None:
-            return await special(self, message)
-        await self.add(message)
-        return length
+        return await SPECIAL[letter](self, message)
 
     def length(self, letter: str) -> Optional[int]:
         """The bytes of the next message; of what has rows or points behind it, those before them."""
@@ -252,20 +268,6 @@ class Work:
         if number == self.connection.white:
             await self.alone(b"f" + struct.pack("<I", number))
             self.connection.white = None
-
-    # The operator.
-
-    async def operated(self, message: bytes) -> int:
-        """`O`."""
-        self.connection.operator = message[1]
-        await self.add(message)
-        return len(message)
-
-    async def drawn(self, message: bytes) -> int:
-        """`d`, `s` and `x`: the operator is SoverD again."""
-        self.connection.operator = SOVERD
-        await self.add(message)
-        return len(message)
 
     # Pixels.
 
@@ -531,10 +533,6 @@ SPECIAL: Dict[str, Step] = {
     "f": Work.freed,
     "c": Work.clipped,
     "o": Work.placed,
-    "O": Work.operated,
-    "d": Work.drawn,
-    "s": Work.drawn,
-    "x": Work.drawn,
     "y": Work.loaded,
     "Y": Work.loaded,
     "r": Work.fetched,
