@@ -50,6 +50,7 @@ class Words(argparse.ArgumentParser):
     """A reader of a tool's words, whose complaints are one line."""
 
     def error(self, message: str) -> NoReturn:
+        """Ends the tool, with one line."""
         stop(self.prog, f"{message} (--help tells the words)")
 
 
@@ -114,6 +115,7 @@ class Roll:
             self.live.remove(event.session)
 
     def check_session(self, kind: str, session: int) -> None:
+        """Raises BadEvent where a session cannot have an event of a kind now."""
         if not 1 <= session <= LAST_SESSION:
             raise BadEvent("session", f"a session is a number from 1 to {LAST_SESSION}")
         if kind == BEGIN and session != self.begun + 1:
@@ -182,6 +184,7 @@ class LineWords:
         self.number, self.words, self.place = number, line.split(b" "), 0
 
     def take(self, form: "re.Pattern[bytes]", wanted: str) -> bytes:
+        """The next word, which has this form."""
         word = self.words[self.place] if self.place < len(self.words) else b""
         self.place += 1
         if not form.fullmatch(word):
@@ -189,15 +192,19 @@ class LineWords:
         return word
 
     def take_number(self, wanted: str = "a number without sign and leading zeros") -> int:
+        """The number that the next word is."""
         return int(self.take(NUMBER, wanted))
 
     def take_bytes(self) -> bytes:
+        """The bytes that the next word spells in hex."""
         return bytes.fromhex(self.take(HEX_DIGITS, "an even number of lower-case hex digits").decode())
 
     def is_over(self) -> bool:
+        """Whether no word is left."""
         return self.place >= len(self.words)
 
     def end(self) -> None:
+        """Raises BadText where a word is left."""
         if not self.is_over():
             extra = self.words[self.place].decode(errors="backslashreplace")
             raise BadText(self.number, "the line goes on", self.place + 1, extra)
@@ -224,6 +231,7 @@ def write_record(events: Iterable[Event]) -> bytes:
 
 
 def event_line(event: Event) -> bytes:
+    """The line of an event, without its newline."""
     words = [event.kind]
     if event.kind != STOP:
         words.append(str(event.session))

@@ -29,6 +29,7 @@ class Words(formats.Words):
     """A reader of a command's words, which ends with the program's own status for wrong ones."""
 
     def error(self, message: str) -> NoReturn:
+        """Ends the command, with one line."""
         sys.stderr.write(f"{self.prog}: {message} (--help tells the words)\n")
         sys.exit(USAGE)
 

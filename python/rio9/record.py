@@ -72,9 +72,11 @@ class Cursor:
         return self.data[self.at - count : self.at]
 
     def number(self, size: int, signed: bool = False) -> int:
+        """The number that the next bytes are, the lowest first."""
         return int.from_bytes(self.take(size), "little", signed=signed)
 
     def left(self) -> int:
+        """How many bytes are left."""
         return len(self.data) - self.at
 
 
@@ -109,12 +111,14 @@ def number(size: int, signed: bool = False, hexadecimal: bool = False, words: Op
 
 
 def hear_number(word: str) -> int:
+    """The number that a word is."""
     if not re.fullmatch(r"-?(0x[0-9a-f]{1,16}|0|[1-9][0-9]{0,19})", word):
         raise ValueError("a number is wanted")
     return int(word, 0)
 
 
 def number_bytes(value: int, size: int, signed: bool = False) -> bytes:
+    """A number as so many bytes."""
     try:
         return value.to_bytes(size, "little", signed=signed)
     except OverflowError:
@@ -163,6 +167,7 @@ PLAIN_WORD = re.compile(r"[A-Za-z0-9._/+:-]+")
 
 
 def say_text(value: str) -> str:
+    """A text as a word."""
     if PLAIN_WORD.fullmatch(value):
         return value
     printable = re.sub(r"[\n\t]", "", value).isprintable()
@@ -170,6 +175,7 @@ def say_text(value: str) -> str:
 
 
 def hear_text(word: str) -> str:
+    """The text that a word is."""
     try:
         return str(json.loads(word)) if word.startswith('"') else word
     except ValueError:
@@ -177,10 +183,12 @@ def hear_text(word: str) -> str:
 
 
 def say_qid(value: Tuple[int, int]) -> str:
+    """A qid as a word: its kind and its path."""
     return f"{'directory' if value[0] == 0x80 else 'file' if value[0] == 0 else value[0]}:{value[1]}"
 
 
 def take_qid(cursor: Cursor) -> Tuple[int, int]:
+    """The kind and the path of a qid."""
     kind, _, path = cursor.number(1), cursor.number(4), cursor.number(8)
     return kind, path
 
@@ -191,10 +199,12 @@ def only_read(_value: object) -> Any:
 
 
 def say_channels(word: int) -> str:
+    """Channels as a word."""
     return formats.channels_text(word) or f"0x{word:08x}"
 
 
 def hear_channels(word: str) -> int:
+    """The channels that a word is."""
     return hear_number(word) if word[0].isdigit() else formats.channels_word(word)
 
 
@@ -726,6 +736,7 @@ def explain(text: bytes, display: int = formats.channels_word(formats.USUAL_CHAN
 
 
 def explain_event(explainer: Explainer, event: Event) -> List[str]:
+    """The readable lines of an event."""
     if event.kind == BEGIN:
         return [f"session {event.session}"]
     if event.kind == STOP:
@@ -746,6 +757,7 @@ def explain_event(explainer: Explainer, event: Event) -> List[str]:
 
 
 def message_line(session: int, message: Message, fields: Values) -> str:
+    """The readable line of a message."""
     return " ".join([str(session), message.name, *say_fields(line_fields(message), fields)])
 
 
@@ -770,6 +782,7 @@ def follow(explainer: Explainer, session: int, name: str, fields: Values) -> Opt
 
 
 def walked(names: Tuple[str, ...], steps: Iterable[str]) -> Tuple[str, ...]:
+    """The names of what a walk leads to."""
     for step in steps:
         names = names[:-1] if step == ".." else (*names, step)
     return names
@@ -792,6 +805,7 @@ def payload_lines(payload: bytes, bytes_on_a_line: int) -> List[str]:
 
 
 def hex_lines(data: bytes, bytes_on_a_line: int) -> List[str]:
+    """The lines of bytes in hex."""
     return [f"{INDENT}hex {data[at : at + bytes_on_a_line].hex()}" for at in range(0, len(data), bytes_on_a_line)]
 
 
@@ -846,6 +860,7 @@ def take_rows(cursor: Cursor, r: Tuple[int, int, int, int], channels: Optional[i
 
 
 def explain_replies(replies: formats.Replies) -> List[str]:
+    """The readable lines of a run's output."""
     lines = []
     for session, data in replies.messages:
         found = read_message(data)
@@ -904,6 +919,7 @@ def turn(name: str, made_of: Callable[[bytes], bytes], path: Optional[str] = Non
 
 
 def readable_text(data: bytes) -> str:
+    """The text that bytes are in UTF-8."""
     try:
         return data.decode()
     except UnicodeDecodeError as error:
