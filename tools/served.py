@@ -53,7 +53,7 @@ class Server:
         self.program, self.room, self.record = program, room, os.path.join(room, "record")
         command = [program, "serve", *words, "--listen", f"127.0.0.1:{self.port}", "--workers", str(workers), "--conns", str(conns)]
         with open(self.record, "wb") as out, open(os.path.join(room, "err"), "wb") as err:
-            self.process = subprocess.Popen(command, stdin=subprocess.DEVNULL, stdout=out, stderr=err, **more)
+            self.process = subprocess.Popen(command, stdin=subprocess.DEVNULL, **{"stdout": out, "stderr": err, **more})
         end = time.monotonic() + LISTENS
         while not is_listening(self.port):
             if self.process.poll() is not None or time.monotonic() > end:

@@ -4,16 +4,20 @@
 
 mod door;
 mod doors;
+mod gate;
 mod memory;
 mod sink;
+mod socket;
 mod source;
 mod streams;
 mod tcp;
 
 pub use door::{AcceptFault, Door};
 pub use doors::{Done, MemDoor, SureDoor};
+pub use gate::{Gate, GateWriter};
 pub use memory::{MemSink, MemSource, SureSink, SureSource};
 pub use sink::{Sink, SinkFault, put_all};
+pub use socket::{TcpSink, TcpSource};
 pub use source::Source;
 pub use streams::{ReadSource, WriteSink};
 pub use tcp::TcpDoor;

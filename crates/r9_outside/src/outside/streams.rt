@@ -1,11 +1,38 @@
 //! Sources and sinks over std's readers and writers, as standard input and output. They tell no content: what a real
-//! stream has left or holds is not proved.
+//! stream has left or holds is not proved. A call that a signal interrupted is made again, and is no fault.
 
-ghost use Rattle.std.specs.Prelude.{◌≡◌, ◌≤◌, false, None};
+ghost use Rattle.std.specs.Prelude.{◌≡◌, ◌≤◌, false, length, IfOk, None};
 ghost use Rattle.r9_outside.specs.outside.Count.{one_more};
 
 use crate::outside::{Failed, Sink, SinkFault, Source};
-use std::io::{Read, Write};
+use std::io;
+use std::io::{ErrorKind, Read, Write};
+
+/// Reads, and again if a signal interrupted it.
+fn read_again<R: Read>(reader: &mut R, buffer: &mut [u8]) -> io::Result<usize>
+    ensures { IfOk result (λ n. n ≤ length buffer.old) }
+{
+    for _ in 0..u64::MAX {
+        match reader.read(buffer) {
+            Err(error) if error.kind() == ErrorKind::Interrupted => {}
+            made => return made,
+        }
+    }
+    Err(ErrorKind::Interrupted.into())
+}
+
+/// Writes, and again if a signal interrupted it.
+fn write_again<W: Write>(writer: &mut W, piece: &[u8]) -> io::Result<usize>
+    ensures { IfOk result (λ n. n ≤ length piece.now) }
+{
+    for _ in 0..u64::MAX {
+        match writer.write(piece) {
+            Err(error) if error.kind() == ErrorKind::Interrupted => {}
+            made => return made,
+        }
+    }
+    Err(ErrorKind::Interrupted.into())
+}
 
 /// A source over a reader.
 #[derive(Drop)]
@@ -31,7 +58,7 @@ impl<R: Read + Drop> Source for ReadSource<R> {
     ghost fails_next = { λ s. None };
 
     fn take(&mut self, buffer: &mut [u8]) -> Result<usize, Failed> {
-        match self.reader.read(buffer) {
+        match read_again(&mut self.reader, buffer) {
             Ok(count) => Ok(count),
             Err(_) => {
                 self.faults = self.faults.saturating_add(1);
@@ -82,7 +109,7 @@ impl<W: Write + Drop> Sink for WriteSink<W> {
     ghost fails_next = { λ s. None };
 
     fn put(&mut self, piece: &[u8]) -> Result<usize, SinkFault> {
-        match self.writer.write(piece) {
+        match write_again(&mut self.writer, piece) {
             Ok(count) if count > 0 || piece.is_empty() => {
                 self.unflushed = self.unflushed || count > 0;
                 Ok(count)

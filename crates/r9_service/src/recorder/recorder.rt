@@ -20,8 +20,9 @@ use r9_lock::Acted;
 use r9_memory::Memory;
 use r9_outside::outside::{Sink, SinkFault};
 use r9_text::Bytes;
+use std::snapshot::Snapshot;
 
-/// Entries are written once their lines have so many bytes in all.
+/// Entries are written once their lines have so many bytes in all, also while sessions have much to say.
 const SIZE_LIMIT: u64 = 1 << 20;
 
 /// Why a record was not written whole.
@@ -49,6 +50,8 @@ impl From<Memory> for RecordFault {
 #[derive(Drop)]
 pub struct Recorder<'a, H, O> {
     out: &'a mut O,
+    // The sink as it was lent. It takes no room, and never changes.
+    lent: Snapshot<O>,
     pub(crate) hall: H,
     // The number of the next line that is put: 0 is the header, n the line of the entry n.
     next: u64,
@@ -60,6 +63,11 @@ pub struct Recorder<'a, H, O> {
     failed: bool,
     // Whether memory was refused or a put or a flush failed in the last act.
     stuck: bool,
+}
+
+/// Whether a session that is so answered has nothing to say for now, or has ended.
+fn is_at_rest(answer: &Answer) -> bool {
+    matches!(answer, Answer::Nothing | Answer::Over | Answer::Ended)
 }
 
 /// Puts what is left of a line of which a part was put. For want of memory, or where a put fails, some of it may be put.
@@ -84,12 +92,14 @@ impl<'a, H, O> Recorder<'a, H, O> {
     /// A recorder over a hall in which nothing has happened, and a sink to which nothing of its record was put. It takes no memory.
     pub fn new(hall: H, out: &'a mut O) -> Recorder<'a, H, O>
         ensures same { result.out.ghost_name ≡ out.entry.ghost_name }
-        ensures out { result.out.now ≡ out.old }
+        ensures out { (result.out.now ≡ out.old) × (result.lent.value ≡ out.old) }
         ensures hall { result.hall ≡ hall }
         ensures fresh { (result.next ≡ 0) × (result.part ≡ 0) × (result.size ≡ 0) × (result.failed ≡ false) }
     {
+        let lent = Snapshot::of(&*out);
         Recorder {
             out,
+            lent,
             hall,
             next: 0,
             part: 0,
@@ -130,6 +140,7 @@ impl<'a, H: Keeps, O: Sink> Recorder<'a, H, O> {
     fn put_next(&mut self, line: &Bytes) -> Result<(), RecordFault>
         requires few { self.old.next < 2 ^ 63 }
         ensures same { self.new.out.ghost_name ≡ self.old.out.ghost_name }
+        ensures lent { self.new.lent ≡ self.old.lent }
         ensures hall { self.new.hall ≡ self.old.hall }
         ensures next { OnOk result (self.new.next ≡ self.old.next + 1) }
         ensures records { (loan : Loan) (history : List Entry) → Records H.first H.stands O.held O.faults loan self.old history → line.now ≡ line_at self.old.next (record_lines history) → self.old.next ≤ length history → Records H.first H.stands O.held O.faults loan self.new history }
@@ -150,6 +161,7 @@ impl<'a, H: Keeps, O: Sink> Recorder<'a, H, O> {
     /// Puts all lines that are left.
     fn write(&mut self) -> Result<(), RecordFault>
         ensures same { self.new.out.ghost_name ≡ self.old.out.ghost_name }
+        ensures lent { self.new.lent ≡ self.old.lent }
         ensures hall { self.new.hall ≡ self.old.hall }
         ensures records { (loan : Loan) (history : List Entry) → Records H.first H.stands O.held O.faults loan self.old history → Records H.first H.stands O.held O.faults loan self.new history }
         ensures whole { (loan : Loan) (history : List Entry) → Records H.first H.stands O.held O.faults loan self.old history → OnOk result (self.new.next ≡ length history + 1) }
@@ -166,6 +178,7 @@ impl<'a, H: Keeps, O: Sink> Recorder<'a, H, O> {
     /// Sends on what was put.
     fn send_on(&mut self) -> Result<(), RecordFault>
         ensures same { self.new.out.ghost_name ≡ self.old.out.ghost_name }
+        ensures lent { self.new.lent ≡ self.old.lent }
         ensures hall { self.new.hall ≡ self.old.hall }
         ensures next { self.new.next ≡ self.old.next }
         ensures records { (loan : Loan) (history : List Entry) → Records H.first H.stands O.held O.faults loan self.old history → Records H.first H.stands O.held O.faults loan self.new history }
@@ -179,9 +192,9 @@ impl<'a, H: Keeps, O: Sink> Recorder<'a, H, O> {
         Ok(())
     }
 
-    /// Where the lines of the stored entries are many: puts and sends on all that is left, and then forgets the entries. Once a put or a
-    /// flush has failed it does nothing.
-    fn settle(&mut self) -> Result<(), RecordFault>
+    /// Where a session is at rest, or the lines of the stored entries are many: puts and sends on all that is left, and then forgets the
+    /// entries. Once a put or a flush has failed it does nothing.
+    fn settle(&mut self, at_rest: bool) -> Result<(), RecordFault>
         ensures same { self.new.out.ghost_name ≡ self.old.out.ghost_name }
         ensures opening { H.opening self.new.hall ≡ H.opening self.old.hall }
         ensures first { H.first self.old.hall ≤ H.first self.new.hall }
@@ -189,7 +202,7 @@ impl<'a, H: Keeps, O: Sink> Recorder<'a, H, O> {
         ensures bounded { (loan : Loan) (history : List Entry) → Records H.first H.stands O.held O.faults loan self.old history → OnOk result ((self.new.failed ≡ true) ⊎ (size_of (H.stored self.new.hall) < size_limit)) }
         ensures failed { IsErrOf result RecordFault.WriteFault → self.new.failed ≡ true }
     {
-        if self.failed || self.size < SIZE_LIMIT {
+        if self.failed || self.size == 0 || !(at_rest || self.size >= SIZE_LIMIT) {
             return Ok(());
         }
         self.write()?;
@@ -228,8 +241,8 @@ impl<'a, H: Keeps, O: Sink> Recorder<'a, H, O> {
         acted
     }
 
-    /// Does what a session asks, as the hall does. Where the lines of the stored entries have become many, it writes them and forgets
-    /// them.
+    /// Does what a session asks, as the hall does. Where the session is then at rest, or the lines of the stored entries have become many,
+    /// it writes them and forgets them: so the record is whole once nobody has anything to say.
     pub fn act(&mut self, ask: Ask) -> Acted<Answer>
         requires { H.first self.old.hall - 1 + length (H.stored self.old.hall) < 2 ^ 61 }
         ensures same { self.new.out.ghost_name ≡ self.old.out.ghost_name }
@@ -242,9 +255,22 @@ impl<'a, H: Keeps, O: Sink> Recorder<'a, H, O> {
         ensures bounded { (loan : Loan) (before : List Entry) → Records H.first H.stands O.held O.faults loan self.old before → IsBounded H.stored self.new }
     {
         let acted = self.make(ask);
-        let settled = self.settle();
+        let settled = self.settle(is_at_rest(&acted.answer));
         self.stuck = settled.is_err();
         acted
+    }
+
+    /// Puts the header before anything happens, and sends it on: so a sink that fails shows at once to who watches it. What fails here is
+    /// told by `finish`.
+    pub fn begin(&mut self)
+        ensures same { self.new.out.ghost_name ≡ self.old.out.ghost_name }
+        ensures lent { self.new.lent ≡ self.old.lent }
+        ensures hall { self.new.hall ≡ self.old.hall }
+        ensures records { (loan : Loan) (history : List Entry) → Records H.first H.stands O.held O.faults loan self.old history → Records H.first H.stands O.held O.faults loan self.new history }
+    {
+        if self.write().is_ok() {
+            let _ = self.send_on();
+        }
     }
 
     /// Whether all has stopped for want of memory.

@@ -38,7 +38,8 @@ fn serve_hall<
     ensures { Serving (told_doors D.ended D.over D.faults (told_ends D.In.left D.In.faults D.Out.held D.Out.unflushed D.Out.faults)) service.now.opening service.now.sessions service.now.workers result.outcome result.told doors.old doors.new (side (O.held out.old) (O.unflushed out.old) (O.faults out.old)) (side (O.held out.new) (O.unflushed out.new) (O.faults out.new)) (side (E.held err.old) (E.unflushed err.old) (E.faults err.old)) (side (E.held err.new) (E.unflushed err.new) (E.faults err.new)) }
 {
     let mut report = no_sessions(alloc);
-    let recorder = Recorder::new(hall, out);
+    let mut recorder = Recorder::new(hall, out);
+    recorder.begin();
     let mut recorder = serve_over::<R, H, O, D, Brand>(
         rt,
         alloc,

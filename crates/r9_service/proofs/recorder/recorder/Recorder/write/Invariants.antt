@@ -6,6 +6,7 @@ use Rattle.r9_service.proofs.recorder.recorder.Recorder.write.Given as goal
 abbrev pub invariant-lines : goal.invariant-lines
 invariant-lines g l = record {
   same : l.self.out.ghost_name ≡ l.fn.self.out.ghost_name;
+  lent : l.self.lent ≡ l.fn.self.lent;
   hall : l.self.hall ≡ l.fn.self.hall;
   records : (loan : Loan) (history : List Entry) → Records g.H.Keeps.first g.H.Keeps.stands g.O.Sink.held g.O.Sink.faults loan l.fn.self history → Records g.H.Keeps.first g.H.Keeps.stands g.O.Sink.held g.O.Sink.faults loan l.self history;
 }
