@@ -8,7 +8,8 @@ the shell that SHELL names. The window is as large as the display has room for, 
 nothing is said. The program gets another size when the window does.
 
 Keys go to the program as typed, and the mouse too if it asks for it. Else the first button selects a text, which goes
-to the snarf buffer, and the second one types what is there. The terminal's kind is tmux-256color.
+to the snarf buffer, the second one types what is there, and the wheel looks back at rows that have scrolled out. The
+terminal's kind is tmux-256color.
 
 The font is Debian's misc-fixed 7x13 (xfonts-base), or the one of rio9/font.txt if that is not there. --font takes a
 file in BDF, PCF or PSF whose characters have one width, or the name of one of xfonts-base, as 9x15. A character of two
