@@ -11,13 +11,16 @@ use std::sync::atomic::{AtomicU64, Ordering};
 /// How many bytes a sink holds.
 pub type Held = Arc<AtomicU64, Global>;
 
+/// A record's header, `rio9 2 1` and a newline, has so many bytes. It is put before anybody comes.
+const HEADER_LEN: u64 = 9;
+
 /// How often a source looks at a sink.
 const LOOKS: u32 = 100_000_000;
 
-/// Looks again and again at how many bytes a sink holds, until there is one.
+/// Looks again and again at how many bytes a sink holds, until it has more than a header.
 fn wait_for(held: &AtomicU64) -> Result<(), Failed> {
     for _ in 0..LOOKS {
-        if held.load(Ordering::SeqCst) > 0 {
+        if held.load(Ordering::SeqCst) > HEADER_LEN {
             return Ok(());
         }
         spin_loop();
