@@ -7,6 +7,7 @@ time; further ones wait here.
 """
 
 import contextlib
+import errno
 import os
 import select
 import socket
@@ -20,6 +21,7 @@ PIECE = 1 << 17  # bytes that are passed on at a time
 HEAD = 7  # the bytes of a message that tell its size, its kind and its tag
 SIZE = 4
 GRACE = 3.0  # seconds in which clients may read their last answers when the relay ends
+PAUSE = 0.05
 IN, OUT = select.EPOLLIN, select.EPOLLOUT
 
 
@@ -175,7 +177,9 @@ class Relay:
         """Takes a client, and passes it on if a worker is free."""
         try:
             client, address = self.listener.accept()
-        except OSError:
+        except OSError as error:
+            if error.errno in (errno.EMFILE, errno.ENFILE):
+                time.sleep(PAUSE)  # until another client ends: the one that wants to come can still be seen
             return
         self.queue.append((client, peer_of(address)))
         if len(self.live) >= self.workers:

@@ -112,12 +112,34 @@ def check_record(path: Optional[str]) -> None:
         )
 
 
+class EndsByASignal:
+    """Ends a server in order on SIGTERM and SIGINT, also if one came while the server was being started."""
+
+    def __init__(self) -> None:
+        self.server: Optional[Server] = None
+        self.has_come = False
+        for number in (signal.SIGTERM, signal.SIGINT):
+            signal.signal(number, self.end)
+
+    def end(self, _number: int, _frame: object) -> None:
+        """Ends the server that is followed."""
+        self.has_come = True
+        if self.server is not None:
+            self.server.stop()
+
+    def follow(self, server: Server) -> None:
+        """Ends this server from now on."""
+        self.server = server
+        if self.has_come:
+            server.stop()
+
+
 def serve(words: ServerWords, log: Log) -> int:
     """Runs a server until it has ended, and gives the status."""
     check_record(words.record)
+    ends = EndsByASignal()
     server = Server(words, log.tell, systemd.given_listener())
-    for number in (signal.SIGTERM, signal.SIGINT):
-        signal.signal(number, lambda *_: server.stop())
+    ends.follow(server)
     address = address_text(server.address)
     sys.stdout.write(f"listening {address}\n")
     sys.stdout.flush()

@@ -97,16 +97,25 @@ class Server:
         self.listener = listener_at(words.listen) if listener is None else listener
         self.address: Tuple[str, int] = self.listener.getsockname()[:2]
         self.errors: IO[bytes] = tempfile.TemporaryFile()
+        self.side, began = side.Side(words.size, words.channels, side.now()), time.monotonic()
         try:
+            if words.record is not None:
+                self.side.save(words.record)
             self.process = self.start(path)
+        except OSError as error:
+            self.give_up()
+            why = f"{error.strerror or error}: {error.filename or words.record}"
+            raise program.Failure(f"the record cannot be written: {why}", program.WRITE_FAULT) from None
         except BaseException:
-            self.listener.close()
-            self.errors.close()
+            self.give_up()
             raise
         self.relay = Relay(self.listener, (LOOPBACK, self.port), words.workers, tell)
-        self.side = side.Side(words.size, words.channels, side.now())
-        if words.record is not None:
-            self.side.save(words.record)
+        self.relay.start = began
+
+    def give_up(self) -> None:
+        """Closes what is open of a server that was not started."""
+        self.listener.close()
+        self.errors.close()
 
     def start(self, path: str) -> "subprocess.Popen[bytes]":
         """Starts the program, and waits until it listens."""
@@ -119,13 +128,14 @@ class Server:
             "--conns",
             str(self.words.connections),
         ]
-        try:
-            with open(self.words.record or os.devnull, "wb") as out:
+        with open(self.words.record or os.devnull, "wb") as out:
+            try:
                 process = subprocess.Popen(
                     command, stdin=subprocess.DEVNULL, stdout=out, stderr=self.errors, start_new_session=True
                 )
-        except OSError as error:
-            raise program.Failure(f"{error.strerror}: {error.filename or path}", program.WRITE_FAULT) from None
+            except OSError as error:
+                why = f"{path} cannot be run: {error.strerror}; name rio9 by --program or by {program.TOLD_BY}"
+                raise program.Failure(why, program.NO_PROGRAM) from None
         end = time.monotonic() + STARTS
         while True:
             port = listening_port(process.pid)

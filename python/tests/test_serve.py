@@ -117,6 +117,17 @@ class Serves(unittest.TestCase):
         got = [bytes.fromhex(line.split()[2].decode()) for line in replies.splitlines() if line.startswith(b"R 2 ")]
         self.assertIn(screen[:1000], b"".join(message[11:] for message in got))
 
+    def test_a_signal_while_it_starts(self):
+        ends = serve.EndsByASignal()
+        try:
+            os.kill(os.getpid(), signal.SIGTERM)
+            running = server.Server(server.ServerWords())
+            ends.follow(running)
+            self.assertEqual(running.run(), 0)
+        finally:
+            signal.signal(signal.SIGTERM, signal.SIG_DFL)
+            signal.signal(signal.SIGINT, signal.default_int_handler)
+
     def test_as_many_clients_as_told(self):
         with Launched(self.room, "--conns", "2", "--workers", "2", "--log", "json") as launched:
             for _ in range(2):
