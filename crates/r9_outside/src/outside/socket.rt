@@ -216,6 +216,8 @@ impl<'b> Sink for TcpSink<'b> {
                 Ok(count)
             }
             _ => {
+                // Nothing more is read from who takes nothing, so that its worker is free.
+                let _ = self.stream.shutdown(Shutdown::Both);
                 self.faults = self.faults.saturating_add(1);
                 Err(SinkFault::Failed)
             }
