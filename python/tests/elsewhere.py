@@ -25,8 +25,10 @@ class Elsewhere(unittest.TestCase):
         python = python_with(*libraries)
         if python is None:
             self.skipTest(f"no Python has {' and '.join(libraries)}: tools/setup_tests.sh installs what tests need")
-        environment = {**os.environ, "PYTHONPATH": str(pathlib.Path(__file__).resolve().parent.parent)}
-        told = subprocess.run([python, file, "-v"], env=environment, stdout=subprocess.PIPE, stderr=subprocess.STDOUT)
+        path = pathlib.Path(file).resolve()
+        environment = {**os.environ, "PYTHONPATH": str(PYTHON)}
+        words = [python, "-m", "unittest", "discover", "-v", "-s", str(path.parent), "-p", path.name]
+        told = subprocess.run(words, env=environment, stdout=subprocess.PIPE, stderr=subprocess.STDOUT)
         lines = told.stdout.decode(errors="replace").splitlines()
         self.assertEqual(told.returncode, 0, "\n".join(lines))
-        sys.stderr.write("".join(f"{os.path.basename(file)}: {line}\n" for line in lines if " ... skipped " in line))
+        sys.stderr.write("".join(f"{path.name}: {line}\n" for line in lines if " ... skipped " in line))
