@@ -71,10 +71,10 @@ class Running:
 
 
 def take(connection, count):
-    data = b""
+    data = bytearray()
     while len(data) < count and (piece := connection.recv(1 << 16)):
         data += piece
-    return data
+    return bytes(data)
 
 
 class Relays(unittest.TestCase):
