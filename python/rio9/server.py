@@ -9,6 +9,7 @@ ends with its next client; these few are made here, and what they add to the rec
 """
 
 import contextlib
+import ctypes
 import os
 import re
 import resource
@@ -32,6 +33,7 @@ LISTENS = "0A"
 ONLY_STANDARD_FILES = 3
 BACKLOG = 128
 LOOPBACK = "127.0.0.1"
+LIBRARY, PR_SET_PDEATHSIG = ctypes.CDLL(None), 1
 
 
 @dataclass(frozen=True)
@@ -50,6 +52,16 @@ class ServerWords:
 
 def say_nothing(_event: str, _told: Dict[str, object]) -> None:
     """A teller of a server whose clients nobody wants to be told of."""
+
+
+def is_main_thread() -> bool:
+    """Whether this thread lasts as long as its process."""
+    return threading.current_thread() is threading.main_thread()
+
+
+def end_with_parent() -> None:
+    """Lets a process that is about to run a program be killed when the thread that made it is gone (prctl(2))."""
+    LIBRARY.prctl(PR_SET_PDEATHSIG, signal.SIGKILL)
 
 
 def listening_port(process: int) -> Optional[int]:
@@ -131,7 +143,12 @@ class Server:
         with open(self.words.record or os.devnull, "wb") as out:
             try:
                 process = subprocess.Popen(
-                    command, stdin=subprocess.DEVNULL, stdout=out, stderr=self.errors, start_new_session=True
+                    command,
+                    stdin=subprocess.DEVNULL,
+                    stdout=out,
+                    stderr=self.errors,
+                    start_new_session=True,
+                    preexec_fn=end_with_parent if is_main_thread() else None,
                 )
             except OSError as error:
                 why = f"{path} cannot be run: {error.strerror}; name rio9 by --program or by {program.TOLD_BY}"

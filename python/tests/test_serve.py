@@ -117,6 +117,16 @@ class Serves(unittest.TestCase):
         got = [bytes.fromhex(line.split()[2].decode()) for line in replies.splitlines() if line.startswith(b"R 2 ")]
         self.assertIn(screen[:1000], b"".join(message[11:] for message in got))
 
+    def test_a_launcher_that_is_killed_takes_its_server_with_it(self):
+        with Launched(self.room) as launched:
+            children = pathlib.Path(f"/proc/{launched.process.pid}/task/{launched.process.pid}/children").read_text()
+            launched.end(signal.SIGKILL)
+            end = time.monotonic() + SECONDS
+            while os.path.exists(f"/proc/{children.strip()}/exe") and time.monotonic() < end:
+                time.sleep(0.01)
+            with self.assertRaises(OSError):
+                os.readlink(f"/proc/{children.strip()}/exe")
+
     def test_a_signal_while_it_starts(self):
         ends = serve.EndsByASignal()
         try:
