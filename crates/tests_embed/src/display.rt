@@ -78,7 +78,8 @@ fn shows(display: &Embedded) -> bool {
 }
 
 // The rows of one point.
-fn shows_grey(display: &Embedded, x: i64) -> bool {
+fn shows_grey(display: &Embedded, x: u32) -> bool {
+    let x = i64::from(x);
     let r = Rect {
         min: Point { x, y: 47 },
         max: Point { x: x + 1, y: 48 },
