@@ -34,6 +34,17 @@ def entries_of(file: Iterable[bytes]) -> Iterator[Entry]:
             yield Entry(number, words[0], int(words[1]), len(message) // 2, head)
 
 
+def is_settled(record: str, sessions: int) -> bool:
+    """Whether so many sessions have begun in a record, and each has ended there."""
+    begun = ended = 0
+    line = b""
+    with open(record, "rb") as file:
+        for line in file:
+            begun += line.startswith(b"B ")
+            ended += line.startswith(b"E ")
+    return line.endswith(b"\n") and begun == ended and begun >= sessions
+
+
 def take_off(record: str, last: int) -> None:
     """Takes off the lines of sessions behind the last one that was a client's: they came and went at the end."""
     with open(record, "r+b") as file:

@@ -28,6 +28,8 @@ from rio9.relay import Relay, Teller
 
 STARTS = 10.0  # seconds until a server that was started listens
 ENDS = 10.0  # seconds until one that is ended is gone
+SETTLES = 1.0  # seconds in which a record that is written out in time has the ends of all sessions
+FILLS = 3.0  # seconds in which a server that cannot record ends
 PAUSE, PAUSE_OF_A_CLIENT = 0.002, 0.1
 LISTENS = "0A"
 ONLY_STANDARD_FILES = 3
@@ -148,6 +150,7 @@ class Server:
                     stdout=out,
                     stderr=self.errors,
                     start_new_session=True,
+                    restore_signals=False,  # a file that is full is then told, and no signal
                     preexec_fn=end_with_parent if is_main_thread() else None,
                 )
             except OSError as error:
@@ -213,11 +216,11 @@ class Server:
         """Ends the program once no client is passed on any more, and makes the record whole."""
         was_asked = self.process.poll() is None
         if was_asked:
-            self.use_up()
+            self.end_program()
         code = self.process.wait()
         told = self.lines()
         self.errors.close()
-        ended_by_us = was_asked and code == program.DOOR_FAULT
+        ended_by_us = was_asked and code in (program.DOOR_FAULT, program.WRITE_FAULT, -signal.SIGTERM)
         for line in filter(self.is_of_clients, told):
             if not (ended_by_us and line.startswith("rio9: ")):
                 self.tell("told", {"line": line})
@@ -231,6 +234,42 @@ class Server:
         """Whether a line on standard error is about no session that was made here at the end."""
         found = re.match(r"session ([0-9]+):", line)
         return found is None or int(found[1]) <= self.relay.begun
+
+    def end_program(self) -> None:
+        """Ends the program. It writes its record out whenever nobody has anything to say. So the record is whole once each
+        session has ended there; a program that keeps its last entries back is given its last clients."""
+        end = time.monotonic() + SETTLES
+        while self.process.poll() is None and time.monotonic() < end:
+            if self.words.record is None:
+                self.end_at_once()
+                return
+            if recorded.is_settled(self.words.record, self.relay.begun):
+                self.fill_up(os.path.getsize(self.words.record))
+                return
+            time.sleep(PAUSE)
+        self.use_up()
+
+    def end_at_once(self) -> None:
+        """Ends a program that keeps no record."""
+        self.process.send_signal(signal.SIGTERM)
+        try:
+            self.process.wait(ENDS)
+        except subprocess.TimeoutExpired:
+            self.tell("forced", {"seconds": ENDS})
+            self.process.send_signal(signal.SIGKILL)
+
+    def fill_up(self, size: int) -> None:
+        """Lets the program write no more to its record, which a server that can record no more ends for, once a last client
+        has come."""
+        end = time.monotonic() + FILLS
+        with contextlib.suppress(ProcessLookupError):
+            resource.prlimit(self.process.pid, resource.RLIMIT_FSIZE, (size, size))
+        while self.process.poll() is None and time.monotonic() < end:
+            with contextlib.suppress(OSError), socket.create_connection((LOOPBACK, self.port), PAUSE_OF_A_CLIENT):
+                pass
+            time.sleep(PAUSE)
+        if self.process.poll() is None:
+            self.use_up()
 
     def use_up(self) -> None:
         """Lets each worker end: the program may open no further file, so a worker that is given a client takes no
