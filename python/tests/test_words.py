@@ -97,6 +97,16 @@ class Commands(unittest.TestCase):
 
 
 class Words(unittest.TestCase):
+    def test_help_needs_no_library(self):
+        blocked = f"import sys; sys.modules.update(dict.fromkeys({list(commands.LIBRARIES)}))"
+        script = f"{blocked}; from rio9.commands import main; sys.exit(main(sys.argv[1:]))"
+        for name in commands.COMMANDS:
+            with self.subTest(name):
+                words = [sys.executable, "-c", script, name, "--help"]
+                ended = subprocess.run(words, cwd=PYTHON, capture_output=True, text=True)
+                self.assertEqual((ended.returncode, ended.stderr), (0, ""))
+                self.assertTrue(ended.stdout.startswith(f"usage: rio9d {name} "), ended.stdout)
+
     def test_no_command(self):
         for words, told in (([], b"a command is wanted"), (["dance"], b"no command: dance")):
             ended = run(words)

@@ -7,6 +7,7 @@ from pathlib import Path
 from rio9.live.recording import PLAYER
 
 HERE = Path(__file__).resolve().parent
+HOSTS = re.compile(r"(127\.[0-9.]+|localhost|\[::1\])(:[0-9]{1,5})?")  # names of this machine
 PICTURES = re.compile(r'<script id="pictures">(.*?)</script>', re.DOTALL)
 
 

@@ -3,7 +3,6 @@
 import asyncio
 import hmac
 import logging
-import re
 import secrets
 import time
 from typing import Awaitable, Callable, Optional, Set
@@ -19,7 +18,6 @@ from rio9.live.requests import Anew, BadRequest, Request, Shown, Visible, WantSn
 from rio9.live.watcher import Busy
 from rio9.server import address_text
 
-HOSTS = re.compile(r"(127\.[0-9.]+|localhost|\[::1\])(:[0-9]{1,5})?")
 TOKEN_BYTES = 18
 MOST_VIEWERS, MOST_LINE = 32, 300
 HEARTBEAT, FAREWELL = 30.0, 2.0  # seconds: between two signs of life, and for the last words of a page
@@ -53,7 +51,7 @@ class Server:
         """A handler of requests that name this machine and have a token."""
 
         async def handle(request: web.Request) -> web.StreamResponse:
-            if not HOSTS.fullmatch(request.host):
+            if not pages.HOSTS.fullmatch(request.host):
                 return refusal(
                     403,
                     "This address is not one of this machine",

@@ -23,18 +23,12 @@ if a word or a file is wrong; one line tells why. It is outside the proof. Needs
 import argparse
 import os
 import re
-import sys
 from typing import Callable, List, Tuple
 
-from rio9 import client, fonts, formats
-from rio9.desktop import Desktop
-from rio9.term import glyphs, window
-from rio9.term.cells import Cells
-from rio9.term.child import TERMINAL, Child, NoCommand
-from rio9.term.terminal import Terminal
+from rio9 import client, formats
+from rio9.term.child import TERMINAL
 
 ADDRESS = ("127.0.0.1", 5640)
-COLUMNS, LINES = 80, 24
 MOST_COLUMNS, MOST_LINES = 500, 200
 PLACE = (16, 16)
 
@@ -95,62 +89,12 @@ def split(words: List[str]) -> Tuple[List[str], List[str]]:
     return words[:at], words[at + 1 :]
 
 
-def size_of(options: argparse.Namespace, shape: glyphs.Glyphs, display: Tuple[int, int]) -> Tuple[int, int]:
-    """How many columns and rows the window has: what the words say, or what the display has room for."""
-    edge = 2 * (window.BORDER + window.MARGIN)
-    room = [
-        (side - max(at, 0) - edge) // cell for side, at, cell in zip(display, options.at, (shape.width, shape.height))
-    ]
-    columns = options.columns or max(min(COLUMNS, room[0]), window.LEAST_COLUMNS)
-    return columns, options.rows or max(min(LINES, room[1]), window.LEAST_LINES)
-
-
-def rectangle(options: argparse.Namespace, shape: glyphs.Glyphs, columns: int, lines: int) -> str:
-    """The words of a window's rectangle that has room for so many cells."""
-    edge = 2 * (window.BORDER + window.MARGIN)
-    wide, high = columns * shape.width + edge, lines * shape.height + edge
-    if max(wide, high) > window.MOST_SIDE:
-        raise client.Failure(
-            f"{columns} by {lines} cells take {wide} by {high} points: "
-            f"name fewer, so that a window of at most {window.MOST_SIDE} has room for them"
-        )
-    x, y = options.at
-    return f"-r {x} {y} {x + wide} {y + high}"
-
-
-def run(options: argparse.Namespace, command: List[str]) -> int:
-    """Runs the command in a window, and gives its status."""
-    shape = glyphs.load(options.font)
-    with client.Client(options.address, options.seconds) as session:
-        session.version()
-        columns, lines = size_of(options, shape, Desktop.of(session, session.attach()).size())
-        pane = window.Window(session, rectangle(options, shape, columns, lines))
-        pane.label(command[0])
-        child = Child(command, columns, lines, options.term)
-        try:
-            Terminal(pane, shape, child, Cells(columns, lines)).run(options.hold)
-        finally:
-            status = child.end()
-        return status
-
-
 def main(words: List[str]) -> int:
     """Runs `rio9d term`."""
     before, command = split(words)
     options = parser_of().parse_args(before)
     if not command:
         formats.stop("rio9d term", "a command is wanted behind --, as -- vim notes.txt")
-    try:
-        return run(options, command)
-    except window.Closed:
-        return 0
-    except client.Failure as error:
-        sys.stderr.write(f"rio9d term: {error}\n")
-        return 1
-    except (fonts.BadFont, formats.BadText, UnicodeDecodeError) as error:
-        formats.stop("rio9d term", f"{options.font}: {error}")
-    except NoCommand as error:
-        formats.stop("rio9d term", str(error))
-    except OSError as error:
-        formats.stop("rio9d term", formats.why_not(error))
-    return 2
+    from rio9.term.run import run  # here, since this needs pyte and the words do not
+
+    return run(options, command)
