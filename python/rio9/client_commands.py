@@ -55,6 +55,7 @@ from rio9.client import (
     Failure,
     File,
     Late,
+    Refused,
     address_of,
     names_of,
     seconds_of,
@@ -66,6 +67,7 @@ from rio9.desktop import Desktop
 NAME = "rio9d client"
 WAITING = ("cons", "mouse", "wctl", "refresh")
 READ_OF_DRAWING = "r"
+MOST_TOLD = 60  # characters of a command that a refusal is told with
 
 # What a command's words make: what is done with a session and the root of its tree.
 Job = Callable[[Client, int], None]
@@ -313,6 +315,11 @@ COMMANDS: Dict[str, Callable[[List[str]], Job]] = {
 }
 
 
+def asked(options: argparse.Namespace) -> str:
+    """What the server refused: the command and its first word, in one line."""
+    return " ".join(" ".join([options.command, *options.words[:1]]).split())[:MOST_TOLD]
+
+
 def run(options: argparse.Namespace, job: Job) -> None:
     """Does a command's job in a session of its own."""
     with Client(options.address, options.seconds or SECONDS) as client:
@@ -332,6 +339,9 @@ def main(words: List[str]) -> int:
     options = parser.parse_args(words)
     try:
         run(options, COMMANDS[options.command](options.words))
+    except Refused as error:
+        sys.stderr.write(f"rio9d client: {asked(options)}: {error}\n")
+        return 1
     except (Failure, ValueError) as error:
         sys.stderr.write(f"rio9d client: {error}\n")
         return 1

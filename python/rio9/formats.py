@@ -4,6 +4,7 @@ It is outside the proof: it shares nothing with the proved program, and the prov
 """
 
 import argparse
+import os
 import re
 import sys
 from dataclasses import dataclass
@@ -44,6 +45,11 @@ def stop(name: str, why: object) -> NoReturn:
 def why_not(error: OSError) -> str:
     """What an OSError tells, in one line."""
     return f"{error.strerror}: {error.filename}" if error.filename else str(error.strerror or error)
+
+
+def is_one_of(path: str, others: Iterable[str]) -> bool:
+    """Whether a path names one of some files that are there, so that writing it would destroy that."""
+    return os.path.exists(path) and any(os.path.exists(other) and os.path.samefile(path, other) for other in others)
 
 
 class Words(argparse.ArgumentParser):

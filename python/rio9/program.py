@@ -14,7 +14,7 @@ NAME, TOLD_BY = "rio9", "RIO9_PROGRAM"
 MOST_SIDE, MOST_WORKERS, MOST_CONNECTIONS, LAST_SESSION = 2048, 16, 100_000, 2**32 - 1
 
 # The statuses of the program, and that of a shell for a program that is not there.
-DONE, USAGE, BAD_RECORD, READ_FAULT, WRITE_FAULT, DOOR_FAULT, NO_PROGRAM = 0, 1, 2, 3, 4, 6, 127
+DONE, USAGE, BAD_RECORD, READ_FAULT, WRITE_FAULT, DOOR_FAULT, NOT_ALONE, NO_PROGRAM = 0, 1, 2, 3, 4, 6, 7, 127
 
 
 class Failure(Exception):

@@ -12,12 +12,30 @@ the statuses, are those of rio9; for a text that is no record, the line and the 
 """
 
 import argparse
+import os
+import re
 import subprocess
 import sys
 from typing import List, Optional, Tuple
 
 from rio9 import formats, program, record, side
 from rio9.serve import read_by
+
+# Why a session of a record is not alone with its window, by the number that the program tells (docs/ISOLATION.md).
+REASONS = {
+    1: "it attaches a second time, or by a name that asks for no new window",
+    2: "its first attach is refused",
+    3: "another session attaches its window",
+    4: "another session looks up a name of its window's image",
+    5: "another session walks into its window through wsys",
+    6: "it opens screen or snarf, or walks to or opens wsys",
+    7: "it draws with the display, image 0, or chooses it by ctl",
+    8: "it shares or asks for what all connections share: a public screen, or a name",
+    9: "it makes a further window, or a rio in its window, by wctl",
+    10: "its window becomes the host of a rio",
+    11: "its window is none of the root rio",
+    12: "it reads ctl while that describes the display, whose size has changed",
+}
 
 
 def display_of(path: str, size: Optional[Tuple[int, int]], channels: Optional[str]) -> Tuple[Tuple[int, int], str]:
@@ -27,6 +45,7 @@ def display_of(path: str, size: Optional[Tuple[int, int]], channels: Optional[st
         if beside is not None:
             return size or beside.size, channels or beside.channels
     if size is None and channels is None:
+        os.stat(path)  # that there is no record is told first
         raise program.Failure(
             f"no file {side.side_path(path)} tells the display: say its --size, which is 640x480 if serve was told "
             "none, and its --chan if it was not x8r8g8b8",
@@ -68,16 +87,26 @@ def run(command: str, options: argparse.Namespace, further: List[str]) -> int:
         words = program.display_words(*display_of(options.record, options.size, options.chan))
         path = program.find(options.program)
         with open(options.record, "rb") as given:
-            code = subprocess.run([path, command, *words, *further], stdin=given).returncode
+            ended = subprocess.run([path, command, *words, *further], stdin=given, stderr=subprocess.PIPE)
     except (program.Failure, side.BadSide) as failure:
         sys.stderr.write(f"rio9d {command}: {failure}\n")
         return getattr(failure, "status", program.USAGE)
     except OSError as error:
         sys.stderr.write(f"rio9d {command}: {formats.why_not(error)}\n")
         return program.READ_FAULT
+    told = ended.stderr.decode(errors="replace")
+    sys.stderr.write(told + further_words(command, options.record, ended.returncode, told))
+    return program.status_of(ended.returncode)
+
+
+def further_words(command: str, path: str, code: int, told: str) -> str:
+    """What stands behind the program's own line about a record, in words, and nothing if it needs none."""
     if code == program.BAD_RECORD:
-        sys.stderr.write(f"rio9d {command}: {why_no_record(options.record)}\n")
-    return program.status_of(code)
+        return f"rio9d {command}: {why_no_record(path)}\n"
+    found = re.search(r"reason ([0-9]+)", told)
+    if code == program.NOT_ALONE and found and int(found[1]) in REASONS:
+        return f"rio9d {command}: the session is not alone with its window: {REASONS[int(found[1])]}\n"
+    return ""
 
 
 def replay_main(words: List[str]) -> int:
@@ -123,5 +152,12 @@ def channels_beside(path: Optional[str]) -> int:
         with open(path, "rb") as file:
             is_record = formats.is_record(file.read(len(formats.HEADER)))
         if is_record:
-            return formats.channels_word(display_of(path, None, None)[1])
+            beside = side.load(path)
+            if beside is None:
+                raise program.Failure(
+                    f"no file {side.side_path(path)} tells the display: say its --chan, which is x8r8g8b8 if serve was "
+                    "told none",
+                    program.USAGE,
+                )
+            return formats.channels_word(beside.channels)
     return formats.channels_word(formats.USUAL_CHANNELS)

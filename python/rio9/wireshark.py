@@ -152,6 +152,8 @@ def main(words: List[str]) -> int:
     parser.add_argument("replies", metavar="REPLIES", help="what `rio9d replay` of it printed")
     parser.add_argument("out", metavar="OUT.pcap", help="the capture that is written")
     options = parser.parse_args(words)
+    if formats.is_one_of(options.out, (options.record, options.replies)):
+        parser.error(f"{options.out} is read, and would be lost: name another file for the capture")
     try:
         with open(options.record, "rb") as file:
             record = file.read()

@@ -327,9 +327,10 @@ class Commands(unittest.TestCase):
 
     def test_one_line_tells_what_is_wrong(self):
         cases = [
-            (["cat", "nope"], 1, "rio9d client: file does not exist"),
-            (["cat", "kbdin"], 1, "rio9d client: permission denied"),
-            (["wctl", "dance"], 1, "rio9d client: bad wctl command"),
+            (["cat", "nope"], 1, "rio9d client: cat nope: file does not exist"),
+            (["cat", "kbdin"], 1, "rio9d client: cat kbdin: permission denied"),
+            (["wctl", "dance"], 1, "rio9d client: wctl dance: bad wctl command"),
+            (["cat", "no\npe"], 1, "rio9d client: cat no pe: file does not exist"),
             (["wctl"], 2, "window command"),
             (["cat"], 2, "path"),
             (["dance"], 2, "dance"),

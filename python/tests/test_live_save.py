@@ -100,6 +100,15 @@ class Command(unittest.TestCase):
         status, told = self.run_words(self.record, self.page, "--size", "9x9")
         self.assertEqual((status, told), (10, "rio9d save: rio9: late record: first entry 7\n"))
 
+    def test_what_is_read_is_not_lost(self):
+        side.Side((320, 240), "r5g6b5", START, 1, [(1, 0)]).save(str(self.record))
+        for path in (self.record, side.side_path(str(self.record))):
+            with self.subTest(path):
+                before = path.read_bytes()
+                status, told = self.run_words(self.record, path)
+                self.assertEqual((status, told.count("\n"), path.read_bytes()), (1, 1, before))
+                self.assertIn("would be lost: name another file", told)
+
 
 if __name__ == "__main__":
     unittest.main()

@@ -248,10 +248,11 @@ class Words(unittest.TestCase):
             (f"serve --program {NO_PROGRAM}", 127, "name rio9 by --program or by RIO9_PROGRAM"),
             (f"replay {EXAMPLES}/rio.record", 1, "rio.record.json tells the display: say its --size"),
             (f"replay {JUNK} --size 8x8", 3, "not-there"),
+            (f"replay {JUNK}", 3, f"No such file or directory: {JUNK}"),
             ("alone x --conn 0", 1, "--conn"),
             ("alone x", 1, "--conn"),
             ("mirror", 1, "FILE"),
-            (f"explain {EXAMPLES}/rio.record", 2, "--chan"),
+            (f"explain {EXAMPLES}/rio.record", 2, "rio.record.json tells the display: say its --chan, which is"),
             (f"explain {JUNK}", 2, "not-there"),
         ]
         for words, status, told in cases:
@@ -272,9 +273,27 @@ class Words(unittest.TestCase):
             self.assertEqual(err.splitlines()[0], "rio9: bad record at byte 11")
             self.assertIn("bad: line 3, word 2 `2`: session 2 has not begun", err.splitlines()[1])
 
+    @needs_program
+    def test_why_a_session_is_not_alone(self):
+        with tempfile.TemporaryDirectory() as room:
+            path = pathlib.Path(room, "two")
+            path.write_bytes((EXAMPLES / "first.record").read_bytes())
+            status, out, err = ended("alone", str(path), "--size", "64x48", "--conn", "1")
+            self.assertEqual((status, out), (7, b""))
+            self.assertIn("rio9d alone: the session is not alone with its window: it attaches a second time", err)
+
+    def test_reasons(self):
+        """Each reason of the page on isolation has words."""
+        page = (EXAMPLES.parent / "docs" / "ISOLATION.md").read_text(encoding="utf-8")
+        numbers = re.findall(r"^\| ([0-9]+) \|", page, re.MULTILINE)
+        self.assertEqual(sorted(replays.REASONS), [int(number) for number in numbers])
+
     def test_display_of_a_record(self):
         with tempfile.TemporaryDirectory() as room:
             path = f"{room}/a"
+            with self.assertRaises(FileNotFoundError):
+                replays.display_of(path, None, None)
+            pathlib.Path(path).touch()
             with self.assertRaisesRegex(program.Failure, "a.json"):
                 replays.display_of(path, None, None)
             self.assertEqual(replays.display_of(path, (3, 4), None), ((3, 4), "x8r8g8b8"))

@@ -93,9 +93,26 @@ class Packed(unittest.TestCase):
         for data in (b"compressed\n", b"compressed\n" + b"x" * 60):
             with self.subTest(data), tempfile.TemporaryDirectory() as room:
                 pathlib.Path(room, "a").write_bytes(data)
-                command = [sys.executable, RIO9D, "unpack", f"{room}/a", "--out", room]
+                command = [sys.executable, RIO9D, "unpack", f"{room}/a", "--out", f"{room}/out"]
                 run = subprocess.run(command, capture_output=True, text=True)
                 self.assertEqual((run.returncode, run.stdout, run.stderr.count("\n")), (1, "", 1), run.stderr)
+
+    def test_no_file_is_lost(self):
+        with tempfile.TemporaryDirectory() as room:
+            for name in ("a", "b"):
+                pathlib.Path(room, name).mkdir()
+                pathlib.Path(room, name, "x").write_bytes(name.encode())
+            cases = (
+                (["a/x", "b/x", "--out", "c"], "two files have the name x"),
+                (["a/x", "--out", "a"], "a/x is read, and would be lost: name another folder"),
+            )
+            for words, told in cases:
+                with self.subTest(words):
+                    command = [sys.executable, RIO9D, "unpack", *words]
+                    run = subprocess.run(command, cwd=room, capture_output=True, text=True)
+                    self.assertEqual((run.returncode, run.stderr.count("\n")), (2, 1), run.stderr)
+                    self.assertIn(told, run.stderr)
+            self.assertEqual(pathlib.Path(room, "a", "x").read_bytes(), b"a")
 
 
 class Colours(unittest.TestCase):

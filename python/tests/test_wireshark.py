@@ -75,6 +75,16 @@ class Captures(unittest.TestCase):
             self.assertRegex(err.getvalue(), r"^[0-9]+ messages, [0-9]+ replies\n$")
             self.assertGreater(len(packets_of(pathlib.Path(words[2]).read_bytes())), 9)
 
+    def test_what_is_read_is_not_lost(self):
+        with tempfile.TemporaryDirectory() as room:
+            record = pathlib.Path(room, "walk.record")
+            record.write_bytes((EXAMPLES / "walk.record").read_bytes())
+            err = io.StringIO()
+            with contextlib.redirect_stderr(err), self.assertRaises(SystemExit):
+                wireshark.main([str(record), str(EXAMPLES / "walk.replies"), str(record)])
+            self.assertIn("would be lost: name another file", err.getvalue())
+            self.assertEqual(record.read_bytes(), (EXAMPLES / "walk.record").read_bytes())
+
 
 if __name__ == "__main__":
     unittest.main()

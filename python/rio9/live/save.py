@@ -94,6 +94,8 @@ def main(words: List[str]) -> int:
     parser.description = __doc__
     parser.add_argument("page", metavar="PAGE.html", help="the page that is written")
     options = parser.parse_args(words)
+    if formats.is_one_of(options.page, (options.record, str(side.side_path(options.record)))):
+        parser.error(f"{options.page} is read, and would be lost: name another file for the page")
     try:
         save(options.record, options.page, options.size, options.chan, options.program)
     except (program.Failure, side.BadSide, TooLong) as failure:

@@ -9,7 +9,7 @@ as it is; a file that is not compressed is copied. It is outside the proof.
 import argparse
 import os
 import sys
-from typing import List
+from typing import List, Optional
 
 from rio9 import formats
 from rio9.translate.packed import BadPacking, unpack
@@ -66,6 +66,17 @@ def unpacked(data: bytes) -> bytes:
     return bytes(found) + data[at:]
 
 
+def why_no_room(files: List[str], folder: str) -> Optional[str]:
+    """Why the files cannot be written into a folder by their own names without losing one of them."""
+    names = [os.path.basename(path) for path in files]
+    for path, name in zip(files, names):
+        if names.count(name) > 1:
+            return f"two files have the name {name}: unpack them into two folders"
+        if formats.is_one_of(os.path.join(folder, name), files):
+            return f"{path} is read, and would be lost: name another folder by --out"
+    return None
+
+
 def main(words: List[str]) -> int:
     """Does what the words say, and gives the status."""
     form = argparse.RawDescriptionHelpFormatter
@@ -73,6 +84,9 @@ def main(words: List[str]) -> int:
     parser.add_argument("files", nargs="+", metavar="FILE")
     parser.add_argument("--out", required=True, metavar="FOLDER")
     options = parser.parse_args(words)
+    why = why_no_room(options.files, options.out)
+    if why is not None:
+        parser.error(why)
     try:
         os.makedirs(options.out, exist_ok=True)
         for path in options.files:
