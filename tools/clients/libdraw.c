@@ -251,6 +251,7 @@ Screen *allocscreen(Image *image, Image *fill, int public)
         free(s);
         return nil;
     }
+    ldrefusals -= try; /* ids that public screens of other programs have are passed over */
     s->display = d;
     s->id = id;
     s->image = image;
