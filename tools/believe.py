@@ -9,7 +9,8 @@ proof can tell whether they say what was meant.
 Names are looked up as the prover does: through imports, also those under another name, through modules that a crate
 passes on, and within a file. The sentence about a file is the first of the comment at its head. For a file without
 such a comment it stands in tools/believe.txt, a line for each file: its path, a tab, and the sentence. How many lines
-all else has is told in thousands, and may be off by two of them before `--check` minds.
+all else has, and each layer of docs/rooms.txt, is told in thousands, and may be off by two of them before `--check`
+minds.
 """
 
 from __future__ import annotations
@@ -22,12 +23,14 @@ from collections import defaultdict, deque
 from collections.abc import Iterable, Iterator
 from dataclasses import dataclass
 
+import rooms
 from names import Lost, Node, Tree, Uses, contract_texts
 from sources import Item, files_of, line_count, read_antt, read_rt
 
 TOP = os.path.dirname(os.path.dirname(os.path.abspath(__file__)))
 CALL_FILE, CALL = "crates/r9_serve/src/serve/call.rt", "run"
 PAGE = "docs/BELIEVE.md"
+ROOMS = "docs/rooms.txt"
 SENTENCES = "tools/believe.txt"
 SLACK = 2_000
 REST = re.compile(r"about ([\d,]+),000 lines")
@@ -183,7 +186,26 @@ def all_else(root: str, believed: int) -> Iterator[str]:
         ("other definitions, of lemmas and of contracts below `run`", definitions - believed),
         ("lemmas and proofs", lines_of(files_of(root, "proofs", ".antt"))),
     ]:
-        yield f"| {what} | about {max(1, round(count / 1000)):,},000 lines |"
+        yield f"| {what} | {in_thousands(count)} |"
+
+
+def in_thousands(count: int) -> str:
+    if not count:
+        return "none"
+    return f"about {round(count / 1000):,},000 lines" if count >= 1000 else "under 1,000 lines"
+
+
+def layers(root: str) -> Iterator[str]:
+    """A table of how many lines each heading of docs/rooms.txt has."""
+    with open(f"{root}/{ROOMS}", encoding="utf-8") as file:
+        groups = rooms.read_rooms(file.read())
+    parts = [files_of(root, part, ending) for part, ending in [("src", ".rt"), ("specs", ".antt"), ("proofs", ".antt")]]
+    yield "The same by the layers of [ARCHITECTURE.md](ARCHITECTURE.md#the-crates):\n"
+    yield "| Layer | Code, with its contracts | Definitions | Lemmas and proofs |\n|---|---|---|---|"
+    for group in groups:
+        crates = {room.name for room in group.rooms}
+        counts = [lines_of(it for it in part if it[0] in crates) for part in parts]
+        yield f"| {group.heading} | {' | '.join(in_thousands(count) for count in counts)} |"
 
 
 def counted(count: int, what: str) -> str:
@@ -216,7 +238,7 @@ def page(root: str) -> str:
     for file in files:
         entries[crate_of(file)].append(section(belief, file, names[file], table))
     total = sum(lines for rows in entries.values() for lines, _ in rows)
-    text = [intro(len(belief.names), len(files), total), *all_else(root, total), ""]
+    text = [intro(len(belief.names), len(files), total), *all_else(root, total), "", *layers(root), ""]
     for crate, rows in entries.items():
         count = sum(len(names[file]) for file in files if crate_of(file) == crate)
         lines = sum(lines for lines, _ in rows)

@@ -108,7 +108,7 @@ pub trait Door {
     "crates/m_words/specs/Passed.antt": "-- What is passed on.\nabbrev pub given : ℕ → ℕ\ngiven n = n\n",
     "crates/m_words/proofs/Lemmas.antt": "pub lemma : ℕ\nlemma = 1\n",
     "tools/believe.txt": "crates/r9_way/src/way.rt\tDoors, and ways to them\n",
-    "docs/README.md": "",
+    "docs/rooms.txt": "# Words\nm_words\n\n# Ways, and serving\nr9_way\nr9_serve\n",
     "crates.txt": "# Crates\nr9_serve may_wait=1: r9_way m_words\nr9_way: m_words\nm_words:\n",
 }
 
@@ -193,6 +193,7 @@ class Page(unittest.TestCase):
             with open(f"{root}/docs/BELIEVE.md", encoding="utf-8") as file:
                 text = file.read()
         self.assertIn("13 definitions in 5 files", text)
+        self.assertIn("| Ways, and serving | under 1,000 lines | under 1,000 lines | none |\n", text)
         self.assertIn("](../crates/m_words/src/kind.rt): Kinds. No code. 4 lines: `Kind`\n", text)
         self.assertIn("/r9_way/src/way.rt): Doors, and ways to them. 12 lines: `Way`, `Step`, `Door`\n", text)
         self.assertIn("Words.antt): Words: of things that are made. 15 lines: `Size`, `Known`, `Made`,", text)
