@@ -408,7 +408,7 @@ else:
             for words, status, told in (
                 (("--", "no-such-command"), 2, "no command: no-such-command: name a program"),
                 (("--",), 2, "a command is wanted behind --"),
-                (("--font", "none.pcf", "--", "true"), 2, "No such file or directory: none.pcf"),
+                (("--font", "none.pcf", "--", "true"), 2, "No such file or directory: none.pcf: name a font's file"),
                 (("--font", __file__, "--", "true"), 2, "no font in BDF, PCF or PSF"),
                 (("--columns", "400", "--rows", "10", "--", "true"), 1, "400 by 10 cells take"),
                 (("--columns", "1", "--", "true"), 2, "no number from 2 to 500: 1"),

@@ -290,7 +290,20 @@ class Words(unittest.TestCase):
         with socket.create_server(("127.0.0.1", 0)) as taken:
             status, line = self.run_words(f"127.0.0.1:{taken.getsockname()[1]}", "127.0.0.1:1")
         self.assertEqual(status, 1)
-        self.assertIn("Address already in use", line)
+        self.assertIn("Address already in use; 127.0.0.1:0 takes a free port", line)
+
+    def test_a_server_that_is_not_there(self):
+        with socket.create_server(("127.0.0.1", 0)) as taken:
+            port = taken.getsockname()[1]
+        words = [sys.executable, RIO9D, "translate", "127.0.0.1:0", f"127.0.0.1:{port}"]
+        with subprocess.Popen(words, stdout=subprocess.PIPE, stderr=subprocess.PIPE, text=True) as process:
+            listens = int(process.stdout.readline().rsplit(":", 1)[1])
+            with socket.create_connection(("127.0.0.1", listens), SECONDS) as held:
+                self.assertEqual(held.recv(1), b"")
+            process.send_signal(signal.SIGTERM)
+            line = process.stderr.read()
+            self.assertEqual(process.wait(SECONDS), 0)
+        self.assertRegex(line, rf"the server at 127.0.0.1:{port} cannot be reached: .*; is a server there\?")
 
     def test_a_signal_ends_it_without_a_complaint(self):
         with socket.create_server(("127.0.0.1", 0)) as server_socket:

@@ -66,6 +66,8 @@ def run(options: argparse.Namespace, command: List[str]) -> int:
         formats.stop("rio9d term", f"{options.font}: {error}")
     except NoCommand as error:
         formats.stop("rio9d term", str(error))
+    except FileNotFoundError as error:
+        formats.stop("rio9d term", f"{formats.why_not(error)}: name a font's file, or a font of xfonts-base, as 9x15")
     except OSError as error:
         formats.stop("rio9d term", formats.why_not(error))
     return 2

@@ -18,6 +18,7 @@ import sys
 from typing import List, Set, Tuple
 
 from rio9 import formats
+from rio9.server import address_text
 from rio9.translate.cursors import Cursors
 from rio9.translate.session import Session
 
@@ -63,7 +64,10 @@ class Door:
         try:
             server_reader, server_writer = await asyncio.open_connection(*self.server)
         except OSError as error:
-            complain(f"the server at {self.server[0]}:{self.server[1]} cannot be reached: {why(error)}")
+            complain(
+                f"the server at {address_text(self.server)} cannot be reached: {why(error)}; is a server there? rio9d "
+                "serve starts one"
+            )
             writer.close()
             return
         fault = await Session(reader, writer, server_reader, server_writer, self.cursors).run()
@@ -84,7 +88,7 @@ async def serve(listen: Address, server: Address) -> None:
         loop.add_signal_handler(number, stop.set)
     listener = await asyncio.start_server(door.come, *listen)
     host, port = listener.sockets[0].getsockname()[:2]
-    print(f"listening {host}:{port}", flush=True)
+    print(f"listening {address_text((host, port))}", flush=True)
     await stop.wait()
     listener.close()
     await door.end()
@@ -100,6 +104,6 @@ def main(words: List[str]) -> int:
     try:
         asyncio.run(serve(options.listen, options.server))
     except OSError as error:
-        complain(f"cannot listen at {options.listen[0]}:{options.listen[1]}: {why(error)}")
+        complain(f"cannot listen at {address_text(options.listen)}: {why(error)}; 127.0.0.1:0 takes a free port")
         return 1
     return 0
