@@ -316,8 +316,9 @@ COMMANDS: Dict[str, Callable[[List[str]], Job]] = {
 
 
 def asked(options: argparse.Namespace) -> str:
-    """What the server refused: the command and its first word, in one line."""
-    return " ".join(" ".join([options.command, *options.words[:1]]).split())[:MOST_TOLD]
+    """What the server refused: the command and its words, in one line."""
+    told = " ".join(" ".join([options.command, *options.words]).split())
+    return told if len(told) <= MOST_TOLD else told[: MOST_TOLD - 2] + ".."
 
 
 def run(options: argparse.Namespace, job: Job) -> None:

@@ -118,7 +118,7 @@ class Server:
             self.process = self.start(path)
         except OSError as error:
             self.give_up()
-            why = f"{error.strerror or error}: {error.filename or words.record}"
+            why = f"{error.strerror or error}: {words.record}; name another file by --record"
             raise program.Failure(f"the record cannot be written: {why}", program.WRITE_FAULT) from None
         except BaseException:
             self.give_up()
@@ -164,8 +164,11 @@ class Server:
                 return process
             if process.poll() is not None or time.monotonic() > end:
                 process.kill()
-                told = ", ".join(self.lines()) or program.why_status(process.wait())
-                raise program.Failure(f"{path} does not listen: {told}", program.status_of(process.returncode) or 1)
+                code = process.wait()
+                told = ", ".join(self.lines())
+                if not told:
+                    told = f"{program.why_status(code)}; name rio9 by --program or by {program.TOLD_BY}"
+                raise program.Failure(f"{path} does not listen: {told}", program.status_of(code) or 1)
             time.sleep(PAUSE)
 
     def lines(self) -> List[str]:

@@ -331,6 +331,7 @@ class Commands(unittest.TestCase):
             (["cat", "kbdin"], 1, "rio9d client: cat kbdin: permission denied"),
             (["wctl", "dance"], 1, "rio9d client: wctl dance: bad wctl command"),
             (["cat", "no\npe"], 1, "rio9d client: cat no pe: file does not exist"),
+            (["cat", "x" * 99], 1, f"rio9d client: cat {'x' * 54}..: file does not exist"),
             (["wctl"], 2, "window command"),
             (["cat"], 2, "path"),
             (["dance"], 2, "dance"),

@@ -344,6 +344,15 @@ class Programs(unittest.TestCase):
             with self.assertRaisesRegex(program.Failure, "does not listen: rio9: out of memory") as raised:
                 server.Server(server.ServerWords(binary=str(path)))
             self.assertEqual(raised.exception.status, 5)
+            path.write_text("#!/bin/sh\nexit 1\n")
+            with self.assertRaisesRegex(program.Failure, "does not listen: status 1; name rio9 by --program"):
+                server.Server(server.ServerWords(binary=str(path)))
+            path.write_text("#!/bin/sh\necho 'waiting' >&2\nexec sleep 60\n")
+            with mock.patch.object(server, "STARTS", 0.5):
+                with self.assertRaisesRegex(program.Failure, "does not listen: waiting"):
+                    server.Server(server.ServerWords(binary=str(path)))
+            with self.assertRaisesRegex(program.Failure, f"{NO_PROGRAM}/a; name another file by --record"):
+                server.Server(server.ServerWords(binary=str(path), record=f"{NO_PROGRAM}/a"))
             path.write_bytes(b"\x7fELF junk")
             with self.assertRaisesRegex(program.Failure, "Exec format error"):
                 server.Server(server.ServerWords(binary=str(path)))
