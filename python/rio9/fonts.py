@@ -588,6 +588,8 @@ def main(words: List[str]) -> int:
     except BadFont as error:
         sys.stderr.write(f"rio9d font: {options.file}: {error}\n")
         return 1
+    except FileNotFoundError as error:
+        formats.stop("rio9d font", f"{formats.why_not(error)}; apt install xfonts-base or console-setup-linux has fonts")
     except OSError as error:
         formats.stop("rio9d font", formats.why_not(error))
     return 0

@@ -36,7 +36,7 @@ CASES = [
     ("wireshark", b"", 2, "RECORD"),
     (f"wireshark {NOT_THERE} {EXAMPLES}/first.replies OUT", b"", 2, NOT_THERE),
     (f"wireshark {EXAMPLES}/first.record {EXAMPLES}/first.record OUT", b"", 1, "line 1, word 1 `rio9`: "),
-    (f"font {NOT_THERE}", b"", 2, NOT_THERE),
+    (f"font {NOT_THERE}", b"", 2, f"{NOT_THERE}; apt install xfonts-base"),
     (f"font {EXAMPLES}/first.record", b"", 1, "it is no font"),
     ("events file", b"", 2, "file"),
     ("events", b"# none\n1 2\n", 1, "line 2: "),
