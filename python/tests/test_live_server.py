@@ -398,7 +398,7 @@ class Driving(unittest.IsolatedAsyncioTestCase):
                 live.hub.watcher.do = lambda act, refused: time.sleep(0.5)
                 for _ in range(2500):
                     await page.send(kind="keys", text="a")
-                await until(lambda: page.last("told"))
+                await until(lambda: page.last("told"), 60)
                 self.assertIn("inputs wait for the server already", page.last("told")["why"])
 
     async def test_watching_page(self):

@@ -141,7 +141,9 @@ else:
                 ("yyp", "two"),
                 ("ggdG", "--No lines"),
             ]
-            self.compare([*words, "-c", "syntax on", str(SOURCE)], [*steps, *more])
+            with tempfile.TemporaryDirectory() as room:
+                source = pathlib.Path(shutil.copy(SOURCE, room))  # a longer path takes a second line below
+                self.compare([*words, "-c", "syntax on", str(source)], [*steps, *more])
 
         @needs("vim")
         def test_characters_in_vim(self):

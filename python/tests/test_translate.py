@@ -146,11 +146,16 @@ class Translated:
         self.address = "127.0.0.1", int(told[1])
         return self
 
-    def __exit__(self, *words):
-        self.process.kill()
-        self.process.wait()
-        self.process.stdout.close()
-        self.server.__exit__(*words)
+    def __exit__(self, kind, *words):
+        self.process.terminate()
+        try:
+            ended = self.process.wait(SECONDS)
+        finally:
+            self.process.kill()
+            self.process.stdout.close()
+            self.server.__exit__(kind, *words)
+        if kind is None and ended != 0:
+            raise AssertionError(f"rio9d translate ended with {ended}")
 
 
 def draw_bytes(*lines):

@@ -97,6 +97,11 @@ class Commands(unittest.TestCase):
 
 
 class Words(unittest.TestCase):
+    def test_by_the_name_of_the_package(self):
+        words = [sys.executable, "-m", "rio9", "--version"]
+        ended = subprocess.run(words, cwd=PYTHON, capture_output=True, text=True)
+        self.assertEqual((ended.returncode, ended.stdout), (0, f"rio9d {rio9.__version__}\n"))
+
     def test_help_needs_no_library(self):
         blocked = f"import sys; sys.modules.update(dict.fromkeys({list(commands.LIBRARIES)}))"
         script = f"{blocked}; from rio9.commands import main; sys.exit(main(sys.argv[1:]))"
