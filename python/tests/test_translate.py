@@ -234,6 +234,15 @@ class Sessions(unittest.TestCase):
             self.session.read(self.data.fid, count=7)
         self.assertEqual(len(self.session.read(self.data.fid)), 8)
 
+    def test_versions_and_walks_that_are_refused(self):
+        with client.Client(self.translated.address, seconds=SECONDS) as session:
+            self.assertEqual(session.call("Tversion", msize=8192, version="8P")[0]["version"], "unknown")
+        for path in ("nothing/cursor", "wsys/999/cursor"):
+            with self.subTest(path), self.assertRaisesRegex(client.Refused, "file does not exist"):
+                self.session.file(self.root, path)
+        with self.assertRaisesRegex(client.Refused, "unknown fid"):
+            self.session.walk(999, ["cursor"])
+
     def test_ids_move_when_a_client_takes_them(self):
         self.write(draw_bytes(IMAGE.format(1, "k8", "0xffffffff"), RED) + LINE)
         for own in range(0xF0F00000, 0xF0F00008):
