@@ -29,10 +29,11 @@ from times import K1, POINT, WIDE, X8R8G8B8, allocate, draw, rect, topen, walk
 
 ROUNDS, MOST_ROUNDS = 3, 15
 STEADY = 1.05  # how much the third least of some runs may be above the least
-PEER_BAR, GROWTH_BAR = 2.0, 1.5
-SMALL, LARGE = ["--size", "64x64"], ["--size", "2048x2048"]
+PEER_BAR, GROWTH_BAR, WINDOWS_BAR = 2.0, 1.5, 3.0
+SMALL, LARGE, DESK = ["--size", "64x64"], ["--size", "2048x2048"], ["--size", "640x480"]
 MOST_OF_A_WRITE = 65000
 FULL, COLOUR, FIRST = 1, 2, 10  # image ids: the full mask, a colour, and the first of those that are made in numbers
+SCREEN = 3  # the id of a screen of the display
 FEW, MANY, REPEATS, COUNTED_REPEATS = 10, 100_000, 400_000, 20_000
 LEAST_SECONDS = 0.02  # what the ticks can tell
 
@@ -137,6 +138,43 @@ def fonts():
     count = 1000
     return begin(1) + writes(1, images(count) + [b"i" + number(FIRST + i, 4) + number(4096, 4) + b"\0" for i in range(count)])
 
+
+def window(i, r):
+    return b"b" + number(FIRST + i, 4) + number(SCREEN, 4) + b"\0" + number(X8R8G8B8, 4) + b"\0" + r + r + number(0x336699FF, 4)
+
+
+def windows(places, after=()):
+    """Windows of the display, and what comes after them."""
+    screen = b"A" + number(SCREEN, 4) + number(0, 4) + number(COLOUR, 4) + b"\0"
+    return begin(1) + writes(1, [*PALETTE, screen] + [window(i, r) for i, r in enumerate(places)] + list(after))
+
+
+def grid(count, size):
+    """Places side by side, row by row on a display of 640 columns."""
+    across = 640 // size
+    corners = [(size * (i % across), size * (i // across)) for i in range(count)]
+    return [rect(x, y, x + size, y + size) for x, y in corners]
+
+
+def to_top(ids):
+    return b"t\1" + number(len(ids), 2) + b"".join(number(FIRST + i, 4) for i in ids)
+
+
+AT_ONE_PLACE = [rect(10, 10, 20, 20)]
+WHOLE_DISPLAY = draw(0, COLOUR, FULL, rect(0, 0, 640, 480))
+
+# What is done to many windows, beside the same windows without it.
+TO_WINDOWS = [
+    ("5 draws of the display over 2,000 windows", grid(2000, 10), [WHOLE_DISPLAY] * 5),
+    ("a t with 15,000 ids, over 2,000 windows", grid(2000, 10), [to_top([i % 2000 for i in range(15_000)])]),
+    ("4 t with 15,000 ids each, over 200 windows", grid(200, 10), [to_top([i % 200 for i in range(15_000)])] * 4),
+]
+# Windows that are made.
+OF_WINDOWS = [
+    ("2,000 windows at one place", AT_ONE_PLACE * 2000),
+    ("8,000 windows at one place", AT_ONE_PLACE * 8000),
+    ("8,000 windows side by side", grid(8000, 5)),
+]
 
 # What is done again and again where few and where many images are alive. Each leaves as much alive as it found.
 AGAIN = {
@@ -294,6 +332,17 @@ def compare_with_peer(table, programs, wanted):
         table.row("peak memory of 1,000 fonts of 4,096 characters", megabytes_of, *best.memory, None)
 
 
+def compare_windows(table, programs, wanted):
+    for name, places, messages in TO_WINDOWS:
+        if wanted(name):
+            full, empty = in_turn(Best(programs, windows(places, messages), DESK), Best(programs, windows(places), DESK))
+            table.row(name, seconds_of, *full.beyond(empty), WINDOWS_BAR, LEAST_SECONDS)
+    for name, places in OF_WINDOWS:
+        if wanted(name):
+            (best,) = in_turn(Best(programs, windows(places), DESK))
+            table.row(name, seconds_of, *best.seconds, WINDOWS_BAR, LEAST_SECONDS)
+
+
 def rows_of_growth(table, name, form, costs, least=0.0, note=""):
     """What a message costs where many images are alive beside where few are, of both programs."""
     for who, bar, one, other in zip(("rio9", "the peer"), (GROWTH_BAR, None), *costs):
@@ -349,6 +398,7 @@ def main(words):
     try:
         if not options.instructions:
             compare_with_peer(table, programs, wanted)
+            compare_windows(table, programs, wanted)
         if chosen:
             table.heading(f"{MANY:,}", f"{FEW:,}")
             (count_few_and_many if options.instructions else compare_few_and_many)(table, programs, chosen)
