@@ -1,4 +1,4 @@
-"""A client of a rio9 server: 9P2000 (intro(5)) over TCP.
+"""A client of rio9: 9P2000 (intro(5)) over TCP, or with a display in this process (rio9.display).
 
     with connect(("127.0.0.1", 5640)) as session:
         with session.file(session.root, "wctl", WRITE) as file:
@@ -13,7 +13,7 @@ import re
 import socket
 import time
 from types import TracebackType
-from typing import Any, Callable, Dict, Iterable, Iterator, List, Optional, Set, Tuple, Type
+from typing import Any, Callable, Dict, Iterable, Iterator, List, Optional, Protocol, Set, Tuple, Type, Union
 
 from rio9 import formats, record
 from rio9.record import NOFID, NOTAG
@@ -33,6 +33,7 @@ USUAL = object()
 ERROR_KIND = 107
 
 Address = Tuple[str, int]
+Socket = socket.socket
 Values = Dict[str, Any]
 Stat = Dict[str, Any]
 
@@ -72,18 +73,26 @@ def address_or_free(text: str) -> Address:
     return found[1] or found[2], int(found[3])
 
 
-class Client:
-    """A session. Messages may be asked without waiting for their answers, which are then taken by their tags."""
+class Transport(Protocol):
+    """What carries the messages of a session to a display, and the replies back. Each call raises Broken where the
+    session cannot go on."""
+
+    def send(self, message: bytes, seconds: Optional[float]) -> None:
+        """Sends a whole message, which may take so many seconds, or as long as it likes where they are None."""
+
+    def receive(self, seconds: Optional[float]) -> Optional[bytes]:
+        """The next bytes of replies: none where the session has been ended, None where nothing came in so many
+        seconds."""
+
+    def close(self, seconds: Optional[float]) -> None:
+        """Ends the session, and waits for so many seconds at most until the other side has ended it too."""
+
+
+class Tcp:
+    """A connection to a server."""
 
     def __init__(self, address: Address, seconds: Optional[float] = None) -> None:
-        """Connects to a host and a port. An answer may take so many seconds, or as long as it likes where it is
-        None."""
-        self.seconds, self.patience, self.msize = seconds, seconds, MSIZE
-        self.held = bytearray()
-        self.asked: Dict[int, int] = {}
-        self.answers: Dict[int, Tuple[record.Message, Values, bytes]] = {}
-        self.fids: Set[int] = set()
-        self.roots: List[int] = []
+        """Connects to a host and a port, which may take so many seconds."""
         try:
             self.socket = socket.create_connection(address, seconds)
             self.socket.setsockopt(socket.IPPROTO_TCP, socket.TCP_NODELAY, 1)
@@ -92,6 +101,52 @@ class Client:
                 f"no connection to {address[0]}:{address[1]}: {why(error)}; is a server there? rio9d serve starts one"
             ) from None
 
+    def send(self, message: bytes, seconds: Optional[float]) -> None:
+        """Sends a whole message."""
+        try:
+            self.socket.settimeout(seconds)
+            self.socket.sendall(message)
+        except OSError as error:
+            raise Broken(f"the connection ended: {why(error)}") from None
+
+    def receive(self, seconds: Optional[float]) -> Optional[bytes]:
+        """The next bytes that came, none where the server has ended the session, None where nothing came in time."""
+        if seconds is not None and seconds <= 0:
+            return None
+        try:
+            self.socket.settimeout(seconds)
+            return self.socket.recv(PIECE)
+        except socket.timeout:
+            return None
+        except OSError as error:
+            raise Broken(f"the connection ended: {why(error)}") from None
+
+    def close(self, seconds: Optional[float]) -> None:
+        """Ends the session, and waits until the server has ended it too."""
+        try:
+            self.socket.shutdown(socket.SHUT_WR)
+            self.socket.settimeout(seconds)
+            while self.socket.recv(PIECE):
+                pass
+        except OSError:
+            pass
+        self.socket.close()
+
+
+class Client:
+    """A session. Messages may be asked without waiting for their answers, which are then taken by their tags."""
+
+    def __init__(self, to: Union[Address, Transport], seconds: Optional[float] = None) -> None:
+        """Begins a session with the server at a host and a port, or over what carries its messages. An answer may take
+        so many seconds, or as long as it likes where it is None."""
+        self.seconds, self.patience, self.msize = seconds, seconds, MSIZE
+        self.held = bytearray()
+        self.asked: Dict[int, int] = {}
+        self.answers: Dict[int, Tuple[record.Message, Values, bytes]] = {}
+        self.fids: Set[int] = set()
+        self.roots: List[int] = []
+        self.transport: Transport = Tcp(to, seconds) if isinstance(to, tuple) else to
+
     def __enter__(self) -> "Client":
         return self
 
@@ -99,6 +154,13 @@ class Client:
         self, kind: Optional[Type[BaseException]], error: Optional[BaseException], trace: Optional[TracebackType]
     ) -> None:
         self.close()
+
+    @property
+    def socket(self) -> Socket:
+        """The socket of a session over TCP."""
+        if not isinstance(self.transport, Tcp):
+            raise Failure("the session has no socket: its display is in this process")
+        return self.transport.socket
 
     @property
     def root(self) -> int:
@@ -114,11 +176,7 @@ class Client:
         message = record.BY_NAME[name]
         tag = NOTAG if name == "Tversion" else next(tag for tag in range(1, NOTAG) if tag not in self.asked)
         self.asked[tag] = message.kind
-        try:
-            self.socket.settimeout(self.seconds)
-            self.socket.sendall(record.write_message(message, {"tag": tag, **fields}, payload))
-        except OSError as error:
-            raise Broken(f"the connection ended: {why(error)}") from None
+        self.transport.send(record.write_message(message, {"tag": tag, **fields}, payload), self.seconds)
         return tag
 
     def answer(self, tag: int, seconds: Any = USUAL) -> Tuple[Values, bytes]:
@@ -156,16 +214,9 @@ class Client:
     def front(self, count: int, end: Optional[float], seconds: Optional[float]) -> bytearray:
         """The first bytes of what comes, which stay."""
         while len(self.held) < count:
-            try:
-                left = None if end is None else end - time.monotonic()
-                if left is not None and left <= 0:
-                    raise socket.timeout
-                self.socket.settimeout(left)
-                piece = self.socket.recv(PIECE)
-            except socket.timeout:
-                raise Late(f"no answer within {seconds:g} seconds{self.why_late()}") from None
-            except OSError as error:
-                raise Broken(f"the connection ended: {why(error)}") from None
+            piece = self.transport.receive(None if end is None else end - time.monotonic())
+            if piece is None:
+                raise Late(f"no answer within {seconds or 0:g} seconds{self.why_late()}")
             if not piece:
                 raise Broken("the server ended the session")
             self.held += piece
@@ -179,14 +230,7 @@ class Client:
 
     def close(self) -> None:
         """Ends the session, and waits until the server has ended it too, for as long as an answer may take."""
-        try:
-            self.socket.shutdown(socket.SHUT_WR)
-            self.socket.settimeout(self.seconds)
-            while self.socket.recv(PIECE):
-                pass
-        except OSError:
-            pass
-        self.socket.close()
+        self.transport.close(self.seconds)
 
     # What is asked, by its name.
 
@@ -313,10 +357,10 @@ class File:
 NO_SERVER = "is it a server of 9P2000 that listens there?"
 
 
-def connect(address: Address, name: str = "", seconds: Optional[float] = SECONDS) -> Client:
+def connect(to: Union[Address, Transport], name: str = "", seconds: Optional[float] = SECONDS) -> Client:
     """A session that has attached to the tree of this name: the device tree's where it is empty, a new window's by
     `new`."""
-    session = Client(address, seconds)
+    session = Client(to, seconds)
     try:
         session.version()
         session.attach(name)

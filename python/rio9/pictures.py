@@ -51,7 +51,8 @@ def image_of(data: bytes) -> "Image.Image":
         word, left, right, height, rows = picture.read_image_file(data)
         size, known = (right - left, height), RAW_MODES.get(formats.channels_text(word) or "")
         if known is not None and len(rows) == height * formats.row_bytes(formats.depth(word), left, right):
-            return Image.frombytes(known[0], size, rows, "raw", known[1]).convert("RGB")
+            found = Image.frombytes(known[0], size, bytes(rows), "raw", known[1])
+            return found if found.mode == "RGB" else found.convert("RGB")
         pixels = [bytes(pixel[:3]) for row in picture.colours(word, left, right, height, rows) for pixel in row]
         return Image.frombytes("RGB", size, b"".join(pixels))
     except (picture.NoPicture, ValueError) as error:

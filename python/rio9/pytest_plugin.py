@@ -9,28 +9,37 @@
 Golden pictures stand beside the test's file; `--rio9-update` writes them anew. When a test fails its record is kept,
 with the file beside it, in a folder of its name below rio9-failed; so are the golden picture, the actual one and one
 of their difference. The server is another one with `@pytest.mark.rio9(size=(320, 240), channels="r5g6b5",
-workers=4)`.
+workers=4, transport="tcp")`.
+
+Where the library of rio9 is there, the desktop is in the test's own process, with no server (rio9.display). A test that
+asks for `rio9_server.address` before all else has a server all the same; `--rio9-transport tcp` gives one to each test.
 """
 
 import contextlib
+import functools
 import re
 import shutil
 import tempfile
 from dataclasses import replace
 from pathlib import Path
-from typing import Generator, Optional, Sequence
+from typing import TYPE_CHECKING, Any, Dict, Generator, Optional, Protocol, Sequence, Tuple
 
 import pytest
 
-from rio9 import program
-from rio9.client import SECONDS, Address, Client, connect
+from rio9 import library, program, side
+from rio9.client import SECONDS, Address, Client, Failure, connect
 from rio9.desktop import Desktop
-from rio9.pictures import Difference, Rectangle, difference_of
+from rio9.display import Display
+from rio9.pictures import Difference, Rectangle, difference_of, image_of
 from rio9.server import Server, ServerWords
 
-UPDATE, FOLDER = "--rio9-update", "--rio9-folder"
+if TYPE_CHECKING:
+    from PIL import Image
+
+UPDATE, FOLDER, TRANSPORT = "--rio9-update", "--rio9-folder", "--rio9-transport"
+PROCESS, TCP, EITHER = "process", "tcp", "auto"
 FAILED_FOLDER = "rio9-failed"
-MARK = "rio9(size, channels, workers, connections): the display and the workers of the test's server"
+MARK = "rio9(size, channels, workers, connections, transport): the display of the test, and how it is reached"
 RECORD = "session.record"
 HAS_FAILED = pytest.StashKey[bool]()
 
@@ -42,6 +51,13 @@ def pytest_addoption(parser: pytest.Parser) -> None:
     group.addoption(
         FOLDER, default=FAILED_FOLDER, metavar="DIR", help="where records and pictures of failed tests are kept"
     )
+    group.addoption(
+        TRANSPORT,
+        default=EITHER,
+        choices=(EITHER, PROCESS, TCP),
+        help="where a test's desktop is: in its own process, at a server, or in the process if the library is there "
+        "(default)",
+    )
 
 
 def pytest_configure(config: pytest.Config) -> None:
@@ -49,22 +65,145 @@ def pytest_configure(config: pytest.Config) -> None:
     config.addinivalue_line("markers", MARK)
 
 
-class RunningDesktop(Desktop):
-    """The desktop of a test's server."""
+class Ground(Protocol):
+    """What a test's desktop stands on."""
 
-    def __init__(self, server: Server, goldens: Path, kept: Path, is_update: bool) -> None:
+    def client(self, name: str, seconds: Optional[float]) -> Client:
+        """A session that has attached to the tree of this name."""
+
+    def close(self, kept: Optional[Path]) -> None:
+        """Ends it, and keeps its record in a folder, if one is named."""
+
+
+class Served:
+    """A server of the test's own."""
+
+    def __init__(self, words: ServerWords) -> None:
+        """Starts it at a free port. A test is skipped where there is no program."""
+        self.room = Path(tempfile.mkdtemp(prefix="rio9-"))
+        try:
+            self.server = Server(replace(words, record=str(self.room / RECORD)))
+        except BaseException as error:
+            shutil.rmtree(self.room, ignore_errors=True)
+            if isinstance(error, program.Failure) and error.status == program.NO_PROGRAM:
+                pytest.skip(str(error))
+            raise
+        self.server.begin()
+
+    def client(self, name: str, seconds: Optional[float]) -> Client:
+        """A session that has attached to the tree of this name."""
+        return connect(self.server.address, name, seconds)
+
+    def close(self, kept: Optional[Path]) -> None:
+        """Ends the server."""
+        try:
+            self.server.close()
+            if kept is not None:
+                for path in self.room.iterdir():
+                    shutil.copy(path, kept)
+        finally:
+            shutil.rmtree(self.room, ignore_errors=True)
+
+
+class Held:
+    """A display in the test's process."""
+
+    def __init__(self, words: ServerWords) -> None:
+        """Opens it. A test is skipped where there is no library."""
+        self.words, self.start = words, side.now()
+        try:
+            self.display = Display(*words.size, words.channels)
+        except library.NoLibrary as error:
+            pytest.skip(str(error))
+
+    def client(self, name: str, seconds: Optional[float]) -> Client:
+        """A session that has attached to the tree of this name."""
+        return self.display.client(name, seconds)
+
+    def close(self, kept: Optional[Path]) -> None:
+        """Frees the display."""
+        if kept is not None:
+            (kept / RECORD).write_bytes(self.display.record())
+            told = side.Side(self.words.size, self.words.channels, self.start, self.display.entries()[0])
+            told.save(str(kept / RECORD))
+        self.display.close()
+
+
+@functools.lru_cache(maxsize=None)
+def has_library() -> bool:
+    """Whether the library of rio9 is there."""
+    try:
+        library.find()
+    except library.NoLibrary:
+        return False
+    return True
+
+
+class RunningDesktop(Desktop):
+    """The desktop of a test."""
+
+    def __init__(self, words: ServerWords, transport: str, goldens: Path, kept: Path, is_update: bool) -> None:
         super().__init__(self.client)
-        self.server, self.goldens, self.kept, self.is_update = server, goldens, kept, is_update
+        self.words, self.goldens, self.kept, self.is_update = words, goldens, kept, is_update
+        self.held: Optional[Ground] = None
+        self.may_be_served = transport == EITHER
+        self.transport = (PROCESS if has_library() else TCP) if transport == EITHER else transport
+        if self.transport == TCP or not self.may_be_served:
+            self.held = self.begin_ground()
+
+    def begin_ground(self) -> Ground:
+        """Begins what the desktop stands on."""
+        if self.transport == TCP:
+            return Served(self.words)
+        return Held(self.words)
+
+    @property
+    def ground(self) -> Ground:
+        """What the desktop stands on, which begins here if it has not yet."""
+        if self.held is None:
+            self.held = self.begin_ground()
+        return self.held
+
+    @property
+    def server(self) -> Server:
+        """The desktop's server. A desktop that nothing has been done with yet gets one."""
+        if self.held is None and self.may_be_served:
+            self.transport = TCP
+        if not isinstance(self.ground, Served):
+            raise Failure(
+                "the desktop is in the process of the test, which has used it, and has no address: ask for the address "
+                f'before all else, or mark the test with rio9(transport="{TCP}")'
+            )
+        return self.ground.server
 
     @property
     def address(self) -> Address:
         """Where the server listens: a host and a port."""
         return self.server.address
 
+    @property
+    def display(self) -> Display:
+        """The display, where it is in this process (rio9.display)."""
+        if not isinstance(self.ground, Held):
+            raise Failure(f"the desktop is at a server, and not in the process of the test: {TRANSPORT} {PROCESS}")
+        return self.ground.display
+
     def client(self, name: str = "", seconds: Optional[float] = SECONDS) -> Client:
         """A further session, which has attached to the tree of this name: the device tree's, or a new window's by
         `new`."""
-        return connect(self.server.address, name, seconds)
+        return self.ground.client(name, seconds)
+
+    def screen(self) -> "Image.Image":
+        """The display as a picture. In the process it is looked at without a session, and so is in no record."""
+        return image_of(self.ground.display.screen()) if isinstance(self.ground, Held) else super().screen()
+
+    def finish(self, kept: Optional[Path]) -> None:
+        """Ends the desktop, and keeps its record in a folder, if one is named."""
+        self.close()
+        if self.held is not None:
+            if kept is not None:
+                kept.mkdir(parents=True, exist_ok=True)
+            self.held.close(kept)
 
     def expect_screen(self, name: str, mask: Sequence[Rectangle] = ()) -> None:
         """Fails where the display is not the golden picture of this name, outside of the rectangles of a mask."""
@@ -109,42 +248,34 @@ def folder_of(item: pytest.Item) -> Path:
     return item.config.rootpath / str(item.config.getoption(FOLDER)) / name
 
 
-def words_of(item: pytest.Item, record: str) -> ServerWords:
-    """What a test's server is started with."""
-    words, mark = ServerWords(record=record), item.get_closest_marker("rio9")
+def words_of(item: pytest.Item) -> Tuple[ServerWords, str]:
+    """What a test's server is started with, and where its desktop is."""
+    words, transport = ServerWords(), str(item.config.getoption(TRANSPORT))
+    mark = item.get_closest_marker("rio9")
     if mark is None:
-        return words
+        return words, transport
+    told: Dict[str, Any] = dict(mark.kwargs)
+    transport = told.pop("transport", transport)
+    if transport not in (EITHER, PROCESS, TCP):
+        pytest.fail(f"the mark rio9 takes a transport as {PROCESS}, {TCP} or {EITHER}, and not {transport!r}")
     try:
-        return replace(words, **mark.kwargs)
+        return replace(words, **told), transport
     except TypeError:
         pytest.fail(f"the mark rio9 takes words as these: {MARK}")
 
 
 @pytest.fixture
 def rio9_server(request: pytest.FixtureRequest) -> Generator[RunningDesktop, None, None]:
-    """A server of the test's own, at a free port of the loopback, and its desktop."""
+    """The desktop of the test: in its process where the library is there, else at a server of its own, at a free port of
+    the loopback."""
     item, kept = request.node, folder_of(request.node)
     shutil.rmtree(kept, ignore_errors=True)
-    room = Path(tempfile.mkdtemp(prefix="rio9-"))
+    words, transport = words_of(item)
+    desktop = RunningDesktop(words, transport, item.path.parent, kept, bool(item.config.getoption(UPDATE)))
     try:
-        words = words_of(item, str(room / RECORD))
-        try:
-            server = Server(words)
-        except program.Failure as failure:
-            if failure.status == program.NO_PROGRAM:
-                pytest.skip(str(failure))
-            raise
-        with server:
-            desktop = RunningDesktop(server, item.path.parent, kept, bool(item.config.getoption(UPDATE)))
-            yield desktop
-            desktop.close()
-        if HAS_FAILED in item.stash:
-            kept.mkdir(parents=True, exist_ok=True)
-            for path in room.iterdir():
-                shutil.copy(path, kept)
-        else:
-            for folder in (kept, kept.parent):
-                with contextlib.suppress(OSError):
-                    folder.rmdir()  # which is refused if something is kept there
+        yield desktop
     finally:
-        shutil.rmtree(room, ignore_errors=True)
+        desktop.finish(kept if HAS_FAILED in item.stash else None)
+    for folder in (kept, kept.parent):
+        with contextlib.suppress(OSError):
+            folder.rmdir()  # which is refused if something is kept there

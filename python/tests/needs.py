@@ -1,5 +1,5 @@
-"""What tests need that may not be there: the program rio9, and libraries, which another Python of the machine may
-have."""
+"""What tests need that may not be there: the program rio9, its library, and other libraries, which another Python of the
+machine may have."""
 
 import functools
 import shutil
@@ -7,7 +7,7 @@ import subprocess
 import sys
 import unittest
 
-from rio9 import program
+from rio9 import library, program
 
 
 def found_program():
@@ -15,6 +15,14 @@ def found_program():
     try:
         return program.find()
     except program.Failure:
+        return None
+
+
+def found_library():
+    """The path of the library of rio9, or None."""
+    try:
+        return library.find()
+    except library.NoLibrary:
         return None
 
 
@@ -30,6 +38,9 @@ def python_with(*libraries):
 
 PROGRAM = found_program()
 needs_program = unittest.skipIf(PROGRAM is None, f"there is no program rio9: build it, or name it by {program.TOLD_BY}")
+
+LIBRARY = found_library()
+needs_library = unittest.skipIf(LIBRARY is None, f"there is no {library.NAME}: install it, or name it by {library.TOLD_BY}")
 
 
 def needs_libraries(*libraries):

@@ -1,4 +1,5 @@
-"""Tests of the fixture rio9_server: tests that use it are run by pytest, and what they leave is looked at."""
+"""Tests of the fixture rio9_server: tests that use it are run by pytest, with a server and in the process, and what they
+leave is looked at."""
 
 import os
 import pathlib
@@ -9,7 +10,7 @@ import tempfile
 import time
 import unittest
 
-from needs import PROGRAM, needs_libraries, needs_program, python_with
+from needs import LIBRARY, PROGRAM, needs_libraries, needs_library, needs_program, python_with
 from test_picture import pixels_of
 
 PYTHON = pathlib.Path(__file__).resolve().parent.parent
@@ -73,16 +74,68 @@ def test_one(rio9_server, number):
     rio9_server.wait_for(window=1)
 """
 
+WHERE = """
+import pytest
+from rio9 import client
 
-@needs_program
+
+def test_served(rio9_server):
+    host, port = rio9_server.address
+    with client.connect((host, port)) as session:
+        assert session.socket.getpeername()[1] == rio9_server.server.address[1] == port
+    rio9_server.move(1, 1)
+    with pytest.raises(client.Failure, match="--rio9-transport process"):
+        rio9_server.display
+
+
+def test_held(rio9_server):
+    rio9_server.move(1, 1)
+    assert rio9_server.display.pointer() == (1, 1)
+    with pytest.raises(client.Failure, match="ask for the address before all else"):
+        rio9_server.address
+
+
+@pytest.mark.rio9(transport="tcp")
+def test_marked(rio9_server):
+    rio9_server.move(1, 1)
+    assert rio9_server.address[1] > 0
+
+
+@pytest.mark.rio9(transport="pigeon")
+def test_wrong_transport(rio9_server):
+    pass
+"""
+
+EXACT = """
+import pytest
+
+VERSION = bytes.fromhex("1300000064ffff180001000600395032303030")
+ATTACH = bytes.fromhex("1400000068010000000000ffffffff0100750000")
+
+
+@pytest.mark.rio9(size=(320, 240))
+@pytest.mark.parametrize("number", range(200))
+def test_one(rio9_server, number):
+    session = rio9_server.display.begin()
+    assert session.exchange(VERSION) == bytes.fromhex("1300000065ffff180001000600395032303030")
+    assert session.exchange(ATTACH) == bytes.fromhex("1400000069010080000000000100000000000000")
+    rio9_server.new_window((16, 16, 176, 128))
+    assert rio9_server.screen().getpixel((100, 100)) == (255, 255, 255)
+"""
+
+
 @needs_libraries("pytest", "PIL")
-class Fixture(unittest.TestCase):
+class Runs(unittest.TestCase):
+    """Tests of the fixture by pytest."""
+
+    transport = "auto"
+
     def setUp(self):
         folder = tempfile.TemporaryDirectory()
         self.addCleanup(folder.cleanup)
         self.room = pathlib.Path(folder.name)
 
-    def run_tests(self, text, *words, program=PROGRAM):
+    def run_tests(self, text, *words, program=PROGRAM or "", library=LIBRARY or ""):
         """Status and output of pytest for some tests."""
         (self.room / "test_it.py").write_text(text)
         command = [
@@ -94,14 +147,25 @@ class Fixture(unittest.TestCase):
             "-p",
             "no:cacheprovider",
             "-rs",
+            "--rio9-transport",
+            self.transport,
         ]
         path = os.pathsep.join([str(PYTHON), os.environ.get("PYTHONPATH", "")])
-        environment = {**os.environ, "PYTHONPATH": path, "RIO9_PROGRAM": program, "PYTHONDONTWRITEBYTECODE": "1"}
+        told = {"PYTHONPATH": path, "RIO9_PROGRAM": program, "RIO9_LIBRARY": library, "PYTHONDONTWRITEBYTECODE": "1"}
+        environment = {**os.environ, **told}
         run = subprocess.run([*command, *words], cwd=self.room, env=environment, capture_output=True)
         return run.returncode, run.stdout.decode()
 
     def kept(self):
+        """What is kept of tests that failed."""
         return sorted(str(path.relative_to(self.room)) for path in self.room.glob("rio9-failed/*/*"))
+
+
+@needs_program
+class Served(Runs):
+    """With a server for each test."""
+
+    transport = "tcp"
 
     def test_golden_pictures(self):
         status, told = self.run_tests(USES)
@@ -155,6 +219,37 @@ class Fixture(unittest.TestCase):
         self.assertLess(seconds, 20, time.monotonic() - begin)
         if python_with("pytest", "PIL", "xdist") == python_with("pytest", "PIL"):
             self.assertEqual(self.run_tests(MANY, "-n", "3")[0], 0)
+
+
+@needs_program
+@needs_library
+class Held(Served):
+    """In the process of the tests. The program replays what is kept."""
+
+    transport = "process"
+
+    def test_without_a_program(self):
+        status, told = self.run_tests(USES, library=str(self.room / "none"))
+        self.assertEqual(status, 0)
+        self.assertIn("is no library of rio9", told)
+
+    def test_exact_replies(self):
+        """The time of a test with replies and a picture is told, and bounded loosely here."""
+        status, told = self.run_tests(EXACT, program=str(self.room / "none"))
+        self.assertEqual(status, 0, told)
+        self.assertLess(float(re.search(r"200 passed in ([0-9.]+)s", told)[1]), 100)
+
+
+@needs_program
+@needs_library
+class Either(Runs):
+    """Where each test has what it asks for first."""
+
+    def test_where(self):
+        status, told = self.run_tests(WHERE)
+        self.assertEqual(status, 1)
+        self.assertIn("3 passed, 1 error", told)
+        self.assertIn("a transport as process, tcp or auto, and not 'pigeon'", told)
 
 
 if __name__ == "__main__":

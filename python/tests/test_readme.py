@@ -10,7 +10,7 @@ import sys
 import tempfile
 import unittest
 
-from needs import PROGRAM, needs_libraries, needs_program, python_with
+from needs import PROGRAM, needs_libraries, needs_library, needs_program, python_with
 from rio9 import side
 from test_picture import pixels_of
 
@@ -100,6 +100,12 @@ class Blocks(unittest.TestCase):
                 [*command, *words], cwd=self.room, env=self.environment, capture_output=True, timeout=SECONDS
             )
             self.assertEqual(run.returncode, 0, run.stdout.decode())
+
+    @needs_library
+    def test_display_in_the_process(self):
+        self.run_block(sys.executable, "-c", text=block("A display in the process", "python"))
+        record = (self.room / "session.record").read_bytes()
+        self.assertEqual((record[:11], record[-4:]), (b"rio9 1\nB 1\n", b"E 1\n"))
 
     @needs_libraries("setuptools", "wheel", "pip")
     def test_installation(self):
