@@ -23,6 +23,9 @@ CASES = [
     (f"desk_soak.py --program {NOT_THERE}", b"", 2, NOT_THERE),
     ("clients/run.py --run nothing", b"", 2, "nothing"),
     (f"clients/run.py --program {NOT_THERE}", b"", 2, NOT_THERE),
+    ("embedded.py", b"", 2, "PEER"),
+    (f"embedded.py {NOT_THERE} {EXAMPLES}/first.record", b"", 2, NOT_THERE),
+    (f"embedded.py /bin/true {NOT_THERE}", b"", 2, NOT_THERE),
     ("refused_memory.py --every 0", b"", 2, "0"),
     (f"refused_memory.py --program {NOT_THERE}", b"", 2, NOT_THERE),
 ]
