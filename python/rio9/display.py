@@ -95,6 +95,12 @@ class HistoryFull(DisplayError):
     told = "the history has 2^61 entries, and takes no more"
 
 
+class BadOperation(DisplayError):
+    """The library has no such operation."""
+
+    told = "the library has no such operation"
+
+
 class BadSize(DisplayError):
     """A side is none from 1 to 2048."""
 
@@ -123,6 +129,7 @@ ERRORS: Dict[Status, Type[DisplayError]] = {
     Status.LATE_RECORD: LateRecord,
     Status.BAD_EVENT: BadEvent,
     Status.FULL: HistoryFull,
+    Status.BAD_OPERATION: BadOperation,
     Status.BAD_SIZE: BadSize,
     Status.BAD_CHANNELS: BadChannels,
     Status.NULL: DisplayClosed,

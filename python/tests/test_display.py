@@ -4,6 +4,7 @@ right stands in examples/, in docs/FORMATS.md and in the header."""
 import ctypes.util
 import os
 import pathlib
+import random
 import re
 import tempfile
 import threading
@@ -262,6 +263,45 @@ class History(unittest.TestCase):
                 shown.begin()
 
 
+@needs_library
+class Junk(unittest.TestCase):
+    """Calls made by chance, most of them wrong: each is done, or raises an error with a name."""
+
+    def setUp(self):
+        self.chance = random.Random(58)
+
+    def message(self):
+        """Bytes, of which half begin with their number, as a message does."""
+        data = self.chance.randbytes(self.chance.randint(3, 60))
+        return self.chance.choice([data, (len(data) + 4).to_bytes(4, "little") + data])
+
+    def call(self, shown, sessions):
+        """Makes a call."""
+        chance = self.chance
+        chance.choice(
+            [
+                lambda: chance.choice(sessions).exchange(self.message()),
+                lambda: shown.event(chance.choice([b"B 1", b"M 1 07", b"T 1", b"E 9", b"X1", b"", b"\xff" * 9])),
+                lambda: shown.load(chance.choice([b"", b"rio9 1\n", b"rio9 1\nB 1\n", chance.randbytes(30)])),
+                lambda: shown.rows(tuple(chance.randint(-3, 100) for _ in range(4))),
+                lambda: shown.rows_into(bytearray(chance.randint(0, 40000))),
+                lambda: shown.call(chance.randint(0, 40), *(chance.getrandbits(32) for _ in range(4)), data=b"junk"),
+                lambda: (shown.marks(), shown.screen(), shown.pointer(), shown.record()),
+            ]
+        )()
+
+    def test_by_chance(self):
+        for _ in range(20):
+            channels = self.chance.choice(["x8r8g8b8", "k1", "r5g6b5", "k8", "r8g8b8"])
+            with Display(self.chance.randint(1, 90), self.chance.randint(1, 70), channels) as shown:
+                sessions = [shown.begin() for _ in range(3)]
+                for _ in range(200):
+                    try:
+                        self.call(shown, sessions)
+                    except (display.DisplayError, ValueError) as error:
+                        self.assertIsNot(type(error), display.DisplayError)
+
+
 class Opening(unittest.TestCase):
     @needs_library
     def test_what_is_no_display(self):
@@ -289,7 +329,7 @@ class Opening(unittest.TestCase):
 
     @needs_library
     def test_no_such_operation(self):
-        with Display(5, 5) as shown, self.assertRaises(display.DisplayError) as raised:
+        with Display(5, 5) as shown, self.assertRaisesRegex(display.BadOperation, "no such operation") as raised:
             shown.call(99)
         self.assertEqual(raised.exception.status, Status.BAD_OPERATION)
 
