@@ -326,11 +326,19 @@ class Display:
 
 
 class Session:
-    """A session of a display. It is what carries a client's messages (rio9.client.Transport)."""
+    """A session of a display, which ends with a `with`. It is what carries a client's messages (rio9.client.Transport)."""
 
     def __init__(self, display: Display, number: int) -> None:
         self.display, self.number = display, number
         self.came = b""
+
+    def __enter__(self) -> "Session":
+        return self
+
+    def __exit__(
+        self, kind: Optional[Type[BaseException]], error: Optional[BaseException], trace: Optional[TracebackType]
+    ) -> None:
+        self.close()
 
     def exchange(self, message: Buffer) -> bytes:
         """Sends one whole 9P message, and takes what waits for the session then: nothing where the message waits. The
@@ -378,7 +386,7 @@ class Session:
                 raise Late("no answer comes: the message waits for what another session does")
             time.sleep(PAUSE)
 
-    def close(self, _seconds: Optional[float]) -> None:
+    def close(self, _seconds: Optional[float] = None) -> None:
         """Ends the session, if it lives."""
         try:
             self.end()

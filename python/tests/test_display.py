@@ -57,9 +57,10 @@ class Replies(unittest.TestCase):
 
     def test_a_refusal_is_a_reply(self):
         with Display(64, 48) as shown:
-            session = shown.begin()
-            session.exchange(VERSION)
-            self.assertEqual(session.exchange(bytes.fromhex("0b0000007c010007000000")), UNKNOWN_FID)
+            with shown.begin() as session:
+                session.exchange(VERSION)
+                self.assertEqual(session.exchange(bytes.fromhex("0b0000007c010007000000")), UNKNOWN_FID)
+            self.assertEqual(shown.record().split(b"\n")[-2], b"E 1")
 
 
 @needs_library
@@ -139,6 +140,19 @@ class Clients(unittest.TestCase):
         self.assertEqual(waiting.transport.receive(0), b"")
         with self.assertRaisesRegex(client.Broken, "ended the session"):
             waiting.answer(tag)
+
+    def test_a_display_for_each_thread(self):
+        shown = [Display(320, 240) for _ in range(2)]
+        threads = [threading.Thread(target=each.load, args=[(EXAMPLES / "rio.record").read_bytes()]) for each in shown]
+        for thread in threads:
+            thread.start()
+        for thread in threads:
+            thread.join()
+        with Display(320, 240) as alone:
+            alone.load((EXAMPLES / "rio.record").read_bytes())
+            self.assertEqual([each.screen() for each in shown], [alone.screen()] * 2)
+        for each in shown:
+            each.close()
 
     def test_threads_take_turns(self):
         def work():
