@@ -66,10 +66,11 @@ class Cursor:
 
     def take(self, count: int) -> bytes:
         """The next bytes."""
-        if self.left() < count:
+        begin, end = self.at, self.at + count
+        if end > len(self.data):
             raise NotWhole
-        self.at += count
-        return self.data[self.at - count : self.at]
+        self.at = end
+        return self.data[begin:end]
 
     def number(self, size: int, signed: bool = False) -> int:
         """The number that the next bytes are, the lowest first."""
