@@ -20,7 +20,7 @@ from rio9 import formats, library
 from rio9.client import SECONDS, Broken, Client, Failure, Late, connect
 from rio9.library import Library, Operation, Request, Result, Status
 
-ROOM = 1 << 17  # bytes of an answer that one call has room for: more than all replies to a message
+ROOM = formats.MOST_OF_A_MESSAGE  # bytes of an answer that one call has room for
 PAUSE = 0.001
 CELL = 32  # the side of a cell, in pixels
 SIGN, WHOLE = 1 << 63, 1 << 64
