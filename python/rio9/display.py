@@ -24,7 +24,8 @@ ROOM = formats.MOST_OF_A_MESSAGE  # bytes of an answer that one call has room fo
 PAUSE = 0.001
 CELL = 32  # the side of a cell, in pixels
 SIGN, WHOLE = 1 << 63, 1 << 64
-# What an answer stands behind: all that was asked is done.
+HEAD_BYTES = 5 * 12  # of an image file, before its rows
+# The statuses of a call that was done.
 GIVEN = (Status.DONE, Status.NOTHING, Status.OVER, Status.SHORT)
 
 Rectangle = Tuple[int, int, int, int]
@@ -242,8 +243,7 @@ class Display:
     def screen(self) -> memoryview:
         """The display as an image(6) file."""
         width, height = self.size()
-        head = 5 * 12
-        return self.large(Request(Operation.SCREEN), head + height * formats.row_bytes(self.bits, 0, width))
+        return self.large(Request(Operation.SCREEN), HEAD_BYTES + height * formats.row_bytes(self.bits, 0, width))
 
     def rows(self, rectangle: Optional[Rectangle] = None) -> memoryview:
         """The rows of a rectangle of the display, of all of it where none is said, in the layout of image(6): for
