@@ -127,7 +127,8 @@ def places() -> Iterator[Path]:
     yield here.parents[1] / "crates" / "rio9_c" / "out" / NAME
     program_path = shutil.which(program.NAME)
     if program_path is not None:
-        yield Path(program_path).resolve().parents[1] / "lib" / NAME
+        for path in (Path(program_path).absolute(), Path(program_path).resolve()):
+            yield path.parents[1] / "lib" / NAME
     for prefix in (Path(sys.prefix), USUAL_PREFIX):
         yield prefix / "lib" / NAME
 
