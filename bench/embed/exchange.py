@@ -4,7 +4,7 @@
     bench/embed/exchange.py [--runs N]
 
 The library is found as `rio9.Display` finds it; RIO9_LIBRARY names another one. Printed are the least microseconds of a processor in N
-runs, 5 where nothing is said: of an exchange of a small message, of the same by `rio9.Client`, of the rows of 640x480 into bytes that
+runs, 5 if nothing is said: of an exchange of a small message, of the same by `rio9.Client`, of the rows of 640x480 into bytes that
 are there and beside a copy of them, and of a test with exact replies and a picture, as the fixture for pytest runs it (needs Pillow).
 At most 10 microseconds are wanted for an exchange, and 2 milliseconds for the test. Status 1 tells that one takes longer.
 """

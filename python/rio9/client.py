@@ -74,14 +74,14 @@ def address_or_free(text: str) -> Address:
 
 
 class Transport(Protocol):
-    """What carries the messages of a session to a display, and the replies back. Each call raises Broken where the
+    """What carries the messages of a session to a display, and the replies back. Each call raises Broken if the
     session cannot go on."""
 
     def send(self, message: bytes, seconds: Optional[float]) -> None:
-        """Sends a whole message, which may take so many seconds, or as long as it likes where they are None."""
+        """Sends a whole message, which may take so many seconds, or as long as it likes if they are None."""
 
     def receive(self, seconds: Optional[float]) -> Optional[bytes]:
-        """The next bytes of replies: none where the session has been ended, None where nothing came in so many
+        """The next bytes of replies: none if the session has been ended, None if nothing came in so many
         seconds."""
 
     def close(self, seconds: Optional[float]) -> None:
@@ -110,7 +110,7 @@ class Tcp:
             raise Broken(f"the connection ended: {why(error)}") from None
 
     def receive(self, seconds: Optional[float]) -> Optional[bytes]:
-        """The next bytes that came, none where the server has ended the session, None where nothing came in time."""
+        """The next bytes that came, none if the server has ended the session, None if nothing came in time."""
         if seconds is not None and seconds <= 0:
             return None
         try:
@@ -138,7 +138,7 @@ class Client:
 
     def __init__(self, to: Union[Address, Transport], seconds: Optional[float] = None) -> None:
         """Begins a session with the server at a host and a port, or over what carries its messages. An answer may take
-        so many seconds, or as long as it likes where it is None."""
+        so many seconds, or as long as it likes if it is None."""
         self.seconds, self.patience, self.msize = seconds, seconds, MSIZE
         self.held = bytearray()
         self.asked: Dict[int, int] = {}

@@ -229,7 +229,7 @@ class Display:
         return Session(self, self.call(Operation.BEGIN)[0].number)
 
     def client(self, name: str = "", seconds: Optional[float] = SECONDS) -> Client:
-        """A client over a new session, which has attached to the tree of this name: the device tree's where it is empty, a
+        """A client over a new session, which has attached to the tree of this name: the device tree's if it is empty, a
         new window's by `new`. An answer that waits for what another thread does may take so many seconds."""
         return connect(self.begin(), name, seconds)
 
@@ -246,14 +246,14 @@ class Display:
         return self.large(Request(Operation.SCREEN), HEAD_BYTES + height * formats.row_bytes(self.bits, 0, width))
 
     def rows(self, rectangle: Optional[Rectangle] = None) -> memoryview:
-        """The rows of a rectangle of the display, of all of it where none is said, in the layout of image(6): for
+        """The rows of a rectangle of the display, of all of it if none is said, in the layout of image(6): for
         x8r8g8b8 four bytes a pixel, blue, green, red and 0. The library writes them where they are then read."""
         inside = self.inside(rectangle)
         return self.large(Request(Operation.ROWS, *inside), self.bytes_of(inside))
 
     def rows_into(self, buffer: Union[bytearray, memoryview], rectangle: Optional[Rectangle] = None) -> int:
         """Puts the rows of a rectangle into the front of bytes that can be written, as those of a bytearray, an mmap or
-        an array, and gives how many that were. ValueError where they have no room."""
+        an array, and gives how many that were. ValueError if they have no room."""
         inside = self.inside(rectangle)
         with memoryview(buffer).cast("B") as view:
             if view.nbytes < self.bytes_of(inside):
@@ -265,7 +265,7 @@ class Display:
             return length
 
     def inside(self, rectangle: Optional[Rectangle]) -> Rectangle:
-        """A rectangle whose sides are numbers of the library; all of the display where none is said."""
+        """A rectangle whose sides are numbers of the library; all of the display if none is said."""
         if rectangle is None:
             return (0, 0, *self.size())
         if not all(0 <= side < 1 << 32 for side in rectangle):
@@ -341,7 +341,7 @@ class Session:
         self.close()
 
     def exchange(self, message: Buffer) -> bytes:
-        """Sends one whole 9P message, and takes what waits for the session then: nothing where the message waits. The
+        """Sends one whole 9P message, and takes what waits for the session then: nothing if the message waits. The
         replies of one call come in the order in which they were given."""
         return self.display.call(Operation.EXCHANGE, self.number, data=message)[1]
 
@@ -351,7 +351,7 @@ class Session:
         return msize
 
     def take(self) -> bytes:
-        """Takes the replies that wait, one behind the other: none where nothing waits."""
+        """Takes the replies that wait, one behind the other: none if nothing waits."""
         return self.display.call(Operation.TAKE, self.number)[1]
 
     def waiting(self) -> int:
@@ -370,8 +370,8 @@ class Session:
         self.came += self.exchange(message)
 
     def receive(self, seconds: Optional[float]) -> Optional[bytes]:
-        """The next bytes of replies, none where no more will come, None where nothing came in so many seconds. Late
-        where no other thread could bring something."""
+        """The next bytes of replies: none if no more will come, None if nothing came in so many seconds. Late if
+        no other thread could bring something."""
         end = None if seconds is None else time.monotonic() + seconds
         while True:
             came, self.came = self.came, b""

@@ -113,7 +113,7 @@ class Library:
         self.close.argtypes = [pointer]
 
     def open(self, width: int, height: int, channels: str) -> Tuple[Status, Optional[int]]:
-        """A status, and the display's address where it is DONE."""
+        """A status, and the display's address if that is DONE."""
         display, name = ctypes.c_void_p(), channels.encode()
         status = Status(self.open_display(width, height, name, len(name), ctypes.byref(display)))
         return status, display.value if status is Status.DONE else None
@@ -135,7 +135,7 @@ def places() -> Iterator[Path]:
 
 def find(told: Optional[str] = None) -> str:
     """The library's path: the one that is told, by a word or by RIO9_LIBRARY, or else the first of the places where it may
-    stand, or the system's; NoLibrary where it is nowhere."""
+    stand, or the system's; NoLibrary if it is nowhere."""
     told = told or os.environ.get(TOLD_BY)
     if told:
         if not Path(told).is_file():

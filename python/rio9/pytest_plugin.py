@@ -11,7 +11,7 @@ with the file beside it, in a folder of its name below rio9-failed; so are the g
 of their difference. The server is another one with `@pytest.mark.rio9(size=(320, 240), channels="r5g6b5",
 workers=4, transport="tcp")`.
 
-Where the library of rio9 is there, the desktop is in the test's own process, with no server (rio9.display). A test that
+If the library of rio9 is there, the desktop is in the test's own process, with no server (rio9.display). A test that
 asks for `rio9_server.address` before all else has a server all the same; `--rio9-transport tcp` gives one to each test.
 """
 
@@ -79,7 +79,7 @@ class Served:
     """A server of the test's own."""
 
     def __init__(self, words: ServerWords) -> None:
-        """Starts it at a free port. A test is skipped where there is no program."""
+        """Starts it at a free port. A test is skipped if there is no program."""
         self.room = Path(tempfile.mkdtemp(prefix="rio9-"))
         try:
             self.server = Server(replace(words, record=str(self.room / RECORD)))
@@ -109,7 +109,7 @@ class Held:
     """A display in the test's process."""
 
     def __init__(self, words: ServerWords) -> None:
-        """Opens it. A test is skipped where there is no library."""
+        """Opens it. A test is skipped if there is no library."""
         self.words, self.start = words, side.now()
         try:
             self.display = Display(*words.size, words.channels)
@@ -183,7 +183,7 @@ class RunningDesktop(Desktop):
 
     @property
     def display(self) -> Display:
-        """The display, where it is in this process (rio9.display)."""
+        """The display, if it is in this process (rio9.display)."""
         if not isinstance(self.ground, Held):
             raise Failure(f"the desktop is at a server, and not in the process of the test: {TRANSPORT} {PROCESS}")
         return self.ground.display
@@ -266,7 +266,7 @@ def words_of(item: pytest.Item) -> Tuple[ServerWords, str]:
 
 @pytest.fixture
 def rio9_server(request: pytest.FixtureRequest) -> Generator[RunningDesktop, None, None]:
-    """The desktop of the test: in its process where the library is there, else at a server of its own, at a free port of
+    """The desktop of the test: in its process if the library is there, else at a server of its own, at a free port of
     the loopback."""
     item, kept = request.node, folder_of(request.node)
     shutil.rmtree(kept, ignore_errors=True)

@@ -4,7 +4,7 @@
 //!
 //! After each event each cell with a pixel that changed has to be marked. A second display loads the whole record, and a third
 //! begins and ends sessions, sends and takes by calls, if no event tells that memory ran out: all three have to show the same, and the
-//! sessions to take the replies. The status is 1 where something differs, or the record is none.
+//! sessions to take the replies. The status is 1 if something differs, or if the record is none.
 
 use rio9::{Cell, Display, Error, Rectangle, Session};
 use std::collections::BTreeMap;

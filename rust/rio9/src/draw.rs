@@ -18,7 +18,7 @@ pub enum Operator {
     SinD = 8,
     SatopD = 9,
     S = 10,
-    /// What is meant where no operator is set.
+    /// What is meant if no operator is set.
     #[default]
     SoverD = 11,
 }
