@@ -1,10 +1,11 @@
 #!/usr/bin/env python3
 """Makes records step by step in a display in the process, and compares with what a peer's `replay` prints.
 
-    tools/embedded.py PEER RECORD.. [--steps PROGRAM] [--jobs N]
+    tools/embedded.py PEER [RECORD..] [--made N] [--seed S] [--steps PROGRAM] [--jobs N]
 
 PEER is a plain program with the words of rio9: its path, or in one word its path and words that come before `replay`. A RECORD is a file,
-or a folder of files `*.record`. The words of `replay` stand one a line in RECORD.args, if that is there: `--size` and `--chan`.
+or a folder of files `*.record`. The words of `replay` stand one a line in RECORD.args, if that is there: `--size` and `--chan`. N records
+are made by chance, as soak.py makes them from a seed; none if nothing is said.
 
 `rio9.Display` (python/rio9/display.py; RIO9_LIBRARY names the library) makes the events one by one. Compared are the lines of the replies, the
 display at the end, and the record that the display has. After each event each cell with a pixel that changed has to be marked. Another
@@ -31,6 +32,7 @@ TOP = Path(__file__).resolve().parent.parent
 sys.path.insert(0, str(TOP / "python"))
 
 from rio9 import formats, library, program
+import made_records
 from rio9.display import CELL, BadEvent, BadRecord, Display, LateRecord, NoMemory
 
 USUAL = (640, 480), "x8r8g8b8"
@@ -43,10 +45,26 @@ class Differs(Exception):
 
 
 @dataclass(frozen=True)
+class Source:
+    """Where a record comes from: a file, or a seed."""
+
+    name: str
+    path: Optional[Path] = None
+
+    def case(self) -> "Case":
+        """The record, and its display."""
+        if self.path is None:
+            made = made_records.sessions(self.name)
+            return case_of(made.text, made.words)
+        words_file = self.path.with_name(self.path.name + ".args")
+        return case_of(self.path.read_bytes(), words_file.read_text().split() if words_file.is_file() else [])
+
+
+@dataclass(frozen=True)
 class Case:
     """A record, and the display on which it is made."""
 
-    path: Path
+    text: bytes
     size: Tuple[int, int]
     channels: str
 
@@ -68,17 +86,15 @@ class Programs:
     steps: Optional[List[str]]
 
 
-def case_of(path: Path) -> Case:
-    """The case of a record's file."""
+def case_of(text: bytes, words: List[str]) -> Case:
+    """The case of a record, and of the words of `replay` for it."""
     size, channels = USUAL
-    words_file = path.with_name(path.name + ".args")
-    words = words_file.read_text().split() if words_file.is_file() else []
     for option, word in zip(words, words[1:]):
         if option == "--size":
             size = program.size(word)
         elif option == "--chan":
             channels = program.channels(word)
-    return Case(path, size, channels)
+    return Case(text, size, channels)
 
 
 def run(command: List[str], text: bytes) -> "subprocess.CompletedProcess[bytes]":
@@ -194,7 +210,7 @@ def take_message(session, message: bytes) -> None:
 
 def compare(case: Case, programs: Programs) -> str:
     """How a record came out: in a word, or Differs."""
-    text = case.path.read_bytes()
+    text = case.text
     peer = run([*programs.peer, *case.words], text)
     for kind, pattern in REFUSALS:
         told = re.search(pattern, peer.stderr)
@@ -235,25 +251,25 @@ def refused(case: Case, text: bytes, kind: type, number: int, programs: Programs
     return "refused"
 
 
-def outcome(given: Tuple[Case, Programs]) -> Tuple[str, str]:
-    """A case's outcome, and what is told of it."""
-    case, programs = given
+def outcome(given: Tuple[Source, Programs]) -> Tuple[str, str]:
+    """How a record came out, and what is told of it."""
+    source, programs = given
     try:
-        return compare(case, programs), ""
+        return compare(source.case(), programs), ""
     except Differs as error:
-        return "differs", f"{case.path}: {error}"
+        return "differs", f"{source.name}: {error}"
     except Exception as error:
-        return "differs", f"{case.path}: {type(error).__name__}: {error}"
+        return "differs", f"{source.name}: {type(error).__name__}: {error}"
 
 
-def paths_of(words: List[str]) -> Iterator[Path]:
+def files_of(words: List[str]) -> Iterator[Source]:
     """The files that words name."""
     for word in words:
         path = Path(word)
         if path.is_dir():
-            yield from sorted(path.rglob("*.record"))
+            yield from (Source(str(file), file) for file in sorted(path.rglob("*.record")))
         elif path.is_file():
-            yield path
+            yield Source(word, path)
         else:
             formats.stop("embedded.py", f"there is no record {word}")
 
@@ -269,19 +285,21 @@ def command_of(word: str) -> List[str]:
 def main() -> int:
     words = formats.Words(prog="embedded.py", description=__doc__.split("\n")[0])
     words.add_argument("peer", metavar="PEER")
-    words.add_argument("records", metavar="RECORD", nargs="+")
+    words.add_argument("records", metavar="RECORD", nargs="*")
+    words.add_argument("--made", type=formats.at_least(0), default=0, metavar="N")
+    words.add_argument("--seed", type=formats.at_least(0), default=1, metavar="S")
     words.add_argument("--steps", metavar="PROGRAM")
     words.add_argument("--jobs", type=formats.at_least(1), default=2, metavar="N")
     options = words.parse_args()
     programs = Programs(command_of(options.peer), command_of(options.steps) if options.steps else None)
-    cases = [(case_of(path), programs) for path in paths_of(options.records)]
+    sources = [*files_of(options.records), *(Source(f"{options.seed} sessions {n}") for n in range(options.made))]
     try:
         library.load()
     except library.NoLibrary as error:
         formats.stop("embedded.py", error)
     told = collections.Counter()
     with multiprocessing.Pool(options.jobs) as pool:
-        for kind, line in pool.imap_unordered(outcome, cases, chunksize=4):
+        for kind, line in pool.imap_unordered(outcome, [(source, programs) for source in sources], chunksize=4):
             told[kind] += 1
             if line:
                 print(line, flush=True)
