@@ -5,12 +5,14 @@
 
 The library is found as `rio9.Display` finds it; RIO9_LIBRARY names another one. Printed are the least microseconds of a processor in N
 runs, 5 if nothing is said: of an exchange of a small message, of the same by `rio9.Client`, of the rows of 640x480 into bytes that
-are there and beside a copy of them, and of a test with exact replies and a picture, as the fixture for pytest runs it (needs Pillow).
+are there and beside a copy of them, and of a test with exact replies and a picture on a display of 320x240 and of 640x480, as the
+fixture for pytest runs it (needs pytest and Pillow).
 At most 10 microseconds are wanted for an exchange, and 2 milliseconds for the test. Status 1 tells that one takes longer.
 """
 import os
 import sys
 import time
+from pathlib import Path
 
 ROOT = os.path.dirname(os.path.dirname(os.path.dirname(os.path.abspath(__file__))))
 sys.path[:0] = [os.path.join(ROOT, "python"), os.path.join(ROOT, "bench")]
@@ -20,6 +22,7 @@ from rio9.display import Display
 from rio9.formats import at_least
 import sessions
 
+HERE = Path(__file__).parent
 WIDTH, HEIGHT, CHANNELS = 640, 480, "x8r8g8b8"
 TEST_SIZE = 320, 240
 MOST_EXCHANGE, MOST_TEST = 10, 2000
@@ -37,17 +40,19 @@ def least(runs, count, act):
     return min(found)
 
 
-def a_test():
+def a_test(size=TEST_SIZE):
     """What a test does: a display of its own, exact replies, a window, a picture."""
-    from rio9.pictures import image_of
+    from rio9.pytest_plugin import PROCESS, RunningDesktop
+    from rio9.server import ServerWords
 
-    with Display(*TEST_SIZE) as display:
-        session = display.begin()
-        assert [session.exchange(message) for message in sessions.arrived()] == REPLIES
-        with display.client("new -r 16 16 176 128") as window:
-            with window.file(window.root, "label", 1) as label:
-                label.write(b"notes")
-            assert image_of(display.screen()).getpixel((100, 100)) == (255, 255, 255)
+    desktop = RunningDesktop(ServerWords(size=size), PROCESS, HERE, HERE, False)
+    session = desktop.display.begin()
+    assert [session.exchange(message) for message in sessions.arrived()] == REPLIES
+    with desktop.client("new -r 16 16 176 128") as window:
+        with window.file(window.root, "label", 1) as label:
+            label.write(b"notes")
+        assert desktop.screen().getpixel((100, 100)) == (255, 255, 255)
+    desktop.finish(None)
 
 
 def rows(runs):
@@ -66,6 +71,7 @@ def rows(runs):
         yield "a copy of them", least(runs, 50, lambda: other.__setitem__(slice(None), buffer))
     a_test()
     yield "a test with replies and a picture", least(runs, 50, a_test)
+    yield "the same on a display of 640x480", least(runs, 50, lambda: a_test((WIDTH, HEIGHT)))
 
 
 def main():

@@ -56,10 +56,9 @@ def is_image_file(data: bytes) -> bool:
 
 def read_image_file(data: bytes) -> Tuple[int, int, int, int, bytes]:
     """Channels, left and right edge, height and rows of an image file."""
-    head = bytes(data[:HEADER_BYTES])
-    if len(head) < HEADER_BYTES or not is_image_file(head):
+    if len(data) < HEADER_BYTES or not is_image_file(data):
         raise NoPicture("no image file")
-    fields = head.decode().split()
+    fields = data[:HEADER_BYTES].decode().split()
     left, upper, right, lower = map(int, fields[1:])
     return formats.channels_word(fields[0]), left, right, lower - upper, data[HEADER_BYTES:]
 

@@ -44,14 +44,21 @@ class Difference:
 def image_of(data: bytes) -> "Image.Image":
     """The picture of an image file (image(6)), in red, green and blue."""
     try:
+        return image_of_rows(*picture.read_image_file(data))
+    except picture.NoPicture as error:
+        raise Failure(f"what came is no picture: {error}") from None
+
+
+def image_of_rows(word: int, left: int, right: int, height: int, rows: bytes) -> "Image.Image":
+    """The picture of rows (image(6)) of a rectangle in these channels, in red, green and blue."""
+    try:
         from PIL import Image
     except ModuleNotFoundError:
         raise NoPillow from None
     try:
-        word, left, right, height, rows = picture.read_image_file(data)
         size, known = (right - left, height), RAW_MODES.get(formats.channels_text(word) or "")
         if known is not None and len(rows) == height * formats.row_bytes(formats.depth(word), left, right):
-            found = Image.frombytes(known[0], size, bytes(rows), "raw", known[1])
+            found = Image.frombytes(known[0], size, rows, "raw", known[1])
             return found if found.mode == "RGB" else found.convert("RGB")
         pixels = [bytes(pixel[:3]) for row in picture.colours(word, left, right, height, rows) for pixel in row]
         return Image.frombytes("RGB", size, b"".join(pixels))

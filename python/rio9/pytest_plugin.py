@@ -26,11 +26,11 @@ from typing import TYPE_CHECKING, Any, Dict, Generator, Optional, Protocol, Sequ
 
 import pytest
 
-from rio9 import library, program, side
+from rio9 import formats, library, program, side
 from rio9.client import SECONDS, Address, Client, Failure, connect
 from rio9.desktop import Desktop
 from rio9.display import Display
-from rio9.pictures import Difference, Rectangle, difference_of, image_of
+from rio9.pictures import Difference, Rectangle, difference_of, image_of_rows
 from rio9.server import Server, ServerWords
 
 if TYPE_CHECKING:
@@ -120,6 +120,13 @@ class Held:
         """A session that has attached to the tree of this name."""
         return self.display.client(name, seconds)
 
+    def screen(self) -> "Image.Image":
+        """The display as a picture."""
+        width, height = self.display.size()
+        room = room_of(height * formats.row_bytes(self.display.bits, 0, width))
+        self.display.rows_into(room)
+        return image_of_rows(formats.channels_word(self.words.channels), 0, width, height, bytes(room))
+
     def close(self, kept: Optional[Path]) -> None:
         """Frees the display."""
         if kept is not None:
@@ -127,6 +134,12 @@ class Held:
             told = side.Side(self.words.size, self.words.channels, self.start, self.display.entries()[0])
             told.save(str(kept / RECORD))
         self.display.close()
+
+
+@functools.lru_cache(maxsize=4)
+def room_of(length: int) -> bytearray:
+    """Room for the rows of a display, which the next picture of that size takes again."""
+    return bytearray(length)
 
 
 @functools.lru_cache(maxsize=None)
@@ -195,7 +208,7 @@ class RunningDesktop(Desktop):
 
     def screen(self) -> "Image.Image":
         """The display as a picture. In the process it is looked at without a session, and so is in no record."""
-        return image_of(self.ground.display.screen()) if isinstance(self.ground, Held) else super().screen()
+        return self.ground.screen() if isinstance(self.ground, Held) else super().screen()
 
     def finish(self, kept: Optional[Path]) -> None:
         """Ends the desktop, and keeps its record in a folder, if one is named."""
