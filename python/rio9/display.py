@@ -10,6 +10,7 @@ docs/EMBED.md tells what of the library is proved, and what a caller has to keep
 calls take turns, so it may be used by several threads.
 """
 
+import contextlib
 import ctypes
 import threading
 import time
@@ -387,11 +388,9 @@ class Session:
             time.sleep(PAUSE)
 
     def close(self, _seconds: Optional[float] = None) -> None:
-        """Ends the session, if it lives."""
-        try:
+        """Ends the session, if it and the display live."""
+        with contextlib.suppress(DisplayError):
             self.end()
-        except (SessionClosed, DisplayClosed):
-            pass
 
 
 def signed(number: int) -> int:

@@ -271,10 +271,10 @@ class History(unittest.TestCase):
 
     def test_memory_that_ran_out(self):
         with Display(64, 48) as shown:
-            shown.event(b"B 1")
-            shown.event(b"X")
-            with self.assertRaises(display.NoMemory):
-                shown.begin()
+            with shown.client():
+                shown.event(b"X")
+                with self.assertRaises(display.NoMemory):
+                    shown.begin()
 
 
 @needs_library
