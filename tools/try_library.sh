@@ -6,10 +6,11 @@
 # RIO9_ARCHIVE names another archive, which is then not built. What is missing (cc, pkg-config, cargo, pytest) is told, and what needs it is
 # left out. Status 1 tells that something failed.
 set -euo pipefail
-repository=$(cd "$(dirname "$0")/.." && pwd)
-cd "$repository"
+cd "$(dirname "$0")/.."
+skip() { echo "try_library.sh: skipped: $1"; exit 0; }
+[ -d crates/rio9_c ] && [ -x tools/install.sh ] || skip "there is no crates/rio9_c, or nothing that installs it"
 for needed in cc ar pkg-config; do
-	command -v "$needed" > /dev/null || { echo "try_library.sh: skipped: $needed is not installed"; exit 0; }
+	command -v "$needed" > /dev/null || skip "$needed is not installed"
 done
 [ -n "${RIO9_ARCHIVE:-}" ] || (cd crates/rio9_c && rt lib)
 room=$(mktemp -d)
