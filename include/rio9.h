@@ -1,7 +1,7 @@
 /* rio9.h: a display inside another program (Plan 9's draw(3) and rio(4), spoken to by 9P messages).
 
    The library has three functions, rio9_open, rio9_call and rio9_close. Each other function here is a few lines over
-   rio9_call, so that it needs no symbol of its own. docs/EMBED.md tells what is proved of them.
+   rio9_call, so that it needs no symbol of its own. They are not proved; docs/EMBED.md tells what is.
 
    What a caller has to keep:
    - A display is used by one thread at a time. Displays share nothing, so two threads may use two displays.

@@ -5,9 +5,9 @@
             ...                                  # rio9.client.Client, as over TCP
         picture = display.screen()               # an image(6) file
 
-It is the library of the proved program (rio9.library tells where it is looked for). This module is outside the proof;
-docs/EMBED.md tells what of the library is proved, and what a caller has to keep. A `Display` keeps that by itself:
-calls take turns, so it may be used by several threads.
+It is over the C library (rio9.library tells where that is looked for), which is not made from this repository yet. Neither
+the library nor this module is proved; docs/EMBED.md tells what is, and what a caller has to keep. A `Display` keeps that by
+itself: calls take turns, so it may be used by several threads.
 """
 
 import contextlib

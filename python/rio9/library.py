@@ -120,11 +120,10 @@ class Library:
 
 
 def places() -> Iterator[Path]:
-    """Where the library may stand, the first place first: beside the package, in the repository, and in the `lib` of the
-    prefix of the program, of this Python, and of the system."""
+    """Where the library may stand, the first place first: beside the package, and in the `lib` of the prefix of the
+    program, of this Python, and of the system."""
     here = Path(__file__).resolve().parent
     yield here / NAME
-    yield here.parents[1] / "crates" / "rio9_c" / "out" / NAME
     program_path = shutil.which(program.NAME)
     if program_path is not None:
         for path in (Path(program_path).absolute(), Path(program_path).resolve()):

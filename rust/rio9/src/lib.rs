@@ -14,7 +14,7 @@
 //! # Ok::<(), Box<dyn std::error::Error>>(())
 //! ```
 //!
-//! The library behind it is the proved one (docs/EMBED.md tells what is proved of it); this crate is outside the proof.
+//! Neither this crate nor the C library behind it is proved; docs/EMBED.md tells what is, and where a library comes from.
 //! [`Display`] is the display, [`ninep`] has the messages of 9P2000 and [`draw`] those of the draw device, as types;
 //! [`Client`] is a session that waits for each answer.
 
